@@ -1,0 +1,23 @@
+-- The length of an agent's code.
+use Rattle.std.proofs.Common.{◌≡◌, ◌≤◌, ℕ, Bool, true, false, ◌&&◌, nat_le, List, length, arith}
+use Rattle.std.proofs.lemmas.Bool.Decides.{nat_tests}
+use Rattle.std.specs.List.{list_all}
+use Rattle.awb_number.specs.Digits.{is_letter_or_digit}
+use Rattle.std.specs.Str.{IsAscii}
+use Rattle.awb_number.specs.Ascii.{IsAscii-tested, ascii-letter_or_digit}
+use Rattle.agent_stock.specs.Code.{is_agent_code}
+
+middle : (n : ℕ) (a b : Bool) → (a && nat_le n 11 && b) ≡ true → n ≤ 11
+middle n true true h = grind (arith, nat_tests)
+middle n true false h = grind (arith, nat_tests)
+middle n false b h = cc
+
+pub length-code : (text : List ℕ) → is_agent_code text ≡ true → length text ≤ 11
+length-code text h = middle (length text) (nat_le 1 (length text)) (list_all is_letter_or_digit text) h
+
+last : (a b : Bool) → (a && b) ≡ true → b ≡ true
+last true b h = h
+last false b h = cc
+
+pub IsAscii-code : (text : List ℕ) → is_agent_code text ≡ true → IsAscii text
+IsAscii-code text h = IsAscii-tested is_letter_or_digit ascii-letter_or_digit text (last (nat_le 1 (length text) && nat_le (length text) 11) (list_all is_letter_or_digit text) h)

@@ -1,0 +1,3 @@
+mod Codes
+mod Serials
+pub mod Examples

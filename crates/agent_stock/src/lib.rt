@@ -1,0 +1,17 @@
+//! Who holds each waybill number: the desk, an agent, nobody any more.
+#![tactic(auto)]
+
+mod agent_code;
+mod orders;
+mod plain;
+mod rows;
+mod stock;
+
+pub use agent_code::AgentCode;
+pub use orders::{carry_out, give_back, issue, take_in, void_run};
+pub use plain::PlainRows;
+pub use rows::StockRows;
+pub use stock::{Holder, Order, Run, StockFault, Test};
+
+#[cfg(test)]
+mod tests;

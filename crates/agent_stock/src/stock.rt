@@ -1,0 +1,92 @@
+ghost use Rattle.std.specs.Prelude.{◌≡◌};
+ghost use Rattle.agent_stock.specs.Stock.{is_run, passes};
+
+use crate::agent_code::AgentCode;
+use awb_number::Awb;
+
+/// The most numbers that one order is for.
+const LARGEST_RUN: u32 = 10_000;
+
+/// The number of serials that a prefix has.
+const SERIALS: u32 = 10_000_000;
+
+/// Who holds a waybill number that is in stock.
+#[derive(Clone, Copy, Debug, PartialEq, Eq)]
+pub enum Holder {
+    /// The station's own desk.
+    Desk,
+    /// An agent, to whom it was issued.
+    Agent(AgentCode),
+    /// A waybill was declared under it.
+    Used,
+    /// It is never to be used.
+    Void,
+}
+
+/// Numbers one after another: the first, and how many. It may have any count, and end past its prefix.
+#[derive(Clone, Copy, Debug, PartialEq, Eq)]
+pub struct Run {
+    pub first: Awb,
+    pub count: u32,
+}
+
+impl Run {
+    /// Whether it has 1 to 10,000 numbers and stays within its prefix.
+    pub fn is_run(&self) -> bool
+        ensures { result ≡ is_run self.now }
+    {
+        self.count > 0 && self.count <= LARGEST_RUN && self.count <= SERIALS - self.first.serial()
+    }
+}
+
+/// What is asked of the holder of each number of a run.
+#[derive(Clone, Copy, Debug, PartialEq, Eq)]
+pub enum Test {
+    /// It is not in stock.
+    Absent,
+    /// The desk has it.
+    Desk,
+    /// This agent has it.
+    With(AgentCode),
+    /// The desk or any agent has it.
+    DeskOrAgent,
+}
+
+impl Test {
+    /// Whether a holder, or none, passes.
+    pub fn passes(&self, holder: &Option<Holder>) -> bool
+        ensures { result ≡ passes self.now holder.now }
+    {
+        match (self, holder) {
+            (Test::Absent, None) => true,
+            (Test::Desk, Some(Holder::Desk)) => true,
+            (Test::With(code), Some(Holder::Agent(other))) => code.as_bytes() == other.as_bytes(),
+            (Test::DeskOrAgent, Some(Holder::Desk | Holder::Agent(_))) => true,
+            _ => false,
+        }
+    }
+}
+
+/// What a desk does with a run of numbers.
+#[derive(Clone, Copy, Debug, PartialEq, Eq)]
+pub enum Order {
+    /// Numbers that aren't in stock go to the desk.
+    TakeIn(Run),
+    /// Numbers of the desk go to an agent.
+    Issue(Run, AgentCode),
+    /// Numbers of an agent go back to the desk.
+    GiveBack(Run, AgentCode),
+    /// Numbers of the desk or of agents become void.
+    Void(Run),
+}
+
+/// Why an order wasn't carried out.
+#[derive(Clone, Copy, Debug, PartialEq, Eq)]
+pub enum StockFault<F> {
+    /// Nothing changed. The refusal's number, and the lowest number of the run that failed:
+    /// 101 in stock already, 102 not at the desk, 103 not with that agent, 104 Used, Void or not in stock.
+    /// 105, with no number: the count isn't 1 to 10,000, or the run ends past its prefix.
+    Refused(u16, Option<Awb>),
+    /// The rows failed. Nothing is said of what they hold.
+    Rows(F),
+}

@@ -1,0 +1,4 @@
+mod Keys
+mod Runs
+mod Walks
+mod Written

@@ -1,0 +1,26 @@
+-- Runs of inputs, one input longer.
+use Rattle.std.proofs.Common.{◌≡◌, ℕ, ◌+◌, ◌<◌, List, [], ◌∷◌, ◌++◌, length, get_or, take, refl, sym, ◌∙◌, ap}
+use Rattle.std.proofs.lemmas.List.{take_more}
+use Rattle.station_core.specs.declared.command.Input.{Input}
+use Rattle.station_core.specs.declared.answer.Answer.{Answer}
+use Rattle.station_core.specs.Step.{State, step, after_all, answers_of}
+
+after_one_more : (s : State) (inputs : List Input) (i : Input) → after_all s (inputs ++ i ∷ []) ≡ (step (after_all s inputs) i).state
+after_one_more s [] i = refl
+after_one_more s (j ∷ inputs) i = after_one_more (step s j).state inputs i
+
+answers_one_more : (s : State) (inputs : List Input) (i : Input) → answers_of s (inputs ++ i ∷ []) ≡ answers_of s inputs ++ (step (after_all s inputs) i).answer ∷ []
+answers_one_more s [] i = refl
+answers_one_more s (j ∷ inputs) i = ap (λ (l : List Answer). (step s j).answer ∷ l) (answers_one_more (step s j).state inputs i)
+
+module _ (s : State) (inputs : List Input) (n : ℕ) (i : Input) (lt : n < length inputs) (is : i ≡ get_or inputs n i) where
+  front : take (n + 1) inputs ≡ take n inputs ++ i ∷ []
+  front = take_more inputs n i lt ∙ ap (λ (x : Input). take n inputs ++ x ∷ []) (sym is)
+
+  -- the state goes on by one input
+  pub state_after : (step (after_all s (take n inputs)) i).state ≡ after_all s (take (n + 1) inputs)
+  state_after = sym (ap (after_all s) front ∙ after_one_more s (take n inputs) i)
+
+  -- and so do the answers
+  pub answers_after : answers_of s (take n inputs) ++ (step (after_all s (take n inputs)) i).answer ∷ [] ≡ answers_of s (take (n + 1) inputs)
+  answers_after = sym (ap (answers_of s) front ∙ answers_one_more s (take n inputs) i)

@@ -1,0 +1,7 @@
+use Rattle.std.proofs.Common.{subst, sym}
+use Rattle.std.specs.Str.{IsAscii}
+use Rattle.station_core.proofs.Keys.{IsAscii-key}
+use Rattle.station_core.proofs.key.Key.as_str.Goals as goal
+
+pub ascii_text-requires : goal.ascii_text-requires
+ascii_text-requires c = subst IsAscii (sym c.as_bytes.ensures.value) (IsAscii-key c.args.self.now c.as_bytes.ensures.valid)

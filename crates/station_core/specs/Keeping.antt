@@ -1,0 +1,61 @@
+-- What an input makes of a station, whatever it is answered.
+use Rattle.std.specs.Prelude.{◌≡◌, ◌⊎◌, ℕ, ◌+◌, ◌<◌, Bool, true, false, Result, Ok, Err, List, take, length, Option, Some}
+use Rattle.station_core.specs.declared.answer.Reply.{Reply}
+use Rattle.station_core.specs.declared.answer.Answer.{Answer}
+use Rattle.station_core.specs.declared.answer.Answer.TheVariants as answer
+use Rattle.station_core.specs.declared.answer.ActFault.{ActFault}
+use Rattle.station_core.specs.declared.answer.ActFault.TheVariants as fault
+use Rattle.station_core.specs.declared.command.Input.{Input}
+use Rattle.station_core.specs.Step.{State, step, after_all}
+
+-- Whether it answers Reopen from then on: after Store, and then only.
+abbrev pub Breaks : Result Reply ActFault → Bool → Type 0
+Breaks (Ok reply) broken = broken ≡ false
+Breaks (Err (fault.Refused refusal)) broken = broken ≡ false
+Breaks (Err fault.Memory) broken = broken ≡ false
+Breaks (Err fault.Store) broken = broken ≡ true
+Breaks (Err fault.Reopen) broken = ⊥
+
+-- The answer is that of the step, and what is kept is the state after it, or the one before.
+abbrev pub Acts : State → Input → Result Reply ActFault → (State → Type 0) → Type 0
+Acts old i (Ok reply) keeps = ((step old i).answer ≡ answer.Done reply) × keeps (step old i).state
+Acts old i (Err (fault.Refused refusal)) keeps = ((step old i).answer ≡ answer.Refused refusal) × keeps old
+Acts old i (Err fault.Memory) keeps = keeps old
+Acts old i (Err fault.Store) keeps = Unit {0}
+Acts old i (Err fault.Reopen) keeps = ⊥
+
+-- What a reopening may find: after Ok the state after, after Refused or Memory the one before, after Store one of the two.
+abbrev pub Leaves : State → Input → Result Reply ActFault → Option State → Type 0
+Leaves old i (Ok reply) found = found ≡ Some (step old i).state
+Leaves old i (Err (fault.Refused refusal)) found = found ≡ Some old
+Leaves old i (Err fault.Memory) found = found ≡ Some old
+Leaves old i (Err fault.Store) found = (found ≡ Some old) ⊎ (found ≡ Some (step old i).state)
+Leaves old i (Err fault.Reopen) found = ⊥
+
+-- the same, where a refusal is an answer
+abbrev pub Answers : State → Input → Result Answer ActFault → (State → Type 0) → Type 0
+Answers old i (Ok given) keeps = ((step old i).answer ≡ given) × keeps (step old i).state
+Answers old i (Err fault.Memory) keeps = keeps old
+Answers old i (Err e) keeps = Unit {0}
+
+abbrev pub MayLeave : State → Input → Result Answer ActFault → Option State → Type 0
+MayLeave old i (Ok given) found = found ≡ Some (step old i).state
+MayLeave old i (Err e) found = (found ≡ Some old) ⊎ ((e ≡ fault.Store) × (found ≡ Some (step old i).state))
+
+-- on a station that isn't broken an input ends by Memory or Store, if it isn't answered
+abbrev pub IsMemoryOrStore : ActFault → Type 0
+IsMemoryOrStore fault.Memory = Unit {0}
+IsMemoryOrStore fault.Store = Unit {0}
+IsMemoryOrStore _ = ⊥
+
+-- a reader never refuses
+abbrev pub IsReadersFault : ActFault → Type 0
+IsReadersFault fault.Memory = Unit {0}
+IsReadersFault fault.Store = Unit {0}
+IsReadersFault _ = ⊥
+
+-- The state after the inputs that were answered, or where they ended by Store, after one more.
+abbrev pub IsAfterAnswered : State → List Input → ℕ → Option ActFault → Option State → Type 0
+IsAfterAnswered s inputs answered ended found =
+    (found ≡ Some (after_all s (take answered inputs)))
+    ⊎ ((ended ≡ Some fault.Store) × (answered < length inputs) × (found ≡ Some (after_all s (take (answered + 1) inputs))))

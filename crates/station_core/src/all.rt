@@ -1,0 +1,69 @@
+ghost use Rattle.std.specs.Prelude.{◌≡◌, true, false, take, length, None, Some, Err, Option, IfErr, OnOk};
+ghost use Rattle.station_core.specs.declared.answer.ActFault.{ActFault};
+ghost use Rattle.station_core.specs.Step.{State, after_all, answers_of};
+ghost use Rattle.station_core.specs.Keeping.{Answers, MayLeave, IsMemoryOrStore, IsAfterAnswered};
+
+use crate::answer::{ActFault, AllAnswers, Answer};
+use crate::command::Input;
+use crate::keeper::Keeper;
+use std::alloc::Global;
+
+/// One input, where a refusal is an answer.
+pub fn answer_one<K: Keeper>(keeper: &mut K, input: &Input) -> Result<Answer, ActFault>
+    ensures sound { K.is_sound keeper.new → K.is_sound keeper.old }
+    ensures works { K.is_broken keeper.old ≡ false → OnOk result (K.is_broken keeper.new ≡ false) }
+    ensures reopen { K.is_broken keeper.old ≡ true → (result ≡ Err ActFault.Reopen) × (keeper.new ≡ keeper.old) }
+    ensures fault { K.is_broken keeper.old ≡ false → IfErr result IsMemoryOrStore }
+    ensures answers { (s : State) → K.keeps keeper.old s → K.is_broken keeper.old ≡ false → K.is_sound keeper.new → Answers s input.now result (K.keeps keeper.new) }
+    ensures leaves { (s : State) → K.keeps keeper.old s → K.is_broken keeper.old ≡ false → K.is_sound keeper.new → (found : Option State) → K.may_find keeper.new found → MayLeave s input.now result found }
+{
+    match keeper.act(input) {
+        Ok(reply) => Ok(Answer::Done(reply)),
+        Err(ActFault::Refused(refusal)) => Ok(Answer::Refused(refusal)),
+        Err(ActFault::Memory) => Err(ActFault::Memory),
+        Err(ActFault::Store) => Err(ActFault::Store),
+        Err(ActFault::Reopen) => Err(ActFault::Reopen),
+    }
+}
+
+/// Gives inputs to a keeper in order, up to the first fault that is no refusal. It makes room for each answer
+/// before it acts.
+pub fn act_all<K: Keeper>(alloc: Global, keeper: &mut K, inputs: &[Input]) -> AllAnswers
+    ensures answers { (s : State) → K.keeps keeper.old s → K.is_broken keeper.old ≡ false → K.is_sound keeper.new
+        → result.answers.items ≡ answers_of s (take (length result.answers.items) inputs.now) }
+    ensures all { result.fault ≡ None → length result.answers.items ≡ length inputs.now }
+    ensures state { (s : State) → K.keeps keeper.old s → K.is_broken keeper.old ≡ false → K.is_sound keeper.new → (result.fault ≡ Some ActFault.Store → ⊥)
+        → K.keeps keeper.new (after_all s (take (length result.answers.items) inputs.now)) }
+    ensures fault { K.is_broken keeper.old ≡ false → (e : ActFault) → result.fault ≡ Some e → IsMemoryOrStore e }
+    ensures sound { K.is_sound keeper.new → K.is_sound keeper.old }
+
+    // A reopening finds the state after the inputs that were answered, or where it ended by `Store`, after one more.
+    ensures leaves { (s : State) → K.keeps keeper.old s → K.is_broken keeper.old ≡ false → K.is_sound keeper.new → (found : Option State) → K.may_find keeper.new found
+        → IsAfterAnswered s inputs.now (length result.answers.items) result.fault found }
+{
+    let mut answers = Vec::new(alloc);
+    for input in inputs {
+        if answers.try_reserve(1).is_err() {
+            return AllAnswers {
+                answers,
+                fault: Some(ActFault::Memory),
+            };
+        }
+        let answer = match answer_one(keeper, input) {
+            Ok(answer) => answer,
+            Err(fault) => {
+                return AllAnswers {
+                    answers,
+                    fault: Some(fault),
+                };
+            }
+        };
+        let Ok(()) = answers.push(answer) else {
+            unreachable!();
+        };
+    }
+    AllAnswers {
+        answers,
+        fault: None,
+    }
+}

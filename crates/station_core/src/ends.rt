@@ -1,0 +1,124 @@
+//! Readers and writers whose contracts tell what they have done.
+ghost use Rattle.std.specs.Prelude.{◌≡◌, ℕ, ◌<◌, length, OnOk, IfErr};
+ghost use Rattle.station_core.specs.Given.{Given, nothing_given};
+ghost use Rattle.station_core.specs.Ends.{ReadStep, WriteStep, Sent, HasCause};
+
+use crate::tally::{Call, Tally};
+use std::io::{ErrorKind, Read, Write};
+
+/// Why a read moved nothing.
+#[derive(Clone, Copy, Debug, PartialEq, Eq)]
+pub enum ReadFault {
+    /// It is to be made again.
+    Interrupted,
+    /// The reader failed.
+    Failed,
+}
+
+/// A write failed.
+#[derive(Clone, Copy, Debug, PartialEq, Eq)]
+pub struct WriteFault;
+
+/// A reader, by what it has given: the bytes, the calls, the failures, and the calls that moved no byte.
+pub trait ByteIn {
+    ghost given: { Self → Given };
+
+    /// One read. Interrupted is a call that moves nothing, and no failure.
+    fn read(&mut self, buf: &mut [u8]) -> Result<usize, ReadFault>
+        ensures { ReadStep (given self.old) (given self.new) result buf.new };
+}
+
+/// A writer, by what it has taken: the bytes, the calls, the failures, and the calls that moved no byte.
+pub trait ByteOut {
+    ghost taken: { Self → Given };
+
+    /// One write. Interrupted is a failure like any other.
+    fn write(&mut self, buf: &[u8]) -> Result<usize, WriteFault>
+        ensures { WriteStep (taken self.old) (taken self.new) result buf.now };
+}
+
+/// A reader or a writer of std, with a count of what it did that contracts alone see.
+#[derive(Drop)]
+pub struct Counted<T> {
+    inner: T,
+    tally: Tally,
+}
+
+impl<T> Counted<T> {
+    ghost use Rattle.station_core.specs.Counted.{given_of, inner_of};
+
+    /// Nothing was moved yet.
+    pub fn new(inner: T) -> Counted<T>
+        ensures inner { inner_of result ≡ inner }
+        ensures nothing { given_of result ≡ nothing_given }
+    {
+        Counted {
+            inner,
+            tally: Tally::new(),
+        }
+    }
+
+    /// The reader or writer itself.
+    pub fn into_inner(self) -> T
+        ensures { result ≡ inner_of self }
+    {
+        let Counted { inner, tally: _ } = self;
+        inner
+    }
+}
+
+impl<T: Read> ByteIn for Counted<T> {
+    ghost given = { λ c. c.tally.given };
+
+    fn read(&mut self, buf: &mut [u8]) -> Result<usize, ReadFault> {
+        let room = buf.len();
+        match self.inner.read(buf) {
+            Ok(n) => {
+                self.tally = self.tally.then(&Call::Moved(&buf[..n], room));
+                Ok(n)
+            }
+            Err(e) => {
+                if e.kind() == ErrorKind::Interrupted {
+                    self.tally = self.tally.then(&Call::Again);
+                    return Err(ReadFault::Interrupted);
+                }
+                self.tally = self.tally.then(&Call::Failed);
+                Err(ReadFault::Failed)
+            }
+        }
+    }
+}
+
+impl<T: Write> ByteOut for Counted<T> {
+    ghost taken = { λ c. c.tally.given };
+
+    fn write(&mut self, buf: &[u8]) -> Result<usize, WriteFault> {
+        match self.inner.write(buf) {
+            Ok(n) => {
+                self.tally = self.tally.then(&Call::Moved(&buf[..n], buf.len()));
+                Ok(n)
+            }
+            Err(_) => {
+                self.tally = self.tally.then(&Call::Failed);
+                Err(WriteFault)
+            }
+        }
+    }
+}
+
+/// Writes all of the bytes, or tells how many went out before the writer failed or took none.
+pub fn send<W: ByteOut>(writer: &mut W, bytes: &[u8]) -> Result<(), usize>
+    ensures all { OnOk result (Sent (W.taken writer.old) (W.taken writer.new) bytes.now (length bytes.now)) }
+    ensures part { IfErr result (Sent (W.taken writer.old) (W.taken writer.new) bytes.now) }
+    ensures cause { IfErr result (λ _. HasCause (W.taken writer.old) (W.taken writer.new)) }
+{
+    let mut sent = 0;
+    while sent < bytes.len() {
+        match writer.write(&bytes[sent..]) {
+            Ok(0) => return Err(sent),
+            Ok(n) => sent += n,
+            Err(WriteFault) => return Err(sent),
+        }
+    }
+    Ok(())
+}
