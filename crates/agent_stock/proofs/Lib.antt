@@ -1,3 +1,3 @@
 mod Codes
-mod Serials
+pub mod Serials
 pub mod Examples

@@ -1,6 +1,6 @@
 -- Runs of numbers, one number further.
 use Rattle.std.proofs.Common.{◌≡◌, ℕ, suc, ◌+◌, ◌<◌, ◌≤◌, Bool, true, false, cond, ◌&&◌, nat_le, nat_lt, Option, Some, ◌∙◌, ap, arith}
-use Rattle.std.proofs.Common.{◌%◌, None, IsSome, IfSome}
+use Rattle.std.proofs.Common.{◌%◌, ◌/◌, ◌-◌, None, IsSome, IfSome}
 use Rattle.std.proofs.lemmas.Grind.{common_steps}
 use Rattle.std.specs.Ordering.{is_eq, nat_cmp}
 use Rattle.awb_number.specs.Number.{IsNumber}
@@ -35,3 +35,18 @@ given_as None k there is = cc
 -- a run ends among the numbers
 pub IsNumber-covered : (first count k : ℕ) → IsNumber first → (nat_lt 0 count && nat_le count 10_000 && nat_le (first % 10_000_000 + count) 10_000_000) ≡ true → k < first + count → IsNumber k
 IsNumber-covered first count k number run within = grind (arith, nat_tests)
+
+-- a number of a run has the run's prefix, and its serial counts on from the first
+module _ (first count n : ℕ) (run : (nat_lt 0 count && nat_le count 10_000 && nat_le (first % 10_000_000 + count) 10_000_000) ≡ true) (from : first ≤ n) (below : n < first + count) where
+  fits : first % 10_000_000 + count ≤ 10_000_000
+  fits = last count (nat_lt 0 count && nat_le count 10_000) run
+    where
+      last : (c : ℕ) (b : Bool) → (b && nat_le (first % 10_000_000 + c) 10_000_000) ≡ true → first % 10_000_000 + c ≤ 10_000_000
+      last c true h = grind (arith, nat_tests)
+      last c false h = cc
+
+  pub serial_along : n % 10_000_000 ≡ first % 10_000_000 + (n - first)
+  serial_along = omega (arith, fits)
+
+  pub prefix_along : n / 10_000_000 ≡ first / 10_000_000
+  prefix_along = omega (arith, fits)

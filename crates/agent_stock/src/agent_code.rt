@@ -73,7 +73,8 @@ impl AgentCode {
 
     /// The code as a text.
     pub fn as_str(&self) -> &str
-        ensures { result.now ≡ self.now }
+        ensures value { result.now ≡ self.now }
+        ensures valid { IsTrue (is_agent_code self.now) }
     {
         ascii_text(self.as_bytes())
     }

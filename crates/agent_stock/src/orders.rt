@@ -13,6 +13,7 @@ fn change<R: StockRows>(
     to: &Holder,
     number: u16,
 ) -> Result<(), StockFault<R::Fault>>
+    requires { R.is_sound rows.old → R.is_ready rows.old }
     ensures accepted { R.is_sound rows.new → OnOk result (run_refusal (R.holders rows.old) run.now test.now number ≡ None) }
     ensures given { R.is_sound rows.new → OnOk result (R.holders rows.new ≡ assigned (R.holders rows.old) run.now to.now) }
     ensures beside { R.is_sound rows.new → OnOk result (R.beside rows.old rows.new) }
@@ -36,6 +37,7 @@ fn change<R: StockRows>(
 
 /// Takes in numbers that aren't in stock: they go to the desk. Refused 105, then 101.
 pub fn take_in<R: StockRows>(rows: &mut R, run: &Run) -> Result<(), StockFault<R::Fault>>
+    requires { R.is_sound rows.old → R.is_ready rows.old }
     ensures accepted { R.is_sound rows.new → OnOk result (order_refusal (R.holders rows.old) (Order.TakeIn run.now) ≡ None) }
     ensures given { R.is_sound rows.new → OnOk result (R.holders rows.new ≡ after_order (R.holders rows.old) (Order.TakeIn run.now)) }
     ensures beside { R.is_sound rows.new → OnOk result (R.beside rows.old rows.new) }
@@ -53,6 +55,7 @@ pub fn issue<R: StockRows>(
     run: &Run,
     agent: AgentCode,
 ) -> Result<(), StockFault<R::Fault>>
+    requires { R.is_sound rows.old → R.is_ready rows.old }
     ensures accepted { R.is_sound rows.new → OnOk result (order_refusal (R.holders rows.old) (Order.Issue run.now agent) ≡ None) }
     ensures given { R.is_sound rows.new → OnOk result (R.holders rows.new ≡ after_order (R.holders rows.old) (Order.Issue run.now agent)) }
     ensures beside { R.is_sound rows.new → OnOk result (R.beside rows.old rows.new) }
@@ -70,6 +73,7 @@ pub fn give_back<R: StockRows>(
     run: &Run,
     agent: AgentCode,
 ) -> Result<(), StockFault<R::Fault>>
+    requires { R.is_sound rows.old → R.is_ready rows.old }
     ensures accepted { R.is_sound rows.new → OnOk result (order_refusal (R.holders rows.old) (Order.GiveBack run.now agent) ≡ None) }
     ensures given { R.is_sound rows.new → OnOk result (R.holders rows.new ≡ after_order (R.holders rows.old) (Order.GiveBack run.now agent)) }
     ensures beside { R.is_sound rows.new → OnOk result (R.beside rows.old rows.new) }
@@ -83,6 +87,7 @@ pub fn give_back<R: StockRows>(
 
 /// Makes numbers void that the desk or an agent has. Refused 105, then 104.
 pub fn void_run<R: StockRows>(rows: &mut R, run: &Run) -> Result<(), StockFault<R::Fault>>
+    requires { R.is_sound rows.old → R.is_ready rows.old }
     ensures accepted { R.is_sound rows.new → OnOk result (order_refusal (R.holders rows.old) (Order.Void run.now) ≡ None) }
     ensures given { R.is_sound rows.new → OnOk result (R.holders rows.new ≡ after_order (R.holders rows.old) (Order.Void run.now)) }
     ensures beside { R.is_sound rows.new → OnOk result (R.beside rows.old rows.new) }
@@ -96,6 +101,7 @@ pub fn void_run<R: StockRows>(rows: &mut R, run: &Run) -> Result<(), StockFault<
 
 /// Carries out an order.
 pub fn carry_out<R: StockRows>(rows: &mut R, order: &Order) -> Result<(), StockFault<R::Fault>>
+    requires { R.is_sound rows.old → R.is_ready rows.old }
     ensures accepted { R.is_sound rows.new → OnOk result (order_refusal (R.holders rows.old) (order.now) ≡ None) }
     ensures given { R.is_sound rows.new → OnOk result (R.holders rows.new ≡ after_order (R.holders rows.old) (order.now)) }
     ensures beside { R.is_sound rows.new → OnOk result (R.beside rows.old rows.new) }

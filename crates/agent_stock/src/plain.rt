@@ -41,6 +41,8 @@ impl StockRows for PlainRows {
 
     ghost is_sound = { λ rows. Unit {0} };
 
+    ghost is_ready = { λ rows. Unit {0} };
+
     ghost as_before = { λ a b. b ≡ a };
 
     ghost beside = { λ a b. Unit {0} };
@@ -48,6 +50,8 @@ impl StockRows for PlainRows {
     ghost commits_nothing = { λ a b. Unit {0} };
 
     ghost same_holders = { λ a b same i. holders_of (same i) };
+
+    ghost stays_ready = { λ a b same ready. tt };
 
     ghost nothing_done = { λ a i. a };
 

@@ -71,7 +71,8 @@ impl Key {
 
     /// The key as a text.
     pub fn as_str(&self) -> &str
-        ensures { result.now ≡ self.now }
+        ensures value { result.now ≡ self.now }
+        ensures valid { IsTrue (is_key self.now) }
     {
         ascii_text(self.as_bytes())
     }

@@ -1,0 +1,9 @@
+pub mod Schema
+pub mod Columns
+pub mod Tables
+pub mod Meant
+pub mod Store
+pub mod Connection
+pub mod Calls
+pub mod Once
+pub mod Memory

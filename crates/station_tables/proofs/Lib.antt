@@ -1,0 +1,7 @@
+mod Assigning
+mod MapLaws
+mod Reading
+mod Rows
+mod Serving
+mod Walk
+mod Writing

@@ -1,0 +1,77 @@
+-- What a transaction leaves that changes the stock and keeps a reply.
+use Rattle.std.proofs.Common.{◌≡◌, ℕ, ◌<◌, pos, true, false, Bool, cond, ◌&&◌, List, Option, Some, None, Ok, Err, refl, sym, ◌∙◌, ap, subst, ◌⊎◌, inl, inr, ⊎_elim, arith, IsTrue}
+use Rattle.std.specs.Prelude.{int_le, option_map}
+use Rattle.std.specs.Str.{bytes_eq}
+use Rattle.std.specs.Ordering.{eq_by_cmp, nat_cmp}
+use Rattle.std.specs.FinMap.{get, insert, get-insert}
+use Rattle.std.proofs.lemmas.Int.{ints}
+use Rattle.std.proofs.lemmas.Map.Text.{is_eq-slice_cmp}
+use Rattle.station_core.specs.declared.command.Command.{Command}
+use Rattle.station_core.specs.declared.command.Input.TheVariants.{Keyed}
+use Rattle.station_core.specs.Key.{is_key}
+use Rattle.station_core.specs.Texts.{command_text}
+use Rattle.station_core.specs.Step.{Kept, State, step, keyed, first_time, effect, count_of, keeping, accepted}
+use Rattle.station_rows.proofs.Keys.{kept_total, kept_same}
+use Rattle.station_rows.specs.Meant.{with_kept}
+use Rattle.station_rows.specs.Store.{View, Survives}
+use Rattle.station_rows.specs.Tables.{Tables, kept_cmp}
+use Rattle.station_rows.specs.Tables as table
+use Rattle.station_tables.specs.Meaning.{meaning_of, holders_in, keeping_in, airport_in, is_kept_row, IsLawful}
+use Rattle.station_tables.specs.Steady.{IsAfter, IsBeside, MayEndBy}
+use Rattle.station_tables.proofs.MapLaws.{all-insert}
+use Rattle.station_tables.proofs.Writing.{lawful_stations, lawful_stock, lawful_kept, lawful_of}
+
+same_text : (q key : List ℕ) → eq_by_cmp kept_cmp q key ≡ bytes_eq q key
+same_text q key = is_eq-slice_cmp q key
+
+counted : (count : ℕ) → count < 4_294_967_296 → (int_le (pos 0) (pos count) && int_le (pos count) (pos 4_294_967_295)) ≡ true
+counted count below = grind (arith, ints)
+
+regroup : (a b c : Bool) → a ≡ true → (b && c) ≡ true → (a && b && c) ≡ true
+regroup true b c p q = q
+regroup false b c p q = p
+
+kept_fits : (key text : List ℕ) (count : ℕ) → is_key key ≡ true → count < 4_294_967_296 → is_kept_row (key, record { command = text; count = pos count }) ≡ true
+kept_fits key text count is_a below = regroup (is_key key) (int_le (pos 0) (pos count)) (int_le (pos count) (pos 4_294_967_295)) is_a (counted count below)
+
+module _ (before : Tables) (mid : Tables) (key : List ℕ) (command : Command) (text : List ℕ) (count : ℕ)
+    (none : get before.kept key ≡ None) (effect_is : effect (holders_in before.stock) command ≡ Ok (holders_in mid.stock))
+    (stations : mid.stations ≡ before.stations) (kept : mid.kept ≡ before.kept)
+    (is_text : text ≡ command_text command) (is_count : count ≡ count_of command) where
+
+  step_is : step (meaning_of before) (Keyed key command) ≡ first_time (meaning_of before) key command (Ok (holders_in mid.stock))
+  step_is = ap (λ (o : Option table.Kept). keyed (meaning_of before) key command (option_map keeping_in o)) none ∙ ap (first_time (meaning_of before) key command) effect_is
+
+  -- the tables at the commit
+  abbrev pub after : Tables
+  after = with_kept key (record { command = text; count = pos count }) mid
+
+  chosen : (b : Bool) (x : table.Kept) (o : Option table.Kept) → option_map keeping_in (cond b (Some x) o) ≡ cond b (Some (keeping_in x)) (option_map keeping_in o)
+  chosen true x o = refl
+  chosen false x o = refl
+
+  kept_then : (q : List ℕ) → option_map keeping_in (get after.kept q) ≡ keeping (λ k. option_map keeping_in (get before.kept k)) key (record { request = command_text command; count = count_of command }) q
+  kept_then q =
+      ap (option_map keeping_in) (get-insert kept_total mid.kept key (record { command = text; count = pos count }) q)
+      ∙ chosen (eq_by_cmp kept_cmp q key) (record { command = text; count = pos count }) (get mid.kept q)
+      ∙ (λ i. cond (same_text q key i) (Some (record { request = is_text i; count = is_count i })) (option_map keeping_in (get (kept i) q)))
+
+  pub after_is : meaning_of after ≡ (step (meaning_of before) (Keyed key command)).state
+  after_is =
+      (λ i. record { here = airport_in (stations i); holders = holders_in mid.stock; kept_keys = λ q. kept_then q i })
+      ∙ ap (λ s. s.state) (sym step_is)
+
+  pub answer_is : (step (meaning_of before) (Keyed key command)).answer ≡ accepted count
+  answer_is = ap (λ s. s.answer) step_is ∙ ap accepted (sym is_count)
+
+  pub after_lawful : is_key key ≡ true → count < 4_294_967_296 → IsLawful mid → IsLawful after
+  after_lawful is_a below lawful = lawful_of after (lawful_stations mid lawful) (lawful_stock mid lawful)
+      (all-insert kept_cmp kept_total kept_same is_kept_row mid.kept key (record { command = text; count = pos count }) (lawful_kept mid lawful) (kept_fits key text count is_a below))
+
+  -- whether the commit was made or not
+  pub either : (old now new : View) → Survives old now → MayEndBy now new after → is_key key ≡ true → count < 4_294_967_296 → IsLawful mid
+      → new.IsSound → (t : Tables) → new.may_leave t → old.may_leave t ⊎ IsAfter (meaning_of before) (Keyed key command) t
+  either old now new survives ends is_a below lawful sound t left = ⊎_elim
+      (λ was. inl (survives.crash (ends.sound sound) t was))
+      (λ e. inr (record { lawful = subst IsLawful (sym e) (after_lawful is_a below lawful); state = ap meaning_of e ∙ after_is }))
+      (ends.crash sound t left)

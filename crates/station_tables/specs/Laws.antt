@@ -1,0 +1,50 @@
+-- How calls on a store go on from one another.
+use Rattle.std.specs.Prelude.{◌≡◌, refl, Option, Some}
+use Rattle.std.proofs.Common.{◌∙◌, sym, ap, subst}
+use Rattle.station_core.specs.Step.{State}
+use Rattle.station_rows.specs.Tables.{Tables}
+use Rattle.station_rows.specs.Store.{View, Survives}
+use Rattle.station_tables.specs.Meaning.{IsLawful, holders_in, meaning_of, state_of}
+use Rattle.station_tables.specs.Steady.{IsReady, IsSteady, IsAsBefore, IsBeside}
+use Rattle.station_tables.specs.Found.{Keeps, Finds}
+
+pub as_before_lawful : (a b : View) → IsAsBefore a b → IsLawful a.now → IsLawful b.now
+as_before_lawful a b same lawful = subst IsLawful (sym same.now_is) lawful
+
+pub as_before_ready : (a b : View) → IsAsBefore a b → IsReady a → IsReady b
+as_before_ready a b same ready = record { is_open = same.is_open ∙ ready.is_open; lawful = as_before_lawful a b same ready.lawful }
+
+pub as_before_itself : (a : View) → IsAsBefore a a
+as_before_itself a = record { is_open = refl; mode = refl; committed = refl; now_is = refl }
+
+pub as_before_holders : (a b : View) → IsAsBefore a b → holders_in b.now.stock ≡ holders_in a.now.stock
+as_before_holders a b same = ap (λ t. holders_in t.stock) same.now_is
+
+pub beside_goes_on : (a b c : View) → IsAsBefore a b → IsBeside b c → IsBeside a c
+beside_goes_on a b c same beside = record {
+  is_open = λ was. beside.is_open (same.is_open ∙ was);
+  committed = beside.committed ∙ same.committed;
+  stations = beside.stations ∙ ap (λ t. t.stations) same.now_is;
+  kept = beside.kept ∙ ap (λ t. t.kept) same.now_is;
+  lawful = λ lawful. beside.lawful (as_before_lawful a b same lawful);
+}
+
+pub survives_itself : (a : View) → Survives a a
+survives_itself a = record { sound = λ sound. sound; crash = λ sound t left. left }
+
+pub survives_goes_on : (a b c : View) → Survives a b → Survives b c → Survives a c
+survives_goes_on a b c first second = record {
+  sound = λ sound. first.sound (second.sound sound);
+  crash = λ sound t left. first.crash (second.sound sound) t (second.crash sound t left);
+}
+
+-- what is found is what is kept
+pub found_is : (v : View) (s : State) → Keeps v s → (found : Option State) → Finds v found → found ≡ Some s
+found_is v s keeps found finds = sym finds.2 ∙ keeps.found finds.0 finds.1
+
+-- a steady store keeps what its tables mean
+pub steady_keeps : (v : View) → IsSteady v → ((t : Tables) → v.may_leave t → t ≡ v.committed) → Keeps v (meaning_of v.now)
+steady_keeps v steady settled = record {
+  now = λ is_open. refl;
+  found = λ t left. ap state_of (settled t left ∙ sym steady.rest.same) ∙ rw steady.lawful refl;
+}

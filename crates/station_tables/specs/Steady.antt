@@ -1,0 +1,58 @@
+-- A station's store between two calls, and what a call does to it.
+use Rattle.std.specs.Prelude.{◌≡◌, ◌⊎◌, true, Result, Err}
+use Rattle.agent_stock.specs.Stock.{Holders}
+use Rattle.agent_stock.specs.declared.stock.StockFault.{StockFault}
+use Rattle.agent_stock.specs.declared.stock.StockFault.TheVariants as stock
+use Rattle.station_core.specs.declared.answer.Refusal.{Refusal}
+use Rattle.station_core.specs.declared.answer.Answer.{Answer}
+use Rattle.station_core.specs.declared.command.Input.{Input}
+use Rattle.station_core.specs.Step.{State, step, waybill_or_nothing}
+use Rattle.station_rows.specs.Tables.{Tables}
+use Rattle.station_rows.specs.Store.{View, IsAtRest}
+use Rattle.station_tables.specs.Meaning.{meaning_of, IsLawful}
+
+-- no transaction is open, and the tables mean a state
+pub record IsSteady (v : View) : Type 0 where
+  pub is_open : v.is_open ≡ true
+  pub rest : IsAtRest v
+  pub lawful : IsLawful v.now
+
+-- the store is open, and the tables mean a state
+pub record IsReady (v : View) : Type 0 where
+  pub is_open : v.is_open ≡ true
+  pub lawful : IsLawful v.now
+
+-- nothing differs
+pub record IsAsBefore (old new : View) : Type 0 where
+  pub is_open : new.is_open ≡ old.is_open
+  pub mode : new.in_transaction ≡ old.in_transaction
+  pub committed : new.committed ≡ old.committed
+  pub now_is : new.now ≡ old.now
+
+-- the second has all from the first but the stock, and perhaps a transaction
+pub record IsBeside (old new : View) : Type 0 where
+  pub is_open : old.is_open ≡ true → new.is_open ≡ true
+  pub committed : new.committed ≡ old.committed
+  pub stations : new.now.stations ≡ old.now.stations
+  pub kept : new.now.kept ≡ old.now.kept
+  pub lawful : IsLawful old.now → IsLawful new.now
+
+-- the answer is that of the step, and the state the one after it
+pub record Serves (old : State) (input : Input) (given : Answer) (new : State) : Type 0 where
+  pub answer : (step old input).answer ≡ given
+  pub state : new ≡ (step old input).state
+
+-- the tables mean the state after the step
+pub record IsAfter (before : State) (input : Input) (t : Tables) : Type 0 where
+  pub lawful : IsLawful t
+  pub state : meaning_of t ≡ (step before input).state
+
+-- nothing was committed but these tables, if they were
+pub record MayEndBy (old new : View) (after : Tables) : Type 0 where
+  pub sound : new.IsSound → old.IsSound
+  pub crash : new.IsSound → (t : Tables) → new.may_leave t → old.may_leave t ⊎ (t ≡ after)
+
+-- what a fault of the stock says of a command's effect
+abbrev pub RefusesBy : {F : Type 0} → Result Holders Refusal → StockFault F → Type 0
+RefusesBy effect (stock.Refused number lowest) = effect ≡ Err (record { number = number; detail = waybill_or_nothing lowest })
+RefusesBy effect (stock.Rows _) = Unit {0}

@@ -1,0 +1,11 @@
+//! A station over the tables of a database.
+#![tactic(auto)]
+
+mod desk;
+mod opening;
+mod serve;
+mod station;
+
+pub use desk::Desk;
+pub use opening::{AttachFault, create};
+pub use station::Station;
