@@ -1,12 +1,12 @@
 -- What each kind of statement does to a table whose key is made of columns, whatever the table.
-use Rattle.std.proofs.Common.{◌≡◌, ◌<ℤ◌, ℕ, ℤ, pos, ◌+ℤ◌, List, [], ◌∷◌, ◌++◌, map, filter, Bool, true, false, not, None, option_map, refl, sym, ap, ap₂, subst, ◌∙◌, arith, int_eq, Ordering, Less, IsPermutation}
-use Rattle.std.specs.Prelude.{option_to_list, ◌&&◌}
+use Rattle.std.proofs.Common.{◌≡◌, ◌≤◌, ◌<ℤ◌, ℕ, ℤ, pos, ◌+ℤ◌, List, [], ◌∷◌, ◌++◌, map, filter, length, Bool, true, false, cond, not, None, option_map, refl, sym, ap, ap₂, subst, ◌∙◌, arith, int_eq, Ordering, Less, IsPermutation}
+use Rattle.std.specs.Prelude.{option_to_list, ◌&&◌, drop}
 use Rattle.std.specs.List.{AllByRecursion, list_all}
 use Rattle.std.specs.Cmp.{IsTotalOrder}
 use Rattle.std.specs.Ordering.{eq_by_cmp}
 use Rattle.std.specs.FinMap.{FinMap, IsAntisymmetric, find, entries, get, insert, remove, from_entries, get-from_entries, from_entries_push}
 use Rattle.std.proofs.lemmas.Int.{ints}
-use Rattle.std.proofs.lemmas.List.Sorted.{IsPermutation-map, IsPermutation-trans, IsPermutation-sym}
+use Rattle.std.proofs.lemmas.List.Sorted.{IsPermutation-map, IsPermutation-trans, IsPermutation-sym, length_permutation}
 use Rattle.sqlite.specs.declared.types.Value.TheVariants.{Null, Int}
 use Rattle.sqlite.specs.Order.{Row}
 use Rattle.sqlite.specs.Tree.{Trees, rowid, IsAscending}
@@ -26,15 +26,18 @@ use Rattle.sqlite_schema.specs.Rules.{agree, differ, clashes}
 use Rattle.sqlite_sql.specs.declared.ops.CompareOp.TheVariants.{Ne}
 use Rattle.sqlite_sql.proofs.QueryLemmas.{output_cmp_total}
 use Rattle.sqlite_keyed.specs.Keyed.{IsKeyedBy, next_key, insert_by}
-use Rattle.sqlite_keyed.proofs.KeyedLemmas.{above_all, IsKeyedBy-insert_by, IsKeyedBy-delete_where}
+use Rattle.sqlite_keyed.proofs.KeyedLemmas.{above_all, IsKeyedBy-insert_by, IsKeyedBy-delete_where, IsKeyedBy-update_where}
 use Rattle.sqlite_keyed.proofs.SliceLemmas.{insert_next}
 use Rattle.sqlite_keyed.proofs.SortLemmas.{sorted_unique}
-use Rattle.sqlite_keyed.proofs.ListLemmas.{map_back, all_weaker, all_both, all_map, all_unmap, none_from_any, map-map, map_same, filter-map, filter_same, ascending-append, ascending-filter, ascending-map, IsPermutation-filter}
+use Rattle.sqlite_keyed.proofs.ListLemmas.{map_back, all_weaker, all_both, all_map, all_unmap, none_from_any, map-map, map_same, filter-map, filter_same, ascending-append, ascending-filter, ascending-map, ascending_weaker, IsPermutation-filter}
 use Rattle.sqlite_typed.proofs.AnswerLemmas.{at_end, last_table, matches_are}
 use Rattle.sqlite_typed.proofs.TestLemmas.{at_ints}
-use Rattle.station_rows.specs.Columns.{numbered, numbered_in, AreEntries}
-use Rattle.station_rows.proofs.Keyed.{one_table, no_overlay, any_rows, puts, removed_any, fold-map}
-use Rattle.station_rows.proofs.Maps.{all_passed, ascending_where, same_one, map_one, entries_of, entries_rise, entry_at, removed_is, found_none}
+use Rattle.station_rows.specs.Columns.{numbered, numbered_in, AreEntries, adjust}
+use Rattle.station_rows.proofs.Keyed.{one_table, no_overlay, any_rows, few_rows, puts, removed_any, changed, fold-map}
+use Rattle.station_rows.proofs.Maps.{all_passed, ascending_where, same_one, map_one, entries_of, entries_rise, entry_at, removed_is, found_none, at_most_one, adjusted_is, changes_at}
+use Rattle.std.proofs.lemmas.List.{length-map}
+use Rattle.sqlite_keyed.specs.Lists.{update_where}
+use Rattle.sqlite.specs.Cast.{cast_row}
 
 abbrev pub number : {E : Type 0} → ℤ × E → ℤ
 number n = n.0
@@ -74,9 +77,6 @@ module _ {K V : Type 0} (R : K → K → Ordering) (total : IsTotalOrder R) (to_
   pub reads_back : (from_row : Row → K × V) → ((n : ℤ × (K × V)) → from_row (numbered to_row n) ≡ n.1) → (stored : List Row) (m : FinMap R V) → IsMap R to_row stored m → from_entries (map from_row stored) ≡ m
   reads_back from_row back stored m now =
       ap (λ rows. from_entries (map from_row rows)) now.rows ∙ ap from_entries (map-map from_row (numbered to_row) now.raw ∙ map_same _ entry back now.raw) ∙ sym now.is
-
-  pub no_rows_stored : (stored : List Row) → stored ≡ [] → IsMap R to_row stored (from_entries [])
-  no_rows_stored stored none = record { raw = []; rows = none; keyed = tt; apart = tt; is = refl }
 
   -- the entries of the map are the rows, in some order
   pub same_rows : (stored : List Row) (m : FinMap R V) (was : IsMap R to_row stored m) → IsPermutation (map entry was.raw) (entries m)
@@ -222,3 +222,42 @@ module _ {K V : Type 0} (R : K → K → Ordering) (total : IsTotalOrder R) (to_
           → Applies schema keys db (edit_of db table (ids_of rows) Given 0 []) next → IsMap R to_row (next table.tree) (remove m k)
       deleted_at k at rows gone h =
           deleted rows gone h (remove m k) (ap (λ l. remove l k) was.is ∙ removed_is R total same (map entry was.raw) k ∙ ap from_entries (filter_same _ (λ e. not (p e)) (λ e. ap not (sym (at e))) (map entry was.raw)))
+
+    -- UPDATE of the other columns of the row with a key
+    module _ (filters project : List Term) (params : Row) (p : K × V → Bool) (tests : (n : ℤ) (e : K × V) → list_all (holds (params ∷ (Int n ∷ to_row e) ∷ [])) filters ≡ p e)
+        (show : ℤ → K × V → Row) (shows : (n : ℤ) (e : K × V) → eval_all project (params ∷ (Int n ∷ to_row e) ∷ []) ≡ show n e) (ids : (n : ℤ) (e : K × V) → id_in (rowid (show n e)) ≡ n)
+        (g : V → V) (casts : (n : ℤ) (e : K × V) → cast_row table (drop 1 (show n e)) ≡ Int n ∷ to_row (e.0, g e.1)) (k : K) (at : (e : K × V) → p e ≡ eq_by_cmp R k e.0) where
+      few : length (filter (λ n. p n.1) was.raw) ≤ 1
+      few =
+          let moved : map entry (filter (λ n. p n.1) was.raw) ≡ filter p (map entry was.raw) = sym (filter-map p entry was.raw) in
+          let found : filter p (entries m) ≡ option_to_list (option_map (λ v. (k, v)) (get m k)) = filter_same p _ at (entries m) ∙ entry_at R total same m k in
+          let one : length (filter p (entries m)) ≤ 1 = subst (λ l. length l ≤ 1) (sym found) (at_most_one _) in
+          let as_long : length (filter p (map entry was.raw)) ≡ length (filter p (entries m)) = sym (length_permutation _ _ (IsPermutation-filter p _ _ (same_rows (db table.tree) m was))) in
+          subst (λ n. n ≤ 1) (sym (sym (length-map _ _) ∙ ap length moved ∙ as_long)) one
+
+      abbrev changed_row : ℤ × (K × V) → ℤ × (K × V)
+      changed_row n = (n.0, (n.1.0, g n.1.1))
+
+      key_stays : (b : Bool) (n : ℤ × (K × V)) → (cond b (changed_row n) n).1.0 ≡ n.1.0
+      key_stays true n = refl
+      key_stays false n = refl
+
+      entry_changes : (b : Bool) (n : ℤ × (K × V)) → entry (cond b (changed_row n) n) ≡ cond b (n.1.0, g n.1.1) n.1
+      entry_changes true n = refl
+      entry_changes false n = refl
+
+      pub updated_at : (rows : List Row) → Answers (record { schema = schema; trees = db }) (record { lets = []; body = one_table table.tree filters project [] }) params rows
+          → Applies schema keys db (edit_of db table (ids_of rows) Given 1 rows) next → IsMap R to_row (next table.tree) (adjust m k g)
+      updated_at rows asked h =
+          let xs = was.raw in
+          let given = few_rows number (numbered to_row) (λ _. refl) schema db table.tree xs was.rows was.keyed params filters project (λ n. p n.1) (λ n. tests n.0 n.1) (λ n. show n.0 n.1) (λ n. shows n.0 n.1) few rows asked in
+          record {
+            raw = update_where (λ n. p n.1) changed_row xs;
+            rows = changed number (numbered to_row) (λ _. refl) schema keys table db next xs was.rows was.keyed (λ n. p n.1) (λ n. show n.0 n.1) (λ n. ids n.0 n.1) changed_row (λ _. refl) (λ n. casts n.0 n.1) rows given h;
+            keyed = IsKeyedBy-update_where number (λ n. p n.1) changed_row (λ _. refl) xs was.keyed;
+            apart = ascending-map (λ a b. eq_by_cmp R a.1.0 b.1.0 ≡ false) (λ n. cond (p n.1) (changed_row n) n) xs
+                (ascending_weaker _ (λ a b. eq_by_cmp R (cond (p a.1) (changed_row a) a).1.0 (cond (p b.1) (changed_row b) b).1.0 ≡ false) (λ a b h. ap₂ (eq_by_cmp R) (key_stays (p a.1) a) (key_stays (p b.1) b) ∙ h) xs was.apart);
+            is = ap (λ l. adjust l k g) was.is ∙ adjusted_is R total same g (map entry xs) k
+                ∙ ap from_entries (map-map (changes_at R total same g k) entry xs ∙ map_same _ (λ n. entry (cond (p n.1) (changed_row n) n)) (λ n. sym (entry_changes (p n.1) n ∙ ap (λ b. cond b (n.1.0, g n.1.1) n.1) (at n.1))) xs
+                ∙ sym (map-map entry (λ n. cond (p n.1) (changed_row n) n) xs));
+          }

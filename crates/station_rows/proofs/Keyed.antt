@@ -1,12 +1,12 @@
 -- What each kind of statement does to a table that stands for a list of typed rows, in the order of their rowids.
-use Rattle.std.proofs.Common.{◌≡◌, ◌<ℤ◌, ℕ, ℤ, pos, negsuc, List, [], ◌∷◌, map, filter, fold, length, slice_get, Bool, true, false, cond, not, Some, None, Option, refl, sym, ap, ap₂, subst, ◌∙◌, arith, nat_le, int_eq, int_cmp, Greater, is_some, unwrap_or, map-id, ◌≤◌, ◌-◌, ◌^◌, IsPermutation}
+use Rattle.std.proofs.Common.{◌≡◌, ◌<ℤ◌, ℕ, ℤ, pos, negsuc, List, [], ◌∷◌, map, filter, fold, length, slice_get, Bool, true, false, cond, not, Some, None, Option, refl, sym, ap, ap₂, subst, ◌∙◌, arith, nat_le, int_eq, int_cmp, Greater, is_some, unwrap_or, ◌≤◌, ◌-◌, ◌^◌, IsPermutation}
 use Rattle.std.specs.Prelude.{option_to_list, ◌||◌, ◌&&◌, drop}
 use Rattle.std.specs.List.{AllByRecursion, list_all}
 use Rattle.std.specs.Ordering.{match_ordering}
 use Rattle.std.proofs.lemmas.Int.{ints}
 use Rattle.std.proofs.lemmas.List.Sorted.{length_permutation}
 use Rattle.sqlite.specs.declared.types.Value.TheVariants.{Null, Int}
-use Rattle.sqlite.specs.Order.{Row, value_cmp}
+use Rattle.sqlite.specs.Order.{Row}
 use Rattle.sqlite_value.proofs.OrderLemmas.{value_cmp-Int}
 use Rattle.sqlite.specs.Tree.{Trees, rowid, put_row}
 use Rattle.sqlite.specs.Edit.{is_taken, are_fresh, id_in, edit_of, numbered, without_all, put_all, left_by, Applies}
@@ -22,19 +22,17 @@ use Rattle.sqlite.specs.Table.{Table}
 use Rattle.sqlite_schema.specs.declared.schema.Keys.{Keys}
 use Rattle.sqlite.specs.Program.{overlay}
 use Rattle.sqlite.specs.Query.{Query, Output, output, inner, end}
-use Rattle.sqlite.specs.Term.{Term, lit, col, eval_all, holds}
+use Rattle.sqlite.specs.Term.{Term, lit, eval_all, holds}
 use Rattle.sqlite.specs.Schema.{Schema}
 use Rattle.sqlite.specs.Effect.{Answers}
 use Rattle.sqlite_value.specs.declared.keys.Key.{Key}
-use Rattle.sqlite.specs.Collation.TheVariants.{Binary}
 use Rattle.std.proofs.lemmas.List.{length-map}
-use Rattle.sqlite_typed.proofs.TestLemmas.{last_key}
 use Rattle.sqlite.proofs.Callers.{one_permutation}
 use Rattle.sqlite_keyed.specs.Keyed.{IsKeyedBy, get_by, has_key, insert_by}
 use Rattle.sqlite_keyed.specs.Lists.{update_where, delete_where}
 use Rattle.sqlite_keyed.proofs.KeyedLemmas.{Less-from_lt}
 use Rattle.sqlite_keyed.proofs.ListLemmas.{all_weaker, all_map, all-filter, filter_none, map-map, map_same}
-use Rattle.sqlite_typed.proofs.AnswerLemmas.{Source, at_end, last_table, matches_are, answer_by_keys}
+use Rattle.sqlite_typed.proofs.AnswerLemmas.{Source, at_end, last_table, matches_are}
 use Rattle.sqlite_typed.proofs.RowLemmas.{puts-map, deletes-map}
 
 -- a query with no subquery in FROM reads the trees themselves
@@ -73,9 +71,6 @@ one_table t filter project order = record {
   offset = lit (Int (pos 0));
 }
 
-abbrev pub by_rowid : List (Term × Key)
-by_rowid = (col 1 0, record { collation = Binary; descending = false }) ∷ []
-
 same_few : (outs answer : List Output) → length outs ≤ 1 → IsPermutation outs answer → answer ≡ outs
 same_few [] [] few same = refl
 same_few [] (y ∷ ys) few same = absurd (omega (arith, length_permutation [] (y ∷ ys) same))
@@ -87,13 +82,6 @@ module _ {X : Type 0} (key : X → ℤ) (to_row : X → Row) (keyed : (x : X) �
     (show : X → Row) (shows : (x : X) → eval_all project (params ∷ to_row x ∷ []) ≡ show x) where
   abbrev seen : Source (overlay db []) (inner t end) X
   seen = last_table (overlay db []) t to_row key xs (no_overlay db t ∙ stored) up (at_end (overlay db []))
-
-  -- ORDER BY the rowid
-  pub sorted_rows : (rows : List Row) → Answers (record { schema = schema; trees = db }) (record { lets = []; body = one_table t filters project by_rowid }) params rows → rows ≡ map show (filter p xs)
-  sorted_rows rows h =
-      sym (map-id rows)
-      ∙ answer_by_keys (one_table t filters project by_rowid) (overlay db []) params seen p tests (λ r. r) show shows refl refl
-      (λ a b. last_key (ap₂ value_cmp (keyed a) (keyed b) ∙ value_cmp-Int (key a) (key b))) rows (h.answer Null)
 
   -- no ORDER BY, and one row at most
   pub few_rows : length (filter p xs) ≤ 1 → (rows : List Row) → Answers (record { schema = schema; trees = db }) (record { lets = []; body = one_table t filters project [] }) params rows → rows ≡ map show (filter p xs)
@@ -182,9 +170,6 @@ module _ {X : Type 0} (key : X → ℤ) (to_row : X → Row) (keyed : (x : X) �
 
   left_are : without_all (db table.tree) (ids_of (map show (filter p xs))) ≡ map to_row (delete_where p xs)
   left_are = ap₂ without_all stored ids_are ∙ deletes-map key to_row keyed (map key (filter p xs)) xs ∙ ap (map to_row) (removes_delete key p xs up)
-
-  pub removed : (rows : List Row) → rows ≡ map show (filter p xs) → Applies schema keys db (edit_of db table (ids_of rows) Given 0 []) next → next table.tree ≡ map to_row (delete_where p xs)
-  removed rows is h = h.rows ∙ ap (λ rs. without_all (db table.tree) (ids_of rs)) is ∙ left_are
 
   pub changed : (f : X → X) → ((x : X) → key (f x) ≡ key x) → ((x : X) → cast_row table (drop 1 (show x)) ≡ to_row (f x))
       → (rows : List Row) → rows ≡ map show (filter p xs) → Applies schema keys db (edit_of db table (ids_of rows) Given 1 rows) next → next table.tree ≡ map to_row (update_where p f xs)

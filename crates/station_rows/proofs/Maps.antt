@@ -1,15 +1,16 @@
 -- Maps and lists of entries: each key once, in some order.
 use Rattle.std.proofs.Common.{◌≡◌, ◌≤◌, List, [], ◌∷◌, map, filter, length, Bool, true, false, cond, not, T, Some, None, Option, option_map, is_eq, is_lt, refl, sym, ap, subst, ◌∙◌, arith, Ordering, Less, Equal, Greater, IsPermutation}
-use Rattle.std.specs.Prelude.{option_to_list, ◌&&◌}
+use Rattle.std.specs.Prelude.{option_to_list, unwrap_or, ◌&&◌}
 use Rattle.std.specs.List.{AllByRecursion}
 use Rattle.std.specs.Cmp.{IsTotalOrder, eq_by_cmp_equiv}
 use Rattle.std.specs.Ordering.{eq_by_cmp}
-use Rattle.std.specs.FinMap.{FinMap, IsAntisymmetric, find, put, is_sorted, entries, entries_sorted, empty, get, remove, from_entries, get-entries, get-from_entries, get-remove, entries-insert, len-empty, len-entries, same_map}
+use Rattle.std.specs.FinMap.{FinMap, IsAntisymmetric, find, put, is_sorted, entries, entries_sorted, empty, get, insert, remove, from_entries, get-insert, get-entries, get-from_entries, get-remove, entries-insert, len-empty, len-entries, same_map}
 use Rattle.std.specs.FinMap.Entries.{below_all, by_order, where_key, find-where_key}
 use Rattle.std.proofs.lemmas.List.Sorted.{length_permutation, IsPermutation-refl, IsPermutation-cons, IsPermutation-trans, IsPermutation-middle}
 use Rattle.sqlite.specs.Tree.{IsAscending}
 use Rattle.sqlite_keyed.proofs.ListLemmas.{all_weaker, all_both, filter_none}
 use Rattle.sqlite.proofs.Callers.{one_permutation}
+use Rattle.station_rows.specs.Columns.{adjust}
 
 no_entries : {E : Type 0} (es : List E) → length es ≡ 0 → es ≡ []
 no_entries [] h = refl
@@ -121,3 +122,48 @@ module _ {K V : Type 0} (R : K → K → Ordering) (total : IsTotalOrder R) wher
 
     pub found_none : (es : List (K × V)) (k : K) → AllByRecursion (λ e. eq_by_cmp R e.0 k ≡ false) es → find R k es ≡ None
     found_none es k all = none_found k es (all_weaker _ (λ e. eq_by_cmp R k e.0 ≡ false) (λ e h. turn R total k e.0 ∙ h) es all)
+
+    module _ (g : V → V) where
+      -- the entry with a key, changed
+      abbrev pub changes_at : K → K × V → K × V
+      changes_at k e = cond (eq_by_cmp R k e.0) (e.0, g e.1) e
+
+      same_key : (k : K) (e : K × V) → (changes_at k e).0 ≡ e.0
+      same_key k e = elim (eq_by_cmp R k e.0) as (λ b. (cond b (e.0, g e.1) e).0 ≡ e.0) [ true ↦ refl | false ↦ refl ]
+
+      new_value : (b : Bool) (e : K × V) → Some (cond b (e.0, g e.1) e).1 ≡ cond b (option_map g (Some e.1)) (Some e.1)
+      new_value true e = refl
+      new_value false e = refl
+
+      find_changed : (k q : K) (es : List (K × V)) → find R q (map (changes_at k) es) ≡ cond (eq_by_cmp R q k) (option_map g (find R q es)) (find R q es)
+      find_changed k q [] = elim (eq_by_cmp R q k) as (λ b. find R q [] ≡ cond b (option_map g None) None) [ true ↦ refl | false ↦ refl ]
+      find_changed k q (e ∷ es) = ap (λ x. cond (eq_by_cmp R q x) (Some (changes_at k e).1) (find R q (map (changes_at k) es))) (same_key k e) ∙ go (eq_by_cmp R q e.0) refl (find_changed k q es)
+        where
+          go : (t : Bool) → eq_by_cmp R q e.0 ≡ t → find R q (map (changes_at k) es) ≡ cond (eq_by_cmp R q k) (option_map g (find R q es)) (find R q es)
+              → cond t (Some (changes_at k e).1) (find R q (map (changes_at k) es)) ≡ cond (eq_by_cmp R q k) (option_map g (cond t (Some e.1) (find R q es))) (cond t (Some e.1) (find R q es))
+          go true is more =
+              let here : eq_by_cmp R k e.0 ≡ eq_by_cmp R q k = ap (eq_by_cmp R k) (sym (same q e.0 (is_tied _ is))) ∙ turn R total k q in
+              ap (λ b. Some (cond b (e.0, g e.1) e).1) here ∙ new_value (eq_by_cmp R q k) e
+          go false is more = more
+
+      get_adjusted : (m : FinMap R V) (k q : K) → get (adjust m k g) q ≡ cond (eq_by_cmp R q k) (option_map g (get m q)) (get m q)
+      get_adjusted m k q = go (get m k) refl
+        where
+          here : (b : Bool) (o : Option V) → eq_by_cmp R q k ≡ b → get m k ≡ o → (b ≡ true → get m q ≡ o)
+          here b o is has so = ap (get m) (same q k (is_tied _ (is ∙ so))) ∙ has
+
+          none : (b : Bool) → eq_by_cmp R q k ≡ b → get m k ≡ None → get m q ≡ cond b (option_map g (get m q)) (get m q)
+          none true is has = let no : get m q ≡ None = here true None is has refl in no ∙ sym (ap (option_map g) no)
+          none false is has = refl
+
+          some : (b : Bool) (v : V) → eq_by_cmp R q k ≡ b → get m k ≡ Some v → cond b (Some (g v)) (get m q) ≡ cond b (option_map g (get m q)) (get m q)
+          some true v is has = sym (ap (option_map g) (here true (Some v) is has refl))
+          some false v is has = refl
+
+          go : (o : Option V) → get m k ≡ o → get (unwrap_or (option_map (λ v. insert m k (g v)) o) m) q ≡ cond (eq_by_cmp R q k) (option_map g (get m q)) (get m q)
+          go None has = none (eq_by_cmp R q k) refl has
+          go (Some v) has = get-insert total m k (g v) q ∙ some (eq_by_cmp R q k) v refl has
+
+      pub adjusted_is : (es : List (K × V)) (k : K) → adjust (from_entries {R = R} es) k g ≡ from_entries (map (changes_at k) es)
+      adjusted_is es k = same_map total same _ _ (λ q.
+          get_adjusted (from_entries es) k q ∙ ap (λ o. cond (eq_by_cmp R q k) (option_map g o) o) (get-from_entries total es q) ∙ sym (get-from_entries total (map (changes_at k) es) q ∙ find_changed k q es))

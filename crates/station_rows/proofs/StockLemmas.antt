@@ -12,7 +12,7 @@ use Rattle.sqlite.specs.declared.error.Error.{Error}
 use Rattle.sqlite.specs.declared.types.Value.TheVariants.{Int, Text}
 use Rattle.sqlite.specs.Order.{Row}
 use Rattle.sqlite.specs.Term.{col, holds}
-use Rattle.sqlite.specs.Command.TheVariants.{Insert, Delete, Select}
+use Rattle.sqlite.specs.Command.TheVariants.{Insert, Update, Delete, Select}
 use Rattle.sqlite.specs.Source.TheVariants.{Values}
 use Rattle.sqlite.specs.Effect.{Database, value_rows}
 use Rattle.sqlite.specs.Does.{Does}
@@ -25,15 +25,16 @@ use Rattle.sqlite_value.proofs.OrderLemmas.{value_cmp-Int}
 use Rattle.sqlite_sql.specs.declared.ops.CompareOp.TheVariants.{Eq, Ge, Le}
 use Rattle.sqlite_typed.proofs.TestLemmas.{at_ints, last_term, then_term, last_key}
 use Rattle.station_rows.specs.Schema.{station_schema, stock}
+use Rattle.station_rows.specs.Columns.{adjust}
 use Rattle.station_rows.specs.Tables.{Stock, StockKey, stock_cmp, tables_of, IsStation, stock_row, stock_in, stock_read}
 use Rattle.station_rows.specs.Calls.{IsInside, Edits, Reads}
-use Rattle.station_rows.specs.Meant.{stock_meant, with_stock, without_stock, is_between}
-use Rattle.station_rows.proofs.Shared.{inserts, deletes, cast_int, cast_null}
+use Rattle.station_rows.specs.Meant.{stock_meant, with_stock, changing_stock, without_stock, is_between}
+use Rattle.station_rows.proofs.Shared.{inserts, updates, deletes, cast_int, cast_null}
 use Rattle.station_rows.proofs.Keyed.{one_table}
 use Rattle.station_rows.proofs.Keys.{stock_total, stock_same, pair_eq, int_tied}
-use Rattle.station_rows.proofs.Columns.{Compares, IsMap, map_of, inserted, deleted_at, rows_in_order}
+use Rattle.station_rows.proofs.Columns.{Compares, IsMap, map_of, inserted, updated_at, deleted_at, rows_in_order}
 use Rattle.station_rows.proofs.Inside.{execute_survives}
-use Rattle.station_rows.proofs.Texts.{asks, by_column, insert_text, insert_is, stock_terms, pair_is, lies_between, stock_columns, stock_names, delete_text, delete_is, between_text, between_is}
+use Rattle.station_rows.proofs.Texts.{asks, by_column, insert_text, insert_is, stock_terms, pair_is, lies_between, stock_columns, stock_names, update_text, update_is, update_terms, delete_text, delete_is, between_text, between_is}
 use Rattle.station_rows.proofs.Stored.{edits_stock}
 
 -- ---- the key
@@ -43,8 +44,8 @@ pub stock_compares : Compares stock_cmp stock_total stock_row (1 ∷ 2 ∷ [])
 unfolding first_key
 stock_compares a b = then_term (at_ints false Eq a.1.0.0 b.1.0.0) (last_term (at_ints false Eq a.1.0.1 b.1.0.1)) ∙ sym (pair_eq int_cmp int_cmp a.1.0 b.1.0 ∙ ap₂ ◌&&◌ (int_tied a.1.0.0 b.1.0.0) (int_tied a.1.0.1 b.1.0.1))
 
-stock_tests : (k : StockKey) (n : ℤ) (e : StockKey × Stock) → list_all (holds ((Int k.0 ∷ Int k.1 ∷ []) ∷ (Int n ∷ stock_row e) ∷ [])) pair_is ≡ (int_eq e.0.0 k.0 && int_eq e.0.1 k.1)
-stock_tests k n e = then_term (at_ints false Eq e.0.0 k.0) (last_term (at_ints false Eq e.0.1 k.1))
+stock_tests : (k : StockKey) (more : Row) (n : ℤ) (e : StockKey × Stock) → list_all (holds ((Int k.0 ∷ Int k.1 ∷ more) ∷ (Int n ∷ stock_row e) ∷ [])) pair_is ≡ (int_eq e.0.0 k.0 && int_eq e.0.1 k.1)
+stock_tests k more n e = then_term (at_ints false Eq e.0.0 k.0) (last_term (at_ints false Eq e.0.1 k.1))
 
 stock_at : (k : StockKey) (e : StockKey × Stock) → (int_eq e.0.0 k.0 && int_eq e.0.1 k.1) ≡ eq_by_cmp stock_cmp k e.0
 stock_at k e = sym (pair_eq int_cmp int_cmp k e.0 ∙ ap₂ ◌&&◌ (int_tied k.0 e.0.0 ∙ turned k.0 e.0.0) (int_tied k.1 e.0.1 ∙ turned k.1 e.0.1))
@@ -76,6 +77,25 @@ inserts_stock old new e count inside h =
 pub insert_survives : (old new : State) (params : Row) → Survives old new (CommitsBy insert_text params old) → Survives old new (λ _. ¬ IsInside old)
 insert_survives old new params = execute_survives insert_text params old new _ insert_is.0 ((λ e. cc), λ _ e. cc)
 
+-- ---- UPDATE
+
+pub updates_stock : (old new : State) (e : StockKey × Stock) (count : ℕ) → IsInside old → Executes update_text (params_of e) old new (Ok count) → Edits old new (changing_stock e)
+updates_stock old new e count inside h =
+    let was = inside.station in
+    let params = params_of e in
+    let q = one_table 1 pair_is update_terms [] in
+    let text = statement_of update_text (understood station_schema update_text) in
+    let w = runs_as update_text params old new station_schema was.schema (Update 1 (asks q)) update_is.0 update_is.1 count h in
+    let did = updates station_schema 1 stock refl refl refl old.step_limit (mode_of old) params old.now.trees text (asks q) w.tally new.now (λ _ _. refl)
+    (subst (λ d. Does old.step_limit (mode_of old) params (record old.now { schema = d }) text None (Update 1 (asks q)) (Ok (w.tally, new.now))) was.schema w.changed) in
+    let now = updated_at stock_cmp stock_total stock_row stock_same station_schema _ stock old.now.trees new.now.trees (tables_of old.now.trees).stock (stock_map old.now was) pair_is update_terms params
+    (λ x. int_eq x.0.0 e.0.0 && int_eq x.0.1 e.0.1) (stock_tests e.0 (Int e.1.high ∷ Int e.1.holder ∷ Text e.1.agent ∷ [])) (λ n x. Int n ∷ Int n ∷ Int x.0.0 ∷ Int x.0.1 ∷ Int e.1.high ∷ Int e.1.holder ∷ Text e.1.agent ∷ []) (λ _ _. refl) (λ _ _. refl)
+    (λ _. e.1) (λ n x. rw (cast_int n, cast_int x.0.0, cast_int x.0.1, cast_int e.1.high, cast_int e.1.holder) refl) e.0 (stock_at e.0) did.0 did.1 did.2.applies in
+    edits_stock old new inside did.2.kept did.2.applies.tables w.shown (λ m. adjust m e.0 (λ _. e.1)) now
+
+pub update_survives : (old new : State) (params : Row) → Survives old new (CommitsBy update_text params old) → Survives old new (λ _. ¬ IsInside old)
+update_survives old new params = execute_survives update_text params old new _ update_is.0 ((λ e. cc), λ _ e. cc)
+
 -- ---- DELETE
 
 pub deletes_stock : (old new : State) (k : StockKey) (count : ℕ) → IsInside old → Executes delete_text (Int k.0 ∷ Int k.1 ∷ []) old new (Ok count) → Edits old new (without_stock k)
@@ -88,7 +108,7 @@ deletes_stock old new k count inside h =
     let did = deletes station_schema 1 stock refl refl refl old.step_limit (mode_of old) params old.now.trees text (asks q) w.tally new.now (λ _ _. refl)
     (subst (λ d. Does old.step_limit (mode_of old) params (record old.now { schema = d }) text None (Delete 1 (asks q)) (Ok (w.tally, new.now))) was.schema w.changed) in
     let now = deleted_at stock_cmp stock_total stock_row stock_same station_schema _ stock old.now.trees new.now.trees (tables_of old.now.trees).stock (stock_map old.now was) pair_is (col 1 0 ∷ []) params
-    (λ e. int_eq e.0.0 k.0 && int_eq e.0.1 k.1) (stock_tests k) (λ _ _. refl) k (stock_at k) did.0 did.1 did.2.applies in
+    (λ e. int_eq e.0.0 k.0 && int_eq e.0.1 k.1) (stock_tests k []) (λ _ _. refl) k (stock_at k) did.0 did.1 did.2.applies in
     edits_stock old new inside did.2.kept did.2.applies.tables w.shown (λ m. remove m k) now
 
 pub delete_survives : (old new : State) (params : Row) → Survives old new (CommitsBy delete_text params old) → Survives old new (λ _. ¬ IsInside old)

@@ -10,7 +10,7 @@ use Rattle.sqlite_schema.specs.declared.program.Program.{Program}
 use Rattle.sqlite.specs.Query.{Query}
 use Rattle.sqlite.specs.Schema.{Schema}
 use Rattle.sqlite.specs.Source.TheVariants.{Values}
-use Rattle.sqlite.specs.Command.TheVariants.{Insert, Select, CreateTable, Delete, Begin, Commit, Rollback}
+use Rattle.sqlite.specs.Command.TheVariants.{Insert, Select, CreateTable, Delete, Update, Begin, Commit, Rollback}
 use Rattle.sqlite_tied.specs.Compute.{everything}
 use Rattle.sqlite.specs.Listing.{understood, reads_listing}
 use Rattle.sqlite.proofs.Callers.{IsPlain, command_of, statement_of}
@@ -45,6 +45,13 @@ lies_between = op2 (Compare Eq Binary) (col 1 1) (col 0 0) ∷ op2 (Compare Ge B
 abbrev pub insert_text : List ℕ
 insert_text = codes "INSERT INTO stock (prefix, low, high, holder, agent) VALUES (?1, ?2, ?3, ?4, ?5)"
 
+abbrev pub update_text : List ℕ
+update_text = codes "UPDATE stock SET high = ?3, holder = ?4, agent = ?5 WHERE prefix = ?1 AND low = ?2"
+
+-- the old rowid, and the whole new row
+abbrev pub update_terms : List Term
+update_terms = col 1 0 ∷ col 1 0 ∷ col 1 1 ∷ col 1 2 ∷ col 0 2 ∷ col 0 3 ∷ col 0 4 ∷ []
+
 abbrev pub delete_text : List ℕ
 delete_text = codes "DELETE FROM stock WHERE prefix = ?1 AND low = ?2"
 
@@ -54,6 +61,10 @@ between_text = codes "SELECT prefix, low, high, holder, agent FROM stock WHERE p
 pub insert_is : (command_of (understood station_schema insert_text) ≡ Insert 1 (Values stock_terms 6)) × IsPlain (understood station_schema insert_text)
 unfolding understood everything
 insert_is = (refl, (refl, refl))
+
+pub update_is : (command_of (understood station_schema update_text) ≡ Update 1 (asks (one_table 1 pair_is update_terms []))) × IsPlain (understood station_schema update_text)
+unfolding understood everything
+update_is = (refl, (refl, refl))
 
 pub delete_is : (command_of (understood station_schema delete_text) ≡ Delete 1 (asks (one_table 1 pair_is (col 1 0 ∷ []) []))) × IsPlain (understood station_schema delete_text)
 unfolding understood everything

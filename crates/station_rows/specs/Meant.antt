@@ -2,6 +2,7 @@
 use Rattle.std.specs.Prelude.{int_le, string_bytes, ℕ, ℤ, List, Bool, ◌&&◌}
 use Rattle.std.specs.Ordering.{int_eq}
 use Rattle.std.specs.FinMap.{insert, remove}
+use Rattle.station_rows.specs.Columns.{adjust}
 use Rattle.station_rows.specs.declared.store.StockRow.{StockRow}
 use Rattle.station_rows.specs.declared.store.KeptRow.{KeptRow}
 use Rattle.station_rows.specs.Tables.{Tables, Stock, StockKey, Kept}
@@ -19,6 +20,10 @@ with_stock new tables = record tables { stock = insert tables.stock new.0 new.1 
 
 abbrev pub without_stock : StockKey → Tables → Tables
 without_stock key tables = record tables { stock = remove tables.stock key }
+
+-- the row of the key is this one, if there is one
+abbrev pub changing_stock : StockKey × Stock → Tables → Tables
+changing_stock new tables = record tables { stock = adjust tables.stock new.0 (λ _. new.1) }
 
 abbrev pub with_kept : List ℕ → Kept → Tables → Tables
 with_kept id row tables = record tables { kept = insert tables.kept id row }

@@ -118,6 +118,20 @@ impl<S: Alter> TableStore for Rows<S> {
         }
     }
 
+    fn update_stock(&mut self, row: &StockRow) -> Result<(), StoreFault> {
+        if !self.is_inside() {
+            return Err(StoreFault);
+        }
+        self.failed = true;
+        match stock::update_stock(&mut self.conn, row) {
+            Err(_) => Err(StoreFault),
+            Ok(_) => {
+                self.failed = false;
+                Ok(())
+            }
+        }
+    }
+
     fn delete_stock(&mut self, prefix: i64, low: i64) -> Result<(), StoreFault> {
         if !self.is_inside() {
             return Err(StoreFault);

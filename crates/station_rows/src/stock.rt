@@ -4,7 +4,7 @@ ghost use Rattle.sqlite.specs.State.{HasCleanDisk, Survives};
 ghost use Rattle.sqlite.specs.Held.{state};
 ghost use Rattle.station_rows.specs.Tables.{tables_of, stock_row, stock_read, IsStation};
 ghost use Rattle.station_rows.specs.Calls.{IsInside, Changes, Reads};
-ghost use Rattle.station_rows.specs.Meant.{stock_meant, with_stock, without_stock, is_between};
+ghost use Rattle.station_rows.specs.Meant.{stock_meant, with_stock, changing_stock, without_stock, is_between};
 
 use crate::store::StockRow;
 use sqlite::{Alter, Connection, Error, Row, params};
@@ -20,6 +20,20 @@ pub(crate) fn insert_stock<S: Alter>(
 {
     conn.execute(
         "INSERT INTO stock (prefix, low, high, holder, agent) VALUES (?1, ?2, ?3, ?4, ?5)",
+        params![&row.prefix, &row.low, &row.high, &row.holder, &row.agent],
+    )
+}
+
+/// Gives the row with the key the other columns of this one, if there is one.
+pub(crate) fn update_stock<S: Alter>(
+    conn: &mut Connection<S>,
+    row: &StockRow,
+) -> Result<usize, Error>
+    ensures made { HasCleanDisk (state S.Store conn.new) → IsInside (state S.Store conn.old) → Changes (state S.Store conn.old) (state S.Store conn.new) result (changing_stock (stock_meant row.now)) }
+    ensures survives { Survives (state S.Store conn.old) (state S.Store conn.new) (λ _. ¬ IsInside (state S.Store conn.old)) }
+{
+    conn.execute(
+        "UPDATE stock SET high = ?3, holder = ?4, agent = ?5 WHERE prefix = ?1 AND low = ?2",
         params![&row.prefix, &row.low, &row.high, &row.holder, &row.agent],
     )
 }

@@ -1,7 +1,7 @@
 ghost use Rattle.std.specs.Prelude.{◌≡◌, Bool, true, false, map, filter, IfOk, OnOk, option_map};
 ghost use Rattle.std.specs.FinMap.{get, entries};
 ghost use Rattle.station_rows.specs.Tables.{Tables};
-ghost use Rattle.station_rows.specs.Meant.{stock_meant, kept_meant, with_stock, without_stock, with_kept, is_between};
+ghost use Rattle.station_rows.specs.Meant.{stock_meant, kept_meant, with_stock, changing_stock, without_stock, with_kept, is_between};
 ghost use Rattle.station_rows.specs.Store.{View, Survives, MayCommit, Shows, IsUnchanged, Rests, Writes};
 
 /// A database call failed, or was not made: no transaction was open for a write, or an earlier call failed.
@@ -66,6 +66,11 @@ pub trait TableStore {
         ensures ok { OnOk result ((view self.new).IsSound → Writes (view self.old) (view self.new) (with_stock (stock_meant row.now) (view self.old).now)) }
         ensures survives { Survives (view self.old) (view self.new) };
 
+    /// Gives the row with the key the other columns of this one, in a transaction. It changes nothing where there is none. A fault: no transaction is open, or the database call failed.
+    fn update_stock(&mut self, row: &StockRow) -> Result<(), StoreFault>
+        ensures ok { OnOk result ((view self.new).IsSound → Writes (view self.old) (view self.new) (changing_stock (stock_meant row.now) (view self.old).now)) }
+        ensures survives { Survives (view self.old) (view self.new) };
+
     /// Removes the row with the key, if there is one, in a transaction. A fault: no transaction is open, or the database call failed.
     fn delete_stock(&mut self, prefix: i64, low: i64) -> Result<(), StoreFault>
         ensures ok { OnOk result ((view self.new).IsSound → Writes (view self.old) (view self.new) (without_stock (prefix, low) (view self.old).now)) }
@@ -86,6 +91,7 @@ pub trait TableStore {
     /// Whether no transaction is open.
     fn is_autocommit(&self) -> bool
         ensures mode { result ≡ true → (view self.now).IsSound → (view self.now).in_transaction ≡ false }
+        ensures told { (view self.now).IsSound → (view self.now).in_transaction ≡ false → result ≡ true }
         ensures settled { result ≡ true → (view self.now).IsSound → (view self.now).is_open ≡ true → (view self.now).now ≡ (view self.now).committed };
 
     /// While it is open, a crash leaves the last commit and nothing else.

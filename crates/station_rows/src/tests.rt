@@ -163,11 +163,38 @@ fn a_row_comes_back_whole(rt: HostRuntime) -> Result<(), Fail> {
 }
 
 #[test]
+fn a_row_is_changed_by_its_key(rt: HostRuntime) -> Result<(), Fail> {
+    let alloc = rt.alloc();
+    let mut rows = station(alloc)?;
+    fill(alloc, &mut rows, &[(20, 500), (20, 600), (125, 500)])?;
+    rows.begin()?;
+    for (prefix, low) in [(20, 500), (20, 700)] {
+        let mut row = row(alloc, prefix, low)?;
+        row.holder = 2;
+        row.agent = String::from_str(alloc, "")?;
+        rows.update_stock(&row)?;
+    }
+    rows.commit()?;
+    let mut holders = Vec::new(alloc);
+    for (prefix, low) in [(20, 500), (20, 600), (20, 700), (125, 500)] {
+        for row in rows.stock_between(prefix, low, low)?.as_slice() {
+            holders.push((row.low, row.holder, row.agent.len()))?;
+        }
+    }
+    assert_eq!(rt;
+        holders.as_slice(),
+        [(500i64, 2i64, 0usize), (600, 1, 4), (500, 1, 4)].as_slice()
+    );
+    Ok(())
+}
+
+#[test]
 fn a_write_outside_a_transaction_is_refused(rt: HostRuntime) -> Result<(), Fail> {
     let alloc = rt.alloc();
     let mut rows = station(alloc)?;
     let free = row(alloc, 20, 500)?;
     assert_eq!(rt; rows.insert_stock(&free), Err(StoreFault));
+    assert_eq!(rt; rows.update_stock(&free), Err(StoreFault));
     assert_eq!(rt; rows.delete_stock(20, 500), Err(StoreFault));
     assert_eq!(rt; rows.insert_kept("k1", "", 0), Err(StoreFault));
     fill(alloc, &mut rows, &[(20, 600)])?;
