@@ -1,0 +1,10 @@
+use Rattle.std.proofs.Common.{subst, sym}
+use Rattle.std.specs.Prelude.{IsTrue}
+use Rattle.imp_fields.specs.Name.{is_goods}
+use Rattle.imp_fields.proofs.NameLaws.{kept_is, kept_is_goods}
+use Rattle.imp_fields.proofs.name.Goods.kept.Goals as goal
+
+pub of-requires : goal.of-requires
+of-requires c =
+    let text = c.args.text.now in
+    subst (λ t. IsTrue (is_goods t)) (sym (kept_is text c.min.result c.blanks_at_end.result c.min.ensures c.blanks_at_end.ensures.run)) (kept_is_goods text c.requires)

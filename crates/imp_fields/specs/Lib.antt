@@ -1,0 +1,15 @@
+pub mod Steps
+pub mod Characters
+pub mod Amount
+pub mod Quantity
+pub mod Flight
+pub mod Airport
+pub mod Date
+pub mod Padding
+pub mod Name
+pub mod Token
+pub mod Consignment
+pub mod NormalText
+pub mod Scan
+pub mod Message
+pub mod Checks

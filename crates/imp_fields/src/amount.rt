@@ -1,0 +1,214 @@
+ghost use Rattle.std.specs.Prelude.{◌≡◌, ℕ, ◌+◌, ◌-◌, ◌*◌, ◌/◌, ◌<◌, ◌≤◌, ◌^◌, ◌↔◌, max, IsSome, IfSome};
+ghost use Rattle.imp_fields.specs.Amount.{IsPieces, IsPartNumber, IsTenths, IsBookTenths, share_of};
+
+use std::marker::Model;
+
+/// A count of pieces, 1 to 9999.
+#[derive(Clone, Copy, Debug, PartialEq, Eq, PartialOrd, Ord)]
+pub struct Pieces {
+    number: u32,
+}
+
+impl Model for Pieces {
+    ghost Value = { ℕ };
+
+    ghost view = { λ p. p.number };
+
+    ghost invariant = { λ p. IsPieces p.number };
+
+    ghost inverse = { λ n. record { number = n } };
+}
+
+impl Pieces {
+    /// The count, where it is 1 to 9999.
+    pub fn new(number: u32) -> Option<Pieces>
+        ensures in_range { IsSome result ↔ IsPieces number }
+        ensures value { IfSome result (λ p. p ≡ number) }
+    {
+        if 1 <= number && number <= 9999 {
+            Some(Pieces { number })
+        } else {
+            None
+        }
+    }
+
+    /// The number.
+    pub fn number(self) -> u32
+        ensures value { result ≡ self }
+        ensures in_range { IsPieces result }
+    {
+        self.number
+    }
+}
+
+/// The number of a part of a manifest, 1 to 9999.
+#[derive(Clone, Copy, Debug, PartialEq, Eq, PartialOrd, Ord)]
+pub struct PartNumber {
+    number: u32,
+}
+
+impl Model for PartNumber {
+    ghost Value = { ℕ };
+
+    ghost view = { λ p. p.number };
+
+    ghost invariant = { λ p. IsPartNumber p.number };
+
+    ghost inverse = { λ n. record { number = n } };
+}
+
+impl PartNumber {
+    /// The part's number, where it is 1 to 9999.
+    pub fn new(number: u32) -> Option<PartNumber>
+        ensures in_range { IsSome result ↔ IsPartNumber number }
+        ensures value { IfSome result (λ p. p ≡ number) }
+    {
+        if 1 <= number && number <= 9999 {
+            Some(PartNumber { number })
+        } else {
+            None
+        }
+    }
+
+    /// The number.
+    pub fn number(self) -> u32
+        ensures value { result ≡ self }
+        ensures in_range { IsPartNumber result }
+    {
+        self.number
+    }
+}
+
+/// A weight in tenths of a kilogram, 0 to 99,999,990.
+#[derive(Clone, Copy, Debug, PartialEq, Eq, PartialOrd, Ord)]
+pub struct Tenths {
+    number: u32,
+}
+
+impl Model for Tenths {
+    ghost Value = { ℕ };
+
+    ghost view = { λ t. t.number };
+
+    ghost invariant = { λ t. IsTenths t.number };
+
+    ghost inverse = { λ n. record { number = n } };
+}
+
+impl Tenths {
+    /// The weight, where it is at most 99,999,990 tenths.
+    pub fn new(number: u32) -> Option<Tenths>
+        ensures in_range { IsSome result ↔ IsTenths number }
+        ensures value { IfSome result (λ t. t ≡ number) }
+    {
+        if number <= 99_999_990 {
+            Some(Tenths { number })
+        } else {
+            None
+        }
+    }
+
+    /// The number.
+    pub fn number(self) -> u32
+        ensures value { result ≡ self }
+        ensures in_range { IsTenths result }
+    {
+        self.number
+    }
+}
+
+/// A weight of the books in tenths of a kilogram, 0 to 999,999: what a written message can tell.
+#[derive(Clone, Copy, Debug, PartialEq, Eq, PartialOrd, Ord)]
+pub struct BookTenths {
+    number: u32,
+}
+
+impl Model for BookTenths {
+    ghost Value = { ℕ };
+
+    ghost view = { λ t. t.number };
+
+    ghost invariant = { λ t. IsBookTenths t.number };
+
+    ghost inverse = { λ n. record { number = n } };
+}
+
+impl BookTenths {
+    /// The weight, where it is at most 999,999 tenths.
+    pub fn new(number: u32) -> Option<BookTenths>
+        ensures in_range { IsSome result ↔ IsBookTenths number }
+        ensures value { IfSome result (λ t. t ≡ number) }
+    {
+        if number <= 999_999 {
+            Some(BookTenths { number })
+        } else {
+            None
+        }
+    }
+
+    /// The number.
+    pub fn number(self) -> u32
+        ensures value { result ≡ self }
+        ensures in_range { IsBookTenths result }
+    {
+        self.number
+    }
+}
+
+/// What part of a consignment a quantity tells of, by the letter of Cargo-IMP messages.
+#[derive(Clone, Copy, Debug, PartialEq, Eq)]
+pub enum ShipmentCode {
+    /// T, the whole consignment.
+    Total,
+    /// P, a part of it.
+    Part,
+    /// S, a split consignment.
+    Split,
+    /// D, a divided consignment.
+    Divided,
+    /// M, several consignments.
+    Multi,
+}
+
+/// The unit of a weight.
+#[derive(Clone, Copy, Debug, PartialEq, Eq)]
+pub enum WeightUnit {
+    /// K, kilograms.
+    Kilograms,
+    /// L, pounds of 0.45359237 kilograms.
+    Pounds,
+}
+
+/// A quantity of a message: `T10K100MC0.5` (Cargo-IMP FWB, FFM and FSU).
+#[derive(Clone, Copy, Debug, PartialEq, Eq)]
+pub struct Quantity {
+    pub code: ShipmentCode,
+    /// The pieces of this quantity.
+    pub pieces: Pieces,
+    /// Their weight in tenths of a kilogram, where one is told.
+    pub weight: Option<Tenths>,
+    /// The pieces of the whole consignment, where they are told.
+    pub total: Option<Pieces>,
+}
+
+/// The part of a weight that falls to `part` of the `pieces`, rounded down to a tenth.
+pub fn share(pieces: u32, tenths: u32, part: u32) -> u64
+    requires { 1 ≤ pieces }
+    ensures value { result ≡ share_of pieces tenths part }
+
+    // The whole gives the whole.
+    ensures whole { part ≡ pieces → result ≡ tenths }
+
+    // Where the weight has a tenth for each piece, so have the part and the rest.
+    ensures part { pieces ≤ tenths → part ≤ result }
+    ensures rest { pieces ≤ tenths → part ≤ pieces → (result ≤ tenths) × (pieces - part ≤ tenths - result) }
+{
+    u64::from(tenths) * u64::from(part) / u64::from(pieces)
+}
+
+/// The weight at which pieces are booked: a tenth for each piece at the least.
+pub fn book_weight(pieces: u32, tenths: u32) -> u32
+    ensures { result ≡ max tenths pieces }
+{
+    tenths.max(pieces)
+}

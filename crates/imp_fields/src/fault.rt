@@ -1,0 +1,41 @@
+/// Why a telegram cannot be read.
+#[derive(Clone, Copy, Debug, PartialEq, Eq)]
+pub enum Why {
+    /// The text has more than 65,536 bytes.
+    Size,
+    /// The text has more than 1,000 lines.
+    Lines,
+    /// The line has a byte that is not printable ASCII.
+    Byte,
+    /// The line has more than 255 bytes.
+    Long,
+    /// None of the first eleven lines begins an FWB, an FFM or an FSU.
+    Kind,
+    /// A line that must be there is missing.
+    Ending,
+    /// The message line is not three letters, a slash and one to three digits.
+    Head,
+    /// The line has not the shape of a consignment line.
+    Consignment,
+    /// The waybill number has a wrong check digit.
+    Number,
+    /// The quantity of a consignment line cannot be read.
+    Quantity,
+    /// The consignment line of an FWB tells no weight.
+    Weight,
+    /// The date of a flight line cannot be read.
+    Date,
+    /// Another field of a flight line is missing or cannot be read.
+    Flight,
+    /// A consignment line stands before the first point of unloading.
+    Order,
+    /// There was no memory: this says nothing of the text.
+    Memory,
+}
+
+/// The first fault of a text, and the line that has it, counted from 1; 0 stands for the whole text.
+#[derive(Clone, Copy, Debug, PartialEq, Eq)]
+pub struct TextFault {
+    pub line: u32,
+    pub why: Why,
+}

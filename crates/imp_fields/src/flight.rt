@@ -1,0 +1,110 @@
+ghost use Rattle.std.specs.Prelude.{◌≡◌, ◌+◌, ◌≤◌, ◌++◌, ℕ, List, Option, IsTrue, IfSome, length, take, nat_lt, if◌then◌else◌};
+ghost use Rattle.awb_number.specs.Digits.{is_letter, padded};
+ghost use Rattle.imp_fields.specs.Flight.{Designator, IsDesignator, flight_of, flight_text, is_carrier, suffix_of};
+
+use crate::put::put;
+use crate::run;
+use std::marker::Model;
+
+/// A flight by its designator: the carrier, the number and perhaps a letter behind it.
+#[derive(Clone, Copy, Debug, PartialEq, Eq)]
+pub struct Flight {
+    carrier: [u8; 2],
+    number: u16,
+    suffix: Option<u8>,
+}
+
+impl Model for Flight {
+    ghost Value = { Designator };
+
+    ghost view = { λ f. record { carrier = f.carrier; number = f.number; suffix = f.suffix } };
+
+    ghost invariant = { λ f. IsDesignator (record { carrier = f.carrier; number = f.number; suffix = f.suffix }) };
+
+    ghost inverse = { λ f. record { carrier = f.carrier; number = f.number; suffix = f.suffix } };
+}
+
+fn is_carrier(carrier: [u8; 2]) -> bool
+    ensures { result ≡ is_carrier carrier }
+{
+    let [first, second] = carrier;
+    (first.is_ascii_uppercase() || first.is_ascii_digit())
+        && (second.is_ascii_uppercase() || second.is_ascii_digit())
+        && (first.is_ascii_uppercase() || second.is_ascii_uppercase())
+}
+
+/// The letter behind a flight's number, where there is one.
+fn suffix(text: &[u8]) -> Option<Option<u8>>
+    ensures value { result ≡ suffix_of text.now }
+    ensures letter { IfSome result (λ suffix. IfSome suffix (λ b. IsTrue (is_letter b))) }
+{
+    match text {
+        [] => Some(None),
+        [letter] if letter.is_ascii_uppercase() => Some(Some(*letter)),
+        _ => None,
+    }
+}
+
+impl Flight {
+    /// The flight that a text such as `LH400` names: a carrier of two letters or digits, at least one of them a
+    /// letter, one to four digits of value at least 1, and perhaps a letter. Zeros in front don't count.
+    pub fn read(text: &[u8]) -> Option<Flight>
+        ensures { result ≡ flight_of text.now }
+    {
+        let [first, second, after @ ..] = text else {
+            return None;
+        };
+        let carrier = [*first, *second];
+        if !is_carrier(carrier) {
+            return None;
+        }
+        let (digits, letter) = after.split_at(run::digits_in_front(after));
+        let number = run::count(digits)?;
+        let suffix = suffix(letter)?;
+        Some(Flight {
+            carrier,
+            number: number as u16,
+            suffix,
+        })
+    }
+
+    /// Writes the flight to the front of a buffer, its number with at least three digits: `LH004`. Answers how many
+    /// bytes it has.
+    pub fn write(&self, out: &mut [u8; 7]) -> usize
+        ensures bound { result ≤ 7 }
+        ensures text { take result out.new ≡ flight_text self.now }
+    {
+        let at = put(out, 0, self.carrier[0]);
+        let at = put(out, at, self.carrier[1]);
+        let at = put_number(out, at, self.number);
+        match self.suffix {
+            Some(letter) => put(out, at, letter),
+            None => at,
+        }
+    }
+}
+
+/// Writes a flight's number with three digits, or four where it has them.
+fn put_number(out: &mut [u8], at: usize, number: u16) -> usize
+    requires { at + 4 ≤ length out.old }
+    ensures bound { result ≤ at + 4 }
+    ensures text { take result out.new ≡ take at out.old ++ (if nat_lt number 1000 then padded 3 number else padded 4 number) }
+{
+    if number < 1000 {
+        put_three(out, at, number)
+    } else {
+        let at = put(out, at, b'0' + (number / 1000 % 10) as u8);
+        put_three(out, at, number)
+    }
+}
+
+/// Writes the last three digits of a number.
+fn put_three(out: &mut [u8], at: usize, number: u16) -> usize
+    requires { at + 3 ≤ length out.old }
+    ensures place { result ≡ at + 3 }
+    ensures text { take result out.new ≡ take at out.old ++ padded 3 number }
+{
+    let at = put(out, at, b'0' + (number / 100 % 10) as u8);
+    let at = put(out, at, b'0' + (number / 10 % 10) as u8);
+    put(out, at, b'0' + (number % 10) as u8)
+}

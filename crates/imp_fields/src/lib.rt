@@ -1,0 +1,38 @@
+//! Fields and lines of Cargo-IMP messages (FWB, FFM and FSU), in the profile of this station.
+#![tactic(auto)]
+
+mod airport;
+mod amount;
+mod calendar;
+mod consigned;
+mod consignment;
+mod date;
+mod fault;
+mod flight;
+mod laws;
+mod line;
+mod name;
+mod normal;
+mod put;
+mod quantity;
+mod run;
+#[cfg(test)]
+mod tests;
+mod token;
+
+pub use airport::Airport;
+pub use amount::{
+    BookTenths, PartNumber, Pieces, Quantity, ShipmentCode, Tenths, WeightUnit, book_weight, share,
+};
+pub use calendar::resolve;
+pub use consigned::{Consigned, Discrepancy};
+pub use consignment::read_consignment;
+pub use date::{DayMonth, DayTime, Moment};
+pub use fault::{TextFault, Why};
+pub use flight::Flight;
+pub use laws::{flight_law, quantity_law, resolve_law};
+pub use line::{Consignment, Lines, MessageKind};
+pub use name::{Goods, Name};
+pub use normal::{is_head, normal_text};
+pub use quantity::{put_quantity, read_quantity, weight_of};
+pub use token::Token;

@@ -1,0 +1,44 @@
+ghost use Rattle.std.specs.Prelude.{◌≤◌, IsTrue, length};
+ghost use Rattle.std.specs.List.{list_all};
+ghost use Rattle.imp_fields.specs.Token.{is_line_token};
+
+use crate::airport::Airport;
+use crate::amount::Quantity;
+use crate::token::Token;
+use awb_number::Awb;
+
+/// What a message is: waybill data, a flight manifest or a status update.
+#[derive(Clone, Copy, Debug, PartialEq, Eq)]
+pub enum MessageKind {
+    /// FWB, the data of a waybill.
+    Fwb,
+    /// FFM, the manifest of a flight.
+    Ffm,
+    /// FSU, a status update.
+    Fsu,
+}
+
+/// The normal text of a telegram: its lines from the message line on, as slices of the bytes.
+/// There are at most 1,000, each of at most 255 bytes of printable ASCII.
+#[derive(Debug, Drop)]
+pub struct Lines<'a> {
+    pub kind: MessageKind,
+    pub lines: Vec<Token<'a>>,
+    pub ghost few: { length lines.items ≤ 1000 },
+    pub ghost printable: { IsTrue (list_all is_line_token lines.items) },
+}
+
+/// A consignment line: what its fields mean, and where they stand in the line.
+#[derive(Clone, Copy, Debug)]
+pub struct Consignment<'a> {
+    pub awb: Awb,
+    pub origin: Airport,
+    pub destination: Airport,
+    pub quantity: Quantity,
+    pub number_text: Token<'a>,
+    pub origin_text: Token<'a>,
+    pub destination_text: Token<'a>,
+    pub quantity_text: Token<'a>,
+    /// All that stands behind the slash after the quantity.
+    pub goods: Token<'a>,
+}

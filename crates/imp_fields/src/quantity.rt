@@ -1,0 +1,276 @@
+//! Quantities of messages, as `T10K100MC0.5`, and the weights in them.
+
+ghost use Rattle.std.specs.Prelude.{◌≡◌, ◌+◌, ◌++◌, take, decimal, ◌≤◌, ◌<◌, ◌*◌, ◌^◌, ℕ, length, filter, IfSome, Some};
+ghost use Rattle.std.specs.List.{list_all, position_or_len};
+ghost use Rattle.awb_number.specs.Digits.{is_digit, decimal_value};
+ghost use Rattle.imp_fields.specs.Steps.{where_true};
+ghost use Rattle.imp_fields.specs.Characters.{is_point};
+ghost use Rattle.imp_fields.specs.Amount.{IsTenths, count_of, is_digit_or_point, is_weight_numeral, rounded_tenths, numerator_of, denominator_of, tenths_of};
+ghost use Rattle.imp_fields.specs.Quantity.{code_letter, code_of, weight_text, total_text, quantity_text, unit_of, weight_of, weight_at_front, left_of_weight, total_at_end, is_unread, quantity_of};
+
+use crate::amount::{BookTenths, Pieces, Quantity, ShipmentCode, Tenths, WeightUnit};
+use crate::put::{put, put_decimal};
+use crate::run;
+
+/// Whether a text is a weight's number: one to seven digits and points, at most one a point, and none at an end.
+fn is_weight_numeral(text: &[u8]) -> bool
+    ensures { result ≡ is_weight_numeral text.now }
+{
+    if text.is_empty() || text.len() > 7 || !run::is_numeral(text) || run::points(text) > 1 {
+        return false;
+    }
+    text[0] != b'.' && text[text.len() - 1] != b'.'
+}
+
+/// The number that the digits of a weight's number write, without its point.
+#[tactic(auto, using(crate::proofs::WeightLaws::ten_pow_of_seven))]
+fn numerator(numeral: &[u8]) -> u64
+    requires { length numeral.now ≤ 7 }
+    ensures value { result ≡ numerator_of numeral.now }
+    ensures bound { result < 10_000_000 }
+{
+    let mut number = 0;
+    for &b in numeral {
+        if b.is_ascii_digit() {
+            number = number * 10 + u64::from(b - b'0');
+        }
+    }
+    number
+}
+
+/// How many bytes of a weight's number stand before its point.
+fn whole_len(numeral: &[u8]) -> usize
+    ensures place { result ≡ position_or_len is_point numeral.now }
+    ensures bound { result ≤ length numeral.now }
+{
+    numeral.iter().take_while(|b| **b != b'.').count()
+}
+
+/// Over which power of ten a weight's number stands: ten for each digit behind its point.
+#[tactic(auto, using(crate::proofs::WeightLaws::ten_pow_positive, crate::proofs::WeightLaws::ten_pow_small))]
+fn denominator(numeral: &[u8]) -> u64
+    requires { length numeral.now ≤ 7 }
+    ensures value { result ≡ denominator_of numeral.now }
+    ensures positive { 1 ≤ result }
+    ensures bound { result ≤ 1_000_000 }
+{
+    let places = numeral.len().saturating_sub(whole_len(numeral) + 1);
+    10_u64.pow(places as u32)
+}
+
+/// The tenths in a number of kilograms, a half rounded up.
+fn rounded_tenths(numerator: u64, denominator: u64) -> Option<Tenths>
+    requires positive { 1 ≤ denominator }
+    requires numerator { numerator < 10 ^ 16 }
+    requires denominator { denominator ≤ 10 ^ 14 }
+    requires in_range { IsTenths (rounded_tenths numerator denominator) }
+    ensures { result ≡ Some (rounded_tenths numerator denominator) }
+{
+    let tenths = (numerator * 20 + denominator) / (denominator * 2);
+    Tenths::new(tenths as u32)
+}
+
+/// The weight that a number tells in a unit. A pound is 0.45359237 kilograms, and the product is rounded once.
+#[tactic(auto, using(crate::proofs::WeightLaws::kilograms_in_range, crate::proofs::WeightLaws::pounds_in_range))]
+fn tenths(unit: WeightUnit, numeral: &[u8]) -> Option<Tenths>
+    ensures { result ≡ where_true (is_weight_numeral numeral.now) (tenths_of unit numeral.now) }
+{
+    if !is_weight_numeral(numeral) {
+        return None;
+    }
+    let (numerator, denominator) = (numerator(numeral), denominator(numeral));
+    match unit {
+        WeightUnit::Kilograms => rounded_tenths(numerator, denominator),
+        WeightUnit::Pounds => rounded_tenths(numerator * 45_359_237, denominator * 100_000_000),
+    }
+}
+
+/// The unit that a letter tells.
+fn unit(letter: u8) -> Option<WeightUnit>
+    ensures { result ≡ unit_of letter }
+{
+    match letter {
+        b'K' => Some(WeightUnit::Kilograms),
+        b'L' => Some(WeightUnit::Pounds),
+        _ => None,
+    }
+}
+
+/// The code that a letter tells.
+fn code(letter: u8) -> Option<ShipmentCode>
+    ensures { result ≡ code_of letter }
+{
+    match letter {
+        b'T' => Some(ShipmentCode::Total),
+        b'P' => Some(ShipmentCode::Part),
+        b'S' => Some(ShipmentCode::Split),
+        b'D' => Some(ShipmentCode::Divided),
+        b'M' => Some(ShipmentCode::Multi),
+        _ => None,
+    }
+}
+
+/// The pieces that one to four digits tell.
+fn pieces(digits: &[u8]) -> Option<Pieces>
+    ensures { result ≡ count_of digits.now }
+{
+    Pieces::new(run::count(digits)?)
+}
+
+/// The weight in front of what follows the pieces, where a K or an L stands there.
+fn weight_at_front(text: &[u8]) -> Option<Option<Tenths>>
+    ensures { result ≡ weight_at_front text.now }
+{
+    let Some((first, behind)) = text.split_first() else {
+        return Some(None);
+    };
+    let Some(unit) = unit(*first) else {
+        return Some(None);
+    };
+    let (numeral, _) = behind.split_at(run::numeral_in_front(behind));
+    let weight = tenths(unit, numeral)?;
+    Some(Some(weight))
+}
+
+/// What is left behind that weight.
+fn left_of_weight(text: &[u8]) -> &[u8]
+    ensures { result.now ≡ left_of_weight text.now }
+{
+    match text.split_first() {
+        Some((first, behind)) if unit(*first).is_some() => {
+            &behind[run::numeral_in_front(behind)..]
+        }
+        _ => text,
+    }
+}
+
+/// Whether a text has only what a quantity may have unread: letters, digits and points.
+fn is_unread(text: &[u8]) -> bool
+    ensures { result ≡ list_all is_unread text.now }
+{
+    text.iter().all(|b| b.is_ascii_uppercase() || b.is_ascii_digit() || *b == b'.')
+}
+
+/// The total at the end of what follows the weight: a T and the longest run of digits there.
+fn total_at_end(left: &[u8]) -> Option<Pieces>
+    ensures { result ≡ total_at_end left.now }
+{
+    let (before, digits) = left.split_at(left.len() - run::digits_at_end(left));
+    if before.last() == Some(&b'T') {
+        pieces(digits)
+    } else {
+        None
+    }
+}
+
+/// The tenths of a kilogram that a weight field such as `K0.25` or `L100` tells, a half rounded up. A pound is
+/// 0.45359237 kilograms, and the exact product is rounded once.
+pub fn weight_of(field: &[u8]) -> Option<Tenths>
+    ensures { result ≡ weight_of field.now }
+{
+    let (letter, numeral) = field.split_first()?;
+    tenths(unit(*letter)?, numeral)
+}
+
+/// The quantity that a text such as `T10K100MC0.5` tells: a code, one to four digits of value at least 1, perhaps
+/// a weight, and letters, digits and points, which are unread but for a total at their end.
+pub fn read_quantity(text: &[u8]) -> Option<Quantity>
+    ensures { result ≡ quantity_of text.now }
+{
+    let (letter, text) = text.split_first()?;
+    let code = code(*letter)?;
+    let (digits, rest) = text.split_at(run::digits_in_front(text));
+    let pieces = pieces(digits)?;
+    let weight = weight_at_front(rest)?;
+    let left = left_of_weight(rest);
+    if is_unread(left) {
+        Some(Quantity {
+            code,
+            pieces,
+            weight,
+            total: total_at_end(left),
+        })
+    } else {
+        None
+    }
+}
+
+/// The letter of a code.
+fn letter(code: ShipmentCode) -> u8
+    ensures { result ≡ code_letter code }
+{
+    match code {
+        ShipmentCode::Total => b'T',
+        ShipmentCode::Part => b'P',
+        ShipmentCode::Split => b'S',
+        ShipmentCode::Divided => b'D',
+        ShipmentCode::Multi => b'M',
+    }
+}
+
+/// Writes a number of at most 9999.
+#[tactic(auto, using(crate::proofs::PutLaws::length_decimal_short))]
+fn put_count(out: &mut [u8], at: usize, count: Pieces) -> usize
+    requires { at + 4 ≤ length out.old }
+    ensures bound { result ≤ at + 4 }
+    ensures text { take result out.new ≡ take at out.old ++ decimal count }
+{
+    put_decimal(out, at, count.number())
+}
+
+/// Writes a number of at most 99,999.
+#[tactic(auto, using(crate::proofs::PutLaws::length_decimal_five))]
+fn put_kilograms(out: &mut [u8], at: usize, kilograms: u32) -> usize
+    requires small { kilograms ≤ 99_999 }
+    requires room { at + 5 ≤ length out.old }
+    ensures bound { result ≤ at + 5 }
+    ensures text { take result out.new ≡ take at out.old ++ decimal kilograms }
+{
+    put_decimal(out, at, kilograms)
+}
+
+/// Writes a weight: whole kilograms, a point and one digit.
+fn put_weight(out: &mut [u8], at: usize, tenths: BookTenths) -> usize
+    requires { at + 7 ≤ length out.old }
+    ensures bound { result ≤ at + 7 }
+    ensures text { take result out.new ≡ take at out.old ++ weight_text tenths }
+{
+    let tenths = tenths.number();
+    let at = put_kilograms(out, at, tenths / 10);
+    let at = put(out, at, b'.');
+    put(out, at, b'0' + (tenths % 10) as u8)
+}
+
+/// Writes a total, where there is one: a T and its digits.
+fn put_total(out: &mut [u8], at: usize, total: Option<Pieces>) -> usize
+    requires { at + 5 ≤ length out.old }
+    ensures bound { result ≤ at + 5 }
+    ensures text { take result out.new ≡ take at out.old ++ total_text total }
+{
+    match total {
+        Some(total) => {
+            let at = put(out, at, b'T');
+            put_count(out, at, total)
+        }
+        None => at,
+    }
+}
+
+/// Writes a quantity such as `P4K40.0T10` to the front of a buffer: the code, the pieces, the weight in kilograms and
+/// perhaps a total. Answers how many bytes it has.
+pub fn put_quantity(
+    out: &mut [u8; 18],
+    code: ShipmentCode,
+    pieces: Pieces,
+    tenths: BookTenths,
+    total: Option<Pieces>,
+) -> usize
+    ensures bound { result ≤ 18 }
+    ensures text { take result out.new ≡ quantity_text code pieces tenths total }
+{
+    let at = put(out, 0, letter(code));
+    let at = put_count(out, at, pieces);
+    let at = put(out, at, b'K');
+    let at = put_weight(out, at, tenths);
+    put_total(out, at, total)
+}

@@ -1,0 +1,104 @@
+//! Runs of bytes of one kind at an end of a text, and the numbers that they write.
+
+ghost use Rattle.std.specs.Prelude.{◌≡◌, ◌<◌, ◌≤◌, ◌^◌, ℕ, length, take, is_some, IfSome, count_by};
+ghost use Rattle.std.specs.List.{list_all, position_or_len, prefix_len, suffix_len};
+ghost use Rattle.awb_number.specs.Digits.{is_digit, decimal_value};
+ghost use Rattle.imp_fields.specs.Amount.{IsPieces, count_of, is_digit_or_point};
+ghost use Rattle.imp_fields.specs.Characters.{is_blank, is_point, is_printable, is_slash};
+ghost use Rattle.imp_fields.specs.NormalText.{is_newline};
+
+/// How many digits stand in front.
+pub(crate) fn digits_in_front(text: &[u8]) -> usize
+    ensures run { result ≡ prefix_len is_digit text.now }
+    ensures bound { result ≤ length text.now }
+{
+    text.iter().take_while(|b| b.is_ascii_digit()).count()
+}
+
+/// How many digits stand at the end.
+pub(crate) fn digits_at_end(text: &[u8]) -> usize
+    ensures run { result ≡ suffix_len is_digit text.now }
+    ensures bound { result ≤ length text.now }
+{
+    text.iter().rev().take_while(|b| b.is_ascii_digit()).count()
+}
+
+/// How many blanks stand at the end.
+pub(crate) fn blanks_at_end(text: &[u8]) -> usize
+    ensures run { result ≡ suffix_len is_blank text.now }
+    ensures bound { result ≤ length text.now }
+{
+    text.iter().rev().take_while(|b| **b == b' ').count()
+}
+
+/// How many digits and points stand in front.
+pub(crate) fn numeral_in_front(text: &[u8]) -> usize
+    ensures run { result ≡ prefix_len is_digit_or_point text.now }
+    ensures bound { result ≤ length text.now }
+{
+    text.iter()
+        .take_while(|b| b.is_ascii_digit() || **b == b'.')
+        .count()
+}
+
+/// Whether each byte is a blank or prints in ASCII.
+pub(crate) fn is_printable(text: &[u8]) -> bool
+    ensures { result ≡ list_all is_printable text.now }
+{
+    text.iter().all(|b| (b' '..=b'~').contains(b))
+}
+
+/// The number that one to four digits write, where it is at least 1.
+pub(crate) fn count(digits: &[u8]) -> Option<u32>
+    ensures value { result ≡ count_of digits.now }
+    ensures bound { IfSome result IsPieces }
+{
+    if digits.is_empty() || digits.len() > 4 {
+        return None;
+    }
+    let mut number = 0;
+    for &b in digits {
+        if !b.is_ascii_digit() {
+            return None;
+        }
+        number = number * 10 + u32::from(b - b'0');
+    }
+    if number == 0 { None } else { Some(number) }
+}
+
+/// Whether each byte is a digit or a point.
+pub(crate) fn is_numeral(text: &[u8]) -> bool
+    ensures { result ≡ list_all is_digit_or_point text.now }
+{
+    text.iter().all(|b| b.is_ascii_digit() || *b == b'.')
+}
+
+/// How many points there are.
+pub(crate) fn points(text: &[u8]) -> usize
+    ensures { result ≡ count_by is_point text.now }
+{
+    text.iter().filter(|b| **b == b'.').count()
+}
+
+/// Whether each byte is a digit.
+pub(crate) fn is_digits(text: &[u8]) -> bool
+    ensures { result ≡ list_all is_digit text.now }
+{
+    text.iter().all(|b| b.is_ascii_digit())
+}
+
+/// How many bytes stand before the first slash, or in all where there is none.
+pub(crate) fn before_slash(text: &[u8]) -> usize
+    ensures place { result ≡ position_or_len is_slash text.now }
+    ensures bound { result ≤ length text.now }
+{
+    text.iter().take_while(|b| **b != b'/').count()
+}
+
+/// How many bytes stand before the first newline, or in all where there is none.
+pub(crate) fn before_newline(text: &[u8]) -> usize
+    ensures place { result ≡ position_or_len is_newline text.now }
+    ensures bound { result ≤ length text.now }
+{
+    text.iter().take_while(|b| **b != b'\n').count()
+}
