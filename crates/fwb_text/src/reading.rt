@@ -1,0 +1,60 @@
+//! The reader of waybill data messages.
+
+ghost use Rattle.std.specs.Prelude.{◌≡◌, ℕ, List, Some, Ok, Err, IfOk, IfErr, IsTrue, is_some};
+ghost use Rattle.imp_fields.specs.Consignment.{consignment_of, shipment_of, HasSpans};
+ghost use Rattle.imp_fields.specs.NormalText.{line_texts, fault_at};
+ghost use Rattle.fwb_text.specs.Fwb.{IsFwb, weighed_fault, fwb_fault, fwb_shipment, HasFwbSpans};
+
+use crate::Fwb;
+use imp_fields::{Consignment, Lines, TextFault, Why, is_head, read_consignment};
+
+/// A fault of a line.
+fn fault(line: u32, why: Why) -> TextFault
+    ensures { result ≡ fault_at line why }
+{
+    TextFault { line, why }
+}
+
+/// A consignment line that tells a weight.
+fn weighed<'a>(line: &'a [u8]) -> Result<Consignment<'a>, Why>
+    ensures read { IfOk result (λ c. (consignment_of line.now ≡ Ok (shipment_of c)) × IsTrue (is_some c.quantity.weight)) }
+    ensures fault { IfErr result (λ why. weighed_fault (consignment_of line.now) ≡ Some why) }
+    ensures spans { IfOk result (HasSpans line.now) }
+{
+    match read_consignment(line) {
+        Ok(consignment) => {
+            if consignment.quantity.weight.is_some() {
+                Ok(consignment)
+            } else {
+                Err(Why::Weight)
+            }
+        }
+        Err(why) => Err(why),
+    }
+}
+
+/// The message that lines are. It takes no memory, so that its faults are those of the lines alone.
+///
+/// # Errors
+/// The first line that is faulty: `Head` where the first isn't `FWB/` and one to three digits; for the second line those
+/// of a consignment line, and then `Weight` where it tells none. `Ending`, at the last line, where there is no second.
+pub fn read<'a>(lines: &Lines<'a>) -> Result<Fwb<'a>, TextFault>
+    ensures read { IfOk result (λ m. IsFwb (line_texts lines.now) (fwb_shipment m)) }
+    ensures fault { IfErr result (λ told. fwb_fault (line_texts lines.now) ≡ Some told) }
+    ensures spans { IfOk result (HasFwbSpans (line_texts lines.now)) }
+{
+    let lines = lines.lines.as_slice();
+    if lines.is_empty() {
+        return Err(fault(0, Why::Ending));
+    }
+    if !is_head(b"FWB", lines[0].text) {
+        return Err(fault(1, Why::Head));
+    }
+    if lines.len() < 2 {
+        return Err(fault(1, Why::Ending));
+    }
+    match weighed(lines[1].text) {
+        Ok(consignment) => Ok(Fwb { consignment }),
+        Err(why) => Err(fault(2, why)),
+    }
+}
