@@ -1,0 +1,264 @@
+-- The amounts of a lawful book agree, and no place holds more than came in.
+use Rattle.std.proofs.Common.{◌≡◌, ℕ, ◌+◌, ◌-◌, ◌≤◌, Bool, true, false, ◌&&◌, ◌==◌, None, List, [], ◌∷◌, refl, sym, ap, ◌∙◌, arith, true≢false}
+use Rattle.std.specs.Bool.{if◌then◌else◌}
+use Rattle.std.specs.List.{AllByRecursion}
+use Rattle.std.proofs.lemmas.Bool.{and_parts, leb-true}
+use Rattle.std.proofs.lemmas.List.Sums.{sum_by-cons}
+use Rattle.shipment_machine.specs.declared.flight.FlightDate.{FlightDate}
+use Rattle.shipment_machine.specs.declared.moves.Place.{Place}
+use Rattle.shipment_machine.specs.declared.moves.Place.TheVariants.{Hand, Surplus, Free, Built, Departed, Delivered, Missing}
+use Rattle.shipment_machine.specs.declared.moves.Move.{Move}
+use Rattle.shipment_machine.specs.Amount.{IsHeld}
+use Rattle.shipment_machine.specs.Book.{same_place, in_store, pieces_of, tenths_of, moved_in, moved_out, brings, takes, free, built, missing, taken, found}
+use Rattle.shipment_machine.specs.Cargo.{Cargo}
+use Rattle.shipment_machine.specs.Lawful.{is_outside, is_pair, IsLawfulMove, IsLawful}
+use Rattle.shipment_machine.specs.Laws.{IsConserved}
+use Rattle.shipment_machine.proofs.Balances.{total_in, total_out}
+use Rattle.shipment_machine.proofs.ByFlight.{Entry, sum_all, sum_at, covered}
+
+-- Nothing moves outside.
+
+pub no_way_out : (from to : Place) → is_pair from to ≡ true → is_outside to ≡ false
+no_way_out from Hand e = absurd (true≢false (sym e ∙ no from))
+  where
+    no : (p : Place) → is_pair p Hand ≡ false
+    no Hand = refl
+    no Surplus = refl
+    no Free = refl
+    no (Built f) = refl
+    no Departed = refl
+    no Delivered = refl
+    no Missing = refl
+no_way_out from Surplus e = absurd (true≢false (sym e ∙ no from))
+  where
+    no : (p : Place) → is_pair p Surplus ≡ false
+    no Hand = refl
+    no Surplus = refl
+    no Free = refl
+    no (Built f) = refl
+    no Departed = refl
+    no Delivered = refl
+    no Missing = refl
+no_way_out from Free e = refl
+no_way_out from (Built f) e = refl
+no_way_out from Departed e = refl
+no_way_out from Delivered e = refl
+no_way_out from Missing e = refl
+
+pub not_hand : (p : Place) → is_outside p ≡ false → same_place Hand p ≡ false
+not_hand Hand e = absurd (true≢false e)
+not_hand Surplus e = refl
+not_hand Free e = refl
+not_hand (Built f) e = refl
+not_hand Departed e = refl
+not_hand Delivered e = refl
+not_hand Missing e = refl
+
+pub not_surplus : (p : Place) → is_outside p ≡ false → same_place Surplus p ≡ false
+not_surplus Hand e = refl
+not_surplus Surplus e = absurd (true≢false e)
+not_surplus Free e = refl
+not_surplus (Built f) e = refl
+not_surplus Departed e = refl
+not_surplus Delivered e = refl
+not_surplus Missing e = refl
+
+no_amount : (b c : Bool) (n : ℕ) → c ≡ false → (if b && c then n else 0) ≡ 0
+no_amount true true n e = absurd (true≢false e)
+no_amount true false n e = refl
+no_amount false c n e = refl
+
+pub none_in : (s : Cargo) (measure : Move → ℕ) (w : ℕ) (there : Place → Bool) → ((p : Place) → is_outside p ≡ false → there p ≡ false) → (book : List Move) → AllByRecursion (IsLawfulMove s) book → moved_in measure book w there ≡ 0
+none_in s measure w there apart [] h = refl
+none_in s measure w there apart (m ∷ book) h = sum_by-cons (brings measure w there) m book
+    ∙ ap (λ k. k + moved_in measure book w there) (no_amount (m.awb == w) (there m.to) (measure m) (apart m.to (no_way_out m.from m.to h.0.pair)))
+    ∙ only_rest (moved_in measure book w there) (none_in s measure w there apart book h.1)
+  where
+    only_rest : (n : ℕ) → n ≡ 0 → 0 + n ≡ 0
+    only_rest n e = omega arith
+
+pub none_in_hand : (s : Cargo) (measure : Move → ℕ) (w : ℕ) → IsLawful s → moved_in measure s.book w (same_place Hand) ≡ 0
+none_in_hand s measure w law = none_in s measure w (same_place Hand) not_hand s.book law.moves
+
+pub none_in_surplus : (s : Cargo) (measure : Move → ℕ) (w : ℕ) → IsLawful s → moved_in measure s.book w (same_place Surplus) ≡ 0
+none_in_surplus s measure w law = none_in s measure w (same_place Surplus) not_surplus s.book law.moves
+
+-- What is built of a waybill, flight by flight.
+
+abbrev pub is_built : Place → Bool
+is_built (Built k) = true
+is_built _ = false
+
+abbrev with_entry : Bool → Place → ℕ → List Entry → List Entry
+with_entry true (Built k) n rest = (k, n) ∷ rest
+with_entry true Hand n rest = rest
+with_entry true Surplus n rest = rest
+with_entry true Free n rest = rest
+with_entry true Departed n rest = rest
+with_entry true Delivered n rest = rest
+with_entry true Missing n rest = rest
+with_entry false p n rest = rest
+
+abbrev ins : (Move → ℕ) → ℕ → List Move → List Entry
+ins measure w [] = []
+ins measure w (m ∷ book) = with_entry (m.awb == w) m.to (measure m) (ins measure w book)
+
+abbrev outs : (Move → ℕ) → ℕ → List Move → List Entry
+outs measure w [] = []
+outs measure w (m ∷ book) = with_entry (m.awb == w) m.from (measure m) (outs measure w book)
+
+at_entry : (k : FlightDate) (n : ℕ) (rest : List Entry) (b : Bool) (p : Place) → sum_at k (with_entry b p n rest) ≡ (if b && same_place (Built k) p then n else 0) + sum_at k rest
+at_entry k n rest true (Built f) = refl
+at_entry k n rest true Hand = omega arith
+at_entry k n rest true Surplus = omega arith
+at_entry k n rest true Free = omega arith
+at_entry k n rest true Departed = omega arith
+at_entry k n rest true Delivered = omega arith
+at_entry k n rest true Missing = omega arith
+at_entry k n rest false p = omega arith
+
+all_entry : (n : ℕ) (rest : List Entry) (b : Bool) (p : Place) → sum_all (with_entry b p n rest) ≡ (if b && is_built p then n else 0) + sum_all rest
+all_entry n rest true (Built f) = refl
+all_entry n rest true Hand = omega arith
+all_entry n rest true Surplus = omega arith
+all_entry n rest true Free = omega arith
+all_entry n rest true Departed = omega arith
+all_entry n rest true Delivered = omega arith
+all_entry n rest true Missing = omega arith
+all_entry n rest false p = omega arith
+
+ins_at : (measure : Move → ℕ) (w : ℕ) (k : FlightDate) (book : List Move) → moved_in measure book w (same_place (Built k)) ≡ sum_at k (ins measure w book)
+ins_at measure w k [] = refl
+ins_at measure w k (m ∷ book) = sum_by-cons (brings measure w (same_place (Built k))) m book
+    ∙ ap (λ n. (if (m.awb == w) && same_place (Built k) m.to then measure m else 0) + n) (ins_at measure w k book)
+    ∙ sym (at_entry k (measure m) (ins measure w book) (m.awb == w) m.to)
+
+outs_at : (measure : Move → ℕ) (w : ℕ) (k : FlightDate) (book : List Move) → moved_out measure book w (same_place (Built k)) ≡ sum_at k (outs measure w book)
+outs_at measure w k [] = refl
+outs_at measure w k (m ∷ book) = sum_by-cons (takes measure w (same_place (Built k))) m book
+    ∙ ap (λ n. (if (m.awb == w) && same_place (Built k) m.from then measure m else 0) + n) (outs_at measure w k book)
+    ∙ sym (at_entry k (measure m) (outs measure w book) (m.awb == w) m.from)
+
+ins_all : (measure : Move → ℕ) (w : ℕ) (book : List Move) → moved_in measure book w is_built ≡ sum_all (ins measure w book)
+ins_all measure w [] = refl
+ins_all measure w (m ∷ book) = sum_by-cons (brings measure w is_built) m book
+    ∙ ap (λ n. (if (m.awb == w) && is_built m.to then measure m else 0) + n) (ins_all measure w book)
+    ∙ sym (all_entry (measure m) (ins measure w book) (m.awb == w) m.to)
+
+outs_all : (measure : Move → ℕ) (w : ℕ) (book : List Move) → moved_out measure book w is_built ≡ sum_all (outs measure w book)
+outs_all measure w [] = refl
+outs_all measure w (m ∷ book) = sum_by-cons (takes measure w is_built) m book
+    ∙ ap (λ n. (if (m.awb == w) && is_built m.from then measure m else 0) + n) (outs_all measure w book)
+    ∙ sym (all_entry (measure m) (outs measure w book) (m.awb == w) m.from)
+
+-- The store is the free cargo and all that is built.
+
+store_split : (n : ℕ) (b : Bool) (p : Place) → (if b && in_store p then n else 0) ≡ (if b && same_place Free p then n else 0) + (if b && is_built p then n else 0)
+store_split n false p = refl
+store_split n true Hand = refl
+store_split n true Surplus = refl
+store_split n true Free = omega arith
+store_split n true (Built f) = omega arith
+store_split n true Departed = refl
+store_split n true Delivered = refl
+store_split n true Missing = refl
+
+store_in : (measure : Move → ℕ) (w : ℕ) (book : List Move) → moved_in measure book w in_store ≡ moved_in measure book w (same_place Free) + moved_in measure book w is_built
+store_in measure w [] = refl
+store_in measure w (m ∷ book) = simp sum_by-cons (omega (arith, store_in measure w book, store_split (measure m) (m.awb == w) m.to))
+
+store_out : (measure : Move → ℕ) (w : ℕ) (book : List Move) → moved_out measure book w in_store ≡ moved_out measure book w (same_place Free) + moved_out measure book w is_built
+store_out measure w [] = refl
+store_out measure w (m ∷ book) = simp sum_by-cons (omega (arith, store_out measure w book, store_split (measure m) (m.awb == w) m.from))
+
+-- no more leaves a place of the station than enters it
+abbrev Stays : (Move → ℕ) → List Move → ℕ → Place → Type 0
+Stays measure book w p = moved_out measure book w (same_place p) ≤ moved_in measure book w (same_place p)
+
+abbrev AllStay : (Move → ℕ) → List Move → ℕ → Type 0
+AllStay measure book w = (p : Place) → is_outside p ≡ false → Stays measure book w p
+
+-- what is built for one flight is built
+built_within : (measure : Move → ℕ) (book : List Move) (w : ℕ) (k : FlightDate) → AllStay measure book w →
+    (moved_out measure book w is_built ≤ moved_in measure book w is_built)
+    × (moved_in measure book w (same_place (Built k)) - moved_out measure book w (same_place (Built k)) ≤ moved_in measure book w is_built - moved_out measure book w is_built)
+built_within measure book w k stay =
+    let both = covered (ins measure w book) (outs measure w book) k (λ j. let h = stay (Built j) refl in omega (arith, h, ins_at measure w j book, outs_at measure w j book)) in
+    let first : sum_all (outs measure w book) ≤ sum_all (ins measure w book) = both.0 in
+    let second : sum_at k (ins measure w book) - sum_at k (outs measure w book) ≤ sum_all (ins measure w book) - sum_all (outs measure w book) = both.1 in
+    (omega (arith, first, ins_all measure w book, outs_all measure w book), omega (arith, second, ins_all measure w book, outs_all measure w book, ins_at measure w k book, outs_at measure w k book))
+
+-- what a measure says came in
+abbrev pub came : (Move → ℕ) → List Move → ℕ → ℕ
+came measure book w = (moved_out measure book w (same_place Hand) - moved_in measure book w (same_place Hand)) + (moved_out measure book w (same_place Surplus) - moved_in measure book w (same_place Surplus))
+
+abbrev there_is : (Move → ℕ) → List Move → ℕ → (Place → Bool) → ℕ
+there_is measure book w there = moved_in measure book w there - moved_out measure book w there
+
+abbrev flight_any : FlightDate
+flight_any = record { flight = record { carrier = []; number = 0; suffix = None }; day = 0 }
+
+equal_sums : (hi ho si so ti to di do' li lo mi mo n : ℕ) → hi + si + ti + di + li + mi ≡ n → ho + so + to + do' + lo + mo ≡ n → hi ≡ 0 → si ≡ 0 → to ≤ ti → do' ≤ di → lo ≤ li → mo ≤ mi →
+    (ho - hi) + (so - si) ≡ (((ti - to) + (di - do')) + (li - lo)) + (mi - mo)
+equal_sums hi ho si so ti to di do' li lo mi mo n a b c d e f g h = omega arith
+
+conserved : (s : Cargo) (measure : Move → ℕ) (w : ℕ) → IsLawful s → AllStay measure s.book w →
+    came measure s.book w ≡ ((there_is measure s.book w in_store + there_is measure s.book w (same_place Departed)) + there_is measure s.book w (same_place Delivered)) + there_is measure s.book w (same_place Missing)
+conserved s measure w law stay =
+    let stored : moved_out measure s.book w in_store ≤ moved_in measure s.book w in_store =
+    omega (arith, (built_within measure s.book w flight_any stay).0, stay Free refl, store_in measure w s.book, store_out measure w s.book) in
+    equal_sums _ _ _ _ _ _ _ _ _ _ _ _ _ (total_in measure w s.book) (total_out measure w s.book) (none_in_hand s measure w law) (none_in_surplus s measure w law)
+    stored (stay Departed refl) (stay Delivered refl) (stay Missing refl)
+
+stay_pieces : (s : Cargo) (w : ℕ) → IsLawful s → AllStay pieces_of s.book w
+stay_pieces s w law p inside = (law.stocked w p inside).pieces
+
+stay_tenths : (s : Cargo) (w : ℕ) → IsLawful s → AllStay tenths_of s.book w
+stay_tenths s w law p inside = (law.stocked w p inside).tenths
+
+pub is_conserved : (s : Cargo) (w : ℕ) → IsLawful s → IsConserved s.book w
+is_conserved s w law =
+    let pieces = conserved s pieces_of w law (stay_pieces s w law) in
+    let tenths = conserved s tenths_of w law (stay_tenths s w law) in
+    λ i. record { pieces = pieces i; tenths = tenths i }
+
+-- No place of the store, and not the missing, holds more than came in.
+
+free_within : (s : Cargo) (measure : Move → ℕ) (w : ℕ) → IsLawful s → AllStay measure s.book w → there_is measure s.book w (same_place Free) ≤ came measure s.book w
+free_within s measure w law stay = omega (arith, conserved s measure w law stay, (built_within measure s.book w flight_any stay).0, stay Free refl, store_in measure w s.book, store_out measure w s.book)
+
+load_within : (s : Cargo) (measure : Move → ℕ) (w : ℕ) (k : FlightDate) → IsLawful s → AllStay measure s.book w → there_is measure s.book w (same_place (Built k)) ≤ came measure s.book w
+load_within s measure w k law stay = omega (arith, conserved s measure w law stay, (built_within measure s.book w k stay).0, (built_within measure s.book w k stay).1, stay Free refl, store_in measure w s.book, store_out measure w s.book)
+
+missing_within : (s : Cargo) (measure : Move → ℕ) (w : ℕ) → IsLawful s → AllStay measure s.book w → there_is measure s.book w (same_place Missing) ≤ came measure s.book w
+missing_within s measure w law stay = omega (arith, conserved s measure w law stay)
+
+few_came : (s : Cargo) (w : ℕ) → IsLawful s → came pieces_of s.book w ≤ 9999
+few_came s w law = leb-true _ _ (and_parts _ _ (law.within w)).0
+
+light_came : (s : Cargo) (w : ℕ) → IsLawful s → came tenths_of s.book w ≤ 999999
+light_came s w law = leb-true _ _ (and_parts _ _ (law.within w)).1
+
+pub held_free : (s : Cargo) (w : ℕ) → IsLawful s → IsHeld (free s.book w)
+held_free s w law = record {
+  pieces = omega (arith, free_within s pieces_of w law (stay_pieces s w law), few_came s w law);
+  tenths = omega (arith, free_within s tenths_of w law (stay_tenths s w law), light_came s w law);
+  tenth_a_piece = (law.stocked w Free refl).tenth_a_piece;
+}
+
+pub held_built : (s : Cargo) (w : ℕ) (k : FlightDate) → IsLawful s → IsHeld (built s.book w k)
+held_built s w k law = record {
+  pieces = omega (arith, load_within s pieces_of w k law (stay_pieces s w law), few_came s w law);
+  tenths = omega (arith, load_within s tenths_of w k law (stay_tenths s w law), light_came s w law);
+  tenth_a_piece = (law.stocked w (Built k) refl).tenth_a_piece;
+}
+
+pub held_missing : (s : Cargo) (w : ℕ) → IsLawful s → IsHeld (missing s.book w)
+held_missing s w law = record {
+  pieces = omega (arith, missing_within s pieces_of w law (stay_pieces s w law), few_came s w law);
+  tenths = omega (arith, missing_within s tenths_of w law (stay_tenths s w law), light_came s w law);
+  tenth_a_piece = (law.stocked w Missing refl).tenth_a_piece;
+}
+
+pub missing_came : (s : Cargo) (w : ℕ) → IsLawful s → (missing s.book w).tenths ≤ (taken s.book w).tenths + (found s.book w).tenths
+missing_came s w law = missing_within s tenths_of w law (stay_tenths s w law)

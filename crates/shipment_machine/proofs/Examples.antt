@@ -1,0 +1,346 @@
+-- The worked rows of the cargo commands, computed.
+use Rattle.std.proofs.Common.{◌≡◌, ℕ, ◌+◌, ◌*◌, Option, Some, None, Result, Ok, Err, List, [], ◌∷◌, ◌++◌, refl}
+use Rattle.std.specs.Prelude.{codes, map}
+use Rattle.shipment_machine.specs.Amount.{amount}
+use Rattle.shipment_machine.specs.declared.amount.Amount.{Amount}
+use Rattle.jiff_core.specs.Calendar.{days_of_years, days_of_months, day_count, days_from_civil}
+use Rattle.imp_fields.specs.Flight.{Designator}
+use Rattle.shipment_machine.specs.declared.flight.FlightDate.{FlightDate}
+use Rattle.imp_fields.specs.Date.{LocalMinute}
+use Rattle.imp_fields.specs.declared.fault.Why.TheVariants as why
+use Rattle.shipment_machine.specs.declared.moves.Place.{Place}
+use Rattle.shipment_machine.specs.declared.moves.Place.TheVariants.{Hand, Surplus, Free, Built, Delivered, Missing}
+use Rattle.shipment_machine.specs.declared.moves.Move.{Move}
+use Rattle.shipment_machine.specs.declared.moves.Declared.{Declared}
+use Rattle.shipment_machine.specs.declared.notice.Notice.{Notice}
+use Rattle.shipment_machine.specs.declared.notice.Notice.TheVariants as notice
+use Rattle.shipment_machine.specs.declared.notice.Event.{Event}
+use Rattle.shipment_machine.specs.declared.notice.Event.TheVariants as event
+use Rattle.imp_fields.specs.declared.consigned.Discrepancy.TheVariants as discrepancy
+use Rattle.shipment_machine.specs.declared.command.InboundLine.{InboundLine}
+use Rattle.shipment_machine.specs.declared.command.ShipmentCommand.{ShipmentCommand}
+use Rattle.shipment_machine.specs.declared.command.ShipmentCommand.TheVariants as order
+use Rattle.shipment_machine.specs.declared.command.DeskCommand.TheVariants as desk
+use Rattle.shipment_machine.specs.declared.plans.Refusal.{Refusal}
+use Rattle.shipment_machine.specs.declared.plans.Detail.TheVariants as detail
+use Rattle.shipment_machine.specs.Book.{taken, found, free, built, missing, store, departed, delivered}
+use Rattle.shipment_machine.specs.Cargo.{Cargo, opening_cargo}
+use Rattle.shipment_machine.specs.Effect.{Outcome, effect, carried_out, expected_amount}
+
+-- Short forms.
+
+abbrev pub w1 : ℕ
+w1 = 201234567
+
+abbrev pub at_time : ℕ → ℕ → LocalMinute
+at_time hour minute = record { day = 20465; minute = hour * 60 + minute }
+
+abbrev pub noon : LocalMinute
+noon = at_time 12 0
+
+abbrev pub lh : ℕ → Designator
+lh number = record { carrier = codes "LH"; number = number; suffix = None }
+
+abbrev pub lh_on : ℕ → FlightDate
+lh_on number = record { flight = lh number; day = 20465 }
+
+abbrev pub fra : List ℕ
+fra = codes "FRA"
+
+abbrev pub jfk : List ℕ
+jfk = codes "JFK"
+
+-- the state after a command, or as it was where it is refused
+abbrev pub next : Cargo → Result Outcome Refusal → Cargo
+next s (Ok done) = carried_out [] done s
+next s (Err refusal) = s
+
+abbrev pub after : Cargo → ShipmentCommand → LocalMinute → Cargo
+after s command at = next s (effect s command at)
+
+-- what a command is answered, and where it moves how much
+abbrev pub answer : Result Outcome Refusal → Result ℕ Refusal
+answer (Ok done) = Ok done.count
+answer (Err refusal) = Err refusal
+
+abbrev pub reply : Cargo → ShipmentCommand → LocalMinute → Result ℕ Refusal
+reply s command at = answer (effect s command at)
+
+abbrev pub step_of : Move → Place × Place × Amount
+step_of m = (m.from, m.to, amount m.pieces m.tenths)
+
+abbrev pub steps_of : Result Outcome Refusal → List (Place × Place × Amount)
+steps_of (Ok done) = map step_of done.moves
+steps_of (Err _) = []
+
+abbrev pub moves : Cargo → ShipmentCommand → LocalMinute → List (Place × Place × Amount)
+moves s command at = steps_of (effect s command at)
+
+-- what a notice tells: the event, and of how much
+abbrev told_by : Notice → List (Event × Amount)
+told_by (notice.Status here consigned event pieces tenths) = (event, amount pieces tenths) ∷ []
+told_by (notice.Manifest here flight unload lines) = []
+
+abbrev told_all : List Notice → List (Event × Amount)
+told_all [] = []
+told_all (n ∷ ns) = told_by n ++ told_all ns
+
+abbrev events_of : Result Outcome Refusal → List (Event × Amount)
+events_of (Ok done) = told_all done.notices
+events_of (Err _) = []
+
+abbrev events : Cargo → ShipmentCommand → LocalMinute → List (Event × Amount)
+events s command at = events_of (effect s command at)
+
+abbrev pub refused_waybill : ℕ → ℕ → Result ℕ Refusal
+refused_waybill number w = Err (record { number = number; detail = detail.Waybill w })
+
+abbrev pub refused_flight : ℕ → FlightDate → Result ℕ Refusal
+refused_flight number flight = Err (record { number = number; detail = detail.Flight flight })
+
+abbrev refused_free : ℕ → Result ℕ Refusal
+refused_free pieces = Err (record { number = 206; detail = detail.Pieces pieces })
+
+-- A waybill is booked and received at its origin, manifested and departs.
+
+abbrev pub fresh : Cargo
+fresh = opening_cargo fra
+
+abbrev pub booking : ShipmentCommand
+booking = order.Desk (desk.Book w1 fra jfk 10 1000 (codes "CARGO"))
+
+example_book : reply fresh booking noon ≡ Ok 10
+example_book = refl
+
+abbrev pub booked : Cargo
+booked = after fresh booking noon
+
+abbrev pub receiving : ShipmentCommand
+receiving = order.Desk (desk.Receive w1 10 1000 (codes "ACME"))
+
+example_receive : reply booked receiving (at_time 10 30) ≡ Ok 10
+example_receive = refl
+
+example_receive_move : moves booked receiving (at_time 10 30) ≡ (Hand, Free, amount 10 1000) ∷ []
+example_receive_move = refl
+
+example_receive_message : events booked receiving (at_time 10 30) ≡ (event.ReceivedFromShipper (codes "ACME") (at_time 10 30), amount 10 1000) ∷ []
+example_receive_message = refl
+
+abbrev pub received : Cargo
+received = after booked receiving (at_time 10 30)
+
+example_receive_too_much : reply received (order.Desk (desk.Receive w1 1 1 [])) noon ≡ refused_waybill 205 w1
+example_receive_too_much = refl
+
+abbrev manifesting : ShipmentCommand
+manifesting = order.Desk (desk.Manifest w1 (lh_on 400) jfk 4)
+
+example_manifest : events received manifesting noon ≡ (event.Manifested (lh_on 400) jfk, amount 4 400) ∷ []
+example_manifest = refl
+
+abbrev manifested : Cargo
+manifested = after received manifesting noon
+
+example_depart : reply manifested (order.Desk (desk.Depart (lh_on 400))) noon ≡ Ok 4
+example_depart = refl
+
+example_depart_message : events manifested (order.Desk (desk.Depart (lh_on 400))) noon ≡ (event.Departed (lh_on 400) jfk, amount 4 400) ∷ []
+example_depart_message = refl
+
+abbrev left : Cargo
+left = after manifested (order.Desk (desk.Depart (lh_on 400))) noon
+
+example_manifest_closed : reply left (order.Desk (desk.Manifest w1 (lh_on 400) jfk 1)) noon ≡ refused_flight 208 (lh_on 400)
+example_manifest_closed = refl
+
+example_depart_closed : reply left (order.Desk (desk.Depart (lh_on 400))) noon ≡ refused_flight 208 (lh_on 400)
+example_depart_closed = refl
+
+example_depart_empty : reply left (order.Desk (desk.Depart (lh_on 401))) noon ≡ refused_flight 209 (lh_on 401)
+example_depart_empty = refl
+
+example_balances : taken left.book w1 ∷ store left.book w1 ∷ departed left.book w1 ∷ delivered left.book w1 ∷ missing left.book w1 ∷ found left.book w1 ∷ built left.book w1 (lh_on 400) ∷ []
+    ≡ amount 10 1000 ∷ amount 6 600 ∷ amount 4 400 ∷ amount 0 0 ∷ amount 0 0 ∷ amount 0 0 ∷ amount 0 0 ∷ []
+example_balances = refl
+
+-- A manifest announces ten pieces here, of which seven, twelve or none are counted.
+
+abbrev line : List ℕ → ℕ → ℕ → Option ℕ → InboundLine
+line unload pieces tenths total = record {
+  unload = unload;
+  cargo = record { awb = w1; origin = fra; destination = jfk; pieces = pieces; tenths = tenths; total = total; goods = codes "CARGO" };
+}
+
+abbrev manifest : ℕ → List InboundLine → ShipmentCommand
+manifest sequence lines = order.Ffm (record { number = sequence; flight = lh 400; date = record { day = 12; month = 1 }; loaded = fra; lines = lines })
+
+abbrev there : Cargo
+there = opening_cargo jfk
+
+example_ffm : reply there (manifest 1 (line jfk 10 1000 None ∷ [])) noon ≡ Ok 1
+unfolding days_of_years days_of_months day_count days_from_civil
+example_ffm = refl
+
+abbrev announced : Cargo
+announced = after there (manifest 1 (line jfk 10 1000 None ∷ [])) noon
+
+example_expected : expected_amount (announced.expected (lh_on 400) w1) ≡ amount 10 1000
+unfolding days_of_years days_of_months day_count days_from_civil
+example_expected = refl
+
+abbrev counting : ℕ → ShipmentCommand
+counting counted = order.Desk (desk.CheckIn w1 (lh_on 400) counted)
+
+abbrev half_past_two : LocalMinute
+half_past_two = at_time 14 30
+
+example_short : moves announced (counting 7) half_past_two ≡ (Hand, Free, amount 7 700) ∷ (Hand, Missing, amount 3 300) ∷ []
+unfolding days_of_years days_of_months day_count days_from_civil
+example_short = refl
+
+example_short_messages : events announced (counting 7) half_past_two
+    ≡ (event.ReceivedFromFlight (lh_on 400) half_past_two, amount 7 700) ∷ (event.Differs (lh_on 400) half_past_two discrepancy.Missing, amount 3 300) ∷ []
+unfolding days_of_years days_of_months day_count days_from_civil
+example_short_messages = refl
+
+abbrev short : Cargo
+short = after announced (counting 7) half_past_two
+
+example_short_balances : free short.book w1 ∷ missing short.book w1 ∷ found short.book w1 ∷ [] ≡ amount 7 700 ∷ amount 3 300 ∷ amount 0 0 ∷ []
+unfolding days_of_years days_of_months day_count days_from_civil
+example_short_balances = refl
+
+example_checked_in : reply short (counting 7) noon ≡ refused_waybill 212 w1
+unfolding days_of_years days_of_months day_count days_from_civil
+example_checked_in = refl
+
+example_over : moves announced (counting 12) half_past_two ≡ (Hand, Free, amount 10 1000) ∷ (Surplus, Free, amount 2 200) ∷ []
+unfolding days_of_years days_of_months day_count days_from_civil
+example_over = refl
+
+example_over_messages : events announced (counting 12) half_past_two
+    ≡ (event.ReceivedFromFlight (lh_on 400) half_past_two, amount 12 1200) ∷ (event.Differs (lh_on 400) half_past_two discrepancy.Found, amount 2 200) ∷ []
+unfolding days_of_years days_of_months day_count days_from_civil
+example_over_messages = refl
+
+example_none : moves announced (counting 0) half_past_two ≡ (Hand, Missing, amount 10 1000) ∷ []
+unfolding days_of_years days_of_months day_count days_from_civil
+example_none = refl
+
+example_none_messages : events announced (counting 0) half_past_two ≡ (event.Differs (lh_on 400) half_past_two discrepancy.Missing, amount 10 1000) ∷ []
+unfolding days_of_years days_of_months day_count days_from_civil
+example_none_messages = refl
+
+example_part_again : reply announced (manifest 1 (line jfk 9 900 None ∷ [])) noon
+    ≡ Err (record { number = 213; detail = detail.Part (record { flight = lh_on 400; airport = fra; number = 1 }) })
+unfolding days_of_years days_of_months day_count days_from_civil
+example_part_again = refl
+
+-- a further part adds to what is expected, until it was counted
+example_second_part : expected_amount ((after announced (manifest 2 (line jfk 2 10 None ∷ line jfk 1 0 None ∷ [])) noon).expected (lh_on 400) w1) ≡ amount 13 1011
+unfolding days_of_years days_of_months day_count days_from_civil
+example_second_part = refl
+
+example_after_check_in : reply short (manifest 2 (line jfk 2 10 None ∷ [])) noon ≡ refused_waybill 214 w1
+unfolding days_of_years days_of_months day_count days_from_civil
+example_after_check_in = refl
+
+-- lines for another airport don't count
+example_elsewhere : reply there (manifest 1 (line (codes "MUC") 10 1000 None ∷ [])) noon ≡ Ok 0
+unfolding days_of_years days_of_months day_count days_from_civil
+example_elsewhere = refl
+
+-- a date of December, received on the first day of all
+example_bad_date : reply there (order.Ffm (record { number = 1; flight = lh 400; date = record { day = 31; month = 12 }; loaded = fra; lines = [] })) (record { day = 10957; minute = 0 })
+    ≡ Err (record { number = 301; detail = detail.Line 2 why.Date })
+unfolding days_of_years days_of_months day_count days_from_civil
+example_bad_date = refl
+
+-- Delivery in parts: the last has what rounding left.
+
+abbrev three_free : Cargo
+three_free = after (after (after there (order.Desk (desk.Book w1 fra jfk 10 1000 [])) noon) (order.Desk (desk.Found w1 3 100 None)) noon) (order.Desk (desk.Notify w1 [])) noon
+
+abbrev delivering : ShipmentCommand
+delivering = order.Desk (desk.Deliver w1 1 [])
+
+abbrev one_left : Cargo
+one_left = after (after three_free delivering noon) delivering noon
+
+example_deliveries : moves three_free delivering noon ++ moves (after three_free delivering noon) delivering noon ++ moves one_left delivering noon
+    ≡ (Free, Delivered, amount 1 33) ∷ (Free, Delivered, amount 1 33) ∷ (Free, Delivered, amount 1 34) ∷ []
+example_deliveries = refl
+
+example_no_fourth : reply (after one_left delivering noon) delivering noon ≡ refused_free 0
+example_no_fourth = refl
+
+-- Found: what was missing comes back first, the rest is surplus.
+
+abbrev three_missing : Cargo
+three_missing = after (after there (manifest 1 (line jfk 3 300 None ∷ [])) noon) (counting 0) noon
+
+abbrev finding : ShipmentCommand
+finding = order.Desk (desk.Found w1 5 1 (Some (lh_on 400)))
+
+example_found : moves three_missing finding noon ≡ (Missing, Free, amount 3 300) ∷ (Surplus, Free, amount 2 2) ∷ []
+unfolding days_of_years days_of_months day_count days_from_civil
+example_found = refl
+
+example_found_count : reply three_missing finding noon ≡ Ok 5
+unfolding days_of_years days_of_months day_count days_from_civil
+example_found_count = refl
+
+example_found_message : events three_missing finding noon ≡ (event.Differs (lh_on 400) noon discrepancy.Found, amount 5 302) ∷ []
+unfolding days_of_years days_of_months day_count days_from_civil
+example_found_message = refl
+
+-- Offload: the pieces take their share, the rest stays with the rest of the weight.
+
+abbrev three_built : Cargo
+three_built = after (after (after fresh (order.Desk (desk.Book w1 fra jfk 3 100 [])) noon) (order.Desk (desk.Receive w1 3 100 [])) noon) (order.Desk (desk.Manifest w1 (lh_on 400) jfk 3)) noon
+
+example_offload : moves three_built (order.Desk (desk.Offload w1 (lh_on 400) 2)) noon ≡ (Built (lh_on 400), Free, amount 2 66) ∷ []
+example_offload = refl
+
+example_offload_rest : built (after three_built (order.Desk (desk.Offload w1 (lh_on 400) 2)) noon).book w1 (lh_on 400) ≡ amount 1 34
+example_offload_rest = refl
+
+example_offload_too_many : reply three_built (order.Desk (desk.Offload w1 (lh_on 400) 4)) noon ≡ refused_waybill 207 w1
+example_offload_too_many = refl
+
+-- a flight that goes to another airport
+example_elsewhere_bound : reply (after received manifesting noon) (order.Desk (desk.Manifest w1 (lh_on 400) (codes "MUC") 1)) noon ≡ refused_flight 218 (lh_on 400)
+example_elsewhere_bound = refl
+
+-- A line that declares: its share of the weight for all pieces. And one that declares too much.
+
+abbrev three_of_ten : Cargo
+three_of_ten = after there (manifest 1 (line jfk 3 100 (Some 10) ∷ [])) noon
+
+abbrev declared_amount : Option Declared → Amount
+declared_amount None = amount 0 0
+declared_amount (Some d) = amount d.pieces d.tenths
+
+example_declares : declared_amount (three_of_ten.declared w1) ≡ amount 10 333
+unfolding days_of_years days_of_months day_count days_from_civil
+example_declares = refl
+
+example_declares_expected : expected_amount (three_of_ten.expected (lh_on 400) w1) ≡ amount 3 100
+unfolding days_of_years days_of_months day_count days_from_civil
+example_declares_expected = refl
+
+example_too_heavy : reply there (manifest 1 (line jfk 1 999999 (Some 2) ∷ [])) noon ≡ refused_waybill 217 w1
+unfolding days_of_years days_of_months day_count days_from_civil
+example_too_heavy = refl
+
+-- Taken and found together stay within 9,999 pieces; without a flight nothing is told.
+
+example_found_too_many : reply received (order.Desk (desk.Found w1 9990 1 None)) noon ≡ refused_waybill 217 w1
+example_found_too_many = refl
+
+example_found_many : reply received (order.Desk (desk.Found w1 9989 1 None)) noon ≡ Ok 9989
+example_found_many = refl
+
+example_found_untold : events received (order.Desk (desk.Found w1 9989 1 None)) noon ≡ []
+example_found_untold = refl

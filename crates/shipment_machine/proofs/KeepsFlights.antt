@@ -1,0 +1,148 @@
+-- Check-in, manifest and departure keep a state lawful.
+use Rattle.std.proofs.Common.{◌≡◌, ℕ, ◌+◌, ◌-◌, ◌<◌, ◌≤◌, Bool, true, false, ◌&&◌, ◌==◌, nat_lt, nat_le, Option, Some, None, is_none, IsSome, IfSome, IfOk, List, [], ◌∷◌, ◌++◌, length, refl, sym, ap, subst, ◌∙◌, arith, append_assoc, true≢false, inl, inr}
+use Rattle.std.specs.Prelude.{is_some}
+use Rattle.std.proofs.lemmas.List.{length-map}
+use Rattle.std.specs.Bool.{if◌then◌else◌}
+use Rattle.std.specs.Str.{bytes_eq}
+use Rattle.std.proofs.lemmas.Bool.{leb-true, leb-false, ltb-false}
+use Rattle.std.proofs.lemmas.Bool.Decides.{nat_tests}
+use Rattle.imp_fields.specs.Amount.{share_of}
+use Rattle.imp_fields.specs.Date.{LocalMinute}
+use Rattle.shipment_machine.specs.declared.amount.Amount.{Amount}
+use Rattle.shipment_machine.specs.declared.flight.FlightDate.{FlightDate}
+use Rattle.shipment_machine.specs.declared.moves.Place.TheVariants.{Hand, Surplus, Free, Built, Missing}
+use Rattle.shipment_machine.specs.declared.moves.Move.{Move}
+use Rattle.shipment_machine.specs.declared.moves.Expected.{Expected}
+use Rattle.shipment_machine.specs.declared.moves.Outbound.{Outbound}
+use Rattle.shipment_machine.specs.declared.view.Aboard.{Aboard}
+use Rattle.shipment_machine.specs.declared.plans.Change.TheVariants.{NoteFlight}
+use Rattle.shipment_machine.specs.declared.command.ShipmentCommand.TheVariants as order
+use Rattle.shipment_machine.specs.declared.command.DeskCommand.TheVariants as desk
+use Rattle.shipment_machine.specs.Amount.{part, less, plus}
+use Rattle.shipment_machine.specs.Book.{pieces_of, tenths_of, free, built, taken_and_found, waybills_on}
+use Rattle.shipment_machine.specs.Cargo.{Cargo, written_all}
+use Rattle.shipment_machine.specs.Sheets.{declaration}
+use Rattle.shipment_machine.specs.Effect.{effect, carried_out, moved, is_closed, unload_of, expected_amount, counted_in, uncounted, counted_more, check_in_moves}
+use Rattle.shipment_machine.specs.Lawful.{IsLawful, IsLawfulAmount, IsNoted}
+use Rattle.shipment_machine.proofs.FlightKeys.{same-refl}
+use Rattle.shipment_machine.proofs.OnFlight.{is_in-waybills_on}
+use Rattle.shipment_machine.proofs.Conserved.{came}
+use Rattle.shipment_machine.proofs.LawfulView.{noted_outbound}
+use Rattle.shipment_machine.proofs.Keeps.{by_refusals}
+use Rattle.shipment_machine.proofs.SoundBook.{there_are}
+use Rattle.shipment_machine.proofs.PlainMoves.{lawful_after}
+use Rattle.shipment_machine.proofs.FlightMoves.{with_note, noted_open, manifested, HasRoom}
+use Rattle.shipment_machine.proofs.Departed.{sent_off, departed_lawful, depart_moves_are}
+use Rattle.shipment_machine.proofs.Shares.{share_heavy, share_leaves}
+use Rattle.shipment_machine.proofs.WrittenRows.{expects}
+use Rattle.shipment_machine.proofs.KeepsMoves.{is_known, with_moves, may_move, inside_fits, outside_fits, came_with, fits_parts}
+
+-- Check-in.
+
+-- what is expected, where it is
+expected_fine : (o : Option Expected) (P : Type 0) → is_none o ≡ false → IfSome o (λ e. IsLawfulAmount e.pieces e.tenths × P) → IsLawfulAmount (expected_amount o).pieces (expected_amount o).tenths
+expected_fine None P e h = absurd (true≢false e)
+expected_fine (Some x) P e h = h.0
+
+-- how a count splits an amount
+record Split (e in' rest : Amount) : Type 0 where
+  pub pieces : in'.pieces + rest.pieces ≡ e.pieces
+  pub tenths : in'.tenths + rest.tenths ≡ e.tenths
+  pub heavy : in'.pieces ≤ in'.tenths
+  pub rest_heavy : rest.pieces ≤ rest.tenths
+
+split : (e : Amount) (counted : ℕ) → IsLawfulAmount e.pieces e.tenths → Split e (counted_in e counted) (uncounted e counted)
+split e counted law = elim (nat_le counted e.pieces) as (λ b. nat_le counted e.pieces ≡ b → Split e (if b then part e counted else e) (less e (if b then part e counted else e))) [
+  | true ↦ λ t.
+      let within : counted ≤ e.pieces = leb-true _ _ t in
+      let l = share_leaves e.pieces e.tenths counted law.tenth_a_piece within in
+      let light : share_of e.pieces e.tenths counted ≤ e.tenths = l.0 in
+      let rest : e.pieces - counted ≤ e.tenths - share_of e.pieces e.tenths counted = l.1 in
+      record { pieces = omega arith; tenths = omega arith; heavy = share_heavy e.pieces e.tenths counted law.some law.tenth_a_piece; rest_heavy = rest }
+  | false ↦ λ _. record { pieces = omega arith; tenths = omega arith; heavy = law.tenth_a_piece; rest_heavy = omega arith }
+] refl
+
+pub keeps_check_in : (s : Cargo) (w : ℕ) (flight : FlightDate) (counted : ℕ) (at : LocalMinute) (text : List ℕ) → IsLawful s → IfOk (effect s (order.Desk (desk.CheckIn w flight counted)) at) (λ done. IsLawful (carried_out text done s))
+keeps_check_in s w flight counted at text law = by_refusals s (order.Desk (desk.CheckIn w flight counted)) at _ (λ none.
+    let known : IsSome (s.declared w) = is_known (s.declared w) none.0 in
+    let e : Amount = expected_amount (s.expected flight w) in
+    let fine : IsLawfulAmount e.pieces e.tenths = expected_fine (s.expected flight w) _ none.1.0 (law.expectations flight w) in
+    let first : Amount = counted_in e counted in
+    let rest : Amount = uncounted e counted in
+    let more : Amount = counted_more e counted in
+    let room = fits_parts (plus (taken_and_found s.book w) (plus e more)) none.1.1.1.0 in
+    let all : came pieces_of s.book w + (e.pieces + more.pieces) ≤ 9999 = room.0 in
+    let heavy : came tenths_of s.book w + (e.tenths + more.tenths) ≤ 999999 = room.1 in
+    let sp : Split e first rest = split e counted fine in
+    let s1 : Cargo = with_moves s (moved w Hand Free first (Some flight) at) in
+    let law1 : IsLawful s1 = may_move s w Hand Free first (Some flight) at (λ some.
+    lawful_after s _ (outside_fits s w first.pieces first.tenths Hand Free (Some flight) at refl refl some sp.heavy known tt tt (omega (arith, sp.pieces)) (omega (arith, sp.tenths))) refl refl law) law in
+    let pieces1 : came pieces_of s1.book w ≤ came pieces_of s.book w + first.pieces = came_with s pieces_of w Hand Free first (Some flight) at first.pieces refl (omega arith) law in
+    let tenths1 : came tenths_of s1.book w ≤ came tenths_of s.book w + first.tenths = came_with s tenths_of w Hand Free first (Some flight) at first.tenths refl (omega arith) law in
+    let s2 : Cargo = with_moves s1 (moved w Hand Missing rest (Some flight) at) in
+    let law2 : IsLawful s2 = may_move s1 w Hand Missing rest (Some flight) at (λ some.
+    lawful_after s1 _ (outside_fits s1 w rest.pieces rest.tenths Hand Missing (Some flight) at refl refl some sp.rest_heavy known tt tt (omega (arith, sp.pieces)) (omega (arith, sp.tenths))) refl refl law1) law1 in
+    let pieces2 : came pieces_of s2.book w ≤ came pieces_of s1.book w + rest.pieces = came_with s1 pieces_of w Hand Missing rest (Some flight) at rest.pieces refl (omega arith) law1 in
+    let tenths2 : came tenths_of s2.book w ≤ came tenths_of s1.book w + rest.tenths = came_with s1 tenths_of w Hand Missing rest (Some flight) at rest.tenths refl (omega arith) law1 in
+    let law3 : IsLawful (with_moves s2 (moved w Surplus Free more (Some flight) at)) = may_move s2 w Surplus Free more (Some flight) at (λ some.
+    lawful_after s2 _ (outside_fits s2 w more.pieces more.tenths Surplus Free (Some flight) at refl refl some (share_heavy e.pieces e.tenths (counted - e.pieces) fine.some fine.tenth_a_piece) known tt tt (omega (arith, sp.pieces)) (omega (arith, sp.tenths))) refl refl law2) law2 in
+    let joined : ((s.book ++ moved w Hand Free first (Some flight) at) ++ moved w Hand Missing rest (Some flight) at) ++ moved w Surplus Free more (Some flight) at ≡ s.book ++ check_in_moves w flight e counted at =
+    join s.book (moved w Hand Free first (Some flight) at) (moved w Hand Missing rest (Some flight) at) (moved w Surplus Free more (Some flight) at) in
+    expects text (record s { book = s.book ++ check_in_moves w flight e counted at }) flight w (record { pieces = e.pieces; tenths = e.tenths; checked = true }) fine known
+    (subst (λ (book : List Move). IsLawful (record s { book = book })) joined law3))
+  where
+    join : (a b c d : List Move) → ((a ++ b) ++ c) ++ d ≡ a ++ ((b ++ c) ++ d)
+    join a b c d = ap (λ (xs : List Move). xs ++ d) (append_assoc {A = Move} a b c) ∙ append_assoc {A = Move} a (b ++ c) d
+
+-- Manifest.
+
+room_for : (s : Cargo) (w : ℕ) (flight : FlightDate) → (((built s.book w flight).pieces == 0) && nat_le 500 (length (waybills_on s.book flight))) ≡ false → HasRoom s w flight
+room_for s w flight e = elim ((built s.book w flight).pieces == 0) as (λ b. ((built s.book w flight).pieces == 0) ≡ b → (b && nat_le 500 (length (waybills_on s.book flight))) ≡ false → HasRoom s w flight) [
+  | true ↦ λ _ e. inr (few _ e)
+  | false ↦ λ z _. inl (is_in-waybills_on w s.book flight ∙ some _ z)
+] refl e
+  where
+    few : (n : ℕ) → nat_le 500 n ≡ false → n ≤ 499
+    few n e = let h : n < 500 = leb-false _ _ e in omega arith
+
+    some : (n : ℕ) → (n == 0) ≡ false → nat_lt 0 n ≡ true
+    some n e = grind (arith, nat_tests)
+
+-- onto a noted flight
+onto : (s : Cargo) (w p : ℕ) (flight : FlightDate) (at : LocalMinute) → IsSome (s.declared w) → is_closed (s.flights flight) ≡ false → IsNoted s (Built flight) → p ≤ there_are pieces_of s.book w Free → there_are pieces_of s.book w Free ≤ 9999 → HasRoom s w flight → IsLawful s →
+    IsLawful (with_moves s (moved w Free (Built flight) (part (free s.book w) p) (Some flight) at))
+onto s w p flight at known ajar noted within few room law =
+    may_move s w Free (Built flight) (part (free s.book w) p) (Some flight) at (λ some.
+    manifested s w p _ flight (Some flight) at (inside_fits s w p Free (Built flight) (Some flight) at refl refl some within known tt noted few law) ajar room law) law
+
+pub keeps_manifest : (s : Cargo) (w p : ℕ) (flight : FlightDate) (unload : List ℕ) (at : LocalMinute) (text : List ℕ) → there_are pieces_of s.book w Free ≤ 9999 → IsLawful s → IfOk (effect s (order.Desk (desk.Manifest w flight unload p)) at) (λ done. IsLawful (carried_out text done s))
+keeps_manifest s w p flight unload at text few law = by_refusals s (order.Desk (desk.Manifest w flight unload p)) at _ (λ none.
+    let known : IsSome (s.declared w) = is_known (s.declared w) none.0 in
+    let away : bytes_eq unload s.here ≡ false = none.1.0 in
+    let within : p ≤ there_are pieces_of s.book w Free = ltb-false _ _ none.1.1.1.1.0 in
+    let room : HasRoom s w flight = room_for s w flight none.1.1.1.1.1.0 in
+    let o : Outbound = record { unload = unload; closed = false } in
+    elim (s.flights flight) as (λ was. s.flights flight ≡ was → IsLawful (written_all text (if is_none was then NoteFlight flight o ∷ [] else []) (with_moves s (moved w Free (Built flight) (part (free s.book w) p) (Some flight) at)))) [
+      | None ↦ λ e. onto (with_note s flight o) w p flight at known (ap (λ (b : Bool). is_closed (if b then Some o else s.flights flight)) (same-refl flight)) (ap (λ (b : Bool). is_some (if b then Some o else s.flights flight)) (same-refl flight)) within few room
+          (noted_open s flight o e refl away law)
+      | Some was ↦ λ e. onto s w p flight at known none.1.1.0 (ap is_some e) within few room law
+    ] refl)
+
+-- Departure.
+
+abbrev aboard : Cargo → FlightDate → ℕ → Aboard
+aboard s flight w = record { awb = w; declared = declaration s w; load = built s.book w flight }
+
+unloads_away : (o : Option Outbound) (here : List ℕ) → IsSome o → IfSome o (λ o. bytes_eq o.unload here ≡ false) → bytes_eq (unload_of o) here ≡ false
+unloads_away None here some h = absurd (true≢false (sym some))
+unloads_away (Some o) here some h = h
+
+pub keeps_depart : (s : Cargo) (flight : FlightDate) (at : LocalMinute) (text : List ℕ) → IsLawful s → IfOk (effect s (order.Desk (desk.Depart flight)) at) (λ done. IsLawful (carried_out text done s))
+keeps_depart s flight at text law = by_refusals s (order.Desk (desk.Depart flight)) at _ (λ none.
+    let o : Outbound = record { unload = unload_of (s.flights flight); closed = true } in
+    let away : bytes_eq (unload_of (s.flights flight)) s.here ≡ false = unloads_away (s.flights flight) s.here (noted_outbound s flight law none.1.0) (law.outbound flight) in
+    let left : IsLawful (sent_off s flight o (Some flight) at (waybills_on s.book flight)) = elim (waybills_on s.book flight) as (λ ws. waybills_on s.book flight ≡ ws → IsLawful (sent_off s flight o (Some flight) at (waybills_on s.book flight))) [
+      | [] ↦ λ e. absurd (true≢false (sym (ap (λ (n : ℕ). n == 0) (ap length e)) ∙ ap (λ (n : ℕ). n == 0) (sym (length-map (waybills_on s.book flight) (aboard s flight))) ∙ none.1.0))
+      | w ∷ ws ↦ λ e. departed_lawful s flight o (Some flight) at w ws e refl away law
+    ] refl in
+    subst (λ (ms : List Move). IsLawful (record (with_note s flight o) { book = s.book ++ ms })) (sym (depart_moves_are s flight at)) left)

@@ -1,0 +1,175 @@
+-- Commands on one waybill keep a state lawful.
+use Rattle.std.proofs.Common.{◌≡◌, ℕ, zero, suc, ◌+◌, ◌-◌, ◌≤◌, min, Bool, true, false, not, ◌==◌, nat_le, Option, Some, None, is_none, IsSome, IfOk, List, [], ◌∷◌, ◌++◌, refl, sym, subst, ◌∙◌, arith, append_assoc, true≢false}
+use Rattle.std.specs.Bool.{if◌then◌else◌}
+use Rattle.std.proofs.lemmas.Bool.{and_parts, leb-true, ltb-false}
+use Rattle.std.proofs.lemmas.Bool.Decides.{nat_tests}
+use Rattle.std.proofs.lemmas.List.{append-nil}
+use Rattle.imp_fields.specs.Amount.{share_of}
+use Rattle.imp_fields.specs.Date.{LocalMinute}
+use Rattle.shipment_machine.specs.declared.amount.Amount.{Amount}
+use Rattle.shipment_machine.specs.declared.flight.FlightDate.{FlightDate}
+use Rattle.shipment_machine.specs.declared.moves.Place.{Place}
+use Rattle.shipment_machine.specs.declared.moves.Place.TheVariants.{Surplus, Free, Built, Delivered, Missing}
+use Rattle.shipment_machine.specs.declared.moves.Move.{Move}
+use Rattle.shipment_machine.specs.declared.command.ShipmentCommand.TheVariants as order
+use Rattle.shipment_machine.specs.declared.command.DeskCommand.TheVariants as desk
+use Rattle.shipment_machine.specs.Amount.{part, plus, fits}
+use Rattle.shipment_machine.specs.Book.{pieces_of, tenths_of, free, built, missing, taken_and_found}
+use Rattle.shipment_machine.specs.Cargo.{Cargo}
+use Rattle.shipment_machine.specs.Effect.{effect, carried_out, moved, surplus}
+use Rattle.shipment_machine.specs.Lawful.{is_outside, is_pair, IsLawful, IsNoted}
+use Rattle.shipment_machine.proofs.Conserved.{came}
+use Rattle.shipment_machine.proofs.Keeps.{by_refusals}
+use Rattle.shipment_machine.proofs.SoundBook.{IsFitting, with_move, there_are, added, came_after}
+use Rattle.shipment_machine.proofs.PlainMoves.{sound_of, lawful_after}
+use Rattle.shipment_machine.proofs.FlightMoves.{offloaded}
+use Rattle.shipment_machine.proofs.Shares.{part_leaves, share_heavy}
+
+pub not_false : (b : Bool) → not b ≡ false → b ≡ true
+not_false true e = refl
+not_false false e = absurd (true≢false e)
+
+pub is_known : {A : Type 0} (o : Option A) → is_none o ≡ false → IsSome o
+is_known None e = absurd (true≢false e)
+is_known (Some d) e = refl
+
+-- a state with these further moves
+abbrev pub with_moves : Cargo → List Move → Cargo
+with_moves s ms = record s { book = s.book ++ ms }
+
+pub rests : (s : Cargo) → IsLawful s → IsLawful (with_moves s [])
+rests s law = subst (λ (book : List Move). IsLawful (record s { book = book })) (sym (append-nil s.book)) law
+
+-- a move that is made where it has a piece
+pub may_move : (s : Cargo) (w : ℕ) (from to : Place) (a : Amount) (flight : Option FlightDate) (at : LocalMinute) →
+    (1 ≤ a.pieces → IsLawful (with_move s (record { awb = w; from = from; to = to; pieces = a.pieces; tenths = a.tenths; flight = flight; at = at }))) → IsLawful s → IsLawful (with_moves s (moved w from to a flight at))
+may_move s w from to a flight at moves law =
+    elim (a.pieces == 0) as (λ b. (a.pieces == 0) ≡ b → IsLawful (with_moves s (if b then [] else record { awb = w; from = from; to = to; pieces = a.pieces; tenths = a.tenths; flight = flight; at = at } ∷ []))) [
+      | true ↦ λ _. rests s law
+      | false ↦ λ e. moves (positive _ e)
+    ] refl
+  where
+    positive : (n : ℕ) → (n == 0) ≡ false → 1 ≤ n
+    positive n e = grind (arith, nat_tests)
+
+-- From a place of the store, or the missing.
+
+-- a part of what is there
+pub inside_fits : (s : Cargo) (w n : ℕ) (from to : Place) (flight : Option FlightDate) (at : LocalMinute) → is_outside from ≡ false → is_pair from to ≡ true → 1 ≤ n → n ≤ there_are pieces_of s.book w from → IsSome (s.declared w) → IsNoted s from → IsNoted s to → there_are pieces_of s.book w from ≤ 9999 → IsLawful s →
+    IsFitting s (record { awb = w; from = from; to = to; pieces = n; tenths = share_of (there_are pieces_of s.book w from) (there_are tenths_of s.book w from) n; flight = flight; at = at })
+inside_fits s w n from to flight at inside pair some within known noted_from noted_to few law =
+    let p = there_are pieces_of s.book w from in
+    let t = there_are tenths_of s.book w from in
+    let weighs : p ≤ t = (law.stocked w from inside).tenth_a_piece in
+    record {
+      pair = pair;
+      some = some;
+      few = omega arith;
+      heavy = share_heavy p t n (omega arith) weighs;
+      declared = known;
+      noted_from = noted_from;
+      noted_to = noted_to;
+      leaves = λ _. part_leaves p t n some weighs within;
+      room = λ e. absurd (true≢false (sym e ∙ inside));
+    }
+
+small : (s : Cargo) (w : ℕ) (from : Place) → IsLawful s → came pieces_of s.book w ≤ 9999
+small s w from law = (sound_of s law).pieces w
+
+pub keeps_deliver : (s : Cargo) (w p : ℕ) (name : List ℕ) (at : LocalMinute) (text : List ℕ) → there_are pieces_of s.book w Free ≤ 9999 → IsLawful s → IfOk (effect s (order.Desk (desk.Deliver w p name)) at) (λ done. IsLawful (carried_out text done s))
+keeps_deliver s w p name at text few law = by_refusals s (order.Desk (desk.Deliver w p name)) at _ (λ none.
+    may_move s w Free Delivered (part (free s.book w) p) None at (λ some.
+    lawful_after s _ (inside_fits s w p Free Delivered None at refl refl some (ltb-false _ _ none.1.1.1.0) (is_known (s.declared w) none.0) tt tt few law) refl refl law) law)
+
+pub keeps_missing : (s : Cargo) (w p : ℕ) (flight : Option FlightDate) (at : LocalMinute) (text : List ℕ) → there_are pieces_of s.book w Free ≤ 9999 → IsLawful s → IfOk (effect s (order.Desk (desk.Missing w p flight)) at) (λ done. IsLawful (carried_out text done s))
+keeps_missing s w p flight at text few law = by_refusals s (order.Desk (desk.Missing w p flight)) at _ (λ none.
+    may_move s w Free Missing (part (free s.book w) p) flight at (λ some.
+    lawful_after s _ (inside_fits s w p Free Missing flight at refl refl some (ltb-false _ _ none.1.0) (is_known (s.declared w) none.0) tt tt few law) refl refl law) law)
+
+pub keeps_offload : (s : Cargo) (w p : ℕ) (flight : FlightDate) (at : LocalMinute) (text : List ℕ) → there_are pieces_of s.book w (Built flight) ≤ 9999 → (1 ≤ there_are pieces_of s.book w (Built flight) → IsNoted s (Built flight)) → IsLawful s →
+    IfOk (effect s (order.Desk (desk.Offload w flight p)) at) (λ done. IsLawful (carried_out text done s))
+keeps_offload s w p flight at text few noted law = by_refusals s (order.Desk (desk.Offload w flight p)) at _ (λ none.
+    may_move s w (Built flight) Free (part (built s.book w flight) p) (Some flight) at (λ some.
+    let within : p ≤ there_are pieces_of s.book w (Built flight) = ltb-false _ _ none.1.1.0 in
+    offloaded s w p _ flight (Some flight) at (inside_fits s w p (Built flight) Free (Some flight) at refl refl some within (is_known (s.declared w) none.0) (noted (omega arith)) tt few law) law) law)
+
+-- From outside.
+
+pub outside_fits : (s : Cargo) (w n t : ℕ) (from to : Place) (flight : Option FlightDate) (at : LocalMinute) → is_outside from ≡ true → is_pair from to ≡ true → 1 ≤ n → n ≤ t → IsSome (s.declared w) → IsNoted s from → IsNoted s to →
+    came pieces_of s.book w + n ≤ 9999 → came tenths_of s.book w + t ≤ 999999 → IsFitting s (record { awb = w; from = from; to = to; pieces = n; tenths = t; flight = flight; at = at })
+outside_fits s w n t from to flight at outside pair some heavy known noted_from noted_to few light = record {
+  pair = pair;
+  some = some;
+  few = omega arith;
+  heavy = heavy;
+  declared = known;
+  noted_from = noted_from;
+  noted_to = noted_to;
+  leaves = λ e. absurd (true≢false (sym outside ∙ e));
+  room = λ _. (few, light);
+}
+
+-- what came in with a move, at most
+pub came_with : (s : Cargo) (measure : Move → ℕ) (w : ℕ) (from to : Place) (a : Amount) (flight : Option FlightDate) (at : LocalMinute) (n : ℕ) → is_pair from to ≡ true → measure (record { awb = w; from = from; to = to; pieces = a.pieces; tenths = a.tenths; flight = flight; at = at }) ≤ n → IsLawful s →
+    came measure (s.book ++ moved w from to a flight at) w ≤ came measure s.book w + n
+came_with s measure w from to a flight at n pair most law =
+    elim (a.pieces == 0) as (λ b. came measure (s.book ++ (if b then [] else record { awb = w; from = from; to = to; pieces = a.pieces; tenths = a.tenths; flight = flight; at = at } ∷ [])) w ≤ came measure s.book w + n) [
+      | true ↦ subst (λ (book : List Move). came measure book w ≤ came measure s.book w + n) (sym (append-nil s.book)) (omega arith)
+      | false ↦ let m : Move = record { awb = w; from = from; to = to; pieces = a.pieces; tenths = a.tenths; flight = flight; at = at } in
+          at_most _ _ _ _ (came_after s measure m w pair law.moves) (added_most (w == w) (is_outside from) (measure m)) most
+    ]
+  where
+    added_most : (b o : Bool) (k : ℕ) → added b o k ≤ k
+    added_most true true k = omega arith
+    added_most true false k = omega arith
+    added_most false o k = omega arith
+
+    at_most : (c' c x k : ℕ) → c' ≡ c + x → x ≤ k → k ≤ n → c' ≤ c + n
+    at_most c' c x k e f g = omega arith
+
+-- nothing came in with a move inside
+came_inside : (s : Cargo) (measure : Move → ℕ) (w : ℕ) (from to : Place) (a : Amount) (flight : Option FlightDate) (at : LocalMinute) → is_pair from to ≡ true → is_outside from ≡ false → IsLawful s →
+    came measure (s.book ++ moved w from to a flight at) w ≤ came measure s.book w
+came_inside s measure w from to a flight at pair inside law =
+    elim (a.pieces == 0) as (λ b. came measure (s.book ++ (if b then [] else record { awb = w; from = from; to = to; pieces = a.pieces; tenths = a.tenths; flight = flight; at = at } ∷ [])) w ≤ came measure s.book w) [
+      | true ↦ subst (λ (book : List Move). came measure book w ≤ came measure s.book w) (sym (append-nil s.book)) (omega arith)
+      | false ↦ let m : Move = record { awb = w; from = from; to = to; pieces = a.pieces; tenths = a.tenths; flight = flight; at = at } in
+          at_most _ _ _ (came_after s measure m w pair law.moves) (none_added (w == w) (is_outside from) (measure m) inside)
+    ]
+  where
+    none_added : (b o : Bool) (k : ℕ) → o ≡ false → added b o k ≡ 0
+    none_added true true k e = absurd (true≢false e)
+    none_added true false k e = refl
+    none_added false o k e = refl
+
+    at_most : (c' c x : ℕ) → c' ≡ c + x → x ≡ 0 → c' ≤ c
+    at_most c' c x e f = omega arith
+
+-- Found.
+
+back_held : (s : Cargo) (w p : ℕ) → min p (there_are pieces_of s.book w Missing) ≤ there_are pieces_of s.book w Missing
+back_held s w p = omega arith
+
+surplus_heavy : (n t : ℕ) → (surplus n t).pieces ≤ (surplus n t).tenths
+surplus_heavy zero t = omega arith
+surplus_heavy (suc n) t = omega arith
+
+pub fits_parts : (a : Amount) → not (fits a) ≡ false → (a.pieces ≤ 9999) × (a.tenths ≤ 999999)
+fits_parts a e = let h = and_parts (nat_le a.pieces 9999) (nat_le a.tenths 999999) (not_false (fits a) e) in (leb-true _ _ h.0, leb-true _ _ h.1)
+
+pub keeps_found : (s : Cargo) (w p t : ℕ) (flight : Option FlightDate) (at : LocalMinute) (text : List ℕ) → there_are pieces_of s.book w Missing ≤ 9999 → IsLawful s → IfOk (effect s (order.Desk (desk.Found w p t flight)) at) (λ done. IsLawful (carried_out text done s))
+keeps_found s w p t flight at text few law = by_refusals s (order.Desk (desk.Found w p t flight)) at _ (λ none.
+    let known : IsSome (s.declared w) = is_known (s.declared w) none.0 in
+    let back : Amount = part (missing s.book w) (min p (missing s.book w).pieces) in
+    let more : Amount = surplus (p - (missing s.book w).pieces) t in
+    let room = fits_parts (plus (taken_and_found s.book w) more) none.1.0 in
+    let s1 : Cargo = with_moves s (moved w Missing Free back flight at) in
+    let law1 : IsLawful s1 = may_move s w Missing Free back flight at (λ some.
+    lawful_after s _ (inside_fits s w (min p (missing s.book w).pieces) Missing Free flight at refl refl some (back_held s w p) known tt tt few law) refl refl law) law in
+    let pieces1 : came pieces_of s1.book w ≤ came pieces_of s.book w = came_inside s pieces_of w Missing Free back flight at refl refl law in
+    let tenths1 : came tenths_of s1.book w ≤ came tenths_of s.book w = came_inside s tenths_of w Missing Free back flight at refl refl law in
+    let all : came pieces_of s.book w + more.pieces ≤ 9999 = room.0 in
+    let heavy : came tenths_of s.book w + more.tenths ≤ 999999 = room.1 in
+    let law2 : IsLawful (with_moves s1 (moved w Surplus Free more flight at)) = may_move s1 w Surplus Free more flight at (λ some.
+    lawful_after s1 _ (outside_fits s1 w more.pieces more.tenths Surplus Free flight at refl refl some (surplus_heavy (p - (missing s.book w).pieces) t) known tt tt (omega arith) (omega arith)) refl refl law1) law1 in
+    subst (λ (book : List Move). IsLawful (record s { book = book })) (append_assoc {A = Move} s.book (moved w Missing Free back flight at) (moved w Surplus Free more flight at)) law2)

@@ -1,0 +1,97 @@
+-- What a view of a lawful state shows is within bounds.
+use Rattle.std.proofs.Common.{◌≡◌, ℕ, ◌+◌, ◌-◌, ◌<◌, Bool, true, false, ◌&&◌, ◌==◌, nat_lt, Option, Some, None, IsSome, IfSome, List, [], ◌∷◌, map, length, refl, sym, ap, ◌∙◌, arith, true≢false, All}
+use Rattle.std.specs.Prelude.{is_some}
+use Rattle.std.specs.Bool.{if◌then◌else◌}
+use Rattle.std.specs.List.{AllByRecursion, filter}
+use Rattle.std.proofs.lemmas.Bool.{ltb-true}
+use Rattle.std.proofs.lemmas.List.Sums.{sum_by-cons}
+use Rattle.std.proofs.lemmas.List.Elements.{All-cons}
+use Rattle.shipment_machine.specs.declared.flight.FlightDate.{FlightDate}
+use Rattle.shipment_machine.specs.declared.moves.Place.{Place}
+use Rattle.shipment_machine.specs.declared.moves.Place.TheVariants.{Hand, Surplus, Free, Built, Departed, Delivered, Missing}
+use Rattle.shipment_machine.specs.declared.moves.Move.{Move}
+use Rattle.shipment_machine.specs.declared.moves.Expected.{Expected}
+use Rattle.shipment_machine.specs.declared.view.Aboard.{Aboard}
+use Rattle.shipment_machine.specs.Flights.{same_flight_date}
+use Rattle.shipment_machine.specs.Amount.{IsHeld}
+use Rattle.shipment_machine.specs.Book.{same_place, pieces_of, moved_in, moved_out, brings, built, waybills_of, waybills_on}
+use Rattle.shipment_machine.specs.Cargo.{Cargo}
+use Rattle.shipment_machine.specs.Sheets.{declaration, loads_of}
+use Rattle.shipment_machine.specs.Effect.{expected_amount}
+use Rattle.shipment_machine.specs.OnBoard.{IsOnBoard}
+use Rattle.shipment_machine.specs.Lawful.{IsLawfulMove, IsLawfulAmount, IsNoted, IsLawful}
+use Rattle.shipment_machine.proofs.Conserved.{held_built}
+
+-- what is expected is within bounds
+expected_held : (o : Option Expected) (P : Type 0) → IfSome o (λ e. IsLawfulAmount e.pieces e.tenths × P) → IsHeld (expected_amount o)
+expected_held None P h = record { pieces = omega arith; tenths = omega arith; tenth_a_piece = omega arith }
+expected_held (Some e) P h = let law = h.0 in record { pieces = law.not_more; tenths = law.not_heavier; tenth_a_piece = law.tenth_a_piece }
+
+pub held_expected : (s : Cargo) (flight : FlightDate) (w : ℕ) → IsLawful s → IsHeld (expected_amount (s.expected flight w))
+held_expected s flight w law = expected_held (s.expected flight w) _ (law.expectations flight w)
+
+none_at_all : {A : Type 0} (P : A → Type 0) → All P []
+none_at_all P k d h = absurd (omega arith)
+
+-- what a filter keeps, seen through a function
+kept : {A : Type 0} (f : ℕ → A) (P : A → Type 0) (p : ℕ → Bool) → ((w : ℕ) → p w ≡ true → P (f w)) → (ws : List ℕ) → All P (map f (filter p ws))
+kept f P p holds [] = none_at_all P
+kept f P p holds (w ∷ ws) = elim (p w) as (λ b. p w ≡ b → All P (map f (if b then w ∷ filter p ws else filter p ws))) [
+  | true ↦ λ e. All-cons P (f w) (map f (filter p ws)) (holds w e) (kept f P p holds ws)
+  | false ↦ λ _. kept f P p holds ws
+] refl
+
+-- what is built on a flight is within bounds
+pub on_board : (s : Cargo) (flight : FlightDate) → IsLawful s → All IsOnBoard (loads_of s flight)
+on_board s flight law = kept (λ w. record { awb = w; declared = declaration s w; load = built s.book w flight }) IsOnBoard
+    (λ w. nat_lt 0 (built s.book w flight).pieces)
+    (λ w e. record { held = held_built s w flight law; some = let h : 0 < (built s.book w flight).pieces = ltb-true _ _ e in omega arith })
+    (waybills_of s.book)
+
+-- Nothing is built for a flight that isn't noted.
+
+not_noted : (s : Cargo) (flight : FlightDate) → IsLawful s → s.flights flight ≡ None → (p : Place) → IsNoted s p → same_place (Built flight) p ≡ false
+not_noted s flight law none (Built k) h = elim (same_flight_date flight k) as (λ b. same_flight_date flight k ≡ b → b ≡ false) [
+  | true ↦ λ e. absurd (true≢false (sym h ∙ ap is_some (sym (law.alike flight k e)) ∙ ap is_some none))
+  | false ↦ λ _. refl
+] refl
+not_noted s flight law none Hand h = refl
+not_noted s flight law none Surplus h = refl
+not_noted s flight law none Free h = refl
+not_noted s flight law none Departed h = refl
+not_noted s flight law none Delivered h = refl
+not_noted s flight law none Missing h = refl
+
+no_amount : (b c : Bool) (n : ℕ) → c ≡ false → (if b && c then n else 0) ≡ 0
+no_amount true true n e = absurd (true≢false e)
+no_amount true false n e = refl
+no_amount false c n e = refl
+
+none_built : (s : Cargo) (flight : FlightDate) (w : ℕ) → IsLawful s → s.flights flight ≡ None → (book : List Move) → AllByRecursion (IsLawfulMove s) book → moved_in pieces_of book w (same_place (Built flight)) ≡ 0
+none_built s flight w law none [] h = refl
+none_built s flight w law none (m ∷ book) h =
+    let here : brings pieces_of w (same_place (Built flight)) m ≡ 0 = no_amount (m.awb == w) (same_place (Built flight) m.to) m.pieces (not_noted s flight law none m.to h.0.noted_to) in
+    let rest : moved_in pieces_of book w (same_place (Built flight)) ≡ 0 = none_built s flight w law none book h.1 in
+    sum_by-cons (brings pieces_of w (same_place (Built flight))) m book ∙ both _ _ here rest
+  where
+    both : (a b : ℕ) → a ≡ 0 → b ≡ 0 → a + b ≡ 0
+    both a b e f = omega arith
+
+filter_none : (p : ℕ → Bool) → ((w : ℕ) → p w ≡ false) → (ws : List ℕ) → filter p ws ≡ []
+filter_none p fails [] = refl
+filter_none p fails (w ∷ ws) = ap (λ (b : Bool). if b then w ∷ filter p ws else filter p ws) (fails w) ∙ filter_none p fails ws
+
+pub none_on : (s : Cargo) (flight : FlightDate) → IsLawful s → s.flights flight ≡ None → waybills_on s.book flight ≡ []
+none_on s flight law none = filter_none (λ w. nat_lt 0 (built s.book w flight).pieces)
+    (λ w. ap (λ n. nat_lt 0 (n - moved_out pieces_of s.book w (same_place (Built flight)))) (none_built s flight w law none s.book law.moves) ∙ zero_less (moved_out pieces_of s.book w (same_place (Built flight))))
+    (waybills_of s.book)
+  where
+    zero_less : (n : ℕ) → nat_lt 0 (0 - n) ≡ false
+    zero_less n = let e : 0 - n ≡ 0 = omega arith in ap (nat_lt 0) e
+
+-- a flight with something on it is noted
+pub noted_outbound : (s : Cargo) (flight : FlightDate) → IsLawful s → (length (loads_of s flight) == 0) ≡ false → IsSome (s.flights flight)
+noted_outbound s flight law some = elim (s.flights flight) as (λ o. s.flights flight ≡ o → IsSome o) [
+  | None ↦ λ e. absurd (true≢false (sym (ap (λ (ws : List ℕ). length {A = Aboard} (map (λ w. record { awb = w; declared = declaration s w; load = built s.book w flight }) ws) == 0) (none_on s flight law e)) ∙ some))
+  | Some o ↦ λ _. refl
+] refl

@@ -1,0 +1,254 @@
+-- One more move leaves a book sound: no place overdrawn, what came in within bounds, each move lawful.
+use Rattle.std.proofs.Common.{◌≡◌, ℕ, ◌+◌, ◌-◌, ◌≤◌, Bool, true, false, ◌&&◌, ◌==◌, IsSome, List, [], ◌∷◌, ◌++◌, refl, sym, ap, subst, ◌∙◌, arith, true≢false}
+use Rattle.std.specs.Bool.{if◌then◌else◌}
+use Rattle.std.specs.List.{AllByRecursion}
+use Rattle.std.proofs.lemmas.List.Sums.{sum_by_push}
+use Rattle.std.proofs.lemmas.Bool.Decides.{nat_tests}
+use Rattle.shipment_machine.specs.declared.flight.FlightDate.{FlightDate}
+use Rattle.shipment_machine.specs.declared.moves.Place.{Place}
+use Rattle.shipment_machine.specs.declared.moves.Place.TheVariants.{Hand, Surplus, Free, Built, Departed, Delivered, Missing}
+use Rattle.shipment_machine.specs.declared.moves.Move.{Move}
+use Rattle.shipment_machine.specs.Book.{same_place, pieces_of, tenths_of, moved_in, moved_out, brings, takes}
+use Rattle.shipment_machine.specs.Cargo.{Cargo}
+use Rattle.shipment_machine.specs.Lawful.{is_outside, is_pair, IsStocked, IsNoted, IsLawfulMove}
+use Rattle.shipment_machine.proofs.FlightKeys.{same-alike}
+use Rattle.shipment_machine.proofs.Conserved.{no_way_out, none_in, not_hand, not_surplus, came}
+
+-- what is left of an amount after a part of it is taken has at least a tenth a piece
+pub record Leaves (pieces tenths n t : ℕ) : Type 0 where
+  pub few : n ≤ pieces
+  pub light : t ≤ tenths
+  pub rest : pieces - n ≤ tenths - t
+  pub none : pieces - n ≡ 0 → tenths - t ≡ 0
+
+abbrev pub there_are : (Move → ℕ) → List Move → ℕ → Place → ℕ
+there_are measure book w p = moved_in measure book w (same_place p) - moved_out measure book w (same_place p)
+
+-- a move that may be made
+pub record IsFitting (s : Cargo) (m : Move) : Type 0 where
+  pub pair : is_pair m.from m.to ≡ true
+  pub some : 1 ≤ m.pieces
+  pub few : m.pieces ≤ 9999
+  pub heavy : m.pieces ≤ m.tenths
+  pub declared : IsSome (s.declared m.awb)
+  pub noted_from : IsNoted s m.from
+  pub noted_to : IsNoted s m.to
+  pub leaves : is_outside m.from ≡ false → Leaves (there_are pieces_of s.book m.awb m.from) (there_are tenths_of s.book m.awb m.from) m.pieces m.tenths
+  pub room : is_outside m.from ≡ true → (came pieces_of s.book m.awb + m.pieces ≤ 9999) × (came tenths_of s.book m.awb + m.tenths ≤ 999999)
+
+-- a sound book
+pub record IsSound (s : Cargo) : Type 0 where
+  pub stocked : (w : ℕ) (p : Place) → is_outside p ≡ false → IsStocked s.book w p
+  pub pieces : (w : ℕ) → came pieces_of s.book w ≤ 9999
+  pub tenths : (w : ℕ) → came tenths_of s.book w ≤ 999999
+  pub moves : AllByRecursion (IsLawfulMove s) s.book
+
+-- a state with one more move
+abbrev pub with_move : Cargo → Move → Cargo
+with_move s m = record s { book = s.book ++ m ∷ [] }
+
+-- Stocks.
+
+stock : (b d : Bool) (n t i o I O : ℕ) → 1 ≤ n → n ≤ t → (d ≡ true → Leaves (i - o) (I - O) n t) → o ≤ i → O ≤ I → i - o ≤ I - O → (i - o ≡ 0 → I - O ≡ 0) →
+    record {
+      pieces : o + (if d then n else 0) ≤ i + (if b then n else 0);
+      tenths : O + (if d then t else 0) ≤ I + (if b then t else 0);
+      heavy : (i + (if b then n else 0)) - (o + (if d then n else 0)) ≤ (I + (if b then t else 0)) - (O + (if d then t else 0));
+      none : (i + (if b then n else 0)) - (o + (if d then n else 0)) ≡ 0 → (I + (if b then t else 0)) - (O + (if d then t else 0)) ≡ 0;
+    }
+stock true true n t i o I O some heavy leaves h1 h2 h3 h4 = record {
+  pieces = omega arith;
+  tenths = omega arith;
+  heavy = omega arith;
+  none = λ z. let e : i - o ≡ 0 = omega arith in let f : I - O ≡ 0 = h4 e in omega arith;
+}
+stock true false n t i o I O some heavy leaves h1 h2 h3 h4 = record { pieces = omega arith; tenths = omega arith; heavy = omega arith; none = λ z. absurd (omega arith) }
+stock false true n t i o I O some heavy leaves h1 h2 h3 h4 =
+    let l = leaves refl in
+    let few : n ≤ i - o = l.few in
+    let light : t ≤ I - O = l.light in
+    let rest : (i - o) - n ≤ (I - O) - t = l.rest in
+    record {
+      pieces = omega arith;
+      tenths = omega arith;
+      heavy = omega arith;
+      none = λ z. let e : (i - o) - n ≡ 0 = omega arith in let f : (I - O) - t ≡ 0 = l.none e in omega arith;
+    }
+stock false false n t i o I O some heavy leaves h1 h2 h3 h4 = record {
+  pieces = omega arith;
+  tenths = omega arith;
+  heavy = omega arith;
+  none = λ z. let e : i - o ≡ 0 = omega arith in let f : I - O ≡ 0 = h4 e in omega arith;
+}
+
+-- one place is another, where a test says so
+same_test : (p f : Place) → same_place p f ≡ true → (x : Place) → same_place f x ≡ same_place p x
+same_test Hand Hand e x = refl
+same_test Surplus Surplus e x = refl
+same_test Free Free e x = refl
+same_test Departed Departed e x = refl
+same_test Delivered Delivered e x = refl
+same_test Missing Missing e x = refl
+same_test (Built j) (Built k) e (Built l) = sym (same-alike j k l e)
+same_test (Built j) (Built k) e Hand = refl
+same_test (Built j) (Built k) e Surplus = refl
+same_test (Built j) (Built k) e Free = refl
+same_test (Built j) (Built k) e Departed = refl
+same_test (Built j) (Built k) e Delivered = refl
+same_test (Built j) (Built k) e Missing = refl
+same_test p f e x = absurd (true≢false (sym e))
+
+same_there : (measure : Move → ℕ) (book : List Move) (w : ℕ) (p f : Place) → same_place p f ≡ true → there_are measure book w f ≡ there_are measure book w p
+same_there measure book w p f e =
+    let tests : same_place f ≡ same_place p = λ i x. same_test p f e x i in
+    ap (λ (there : Place → Bool). moved_in measure book w there - moved_out measure book w there) tests
+
+outside_too : (p f : Place) → same_place p f ≡ true → is_outside p ≡ false → is_outside f ≡ false
+outside_too p Hand e inside = absurd (true≢false (sym e ∙ no p inside))
+  where
+    no : (p : Place) → is_outside p ≡ false → same_place p Hand ≡ false
+    no Hand e = absurd (true≢false e)
+    no Surplus e = refl
+    no Free e = refl
+    no (Built f) e = refl
+    no Departed e = refl
+    no Delivered e = refl
+    no Missing e = refl
+outside_too p Surplus e inside = absurd (true≢false (sym e ∙ no p inside))
+  where
+    no : (p : Place) → is_outside p ≡ false → same_place p Surplus ≡ false
+    no Hand e = absurd (true≢false e)
+    no Surplus e = absurd (true≢false e)
+    no Free e = refl
+    no (Built f) e = refl
+    no Departed e = refl
+    no Delivered e = refl
+    no Missing e = refl
+outside_too p Free e inside = refl
+outside_too p (Built k) e inside = refl
+outside_too p Departed e inside = refl
+outside_too p Delivered e inside = refl
+outside_too p Missing e inside = refl
+
+both_true : (a b : Bool) → (a && b) ≡ true → (a ≡ true) × (b ≡ true)
+both_true true true e = (refl, refl)
+both_true true false e = absurd (true≢false (sym e))
+both_true false b e = absurd (true≢false (sym e))
+
+pub same_number : (q w : ℕ) → (q == w) ≡ true → q ≡ w
+same_number q w e = grind (arith, nat_tests)
+
+stocked_after : (s : Cargo) (m : Move) → IsFitting s m → (q : ℕ) (p : Place) → is_outside p ≡ false → IsStocked s.book q p → IsStocked (s.book ++ m ∷ []) q p
+stocked_after s m fit q p inside old =
+    let i = moved_in pieces_of s.book q (same_place p) in
+    let o = moved_out pieces_of s.book q (same_place p) in
+    let I = moved_in tenths_of s.book q (same_place p) in
+    let O = moved_out tenths_of s.book q (same_place p) in
+    let b = (m.awb == q) && same_place p m.to in
+    let d = (m.awb == q) && same_place p m.from in
+    let leaves : d ≡ true → Leaves (i - o) (I - O) m.pieces m.tenths = λ e.
+    let same : m.awb ≡ q = same_number m.awb q (both_true _ _ e).0 in
+    let place : same_place p m.from ≡ true = (both_true _ _ e).1 in
+    subst (λ (w : ℕ). Leaves (there_are pieces_of s.book w p) (there_are tenths_of s.book w p) m.pieces m.tenths) same
+    (subst (λ (n : ℕ). Leaves n (there_are tenths_of s.book m.awb p) m.pieces m.tenths) (same_there pieces_of s.book m.awb p m.from place)
+    (subst (λ (n : ℕ). Leaves (there_are pieces_of s.book m.awb m.from) n m.pieces m.tenths) (same_there tenths_of s.book m.awb p m.from place)
+    (fit.leaves (outside_too p m.from place inside)))) in
+    let r = stock b d m.pieces m.tenths i o I O fit.some fit.heavy leaves old.pieces old.tenths old.tenth_a_piece old.no_weight_alone in
+    let i' = sum_by_push (brings pieces_of q (same_place p)) s.book m in
+    let o' = sum_by_push (takes pieces_of q (same_place p)) s.book m in
+    let I' = sum_by_push (brings tenths_of q (same_place p)) s.book m in
+    let O' = sum_by_push (takes tenths_of q (same_place p)) s.book m in
+    let x = carried _ _ _ _ _ _ _ _ i' o' I' O' r.pieces r.tenths r.heavy r.none in
+    record { pieces = x.pieces; tenths = x.tenths; tenth_a_piece = x.tenth_a_piece; no_weight_alone = x.no_weight_alone }
+  where
+    carried : (i o I O i' o' I' O' : ℕ) → i' ≡ i → o' ≡ o → I' ≡ I → O' ≡ O → o ≤ i → O ≤ I → i - o ≤ I - O → (i - o ≡ 0 → I - O ≡ 0) →
+        record { pieces : o' ≤ i'; tenths : O' ≤ I'; tenth_a_piece : i' - o' ≤ I' - O'; no_weight_alone : i' - o' ≡ 0 → I' - O' ≡ 0 }
+    carried i o I O i' o' I' O' a b c d h1 h2 h3 h4 = record {
+      pieces = omega arith;
+      tenths = omega arith;
+      tenth_a_piece = omega arith;
+      no_weight_alone = λ z. let e : i - o ≡ 0 = omega arith in let f : I - O ≡ 0 = h4 e in omega arith;
+    }
+
+-- What came in.
+
+abbrev pub added : Bool → Bool → ℕ → ℕ
+added b c n = if b && c then n else 0
+
+no_added : (b c : Bool) (n : ℕ) → c ≡ false → added b c n ≡ 0
+no_added true true n e = absurd (true≢false e)
+no_added true false n e = refl
+no_added false c n e = refl
+
+outside_split : (b : Bool) (p : Place) (n : ℕ) → added b (same_place Hand p) n + added b (same_place Surplus p) n ≡ added b (is_outside p) n
+outside_split true Hand n = omega arith
+outside_split true Surplus n = omega arith
+outside_split true Free n = refl
+outside_split true (Built k) n = refl
+outside_split true Departed n = refl
+outside_split true Delivered n = refl
+outside_split true Missing n = refl
+outside_split false p n = refl
+
+pub came_after : (s : Cargo) (measure : Move → ℕ) (m : Move) (q : ℕ) → is_pair m.from m.to ≡ true → AllByRecursion (IsLawfulMove s) s.book → came measure (s.book ++ m ∷ []) q ≡ came measure s.book q + added (m.awb == q) (is_outside m.from) (measure m)
+came_after s measure m q pair moves =
+    let inside = no_way_out m.from m.to pair in
+    sums _ _ _ _ _ _ _ _ _ _ _ _ _
+    (sum_by_push (takes measure q (same_place Hand)) s.book m) (sum_by_push (brings measure q (same_place Hand)) s.book m)
+    (sum_by_push (takes measure q (same_place Surplus)) s.book m) (sum_by_push (brings measure q (same_place Surplus)) s.book m)
+    (none_in s measure q (same_place Hand) not_hand s.book moves) (none_in s measure q (same_place Surplus) not_surplus s.book moves)
+    (no_added (m.awb == q) (same_place Hand m.to) (measure m) (not_hand m.to inside)) (no_added (m.awb == q) (same_place Surplus m.to) (measure m) (not_surplus m.to inside))
+    (outside_split (m.awb == q) m.from (measure m))
+  where
+    sums : (oh oh' ih ih' os os' is is' a b x y k : ℕ) → oh' ≡ oh + a → ih' ≡ ih + x → os' ≡ os + b → is' ≡ is + y → ih ≡ 0 → is ≡ 0 → x ≡ 0 → y ≡ 0 → a + b ≡ k → (oh' - ih') + (os' - is') ≡ ((oh - ih) + (os - is)) + k
+    sums oh oh' ih ih' os os' is is' a b x y k e1 e2 e3 e4 e5 e6 e7 e8 e9 = omega arith
+
+bounded : (top c n : ℕ) (b o : Bool) → c ≤ top → (b ≡ true → o ≡ true → c + n ≤ top) → c + added b o n ≤ top
+bounded top c n true true h f = f refl refl
+bounded top c n true false h f = omega arith
+bounded top c n false o h f = omega arith
+
+-- Moves.
+
+all_push : {X : Type 0} (P Q : X → Type 0) → ((x : X) → P x → Q x) → (xs : List X) (y : X) → AllByRecursion P xs → Q y → AllByRecursion Q (xs ++ y ∷ [])
+all_push P Q f [] y h q = (q, tt)
+all_push P Q f (x ∷ xs) y h q = (f x h.0, all_push P Q f xs y h.1 q)
+
+-- a lawful move stays one where no more is asked of it
+pub noted_under : (s s' : Cargo) → ((k : FlightDate) → IsSome (s.flights k) → IsSome (s'.flights k)) → (p : Place) → IsNoted s p → IsNoted s' p
+noted_under s s' more Hand h = tt
+noted_under s s' more Surplus h = tt
+noted_under s s' more Free h = tt
+noted_under s s' more (Built f) h = more f h
+noted_under s s' more Departed h = tt
+noted_under s s' more Delivered h = tt
+noted_under s s' more Missing h = tt
+
+pub move_under : (s s' : Cargo) → ((w : ℕ) → IsSome (s.declared w) → IsSome (s'.declared w)) → ((k : FlightDate) → IsSome (s.flights k) → IsSome (s'.flights k)) → (m : Move) → IsLawfulMove s m → IsLawfulMove s' m
+move_under s s' known noted m l = record {
+  pair = l.pair;
+  some = l.some;
+  not_more = l.not_more;
+  declared = known m.awb l.declared;
+  noted_from = noted_under s s' noted m.from l.noted_from;
+  noted_to = noted_under s s' noted m.to l.noted_to;
+}
+
+pub all_map : {X : Type 0} (P Q : X → Type 0) → ((x : X) → P x → Q x) → (xs : List X) → AllByRecursion P xs → AllByRecursion Q xs
+all_map P Q f [] h = tt
+all_map P Q f (x ∷ xs) h = (f x h.0, all_map P Q f xs h.1)
+
+-- a sound book with one more fitting move is sound
+pub sound_after : (s : Cargo) (m : Move) → IsFitting s m → IsSound s → IsSound (with_move s m)
+sound_after s m fit old = record {
+  stocked = λ q p inside. stocked_after s m fit q p inside (old.stocked q p inside);
+  pieces = λ q. subst (λ (n : ℕ). n ≤ 9999) (sym (came_after s pieces_of m q fit.pair old.moves))
+      (bounded 9999 (came pieces_of s.book q) m.pieces (m.awb == q) (is_outside m.from) (old.pieces q)
+      (λ e o. subst (λ (w : ℕ). came pieces_of s.book w + m.pieces ≤ 9999) (same_number m.awb q e) (fit.room o).0));
+  tenths = λ q. subst (λ (n : ℕ). n ≤ 999999) (sym (came_after s tenths_of m q fit.pair old.moves))
+      (bounded 999999 (came tenths_of s.book q) m.tenths (m.awb == q) (is_outside m.from) (old.tenths q)
+      (λ e o. subst (λ (w : ℕ). came tenths_of s.book w + m.tenths ≤ 999999) (same_number m.awb q e) (fit.room o).1));
+  moves = all_push (IsLawfulMove s) (IsLawfulMove (with_move s m)) (move_under s (with_move s m) (λ w h. h) (λ k h. h)) s.book m old.moves
+      (move_under s (with_move s m) (λ w h. h) (λ k h. h) m
+      (record { pair = fit.pair; some = fit.some; not_more = fit.few; declared = fit.declared; noted_from = fit.noted_from; noted_to = fit.noted_to }));
+}

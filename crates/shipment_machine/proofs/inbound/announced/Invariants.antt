@@ -1,0 +1,8 @@
+use Rattle.std.proofs.Common.{◌≡◌, nat_eq, drop}
+use Rattle.std.specs.HashMap.{get}
+use Rattle.shipment_machine.specs.Effect.{then_write}
+use Rattle.shipment_machine.specs.Announced.{no_earlier, announced_changes}
+use Rattle.shipment_machine.proofs.inbound.announced.Given as goal
+
+abbrev pub invariant-loop-i : goal.invariant-loop-i
+invariant-loop-i l = announced_changes no_earlier l.flight l.lines l.rows ≡ then_write l.changes.items (announced_changes (get nat_eq l.earlier) l.flight (drop l.i l.lines) (drop l.i l.rows))

@@ -1,0 +1,33 @@
+-- Amounts of cargo: pieces, with their weight in tenths of a kilogram.
+use Rattle.std.specs.Prelude.{ℕ, ◌+◌, ◌-◌, ◌≤◌, Bool, ◌&&◌, nat_le}
+use Rattle.imp_fields.specs.Amount.{share_of}
+use Rattle.shipment_machine.specs.declared.amount.Amount.{Amount}
+
+abbrev pub amount : ℕ → ℕ → Amount
+amount pieces tenths = record { pieces = pieces; tenths = tenths }
+
+-- some pieces of an amount, with their share of its weight
+abbrev pub part : Amount → ℕ → Amount
+part whole pieces = amount pieces (share_of whole.pieces whole.tenths pieces)
+
+-- what is left of an amount
+abbrev pub less : Amount → Amount → Amount
+less a b = amount (a.pieces - b.pieces) (a.tenths - b.tenths)
+
+-- two amounts together
+abbrev pub plus : Amount → Amount → Amount
+plus a b = amount (a.pieces + b.pieces) (a.tenths + b.tenths)
+
+-- whether an amount is within 9,999 pieces and 999,999 tenths
+abbrev pub fits : Amount → Bool
+fits a = nat_le a.pieces 9999 && nat_le a.tenths 999999
+
+-- an amount within these bounds, with at least a tenth a piece
+pub record IsHeld (a : Amount) : Type 0 where
+  pub pieces : a.pieces ≤ 9999
+  pub tenths : a.tenths ≤ 999999
+  pub tenth_a_piece : a.pieces ≤ a.tenths
+
+-- a count tells at most 9999 pieces
+abbrev pub IsCount : ℕ → Type 0
+IsCount n = n ≤ 9999

@@ -1,0 +1,84 @@
+-- A part of a manifest, told from what is kept of its lines' waybills.
+use Rattle.std.specs.Prelude.{◌≡◌, ℕ, Bool, false, not, length, ◌==◌, if◌then◌else◌, Option, Some, None, is_none, Result, Ok, Err, List, [], ◌∷◌}
+use Rattle.shipment_machine.specs.declared.flight.FlightDate.{FlightDate}
+use Rattle.shipment_machine.specs.declared.moves.Expected.{Expected}
+use Rattle.shipment_machine.specs.declared.view.LineRow.{LineRow}
+use Rattle.shipment_machine.specs.declared.command.CargoLine.{CargoLine}
+use Rattle.std.specs.Option.{unwrap_or}
+use Rattle.shipment_machine.specs.declared.moves.Part.{Part}
+use Rattle.imp_fields.specs.declared.fault.Why.TheVariants as why
+use Rattle.shipment_machine.specs.declared.plans.Detail.TheVariants as detail
+use Rattle.shipment_machine.specs.declared.command.InboundPart.{InboundPart}
+use Rattle.shipment_machine.specs.declared.plans.Change.{Change}
+use Rattle.shipment_machine.specs.declared.plans.Refusal.{Refusal}
+use Rattle.shipment_machine.specs.declared.plans.PlanFault.{PlanFault}
+use Rattle.shipment_machine.specs.declared.plans.PlanFault.TheVariants as fault
+use Rattle.agent_stock.specs.declared.stock.Holder.{Holder}
+use Rattle.shipment_machine.specs.declared.moves.Declared.{Declared}
+use Rattle.shipment_machine.specs.Effect.{Outcome, first_refusal, declare, announced, is_day, lines_for, unless_refused, then_write, row_refusals, row_changes, expected_after}
+
+-- the waybills that earlier lines were for, with what is expected of each by now
+abbrev pub Earlier : Type 0
+Earlier = ℕ → Option Expected
+
+abbrev pub no_earlier : Earlier
+no_earlier _ = None
+
+abbrev pub with_line : Earlier → ℕ → Expected → Earlier
+with_line earlier w e = λ q. if q == w then Some e else earlier q
+
+-- whether a line declares its waybill
+abbrev pub is_new : Option Expected → LineRow → Bool
+is_new None row = is_none row.declared
+is_new (Some e) row = false
+
+-- what is expected of its waybill so far
+abbrev pub expected_so_far : Option Expected → LineRow → Option Expected
+expected_so_far None row = row.expected
+expected_so_far (Some e) row = Some e
+
+abbrev pub refusal_now : Option Expected → CargoLine → LineRow → Option Refusal
+refusal_now before c row = first_refusal (row_refusals (is_new before row) row.holder (expected_so_far before row) c)
+
+abbrev pub changes_now : Option Expected → FlightDate → CargoLine → LineRow → List Change
+changes_now before flight c row = row_changes (is_new before row) row.holder (expected_so_far before row) flight c
+
+abbrev pub expected_now : Option Expected → CargoLine → LineRow → Expected
+expected_now before c row = expected_after (expected_so_far before row) c
+
+-- what all lines write, each after those before it; or the first refusal
+abbrev pub announced_changes : Earlier → FlightDate → List CargoLine → List LineRow → Result (List Change) Refusal
+announced_changes earlier flight [] rows = Ok []
+announced_changes earlier flight (c ∷ cs) [] = Ok []
+announced_changes earlier flight (c ∷ cs) (row ∷ rows) =
+    unless_refused (refusal_now (earlier c.awb) c row)
+    (then_write (changes_now (earlier c.awb) flight c row) (announced_changes (with_line earlier c.awb (expected_now (earlier c.awb) c row)) flight cs rows))
+
+-- the part that a telegram is, where its date means this day
+abbrev pub part_key : InboundPart → Option ℕ → Part
+part_key f meant = record { flight = record { flight = f.flight; day = unwrap_or meant 0 }; airport = f.loaded; number = f.number }
+
+abbrev pub part_tests : Bool → InboundPart → Option ℕ → List (Bool × Refusal)
+part_tests taken f meant =
+    (not (is_day meant), record { number = 301; detail = detail.Line 2 why.Date })
+    ∷ (taken, record { number = 213; detail = detail.Part (part_key f meant) }) ∷ []
+
+-- what it is answered, where it was taken or not, from the rows of its lines for here
+abbrev pub part_answer : List ℕ → Bool → List LineRow → InboundPart → Option ℕ → Result Outcome Refusal
+part_answer here taken rows f meant =
+    unless_refused (first_refusal (part_tests taken f meant))
+    (announced (part_key f meant) (length (lines_for here f.lines)) (announced_changes no_earlier (part_key f meant).flight (lines_for here f.lines) rows))
+
+-- the rows of a waybill that a line declares, if it does
+abbrev pub first_rows : Option Declared → Option Holder → ℕ → List Change
+first_rows None who w = []
+first_rows (Some d) who w = declare who w d
+
+-- a fault is a refusal that is due, or want of memory
+abbrev pub IsRefusal : Option Refusal → PlanFault → Type 0
+IsRefusal due (fault.Refused refusal) = due ≡ Some refusal
+IsRefusal due fault.Memory = Unit {0}
+
+abbrev pub IsPartFault : Result (List Change) Refusal → PlanFault → Type 0
+IsPartFault answer (fault.Refused refusal) = answer ≡ Err refusal
+IsPartFault answer fault.Memory = Unit {0}

@@ -1,0 +1,8 @@
+-- What is to be declared.
+use Rattle.std.specs.Prelude.{false}
+use Rattle.shipment_machine.specs.declared.moves.Declared.{Declared}
+use Rattle.shipment_machine.specs.declared.claim.Claim.{Claim}
+
+-- the declaration that a claim is for
+abbrev pub claimed : Claim → Declared
+claimed c = record { origin = c.origin; destination = c.destination; pieces = c.pieces; tenths = c.tenths; goods = c.goods; notified = false }

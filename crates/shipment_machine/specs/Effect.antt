@@ -1,0 +1,466 @@
+-- What each command does: it is refused for the first reason that fits, or it makes moves, notices and changes of rows.
+use Rattle.std.specs.Prelude.{ℕ, zero, suc, ◌+◌, ◌-◌, min, max, Bool, true, false, not, ◌&&◌, ◌||◌, ◌==◌, nat_lt, nat_le, if◌then◌else◌, Option, Some, None, is_some, is_none, Result, Ok, Err, List, [], ◌∷◌, ◌++◌, map, length}
+use Rattle.std.specs.Option.{unwrap_or}
+use Rattle.std.specs.List.{filter, flat_map, sum_by}
+use Rattle.std.specs.Str.{bytes_eq}
+use Rattle.imp_fields.specs.Amount.{share_of, book_weight_of}
+use Rattle.shipment_machine.specs.Amount.{amount, part, less, plus, fits}
+use Rattle.shipment_machine.specs.declared.amount.Amount.{Amount}
+use Rattle.imp_fields.specs.Date.{LocalMinute, resolved, is_moment_day}
+use Rattle.shipment_machine.specs.declared.flight.FlightDate.{FlightDate}
+use Rattle.imp_fields.specs.declared.fault.Why.TheVariants as why
+use Rattle.agent_stock.specs.declared.stock.Holder.{Holder}
+use Rattle.agent_stock.specs.declared.stock.Holder.TheVariants as holder
+use Rattle.shipment_machine.specs.declared.moves.Place.{Place}
+use Rattle.shipment_machine.specs.declared.moves.Place.TheVariants as place
+use Rattle.shipment_machine.specs.declared.moves.Move.{Move}
+use Rattle.shipment_machine.specs.declared.moves.Declared.{Declared}
+use Rattle.shipment_machine.specs.declared.moves.Outbound.{Outbound}
+use Rattle.shipment_machine.specs.declared.moves.Expected.{Expected}
+use Rattle.shipment_machine.specs.declared.moves.Part.{Part}
+use Rattle.imp_fields.specs.declared.consigned.Consigned.{Consigned}
+use Rattle.imp_fields.specs.declared.consigned.Discrepancy.{Discrepancy}
+use Rattle.imp_fields.specs.declared.consigned.Discrepancy.TheVariants as discrepancy
+use Rattle.shipment_machine.specs.declared.notice.Event.{Event}
+use Rattle.shipment_machine.specs.declared.notice.Event.TheVariants as event
+use Rattle.shipment_machine.specs.declared.notice.ManifestLine.{ManifestLine}
+use Rattle.shipment_machine.specs.declared.notice.Notice.{Notice}
+use Rattle.shipment_machine.specs.declared.notice.Notice.TheVariants as notice
+use Rattle.shipment_machine.specs.declared.command.CargoLine.{CargoLine}
+use Rattle.shipment_machine.specs.declared.command.InboundLine.{InboundLine}
+use Rattle.shipment_machine.specs.declared.command.InboundPart.{InboundPart}
+use Rattle.shipment_machine.specs.declared.command.ShipmentCommand.{ShipmentCommand}
+use Rattle.shipment_machine.specs.declared.command.ShipmentCommand.TheVariants as order
+use Rattle.shipment_machine.specs.declared.command.DeskCommand.TheVariants as desk
+use Rattle.shipment_machine.specs.declared.plans.Change.{Change}
+use Rattle.shipment_machine.specs.declared.plans.Change.TheVariants.{Declare, UseUp, NoteFlight, Expect, NotePart, Trail, Confirm}
+use Rattle.shipment_machine.specs.declared.plans.Refusal.{Refusal}
+use Rattle.shipment_machine.specs.declared.plans.Detail.TheVariants as detail
+use Rattle.shipment_machine.specs.declared.view.Sheet.{Sheet}
+use Rattle.shipment_machine.specs.declared.view.FlightSheet.{FlightSheet}
+use Rattle.shipment_machine.specs.declared.view.Aboard.{Aboard}
+use Rattle.shipment_machine.specs.Cargo.{Cargo, written_all}
+use Rattle.shipment_machine.specs.Sheets.{undeclared, sheet_of, flight_sheet_of, loads_of}
+
+-- what a command does that isn't refused
+pub record Outcome : Type 0 where
+  pub moves : List Move
+  pub notices : List Notice
+  pub changes : List Change
+  pub count : ℕ
+
+-- Refusals.
+
+-- refusals with this number, about a waybill, a flight, or the free pieces
+abbrev pub about : ℕ → ℕ → Refusal
+about number w = record { number = number; detail = detail.Waybill w }
+
+abbrev pub on_flight : ℕ → FlightDate → Refusal
+on_flight number flight = record { number = number; detail = detail.Flight flight }
+
+abbrev pub only_free : ℕ → Refusal
+only_free pieces = record { number = 206; detail = detail.Pieces pieces }
+
+-- the first refusal whose test holds
+abbrev pub first_refusal : List (Bool × Refusal) → Option Refusal
+first_refusal [] = None
+first_refusal (reason ∷ reasons) = if reason.0 then Some reason.1 else first_refusal reasons
+
+-- whether a number is in stock with the desk, or void
+abbrev pub at_desk_or_void : Option Holder → Bool
+at_desk_or_void (Some holder.Desk) = true
+at_desk_or_void (Some holder.Void) = true
+at_desk_or_void _ = false
+
+abbrev pub is_closed : Option Outbound → Bool
+is_closed None = false
+is_closed (Some outbound) = outbound.closed
+
+-- whether a noted flight unloads at another airport
+abbrev pub goes_elsewhere : Option Outbound → List ℕ → Bool
+goes_elsewhere None unload = false
+goes_elsewhere (Some outbound) unload = not (bytes_eq outbound.unload unload)
+
+abbrev pub is_checked : Option Expected → Bool
+is_checked None = false
+is_checked (Some expected) = expected.checked
+
+-- what is expected, with its weight
+abbrev pub expected_amount : Option Expected → Amount
+expected_amount None = amount 0 0
+expected_amount (Some expected) = amount expected.pieces expected.tenths
+
+-- pieces that no one announced, with at least a tenth each; no piece has no weight
+abbrev pub surplus : ℕ → ℕ → Amount
+surplus zero tenths = amount 0 0
+surplus (suc n) tenths = amount (suc n) (book_weight_of (suc n) tenths)
+
+-- Declaring.
+
+-- the pieces of a waybill: the total, where it exceeds the line's own pieces
+abbrev pub all_pieces : CargoLine → ℕ
+all_pieces c = max c.pieces (unwrap_or c.total 0)
+
+-- what a consignment line declares
+abbrev pub declared_by : CargoLine → Declared
+declared_by c = record {
+  origin = c.origin;
+  destination = c.destination;
+  pieces = all_pieces c;
+  tenths = share_of c.pieces (book_weight_of c.pieces c.tenths) (all_pieces c);
+  goods = c.goods;
+  notified = false;
+}
+
+-- why a waybill can't be declared, or declared anew
+abbrev pub declaring : Sheet → ℕ → Declared → List (Bool × Refusal)
+declaring sheet w d =
+    (not (fits (amount d.pieces d.tenths)), about 217 w)
+    ∷ (is_some sheet.declared && sheet.has_moves, about 202 w)
+    ∷ (at_desk_or_void sheet.holder, about 203 w) ∷ []
+
+-- a number that an agent has is used up
+abbrev pub used_up : Option Holder → ℕ → List Change
+used_up (Some (holder.Agent _)) w = UseUp w ∷ []
+used_up _ w = []
+
+-- the rows of a waybill that is declared
+abbrev pub declare : Option Holder → ℕ → Declared → List Change
+declare who w d = Declare w d ∷ used_up who w
+
+-- A part of a flight manifest.
+
+-- the lines below this airport
+abbrev pub lines_for : List ℕ → List InboundLine → List CargoLine
+lines_for here lines = map (λ l. l.cargo) (filter (λ l. bytes_eq l.unload here) lines)
+
+-- the day that a manifest's date means, and 0 where there is none
+abbrev pub inbound_day : InboundPart → LocalMinute → ℕ
+inbound_day f at = unwrap_or (resolved f.date at.day) 0
+
+abbrev pub inbound_flight : InboundPart → LocalMinute → FlightDate
+inbound_flight f at = record { flight = f.flight; day = inbound_day f at }
+
+abbrev pub inbound_part : InboundPart → LocalMinute → Part
+inbound_part f at = record { flight = inbound_flight f at; airport = f.loaded; number = f.number }
+
+-- what is expected of a waybill after one more line
+abbrev pub expected_after : Option Expected → CargoLine → Expected
+expected_after old c = record {
+  pieces = (expected_amount old).pieces + c.pieces;
+  tenths = (expected_amount old).tenths + book_weight_of c.pieces c.tenths;
+  checked = false;
+}
+
+-- why a line is refused, where the waybill is new or not, has this holder, and so much is expected of it so far
+abbrev pub row_refusals : Bool → Option Holder → Option Expected → CargoLine → List (Bool × Refusal)
+row_refusals new who expected c =
+    let d = declared_by c in
+    let e = expected_after expected c in
+    (is_checked expected, about 214 c.awb)
+    ∷ (new && at_desk_or_void who, about 203 c.awb)
+    ∷ ((new && not (fits (amount d.pieces d.tenths))) || not (fits (amount e.pieces e.tenths)), about 217 c.awb) ∷ []
+
+-- what a line writes: an unknown waybill is declared, and the line adds to what is expected
+abbrev pub row_changes : Bool → Option Holder → Option Expected → FlightDate → CargoLine → List Change
+row_changes new who expected flight c = (if new then declare who c.awb (declared_by c) else []) ++ Expect flight c.awb (expected_after expected c) ∷ []
+
+-- the same in a state, which the lines before it have changed
+abbrev pub line_refusals : Cargo → FlightDate → CargoLine → List (Bool × Refusal)
+line_refusals s flight c = row_refusals (is_none (s.declared c.awb)) (s.holders c.awb) (s.expected flight c.awb) c
+
+abbrev pub line_changes : Cargo → FlightDate → CargoLine → List Change
+line_changes s flight c = row_changes (is_none (s.declared c.awb)) (s.holders c.awb) (s.expected flight c.awb) flight c
+
+-- in front of what the later lines write
+abbrev pub then_write : List Change → Result (List Change) Refusal → Result (List Change) Refusal
+then_write first (Ok rest) = Ok (first ++ rest)
+then_write first (Err refusal) = Err refusal
+
+abbrev pub unless_refused : {T : Type 0} → Option Refusal → Result T Refusal → Result T Refusal
+unless_refused (Some refusal) rest = Err refusal
+unless_refused None rest = rest
+
+-- what all lines write, each read after those before it; or the first refusal
+abbrev pub lines_changes : Cargo → FlightDate → List CargoLine → Result (List Change) Refusal
+lines_changes s flight [] = Ok []
+lines_changes s flight (c ∷ cs) =
+    unless_refused (first_refusal (line_refusals s flight c))
+    (then_write (line_changes s flight c) (lines_changes (written_all [] (line_changes s flight c) s) flight cs))
+
+-- the day must exist, and be one of a Moment
+abbrev pub is_day : Option ℕ → Bool
+is_day None = false
+is_day (Some day) = is_moment_day day
+
+-- Moves and notices.
+
+-- a move, unless it is of no piece
+abbrev pub moved : ℕ → Place → Place → Amount → Option FlightDate → LocalMinute → List Move
+moved w from to a flight at =
+    if a.pieces == 0 then [] else record { awb = w; from = from; to = to; pieces = a.pieces; tenths = a.tenths; flight = flight; at = at } ∷ []
+
+-- a waybill as a message names it
+abbrev pub consigned : ℕ → Declared → Consigned
+consigned w d = record { awb = w; origin = d.origin; destination = d.destination; pieces = d.pieces; tenths = d.tenths }
+
+-- a status message from here, unless it is of no piece
+abbrev pub told : List ℕ → ℕ → Declared → Event → Amount → List Notice
+told here w d event a = if a.pieces == 0 then [] else notice.Status here (consigned w d) event a.pieces a.tenths ∷ []
+
+-- a discrepancy, where a flight is named
+abbrev pub told_differs : List ℕ → ℕ → Declared → Option FlightDate → Discrepancy → LocalMinute → Amount → List Notice
+told_differs here w d None kind at a = []
+told_differs here w d (Some flight) kind at a = told here w d (event.Differs flight at kind) a
+
+-- where a noted flight unloads
+abbrev pub unload_of : Option Outbound → List ℕ
+unload_of None = []
+unload_of (Some outbound) = outbound.unload
+
+-- a waybill on a manifest, with all of it that is built on the flight
+abbrev pub manifest_line : Aboard → ManifestLine
+manifest_line a = record { consigned = consigned a.awb a.declared; pieces = a.load.pieces; tenths = a.load.tenths; goods = a.declared.goods }
+
+-- the outcome of some moves, with their notices and a count
+abbrev pub does : List Move → List Notice → List Change → ℕ → Result Outcome Refusal
+does moves notices changes count = Ok (record { moves = moves; notices = notices; changes = changes; count = count })
+
+-- What each command does: its refusals, in the order tested, and its outcome where none of them holds. The sheet is that of
+-- the waybill; a flight's sheet, the expected row and the loads are those of the flight that the command names.
+
+-- what is declared on a sheet
+abbrev pub declared_on : Sheet → Declared
+declared_on sheet = unwrap_or sheet.declared undeclared
+
+-- what was taken over and found
+abbrev pub came_in : Sheet → Amount
+came_in sheet = plus sheet.taken sheet.found
+
+-- Book and FWB: the waybill is declared.
+abbrev pub booked : List ℕ → List ℕ → ℕ → ℕ → List ℕ → Declared
+booked origin destination p t goods =
+    record { origin = origin; destination = destination; pieces = p; tenths = book_weight_of p t; goods = goods; notified = false }
+
+abbrev pub declaring_outcome : Sheet → ℕ → Declared → Result Outcome Refusal
+declaring_outcome sheet w d = does [] [] (declare sheet.holder w d) d.pieces
+
+-- Receive: pieces are taken over, with at least a tenth each.
+abbrev pub receive_refusals : List ℕ → Sheet → ℕ → ℕ → ℕ → List (Bool × Refusal)
+receive_refusals here sheet w p t =
+    (is_none sheet.declared, about 201 w)
+    ∷ (not (bytes_eq (declared_on sheet).origin here), about 204 w)
+    ∷ (nat_lt (declared_on sheet).pieces (sheet.taken.pieces + p), about 205 w)
+    ∷ (not (fits (plus (came_in sheet) (amount p (book_weight_of p t)))), about 217 w) ∷ []
+
+abbrev pub receive_outcome : List ℕ → Sheet → ℕ → ℕ → ℕ → List ℕ → LocalMinute → Result Outcome Refusal
+receive_outcome here sheet w p t name at =
+    let a = amount p (book_weight_of p t) in
+    does (moved w place.Hand place.Free a None at) (told here w (declared_on sheet) (event.ReceivedFromShipper name at) a) [] p
+
+-- Manifest: free pieces are built on a flight, which is noted where it is new.
+abbrev pub manifest_refusals : List ℕ → Sheet → FlightSheet → ℕ → FlightDate → List ℕ → ℕ → List (Bool × Refusal)
+manifest_refusals here sheet on w flight unload p =
+    (is_none sheet.declared, about 201 w)
+    ∷ (bytes_eq unload here, about 204 w)
+    ∷ (is_closed on.outbound, on_flight 208 flight)
+    ∷ (goes_elsewhere on.outbound unload, on_flight 218 flight)
+    ∷ (nat_lt sheet.free.pieces p, only_free sheet.free.pieces)
+    ∷ ((on.load.pieces == 0) && nat_le 500 on.waybills, on_flight 219 flight) ∷ []
+
+abbrev pub manifest_outcome : List ℕ → Sheet → FlightSheet → ℕ → FlightDate → List ℕ → ℕ → LocalMinute → Result Outcome Refusal
+manifest_outcome here sheet on w flight unload p at =
+    let a = part sheet.free p in
+    does (moved w place.Free (place.Built flight) a (Some flight) at)
+    (told here w (declared_on sheet) (event.Manifested flight unload) a)
+    (if is_none on.outbound then NoteFlight flight (record { unload = unload; closed = false }) ∷ [] else []) p
+
+-- Offload: built pieces are free again.
+abbrev pub offload_refusals : Sheet → FlightSheet → ℕ → FlightDate → ℕ → List (Bool × Refusal)
+offload_refusals sheet on w flight p =
+    (is_none sheet.declared, about 201 w)
+    ∷ (is_closed on.outbound, on_flight 208 flight)
+    ∷ (nat_lt on.load.pieces p, about 207 w) ∷ []
+
+abbrev pub offload_outcome : List ℕ → Sheet → FlightSheet → ℕ → FlightDate → ℕ → LocalMinute → Result Outcome Refusal
+offload_outcome here sheet on w flight p at =
+    let a = part on.load p in
+    does (moved w (place.Built flight) place.Free a (Some flight) at)
+    (told here w (declared_on sheet) (event.Differs flight at discrepancy.Offloaded) a) [] p
+
+-- Depart: each waybill on the flight moves off with all that is built of it, and the flight is closed.
+abbrev pub depart_refusals : Option Outbound → List Aboard → FlightDate → List (Bool × Refusal)
+depart_refusals outbound loads flight = (is_closed outbound, on_flight 208 flight) ∷ (length loads == 0, on_flight 209 flight) ∷ []
+
+abbrev pub depart_moves : List Aboard → FlightDate → LocalMinute → List Move
+depart_moves loads flight at = flat_map (λ a. moved a.awb (place.Built flight) place.Departed a.load (Some flight) at) loads
+
+abbrev pub depart_notices : List ℕ → List ℕ → List Aboard → FlightDate → List Notice
+depart_notices here unload loads flight =
+    flat_map (λ a. told here a.awb a.declared (event.Departed flight unload) a.load) loads
+    ++ notice.Manifest here flight unload (map manifest_line loads) ∷ []
+
+abbrev pub depart_outcome : List ℕ → Option Outbound → List Aboard → FlightDate → LocalMinute → Result Outcome Refusal
+depart_outcome here outbound loads flight at =
+    does (depart_moves loads flight at) (depart_notices here (unload_of outbound) loads flight)
+    (NoteFlight flight (record { unload = unload_of outbound; closed = true }) ∷ [])
+    (sum_by (λ a. a.load.pieces) loads)
+
+-- Check-in: what was counted goes to the free cargo, the rest of what was expected to the missing, the surplus comes from
+-- outside.
+abbrev pub counted_in : Amount → ℕ → Amount
+counted_in e counted = if nat_le counted e.pieces then part e counted else e
+
+abbrev pub uncounted : Amount → ℕ → Amount
+uncounted e counted = less e (counted_in e counted)
+
+abbrev pub counted_more : Amount → ℕ → Amount
+counted_more e counted = part e (counted - e.pieces)
+
+abbrev pub check_in_refusals : Sheet → Option Expected → ℕ → ℕ → List (Bool × Refusal)
+check_in_refusals sheet expected w counted =
+    let e = expected_amount expected in
+    (is_none sheet.declared, about 201 w)
+    ∷ (is_none expected, about 211 w)
+    ∷ (is_checked expected, about 212 w)
+    ∷ (not (fits (plus (came_in sheet) (plus e (counted_more e counted)))), about 217 w) ∷ []
+
+abbrev pub check_in_moves : ℕ → FlightDate → Amount → ℕ → LocalMinute → List Move
+check_in_moves w flight e counted at =
+    moved w place.Hand place.Free (counted_in e counted) (Some flight) at
+    ++ moved w place.Hand place.Missing (uncounted e counted) (Some flight) at
+    ++ moved w place.Surplus place.Free (counted_more e counted) (Some flight) at
+
+abbrev pub check_in_notices : List ℕ → ℕ → Declared → FlightDate → Amount → ℕ → LocalMinute → List Notice
+check_in_notices here w d flight e counted at =
+    told here w d (event.ReceivedFromFlight flight at) (plus (counted_in e counted) (counted_more e counted))
+    ++ told here w d (event.Differs flight at discrepancy.Missing) (uncounted e counted)
+    ++ told here w d (event.Differs flight at discrepancy.Found) (counted_more e counted)
+
+abbrev pub check_in_outcome : List ℕ → Sheet → Option Expected → ℕ → FlightDate → ℕ → LocalMinute → Result Outcome Refusal
+check_in_outcome here sheet expected w flight counted at =
+    let e = expected_amount expected in
+    does (check_in_moves w flight e counted at) (check_in_notices here w (declared_on sheet) flight e counted at)
+    (Expect flight w (record { pieces = e.pieces; tenths = e.tenths; checked = true }) ∷ []) counted
+
+-- Notify: the consignee is told of all that is free.
+abbrev pub notify_refusals : List ℕ → Sheet → ℕ → List (Bool × Refusal)
+notify_refusals here sheet w =
+    (is_none sheet.declared, about 201 w)
+    ∷ (not (bytes_eq (declared_on sheet).destination here), about 204 w)
+    ∷ (sheet.free.pieces == 0, only_free 0) ∷ []
+
+abbrev pub notify_outcome : List ℕ → Sheet → ℕ → List ℕ → LocalMinute → Result Outcome Refusal
+notify_outcome here sheet w name at =
+    does [] (told here w (declared_on sheet) (event.Notified name at) sheet.free) (Declare w (record (declared_on sheet) { notified = true }) ∷ []) sheet.free.pieces
+
+-- Deliver: free pieces go to the consignee, who was notified.
+abbrev pub deliver_refusals : List ℕ → Sheet → ℕ → ℕ → List (Bool × Refusal)
+deliver_refusals here sheet w p =
+    (is_none sheet.declared, about 201 w)
+    ∷ (not (bytes_eq (declared_on sheet).destination here), about 204 w)
+    ∷ (not (declared_on sheet).notified, about 210 w)
+    ∷ (nat_lt sheet.free.pieces p, only_free sheet.free.pieces) ∷ []
+
+abbrev pub deliver_outcome : List ℕ → Sheet → ℕ → ℕ → List ℕ → LocalMinute → Result Outcome Refusal
+deliver_outcome here sheet w p name at =
+    let a = part sheet.free p in
+    does (moved w place.Free place.Delivered a None at) (told here w (declared_on sheet) (event.Delivered name at) a) [] p
+
+-- Missing: free pieces are missing.
+abbrev pub missing_refusals : Sheet → ℕ → ℕ → List (Bool × Refusal)
+missing_refusals sheet w p =
+    (is_none sheet.declared, about 201 w) ∷ (nat_lt sheet.free.pieces p, only_free sheet.free.pieces) ∷ []
+
+abbrev pub missing_outcome : List ℕ → Sheet → ℕ → ℕ → Option FlightDate → LocalMinute → Result Outcome Refusal
+missing_outcome here sheet w p flight at =
+    let a = part sheet.free p in
+    does (moved w place.Free place.Missing a flight at) (told_differs here w (declared_on sheet) flight discrepancy.Missing at a) [] p
+
+-- Found: missing pieces come back first; the others are a surplus.
+abbrev pub come_back : Sheet → ℕ → Amount
+come_back sheet p = part sheet.missing (min p sheet.missing.pieces)
+
+abbrev pub come_new : Sheet → ℕ → ℕ → Amount
+come_new sheet p t = surplus (p - sheet.missing.pieces) t
+
+abbrev pub found_refusals : Sheet → ℕ → ℕ → ℕ → List (Bool × Refusal)
+found_refusals sheet w p t =
+    (is_none sheet.declared, about 201 w)
+    ∷ (not (fits (plus (came_in sheet) (come_new sheet p t))), about 217 w) ∷ []
+
+abbrev pub found_outcome : List ℕ → Sheet → ℕ → ℕ → ℕ → Option FlightDate → LocalMinute → Result Outcome Refusal
+found_outcome here sheet w p t flight at =
+    does (moved w place.Missing place.Free (come_back sheet p) flight at ++ moved w place.Surplus place.Free (come_new sheet p t) flight at)
+    (told_differs here w (declared_on sheet) flight discrepancy.Found at (plus (come_back sheet p) (come_new sheet p t))) [] p
+
+-- Confirm: the mark moves up, to the last message at most.
+abbrev pub confirm_refusals : ℕ → ℕ → ℕ → List (Bool × Refusal)
+confirm_refusals confirmed last upto =
+    (nat_lt upto confirmed || nat_lt last upto, record { number = 401; detail = detail.Messages confirmed last }) ∷ []
+
+abbrev pub confirm_outcome : ℕ → ℕ → Result Outcome Refusal
+confirm_outcome confirmed upto = does [] [] (Confirm upto ∷ []) (upto - confirmed)
+
+-- A part of a manifest: all lines for here count, or none.
+abbrev pub part_refusals : Cargo → InboundPart → LocalMinute → List (Bool × Refusal)
+part_refusals s f at =
+    (not (is_day (resolved f.date at.day)), record { number = 301; detail = detail.Line 2 why.Date })
+    ∷ (is_some (s.parts (inbound_part f at)), record { number = 213; detail = detail.Part (inbound_part f at) }) ∷ []
+
+abbrev pub announced : Part → ℕ → Result (List Change) Refusal → Result Outcome Refusal
+announced key count (Ok changes) = does [] [] (changes ++ NotePart key ∷ []) count
+announced key count (Err refusal) = Err refusal
+
+abbrev pub part_outcome : Cargo → InboundPart → LocalMinute → Result Outcome Refusal
+part_outcome s f at = let lines = lines_for s.here f.lines in announced (inbound_part f at) (length lines) (lines_changes s (inbound_flight f at) lines)
+
+-- A status message: its lines join the trail.
+abbrev pub status_refusals : Sheet → ℕ → List (Bool × Refusal)
+status_refusals sheet w = (is_none sheet.declared, about 201 w) ∷ []
+
+abbrev pub status_outcome : ℕ → List (List ℕ) → Result Outcome Refusal
+status_outcome w lines = does [] [] (map (λ line. Trail w line) lines) (length lines)
+
+-- The same for each command, in a state.
+
+abbrev pub refusals : Cargo → ShipmentCommand → LocalMinute → List (Bool × Refusal)
+refusals s (order.Desk (desk.Book w origin destination p t goods)) at = declaring (sheet_of s w) w (booked origin destination p t goods)
+refusals s (order.Fwb c) at = declaring (sheet_of s c.awb) c.awb (declared_by c)
+refusals s (order.Desk (desk.Receive w p t name)) at = receive_refusals s.here (sheet_of s w) w p t
+refusals s (order.Desk (desk.Manifest w flight unload p)) at = manifest_refusals s.here (sheet_of s w) (flight_sheet_of s w flight) w flight unload p
+refusals s (order.Desk (desk.Offload w flight p)) at = offload_refusals (sheet_of s w) (flight_sheet_of s w flight) w flight p
+refusals s (order.Desk (desk.Depart flight)) at = depart_refusals (s.flights flight) (loads_of s flight) flight
+refusals s (order.Desk (desk.CheckIn w flight counted)) at = check_in_refusals (sheet_of s w) (s.expected flight w) w counted
+refusals s (order.Desk (desk.Notify w name)) at = notify_refusals s.here (sheet_of s w) w
+refusals s (order.Desk (desk.Deliver w p name)) at = deliver_refusals s.here (sheet_of s w) w p
+refusals s (order.Desk (desk.Missing w p flight)) at = missing_refusals (sheet_of s w) w p
+refusals s (order.Desk (desk.Found w p t flight)) at = found_refusals (sheet_of s w) w p t
+refusals s (order.Desk (desk.Confirm upto)) at = confirm_refusals s.confirmed (length s.outbox) upto
+refusals s (order.Ffm f) at = part_refusals s f at
+refusals s (order.Fsu f) at = status_refusals (sheet_of s f.awb) f.awb
+
+-- What a command does, where none of its refusals holds. Only the lines of a manifest may still be refused.
+abbrev pub outcome : Cargo → ShipmentCommand → LocalMinute → Result Outcome Refusal
+outcome s (order.Desk (desk.Book w origin destination p t goods)) at = declaring_outcome (sheet_of s w) w (booked origin destination p t goods)
+outcome s (order.Fwb c) at = declaring_outcome (sheet_of s c.awb) c.awb (declared_by c)
+outcome s (order.Desk (desk.Receive w p t name)) at = receive_outcome s.here (sheet_of s w) w p t name at
+outcome s (order.Desk (desk.Manifest w flight unload p)) at = manifest_outcome s.here (sheet_of s w) (flight_sheet_of s w flight) w flight unload p at
+outcome s (order.Desk (desk.Offload w flight p)) at = offload_outcome s.here (sheet_of s w) (flight_sheet_of s w flight) w flight p at
+outcome s (order.Desk (desk.Depart flight)) at = depart_outcome s.here (s.flights flight) (loads_of s flight) flight at
+outcome s (order.Desk (desk.CheckIn w flight counted)) at = check_in_outcome s.here (sheet_of s w) (s.expected flight w) w flight counted at
+outcome s (order.Desk (desk.Notify w name)) at = notify_outcome s.here (sheet_of s w) w name at
+outcome s (order.Desk (desk.Deliver w p name)) at = deliver_outcome s.here (sheet_of s w) w p name at
+outcome s (order.Desk (desk.Missing w p flight)) at = missing_outcome s.here (sheet_of s w) w p flight at
+outcome s (order.Desk (desk.Found w p t flight)) at = found_outcome s.here (sheet_of s w) w p t flight at
+outcome s (order.Desk (desk.Confirm upto)) at = confirm_outcome s.confirmed upto
+outcome s (order.Ffm f) at = part_outcome s f at
+outcome s (order.Fsu f) at = status_outcome f.awb f.lines
+
+-- The effect of a command on a state at a moment: the first refusal, or what it does.
+abbrev pub effect : Cargo → ShipmentCommand → LocalMinute → Result Outcome Refusal
+effect s command at = unless_refused (first_refusal (refusals s command at)) (outcome s command at)
+
+-- the state afterwards, where the telegram in work has this text; the notices' texts aren't in the outbox yet
+abbrev pub carried_out : List ℕ → Outcome → Cargo → Cargo
+carried_out text done s = written_all text done.changes (record s { book = s.book ++ done.moves })

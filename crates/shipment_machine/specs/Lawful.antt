@@ -1,0 +1,106 @@
+-- What holds of every state of a station.
+use Rattle.std.specs.Prelude.{◌≡◌, ℕ, ◌≤◌, Bool, true, false, ◌&&◌, ◌↔◌, IsTrue, IsSome, IfSome, ⊤, Some, List, [], ◌∷◌, length}
+use Rattle.std.specs.List.{AllByRecursion, list_any}
+use Rattle.std.specs.Str.{bytes_eq}
+use Rattle.shipment_machine.specs.declared.flight.FlightDate.{FlightDate}
+use Rattle.agent_stock.specs.declared.stock.Holder.TheVariants.{Used}
+use Rattle.shipment_machine.specs.declared.moves.Place.{Place}
+use Rattle.shipment_machine.specs.declared.moves.Place.TheVariants.{Hand, Surplus, Free, Built, Departed, Delivered, Missing}
+use Rattle.shipment_machine.specs.declared.moves.Move.{Move}
+use Rattle.shipment_machine.specs.declared.command.InboundLine.{InboundLine}
+use Rattle.shipment_machine.specs.declared.command.ShipmentCommand.{ShipmentCommand}
+use Rattle.shipment_machine.specs.declared.command.ShipmentCommand.TheVariants as order
+use Rattle.shipment_machine.specs.declared.command.DeskCommand.TheVariants as desk
+use Rattle.shipment_machine.specs.Flights.{same_flight_date}
+use Rattle.shipment_machine.specs.Book.{same_place, pieces_of, tenths_of, moved_in, moved_out, held, built, taken_and_found, waybills_on}
+use Rattle.shipment_machine.specs.Cargo.{Cargo}
+use Rattle.shipment_machine.specs.Amount.{fits}
+use Rattle.shipment_machine.specs.Effect.{is_closed}
+
+-- whether a place is outside the station
+abbrev pub is_outside : Place → Bool
+is_outside Hand = true
+is_outside Surplus = true
+is_outside _ = false
+
+-- No more of a waybill moved out of a place than into it; what is there weighs at least a tenth a piece, and nothing where it has no piece.
+pub record IsStocked (book : List Move) (w : ℕ) (p : Place) : Type 0 where
+  pub pieces : moved_out pieces_of book w (same_place p) ≤ moved_in pieces_of book w (same_place p)
+  pub tenths : moved_out tenths_of book w (same_place p) ≤ moved_in tenths_of book w (same_place p)
+  pub tenth_a_piece : (held book w (same_place p)).pieces ≤ (held book w (same_place p)).tenths
+  pub no_weight_alone : (held book w (same_place p)).pieces ≡ 0 → (held book w (same_place p)).tenths ≡ 0
+
+-- whether pieces may move so
+abbrev pub is_pair : Place → Place → Bool
+is_pair Hand Free = true
+is_pair Hand Missing = true
+is_pair Surplus Free = true
+is_pair Free (Built _) = true
+is_pair (Built _) Free = true
+is_pair (Built _) Departed = true
+is_pair Free Delivered = true
+is_pair Free Missing = true
+is_pair Missing Free = true
+is_pair _ _ = false
+
+-- the flight of a built place is noted
+abbrev pub IsNoted : Cargo → Place → Type 0
+IsNoted s (Built flight) = IsSome (s.flights flight)
+IsNoted s _ = ⊤
+
+-- a move that may be made, of a declared waybill and noted flights
+pub record IsLawfulMove (s : Cargo) (m : Move) : Type 0 where
+  pub pair : IsTrue (is_pair m.from m.to)
+  pub some : 1 ≤ m.pieces
+  pub not_more : m.pieces ≤ 9999
+  pub declared : IsSome (s.declared m.awb)
+  pub noted_from : IsNoted s m.from
+  pub noted_to : IsNoted s m.to
+
+-- pieces and tenths that may be declared or expected
+pub record IsLawfulAmount (pieces tenths : ℕ) : Type 0 where
+  pub some : 1 ≤ pieces
+  pub not_more : pieces ≤ 9999
+  pub tenth_a_piece : pieces ≤ tenths
+  pub not_heavier : tenths ≤ 999999
+
+-- whether a move takes pieces off with this flight, or builds them on it
+abbrev pub departs_with : FlightDate → Move → Bool
+departs_with flight m = same_place m.from (Built flight) && same_place m.to Departed
+
+abbrev pub builds_on : FlightDate → Move → Bool
+builds_on flight m = same_place m.to (Built flight)
+
+-- once a flight has departed nothing is built on it
+abbrev pub StaysDeparted : FlightDate → List Move → Type 0
+StaysDeparted flight [] = ⊤
+StaysDeparted flight (m ∷ later) = (IsTrue (departs_with flight m) → list_any (builds_on flight) later ≡ false) × StaysDeparted flight later
+
+-- A lawful state. That the text of each noted part is kept is said of the whole station.
+pub record IsLawful (s : Cargo) : Type 0 where
+  pub stocked : (w : ℕ) (p : Place) → is_outside p ≡ false → IsStocked s.book w p
+  pub within : (w : ℕ) → IsTrue (fits (taken_and_found s.book w))
+  pub declarations : (w : ℕ) → IfSome (s.declared w) (λ d. IsLawfulAmount d.pieces d.tenths)
+  pub expectations : (flight : FlightDate) (w : ℕ) → IfSome (s.expected flight w) (λ e. IsLawfulAmount e.pieces e.tenths × IsSome (s.declared w))
+  pub moves : AllByRecursion (IsLawfulMove s) s.book
+  pub trail : AllByRecursion (λ (row : ℕ × List ℕ). IsSome (s.declared row.0)) s.trail
+  pub used : (w : ℕ) → s.holders w ≡ Some Used → IsSome (s.declared w)
+  pub closed : (flight : FlightDate) → IsTrue (is_closed (s.flights flight)) ↔ IsTrue (list_any (departs_with flight) s.book)
+  pub departed : (flight : FlightDate) → StaysDeparted flight s.book
+  pub empty : (flight : FlightDate) (w : ℕ) → IsTrue (is_closed (s.flights flight)) → (built s.book w flight).pieces ≡ 0
+  pub room : (flight : FlightDate) → length (waybills_on s.book flight) ≤ 500
+  pub outbound : (flight : FlightDate) → IfSome (s.flights flight) (λ o. bytes_eq o.unload s.here ≡ false)
+  -- one flight, however it is given
+  pub alike : (j k : FlightDate) → IsTrue (same_flight_date j k) → s.flights j ≡ s.flights k
+  pub mark : s.confirmed ≤ length s.outbox
+
+-- whether the numbers of a command are ones that its types allow: each declared or announced line has a piece
+abbrev pub HasPieces : InboundLine → Type 0
+HasPieces l = 1 ≤ l.cargo.pieces
+
+abbrev pub IsProper : ShipmentCommand → Type 0
+IsProper (order.Desk (desk.Book w origin destination pieces tenths goods)) = 1 ≤ pieces
+IsProper (order.Desk _) = ⊤
+IsProper (order.Fwb c) = 1 ≤ c.pieces
+IsProper (order.Ffm f) = AllByRecursion HasPieces f.lines
+IsProper (order.Fsu f) = ⊤

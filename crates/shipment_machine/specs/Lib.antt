@@ -1,0 +1,15 @@
+pub mod Amount
+pub mod Flights
+pub mod Book
+pub mod Cargo
+pub mod OnBoard
+pub mod Sheets
+pub mod Splits
+pub mod Effect
+pub mod Claims
+pub mod Lawful
+pub mod Announced
+pub mod Suits
+pub mod Meant
+pub mod Agreement
+pub mod Laws

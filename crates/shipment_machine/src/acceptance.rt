@@ -1,0 +1,155 @@
+//! What is declared and taken over.
+ghost use Rattle.std.specs.Prelude.{◌≡◌, ℕ, ◌≤◌, ◌++◌, Some, None, OnOk, if◌then◌else◌};
+ghost use Rattle.shipment_machine.specs.Amount.{amount, fits};
+ghost use Rattle.shipment_machine.specs.Effect.{unless_refused, first_refusal, at_desk_or_void, declare, declared_by, declaring, declaring_outcome, receive_refusals, receive_outcome};
+ghost use Rattle.shipment_machine.specs.Agreement.{IsAnswer};
+ghost use Rattle.shipment_machine.specs.Claims.{claimed};
+
+use crate::amount::{Amount, is_within};
+use crate::claim::Claim;
+use crate::command::CargoLine;
+use crate::drafting::{
+    Setting, add_move, add_notice, blank, fits_with, is_same, pieces_of, refuse_waybill, tenths_of,
+};
+use crate::moves::{Declared, Place};
+use crate::notice::Event;
+use crate::plans::{Change, Plan, PlanFault};
+use crate::view::Sheet;
+use agent_stock::Holder;
+use awb_number::Awb;
+use imp_fields::{Name, Pieces, Tenths, book_weight, share};
+use std::alloc::AllocError;
+
+/// Whether a number is in stock with the desk, or void.
+pub(crate) fn is_at_desk_or_void(holder: Option<Holder>) -> bool
+    ensures { result ≡ at_desk_or_void holder }
+{
+    match holder {
+        Some(Holder::Desk) => true,
+        Some(Holder::Void) => true,
+        _ => false,
+    }
+}
+
+/// Adds the rows of a waybill that is declared.
+pub(crate) fn add_declaration<'a>(
+    changes: &mut Vec<Change<'a>>,
+    holder: Option<Holder>,
+    awb: Awb,
+    declared: Declared,
+) -> Result<(), AllocError>
+    ensures { OnOk result (changes.new.items ≡ changes.old.items ++ declare holder awb declared) }
+{
+    changes.push(Change::Declare { awb, declared })?;
+    if let Some(Holder::Agent(_)) = holder {
+        changes.push(Change::UseUp { awb })?;
+    }
+    Ok(())
+}
+
+/// What is declared, unless it is past what can be.
+pub(crate) fn declared_as(claim: &Claim) -> Option<Declared>
+    requires { 1 ≤ claim.now.pieces }
+    ensures { result ≡ (if fits (amount claim.now.pieces claim.now.tenths) then Some (claimed claim.now) else None) }
+{
+    if !is_within(u64::from(claim.pieces), claim.tenths) {
+        return None;
+    }
+    Some(Declared {
+        origin: claim.origin,
+        destination: claim.destination,
+        pieces: pieces_of(claim.pieces),
+        tenths: tenths_of(claim.tenths as u32),
+        goods: claim.goods,
+        notified: false,
+    })
+}
+
+/// What a consignment line of a telegram declares: its total, where it exceeds its own pieces, at the
+/// same weight a piece.
+pub(crate) fn claim_of(line: &CargoLine) -> Claim
+    ensures value { claimed result ≡ declared_by line.now }
+    ensures some { 1 ≤ result.pieces }
+    ensures bound { result.pieces ≤ 9999 }
+{
+    let own = line.pieces.number();
+    let pieces = match line.total {
+        None => own,
+        Some(total) => own.max(total.number()),
+    };
+    Claim {
+        origin: line.origin,
+        destination: line.destination,
+        pieces,
+        tenths: share(own, book_weight(own, line.tenths.number()), pieces),
+        goods: line.goods,
+    }
+}
+
+/// Declares a waybill, or declares it anew while it has no moves.
+pub(crate) fn book<'a>(
+    on: &Setting,
+    sheet: &Sheet,
+    awb: Awb,
+    claim: &Claim,
+) -> Result<Plan<'a>, PlanFault>
+    requires { 1 ≤ claim.now.pieces }
+    ensures { IsAnswer result (unless_refused (first_refusal (declaring sheet.now awb (claimed claim.now))) (declaring_outcome sheet.now awb (claimed claim.now))) }
+{
+    let Some(declared) = declared_as(claim) else {
+        return Err(refuse_waybill(217, awb));
+    };
+    if sheet.declared.is_some() && sheet.has_moves {
+        return Err(refuse_waybill(202, awb));
+    }
+    if is_at_desk_or_void(sheet.holder) {
+        return Err(refuse_waybill(203, awb));
+    }
+    let mut plan = blank(on.alloc, claim.pieces);
+    add_declaration(&mut plan.changes, sheet.holder, awb, declared)?;
+    Ok(plan)
+}
+
+/// Takes pieces over from the shipper or an agent.
+pub(crate) fn receive<'a>(
+    on: &Setting,
+    sheet: &Sheet,
+    awb: Awb,
+    pieces: Pieces,
+    tenths: Tenths,
+    name: Name,
+) -> Result<Plan<'a>, PlanFault>
+    ensures { IsAnswer result (unless_refused (first_refusal (receive_refusals on.now.here sheet.now awb pieces tenths)) (receive_outcome on.now.here sheet.now awb pieces tenths name on.now.at)) }
+{
+    let Some(declared) = &sheet.declared else {
+        return Err(refuse_waybill(201, awb));
+    };
+    if !is_same(declared.origin, on.here) {
+        return Err(refuse_waybill(204, awb));
+    }
+    let amount = Amount {
+        pieces: pieces.number(),
+        tenths: book_weight(pieces.number(), tenths.number()),
+    };
+    if u64::from(declared.pieces.number())
+        < u64::from(sheet.taken.pieces) + u64::from(amount.pieces)
+    {
+        return Err(refuse_waybill(205, awb));
+    }
+    if !fits_with(sheet, u64::from(amount.pieces), u64::from(amount.tenths)) {
+        return Err(refuse_waybill(217, awb));
+    }
+    let event = Event::ReceivedFromShipper { name, at: on.at };
+    let mut plan = blank(on.alloc, amount.pieces);
+    add_move(
+        &mut plan.moves,
+        awb,
+        Place::Hand,
+        Place::Free,
+        amount,
+        None,
+        on.at,
+    )?;
+    add_notice(&mut plan.notices, on.here, awb, declared, event, amount)?;
+    Ok(plan)
+}

@@ -1,0 +1,33 @@
+ghost use Rattle.std.specs.Prelude.{◌≡◌, ℕ, ◌+◌, ◌-◌, ◌*◌, ◌/◌, ◌≤◌, ◌<◌};
+ghost use Rattle.shipment_machine.specs.Amount.{part};
+ghost use Rattle.shipment_machine.specs.Amount.{IsHeld, fits};
+
+use imp_fields::share;
+
+/// Pieces, with their weight in tenths of a kilogram. It is a sum, so it has no bound of its own.
+#[derive(Clone, Copy, Debug, PartialEq, Eq)]
+pub struct Amount {
+    pub pieces: u32,
+    pub tenths: u32,
+}
+
+/// Some pieces of an amount, with their share of its weight.
+pub(crate) fn part_of(whole: Amount, pieces: u32) -> Amount
+    requires held { IsHeld whole }
+    requires some { 1 ≤ pieces }
+    requires within { pieces ≤ whole.pieces }
+    ensures value { result ≡ part whole pieces }
+    ensures held { IsHeld result }
+{
+    Amount {
+        pieces,
+        tenths: share(whole.pieces, whole.tenths, pieces) as u32,
+    }
+}
+
+/// Whether sums of pieces and tenths are within 9,999 pieces and 999,999 tenths.
+pub(crate) fn is_within(pieces: u64, tenths: u64) -> bool
+    ensures { result ≡ fits (record { pieces = pieces; tenths = tenths }) }
+{
+    pieces <= 9999 && tenths <= 999_999
+}

@@ -1,0 +1,220 @@
+//! What a flight brought.
+ghost use Rattle.std.specs.Prelude.{◌≡◌, ◌+◌, ◌-◌, ◌*◌, ◌/◌, ◌≤◌, ◌<◌, ◌^◌, Some, None, IfSome, IfOk, if◌then◌else◌};
+ghost use Rattle.shipment_machine.specs.Amount.{IsHeld, plus, fits};
+ghost use Rattle.shipment_machine.specs.Effect.{unless_refused, first_refusal, came_in, expected_amount, counted_in, uncounted, counted_more, check_in_moves, check_in_notices, check_in_refusals, check_in_outcome};
+ghost use Rattle.shipment_machine.specs.Agreement.{IsAnswer};
+ghost use Rattle.shipment_machine.specs.Splits.{IsPartOf, GoesWith};
+ghost use Rattle.shipment_machine.specs.declared.notice.Event.TheVariants as event;
+
+use crate::amount::Amount;
+use crate::command::PieceCount;
+use crate::drafting::{
+    Setting, add_move, add_notice, blank, fits_with, refuse_waybill, together, widened,
+};
+use crate::flight::FlightDate;
+use crate::moves::{Declared, Expected, Move, Place};
+use crate::notice::{Event, Notice};
+use crate::plans::{Change, Plan, PlanFault};
+use crate::view::Sheet;
+use awb_number::Awb;
+use imp_fields::{Discrepancy, Moment, share};
+use std::alloc::AllocError;
+
+/// What of the expected pieces was counted.
+fn counted_of(whole: Amount, counted: u32) -> Amount
+    requires held { IsHeld whole }
+    requires some { 1 ≤ whole.pieces }
+    ensures value { result ≡ counted_in whole counted }
+    ensures part { IsPartOf result whole }
+{
+    if counted <= whole.pieces {
+        Amount {
+            pieces: counted,
+            tenths: share(whole.pieces, whole.tenths, counted) as u32,
+        }
+    } else {
+        whole
+    }
+}
+
+/// What of the expected pieces was not counted.
+fn rest_of(whole: Amount, counted: u32) -> Amount
+    requires held { IsHeld whole }
+    requires some { 1 ≤ whole.pieces }
+    ensures value { result ≡ uncounted whole counted }
+    ensures held { IsHeld result }
+{
+    let found = counted_of(whole, counted);
+    Amount {
+        pieces: whole.pieces - found.pieces,
+        tenths: whole.tenths - found.tenths,
+    }
+}
+
+/// The weight of pieces beyond those that were expected.
+fn tenths_beyond(whole: Amount, pieces: u32) -> u64
+    requires held { IsHeld whole }
+    requires some { 1 ≤ whole.pieces }
+    requires few { pieces ≤ 9999 }
+    ensures value { result ≡ whole.tenths * pieces / whole.pieces }
+    ensures heavy { pieces ≤ result }
+    ensures bound { result < 2 ^ 61 }
+{
+    share(whole.pieces, whole.tenths, pieces)
+}
+
+/// What was counted beyond the expected pieces, unless it is past what can be.
+fn more_of(sheet: &Sheet, whole: Amount, counted: u32) -> Option<Amount>
+    requires held { IsHeld whole }
+    requires some { 1 ≤ whole.pieces }
+    requires few { counted ≤ 9999 }
+    ensures value { result ≡ (if fits (plus (came_in sheet.now) (plus whole (counted_more whole counted))) then Some (counted_more whole counted) else None) }
+    ensures fitting { IfSome result (GoesWith whole) }
+{
+    let pieces = counted.saturating_sub(whole.pieces);
+    let tenths = tenths_beyond(whole, pieces);
+    if !fits_with(
+        sheet,
+        widened(whole.pieces) + widened(pieces),
+        widened(whole.tenths) + tenths,
+    ) {
+        return None;
+    }
+    Some(Amount {
+        pieces,
+        tenths: tenths as u32,
+    })
+}
+
+/// A discrepancy on a flight.
+fn differs(flight: &FlightDate, at: Moment, discrepancy: Discrepancy) -> Event
+    ensures { result ≡ event.Differs flight.now at discrepancy }
+{
+    Event::Differs {
+        flight: *flight,
+        at,
+        discrepancy,
+    }
+}
+
+/// The moves of a check-in.
+fn moves_in(
+    on: &Setting,
+    awb: Awb,
+    flight: &FlightDate,
+    whole: Amount,
+    counted: u32,
+    more: Amount,
+) -> Result<Vec<Move>, AllocError>
+    requires held { IsHeld whole }
+    requires some { 1 ≤ whole.pieces }
+    requires surplus { more ≡ counted_more whole counted }
+    requires fitting { GoesWith whole more }
+    ensures { IfOk result (λ moves. moves.items ≡ check_in_moves awb flight.now whole counted on.now.at) }
+{
+    let found = counted_of(whole, counted);
+    let rest = rest_of(whole, counted);
+    let mut moves = Vec::new(on.alloc);
+    add_move(
+        &mut moves,
+        awb,
+        Place::Hand,
+        Place::Free,
+        found,
+        Some(*flight),
+        on.at,
+    )?;
+    add_move(
+        &mut moves,
+        awb,
+        Place::Hand,
+        Place::Missing,
+        rest,
+        Some(*flight),
+        on.at,
+    )?;
+    add_move(
+        &mut moves,
+        awb,
+        Place::Surplus,
+        Place::Free,
+        more,
+        Some(*flight),
+        on.at,
+    )?;
+    Ok(moves)
+}
+
+/// The status messages of a check-in.
+fn notices_in(
+    on: &Setting,
+    declared: &Declared,
+    awb: Awb,
+    flight: &FlightDate,
+    whole: Amount,
+    counted: u32,
+    more: Amount,
+) -> Result<Vec<Notice>, AllocError>
+    requires held { IsHeld whole }
+    requires some { 1 ≤ whole.pieces }
+    requires surplus { more ≡ counted_more whole counted }
+    requires fitting { GoesWith whole more }
+    ensures { IfOk result (λ notices. notices.items ≡ check_in_notices on.now.here awb declared.now flight.now whole counted on.now.at) }
+{
+    let found = counted_of(whole, counted);
+    let rest = rest_of(whole, counted);
+    let all = together(found, more);
+    let mut notices = Vec::new(on.alloc);
+    let event = Event::ReceivedFromFlight {
+        flight: *flight,
+        at: on.at,
+    };
+    add_notice(&mut notices, on.here, awb, declared, event, all)?;
+    let event = differs(flight, on.at, Discrepancy::Missing);
+    add_notice(&mut notices, on.here, awb, declared, event, rest)?;
+    let event = differs(flight, on.at, Discrepancy::Found);
+    add_notice(&mut notices, on.here, awb, declared, event, more)?;
+    Ok(notices)
+}
+
+/// Takes over what was counted of a waybill that a flight brought.
+pub(crate) fn check_in<'a>(
+    on: &Setting,
+    sheet: &Sheet,
+    expected: &Option<Expected>,
+    awb: Awb,
+    flight: &FlightDate,
+    counted: PieceCount,
+) -> Result<Plan<'a>, PlanFault>
+    requires { IsHeld (expected_amount expected.now) }
+    ensures { IsAnswer result (unless_refused (first_refusal (check_in_refusals sheet.now expected.now awb counted)) (check_in_outcome on.now.here sheet.now expected.now awb flight.now counted on.now.at)) }
+{
+    let Some(declared) = &sheet.declared else {
+        return Err(refuse_waybill(201, awb));
+    };
+    let Some(row) = expected else {
+        return Err(refuse_waybill(211, awb));
+    };
+    if row.checked {
+        return Err(refuse_waybill(212, awb));
+    }
+    let whole = Amount {
+        pieces: row.pieces.number(),
+        tenths: row.tenths.number(),
+    };
+    let Some(more) = more_of(sheet, whole, counted.number()) else {
+        return Err(refuse_waybill(217, awb));
+    };
+    let mut plan = blank(on.alloc, counted.number());
+    plan.moves = moves_in(on, awb, flight, whole, counted.number(), more)?;
+    plan.notices = notices_in(on, declared, awb, flight, whole, counted.number(), more)?;
+    plan.changes.push(Change::Expect {
+        flight: *flight,
+        awb,
+        expected: Expected {
+            checked: true,
+            ..*row
+        },
+    })?;
+    Ok(plan)
+}

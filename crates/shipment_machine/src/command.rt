@@ -1,0 +1,295 @@
+ghost use Rattle.std.specs.Prelude.{◌≡◌, ℕ, ◌≤◌, ◌↔◌, length, IsSome, IfSome};
+ghost use Rattle.shipment_machine.specs.Amount.{IsCount};
+
+use crate::flight::FlightDate;
+use crate::text::Text;
+use awb_number::Awb;
+use imp_fields::{Airport, DayMonth, Flight, Goods, Name, PartNumber, Pieces, Tenths};
+use std::marker::Model;
+
+/// How many pieces were counted, 0 to 9999.
+#[derive(Clone, Copy, Debug, PartialEq, Eq, PartialOrd, Ord)]
+pub struct PieceCount {
+    number: u32,
+}
+
+impl Model for PieceCount {
+    ghost Value = { ℕ };
+
+    ghost view = { λ c. c.number };
+
+    ghost invariant = { λ c. IsCount c.number };
+
+    ghost inverse = { λ n. record { number = n } };
+}
+
+impl PieceCount {
+    pub fn new(number: u32) -> Option<PieceCount>
+        ensures in_range { IsSome result ↔ IsCount number }
+        ensures value { IfSome result (λ c. c ≡ number) }
+    {
+        if number <= 9999 {
+            Some(PieceCount { number })
+        } else {
+            None
+        }
+    }
+
+    pub fn number(self) -> u32
+        ensures value { result ≡ self }
+        ensures in_range { IsCount result }
+    {
+        self.number
+    }
+}
+
+/// What a consignment line of a telegram says; a missing weight is 0.
+#[derive(Clone, Copy, Debug, PartialEq, Eq)]
+pub struct CargoLine {
+    pub awb: Awb,
+    pub origin: Airport,
+    pub destination: Airport,
+    pub pieces: Pieces,
+    pub tenths: Tenths,
+    pub total: Option<Pieces>,
+    pub goods: Goods,
+}
+
+/// A consignment line of a flight manifest, and the airport above it.
+#[derive(Clone, Copy, Debug, PartialEq, Eq)]
+pub struct InboundLine {
+    pub unload: Airport,
+    pub cargo: CargoLine,
+}
+
+/// The lines of a flight manifest that someone else keeps, 1,000 at most.
+#[derive(Drop)]
+pub struct InboundLines<'a> {
+    lines: &'a [InboundLine],
+}
+
+impl<'a> Model for InboundLines<'a> {
+    ghost use Rattle.std.specs.Prelude.{List, ◌≤◌, length};
+    ghost use Rattle.shipment_machine.specs.declared.command.InboundLine.{InboundLine};
+
+    ghost Value = { List InboundLine };
+
+    ghost view = { λ a. a.lines.now };
+
+    ghost invariant = { λ a. length a.lines.now ≤ 1000 };
+}
+
+impl<'a> InboundLines<'a> {
+    /// None where there are more than 1,000.
+    pub fn new(lines: &'a [InboundLine]) -> Option<InboundLines<'a>>
+        ensures in_range { IsSome result ↔ (length lines.now ≤ 1000) }
+        ensures value { IfSome result (λ kept. kept ≡ lines.now) }
+    {
+        if lines.len() <= 1000 {
+            Some(InboundLines { lines })
+        } else {
+            None
+        }
+    }
+
+    /// The lines, in their order.
+    pub fn as_slice(&self) -> &'a [InboundLine]
+        ensures value { result.now ≡ self.now }
+        ensures in_range { length result.now ≤ 1000 }
+    {
+        self.lines
+    }
+}
+
+/// A part of a flight manifest that arrived.
+#[derive(Drop)]
+pub struct InboundPart<'a> {
+    pub number: PartNumber,
+    pub flight: Flight,
+    pub date: DayMonth,
+    /// Where the flight was loaded.
+    pub loaded: Airport,
+    pub lines: InboundLines<'a>,
+}
+
+/// The lines below the consignment line of a status message, 1,000 at most.
+#[derive(Drop)]
+pub struct TrailLines<'a> {
+    lines: &'a [Text<'a>],
+}
+
+impl<'a> Model for TrailLines<'a> {
+    ghost use Rattle.std.specs.Prelude.{List, ℕ, ◌≤◌, length};
+
+    ghost Value = { List (List ℕ) };
+
+    ghost view = { λ a. a.lines.now };
+
+    ghost invariant = { λ a. length a.lines.now ≤ 1000 };
+}
+
+impl<'a> TrailLines<'a> {
+    /// None where there are more than 1,000.
+    pub fn new(lines: &'a [Text<'a>]) -> Option<TrailLines<'a>>
+        ensures in_range { IsSome result ↔ (length lines.now ≤ 1000) }
+        ensures value { IfSome result (λ kept. kept ≡ lines.now) }
+    {
+        if lines.len() <= 1000 {
+            Some(TrailLines { lines })
+        } else {
+            None
+        }
+    }
+
+    /// The lines, in their order.
+    pub fn as_slice(&self) -> &'a [Text<'a>]
+        ensures value { result.now ≡ self.now }
+        ensures in_range { length result.now ≤ 1000 }
+    {
+        self.lines
+    }
+}
+
+/// A status message that arrived.
+#[derive(Drop)]
+pub struct InboundStatus<'a> {
+    pub awb: Awb,
+    pub lines: TrailLines<'a>,
+}
+
+/// What the desk does with cargo.
+#[derive(Clone, Copy, Debug, PartialEq, Eq)]
+pub enum DeskCommand {
+    /// Declares a waybill.
+    Book {
+        awb: Awb,
+        origin: Airport,
+        destination: Airport,
+        pieces: Pieces,
+        tenths: Tenths,
+        goods: Goods,
+    },
+    /// Takes pieces over from the shipper or an agent.
+    Receive {
+        awb: Awb,
+        pieces: Pieces,
+        tenths: Tenths,
+        name: Name,
+    },
+    /// Builds free pieces for a flight to the airport where it unloads.
+    Manifest {
+        awb: Awb,
+        flight: FlightDate,
+        unload: Airport,
+        pieces: Pieces,
+    },
+    /// Takes built pieces off a flight.
+    Offload {
+        awb: Awb,
+        flight: FlightDate,
+        pieces: Pieces,
+    },
+    /// Sends a flight off.
+    Depart {
+        flight: FlightDate,
+    },
+    /// Counts what a flight brought of a waybill.
+    CheckIn {
+        awb: Awb,
+        flight: FlightDate,
+        counted: PieceCount,
+    },
+    /// Notifies the consignee.
+    Notify {
+        awb: Awb,
+        name: Name,
+    },
+    /// Hands free pieces to the consignee.
+    Deliver {
+        awb: Awb,
+        pieces: Pieces,
+        name: Name,
+    },
+    /// Records free pieces as missing, perhaps from a flight.
+    Missing {
+        awb: Awb,
+        pieces: Pieces,
+        flight: Option<FlightDate>,
+    },
+    /// Records pieces as found, perhaps of a flight: missing ones first.
+    Found {
+        awb: Awb,
+        pieces: Pieces,
+        tenths: Tenths,
+        flight: Option<FlightDate>,
+    },
+    /// Confirms the messages up to this number.
+    Confirm {
+        upto: u32,
+    },
+}
+
+/// A command of the desk that someone else keeps.
+#[derive(Drop)]
+pub struct DeskRef<'a> {
+    command: &'a DeskCommand,
+}
+
+impl<'a> Model for DeskRef<'a> {
+    ghost use Rattle.shipment_machine.specs.declared.command.DeskCommand.{DeskCommand};
+
+    ghost Value = { DeskCommand };
+
+    ghost view = { λ a. a.command.now };
+}
+
+impl<'a> DeskRef<'a> {
+    pub fn new(command: &'a DeskCommand) -> DeskRef<'a>
+        ensures { result ≡ command.now }
+    {
+        DeskRef { command }
+    }
+
+    pub fn get(&self) -> &'a DeskCommand
+        ensures { result.now ≡ self.now }
+    {
+        self.command
+    }
+}
+
+/// A consignment line that someone else keeps.
+#[derive(Drop)]
+pub struct CargoRef<'a> {
+    line: &'a CargoLine,
+}
+
+impl<'a> Model for CargoRef<'a> {
+    ghost use Rattle.shipment_machine.specs.declared.command.CargoLine.{CargoLine};
+
+    ghost Value = { CargoLine };
+
+    ghost view = { λ a. a.line.now };
+}
+
+impl<'a> CargoRef<'a> {
+    pub fn new(line: &'a CargoLine) -> CargoRef<'a>
+        ensures { result ≡ line.now }
+    {
+        CargoRef { line }
+    }
+
+    pub fn get(&self) -> &'a CargoLine
+        ensures { result.now ≡ self.now }
+    {
+        self.line
+    }
+}
+
+/// What changes the cargo: a command of the desk, or the content of a telegram. It is planned as borrowed.
+#[derive(Drop)]
+pub enum ShipmentCommand<'a> {
+    Desk(DeskRef<'a>),
+    Fwb(CargoRef<'a>),
+    Ffm(InboundPart<'a>),
+    Fsu(InboundStatus<'a>),
+}

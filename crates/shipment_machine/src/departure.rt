@@ -1,0 +1,152 @@
+//! What leaves with a flight.
+ghost use Rattle.std.specs.Prelude.{◌≡◌, ◌==◌, false, ℕ, ◌+◌, ◌*◌, ◌≤◌, ◌++◌, ◌∷◌, [], ◌^◌, ◌<◌, All, IsSome, IfOk, OnOk, map, length, take};
+ghost use Rattle.std.specs.List.{flat_map, sum_by};
+ghost use Rattle.shipment_machine.specs.Effect.{unless_refused, first_refusal, depart_refusals, depart_outcome, depart_moves, depart_notices, manifest_line, told, unload_of};
+ghost use Rattle.shipment_machine.specs.Agreement.{IsAnswer};
+ghost use Rattle.shipment_machine.specs.OnBoard.{IsOnBoard};
+ghost use Rattle.shipment_machine.specs.declared.notice.Event.TheVariants as event;
+
+use crate::drafting::{
+    Setting, add_move, add_notice, blank, consigned_as, pieces_of, refuse_flight, tenths_of,
+};
+use crate::flight::FlightDate;
+use crate::moves::{Move, Outbound, Place};
+use crate::notice::{Event, ManifestLine, ManifestLines, Notice};
+use crate::plans::{Change, Plan, PlanFault};
+use crate::view::{Aboard, Loads};
+use imp_fields::Airport;
+use std::alloc::AllocError;
+
+/// The moves of a departure: each waybill leaves with all that is built of it.
+fn departing_moves(
+    on: &Setting,
+    loads: &[Aboard],
+    flight: &FlightDate,
+) -> Result<Vec<Move>, AllocError>
+    requires { All IsOnBoard loads.now }
+    ensures { IfOk result (λ moves. moves.items ≡ depart_moves loads.now flight.now on.now.at) }
+{
+    let mut moves = Vec::new(on.alloc);
+    for aboard in loads {
+        let built = Place::Built(*flight);
+        add_move(
+            &mut moves,
+            aboard.awb,
+            built,
+            Place::Departed,
+            aboard.load,
+            Some(*flight),
+            on.at,
+        )?;
+    }
+    Ok(moves)
+}
+
+/// The status messages of a departure.
+fn departing_notices(
+    on: &Setting,
+    loads: &[Aboard],
+    flight: &FlightDate,
+    unload: Airport,
+) -> Result<Vec<Notice>, AllocError>
+    requires { All IsOnBoard loads.now }
+    ensures { IfOk result (λ notices. notices.items ≡ flat_map (λ a. told on.now.here a.awb a.declared (event.Departed flight.now unload) a.load) loads.now) }
+{
+    let mut notices = Vec::new(on.alloc);
+    for aboard in loads {
+        let event = Event::Departed {
+            flight: *flight,
+            unload,
+        };
+        add_notice(
+            &mut notices,
+            on.here,
+            aboard.awb,
+            &aboard.declared,
+            event,
+            aboard.load,
+        )?;
+    }
+    Ok(notices)
+}
+
+/// A waybill on a manifest.
+fn line_of(aboard: &Aboard) -> ManifestLine
+    requires { IsOnBoard aboard.now }
+    ensures { result ≡ manifest_line aboard.now }
+{
+    ManifestLine {
+        consigned: consigned_as(aboard.awb, &aboard.declared),
+        pieces: pieces_of(aboard.load.pieces),
+        tenths: tenths_of(aboard.load.tenths),
+        goods: aboard.declared.goods,
+    }
+}
+
+/// The lines of the manifest.
+fn lines_of(on: &Setting, loads: &[Aboard]) -> Result<ManifestLines, AllocError>
+    requires on_board { All IsOnBoard loads.now }
+    requires few { length loads.now ≤ 500 }
+    ensures { IfOk result (λ lines. lines ≡ map manifest_line loads.now) }
+{
+    let mut lines = Vec::new(on.alloc);
+    for aboard in loads {
+        lines.push(line_of(aboard))?;
+    }
+    Ok(ManifestLines::new(lines).unwrap())
+}
+
+/// How many pieces leave.
+fn pieces_aboard(loads: &[Aboard]) -> u32
+    requires on_board { All IsOnBoard loads.now }
+    requires few { length loads.now ≤ 500 }
+    ensures { result ≡ sum_by (λ a. a.load.pieces) loads.now }
+{
+    let mut pieces = 0;
+    for aboard in loads {
+        pieces += aboard.load.pieces;
+    }
+    pieces
+}
+
+/// Sends a flight off with all that is built on it.
+pub(crate) fn depart<'a>(
+    on: &Setting,
+    outbound: &Option<Outbound>,
+    loads: &Loads,
+    flight: &FlightDate,
+) -> Result<Plan<'a>, PlanFault>
+    requires on_board { All IsOnBoard loads.now }
+    requires noted { (length loads.now == 0) ≡ false → IsSome outbound.now }
+    ensures { IsAnswer result (unless_refused (first_refusal (depart_refusals outbound.now loads.now flight.now)) (depart_outcome on.now.here outbound.now loads.now flight.now on.now.at)) }
+{
+    let loads = loads.as_slice();
+    if let Some(noted) = outbound
+        && noted.closed
+    {
+        return Err(refuse_flight(208, *flight));
+    }
+    if loads.is_empty() {
+        return Err(refuse_flight(209, *flight));
+    }
+    let Some(Outbound { unload, .. }) = *outbound else {
+        unreachable!()
+    };
+    let mut plan = blank(on.alloc, pieces_aboard(loads));
+    plan.moves = departing_moves(on, loads, flight)?;
+    plan.notices = departing_notices(on, loads, flight, unload)?;
+    plan.notices.push(Notice::Manifest {
+        here: on.here,
+        flight: *flight,
+        unload,
+        lines: lines_of(on, loads)?,
+    })?;
+    plan.changes.push(Change::NoteFlight {
+        flight: *flight,
+        outbound: Outbound {
+            unload,
+            closed: true,
+        },
+    })?;
+    Ok(plan)
+}

@@ -1,0 +1,192 @@
+//! Parts of a plan.
+ghost use Rattle.std.specs.Prelude.{◌≡◌, ◌<◌, ◌^◌, ◌+◌, ◌≤◌, ◌++◌, [], OnOk};
+ghost use Rattle.std.specs.Str.{bytes_eq};
+ghost use Rattle.imp_fields.specs.Amount.{IsPieces, IsBookTenths};
+ghost use Rattle.shipment_machine.specs.Amount.{IsHeld, amount, plus, fits};
+ghost use Rattle.shipment_machine.specs.Effect.{about as waybill_refusal, only_free as free_refusal, on_flight as flight_refusal, moved, told, consigned, came_in};
+ghost use Rattle.shipment_machine.specs.declared.plans.PlanFault.TheVariants as fault;
+
+use crate::amount::{Amount, is_within};
+use crate::flight::FlightDate;
+use crate::moves::{Declared, Move, Place};
+use crate::notice::{Event, Notice};
+use crate::plans::{Detail, Plan, PlanFault, Refusal};
+use crate::view::Sheet;
+use awb_number::Awb;
+use imp_fields::{Airport, BookTenths, Consigned, Moment, Pieces};
+use std::alloc::{AllocError, Global};
+
+/// What each command is planned with: the memory, the station and the moment.
+#[derive(Clone, Copy)]
+pub(crate) struct Setting {
+    pub(crate) alloc: Global,
+    pub(crate) here: Airport,
+    pub(crate) at: Moment,
+}
+
+/// A refusal about a waybill.
+pub(crate) fn refuse_waybill(number: u16, awb: Awb) -> PlanFault
+    ensures { result ≡ fault.Refused (waybill_refusal number awb) }
+{
+    PlanFault::Refused(Refusal {
+        number,
+        detail: Detail::Waybill(awb),
+    })
+}
+
+/// A refusal about a flight.
+pub(crate) fn refuse_flight(number: u16, flight: FlightDate) -> PlanFault
+    ensures { result ≡ fault.Refused (flight_refusal number flight) }
+{
+    PlanFault::Refused(Refusal {
+        number,
+        detail: Detail::Flight(flight),
+    })
+}
+
+/// The refusal for want of free pieces.
+pub(crate) fn refuse_free(free: Amount) -> PlanFault
+    requires { IsHeld free }
+    ensures { result ≡ fault.Refused (free_refusal free.pieces) }
+{
+    PlanFault::Refused(Refusal {
+        number: 206,
+        detail: Detail::Pieces(free.pieces as u16),
+    })
+}
+
+/// Whether two airports are one.
+pub(crate) fn is_same(a: Airport, b: Airport) -> bool
+    ensures { result ≡ bytes_eq a b }
+{
+    a == b
+}
+
+/// A number that sums can't overflow with.
+pub(crate) fn widened(number: u32) -> u64
+    ensures value { result ≡ number }
+    ensures bound { result < 2 ^ 32 }
+{
+    u64::from(number)
+}
+
+/// Whether what was taken over and found is still within bounds with so much more.
+pub(crate) fn fits_with(sheet: &Sheet, pieces: u64, tenths: u64) -> bool
+    requires few { pieces < 2 ^ 62 }
+    requires light { tenths < 2 ^ 62 }
+    ensures { result ≡ fits (plus (came_in sheet.now) (amount pieces tenths)) }
+{
+    is_within(
+        widened(sheet.taken.pieces) + widened(sheet.found.pieces) + pieces,
+        widened(sheet.taken.tenths) + widened(sheet.found.tenths) + tenths,
+    )
+}
+
+/// Two amounts together.
+pub(crate) fn together(a: Amount, b: Amount) -> Amount
+    requires pieces { a.pieces + b.pieces ≤ 9999 }
+    requires tenths { a.tenths + b.tenths ≤ 999_999 }
+    ensures { result ≡ plus a b }
+{
+    Amount {
+        pieces: a.pieces + b.pieces,
+        tenths: a.tenths + b.tenths,
+    }
+}
+
+/// A count that is known to be one.
+pub(crate) fn pieces_of(number: u32) -> Pieces
+    requires { IsPieces number }
+    ensures { result ≡ number }
+{
+    Pieces::new(number).unwrap()
+}
+
+/// A weight of the books that is known to be one.
+pub(crate) fn tenths_of(number: u32) -> BookTenths
+    requires { IsBookTenths number }
+    ensures { result ≡ number }
+{
+    BookTenths::new(number).unwrap()
+}
+
+/// A waybill as messages name it.
+pub(crate) fn consigned_as(awb: Awb, declared: &Declared) -> Consigned
+    ensures { result ≡ consigned awb declared.now }
+{
+    Consigned {
+        awb,
+        origin: declared.origin,
+        destination: declared.destination,
+        pieces: declared.pieces,
+        tenths: declared.tenths,
+    }
+}
+
+/// A plan with nothing in it yet.
+pub(crate) fn blank<'a>(alloc: Global, count: u32) -> Plan<'a>
+    ensures moves { result.moves.items ≡ [] }
+    ensures notices { result.notices.items ≡ [] }
+    ensures changes { result.changes.items ≡ [] }
+    ensures count { result.count ≡ count }
+{
+    Plan {
+        moves: Vec::new(alloc),
+        notices: Vec::new(alloc),
+        changes: Vec::new(alloc),
+        count,
+    }
+}
+
+/// Adds a move, unless it is of no piece.
+pub(crate) fn add_move(
+    moves: &mut Vec<Move>,
+    awb: Awb,
+    from: Place,
+    to: Place,
+    amount: Amount,
+    flight: Option<FlightDate>,
+    at: Moment,
+) -> Result<(), AllocError>
+    requires { IsHeld amount }
+    ensures { OnOk result (moves.new.items ≡ moves.old.items ++ moved awb from to amount flight at) }
+{
+    if amount.pieces == 0 {
+        return Ok(());
+    }
+    moves.push(Move {
+        awb,
+        from,
+        to,
+        pieces: pieces_of(amount.pieces),
+        tenths: tenths_of(amount.tenths),
+        flight,
+        at,
+    })?;
+    Ok(())
+}
+
+/// Adds a status message, unless it is of no piece.
+pub(crate) fn add_notice(
+    notices: &mut Vec<Notice>,
+    here: Airport,
+    awb: Awb,
+    declared: &Declared,
+    event: Event,
+    amount: Amount,
+) -> Result<(), AllocError>
+    requires { IsHeld amount }
+    ensures { OnOk result (notices.new.items ≡ notices.old.items ++ told here awb declared.now event amount) }
+{
+    if amount.pieces == 0 {
+        return Ok(());
+    }
+    notices.push(Notice::Status {
+        here,
+        consigned: consigned_as(awb, declared),
+        event,
+        pieces: pieces_of(amount.pieces),
+        tenths: tenths_of(amount.tenths),
+    })?;
+    Ok(())
+}

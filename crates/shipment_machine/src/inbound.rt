@@ -1,0 +1,226 @@
+//! What a part of a manifest announces.
+ghost use Rattle.std.specs.Prelude.{◌≡◌, ◌≤◌, ℕ, [], ◌∷◌, ◌++◌, Some, None, Ok, nat_eq, OnOk, IfOk, IfErr, if◌then◌else◌, length, not, true};
+ghost use Rattle.std.specs.HashMap.{get};
+ghost use Rattle.shipment_machine.specs.Amount.{amount, fits};
+ghost use Rattle.shipment_machine.specs.Effect.{declared_by, expected_after, lines_for, is_day};
+ghost use Rattle.imp_fields.specs.declared.fault.Why.TheVariants as why;
+ghost use Rattle.shipment_machine.specs.declared.plans.Detail.TheVariants as detail;
+ghost use Rattle.shipment_machine.specs.declared.plans.PlanFault.TheVariants as fault;
+ghost use Rattle.shipment_machine.specs.Agreement.{IsAnswer};
+ghost use Rattle.shipment_machine.specs.Announced.{is_new, expected_so_far, expected_now, refusal_now, changes_now, first_rows, with_line, no_earlier, announced_changes, part_answer, IsRefusal, IsPartFault};
+ghost use Rattle.shipment_machine.specs.declared.plans.Change.TheVariants as change;
+
+use crate::acceptance::{add_declaration, claim_of, declared_as, is_at_desk_or_void};
+use crate::amount::is_within;
+use crate::command::{CargoLine, CargoRef, InboundLine, InboundPart};
+use crate::drafting::{Setting, blank, is_same, pieces_of, refuse_waybill, tenths_of, widened};
+use crate::flight::FlightDate;
+use crate::moves::{Declared, Expected, Part};
+use crate::plans::{Change, Detail, Plan, PlanFault, Refusal};
+use crate::view::{LineRow, LineRows};
+use agent_stock::Holder;
+use awb_number::Awb;
+use imp_fields::{Airport, Why, book_weight};
+use std::alloc::{AllocError, Global};
+use std::collections::HashMap;
+
+/// What a line is found to do: what it declares, if its waybill is new, and what is expected after it.
+#[derive(Clone, Copy)]
+struct Finding {
+    declared: Option<Declared>,
+    expected: Expected,
+}
+
+/// What is expected after one more line, unless it is past what can be.
+fn expected_with(so_far: Option<Expected>, line: &CargoLine) -> Option<Expected>
+    ensures { result ≡ (if fits (amount (expected_after so_far line.now).pieces (expected_after so_far line.now).tenths) then Some (expected_after so_far line.now) else None) }
+{
+    let (pieces, tenths) = match so_far {
+        None => (0, 0),
+        Some(row) => (row.pieces.number(), row.tenths.number()),
+    };
+    let own = line.pieces.number();
+    let pieces = pieces + own;
+    let tenths = tenths + book_weight(own, line.tenths.number());
+    if !is_within(widened(pieces), widened(tenths)) {
+        return None;
+    }
+    Some(Expected {
+        pieces: pieces_of(pieces),
+        tenths: tenths_of(tenths),
+        checked: false,
+    })
+}
+
+/// Tests a line after those before it. `before` is what is expected of its waybill by an earlier line.
+fn find(before: Option<Expected>, line: &CargoLine, row: &LineRow) -> Result<Finding, PlanFault>
+    ensures due { OnOk result (refusal_now before line.now row.now ≡ None) }
+    ensures declared { IfOk result (λ finding. finding.declared ≡ (if is_new before row.now then Some (declared_by line.now) else None)) }
+    ensures expected { IfOk result (λ finding. finding.expected ≡ expected_now before line.now row.now) }
+    ensures refused { IfErr result (IsRefusal (refusal_now before line.now row.now)) }
+{
+    let new = before.is_none() && row.declared.is_none();
+    let so_far = match before {
+        None => row.expected,
+        Some(row) => Some(row),
+    };
+    if let Some(row) = &so_far
+        && row.checked
+    {
+        return Err(refuse_waybill(214, line.awb));
+    }
+    if new && is_at_desk_or_void(row.holder) {
+        return Err(refuse_waybill(203, line.awb));
+    }
+    let declared = if new {
+        declared_as(&claim_of(line))
+    } else {
+        None
+    };
+    if new && declared.is_none() {
+        return Err(refuse_waybill(217, line.awb));
+    }
+    let Some(expected) = expected_with(so_far, line) else {
+        return Err(refuse_waybill(217, line.awb));
+    };
+    Ok(Finding { declared, expected })
+}
+
+/// Adds what a line was found to do, and keeps what is expected of its waybill.
+fn write_line<'a>(
+    changes: &mut Vec<Change<'a>>,
+    earlier: &mut HashMap<u64, Expected>,
+    flight: &FlightDate,
+    awb: Awb,
+    holder: Option<Holder>,
+    finding: &Finding,
+) -> Result<(), AllocError>
+    ensures changes { OnOk result (changes.new.items ≡ changes.old.items ++ first_rows finding.now.declared holder awb ++ change.Expect flight.now awb finding.now.expected ∷ []) }
+    ensures earlier { OnOk result ((q : ℕ) → get nat_eq earlier.new q ≡ with_line (get nat_eq earlier.old) awb finding.now.expected q) }
+{
+    if let Some(declared) = &finding.declared {
+        add_declaration(changes, holder, awb, *declared)?;
+    }
+    changes.push(Change::Expect {
+        flight: *flight,
+        awb,
+        expected: finding.expected,
+    })?;
+    earlier.insert(awb.key(), finding.expected)?;
+    Ok(())
+}
+
+/// Adds what a line writes, and keeps what is expected of its waybill.
+fn add_line<'a>(
+    changes: &mut Vec<Change<'a>>,
+    earlier: &mut HashMap<u64, Expected>,
+    flight: &FlightDate,
+    line: &CargoLine,
+    row: &LineRow,
+) -> Result<(), PlanFault>
+    ensures due { OnOk result (refusal_now (get nat_eq earlier.old line.now.awb) line.now row.now ≡ None) }
+    ensures changes { OnOk result (changes.new.items ≡ changes.old.items ++ changes_now (get nat_eq earlier.old line.now.awb) flight.now line.now row.now) }
+    ensures earlier { OnOk result ((q : ℕ) → get nat_eq earlier.new q ≡ with_line (get nat_eq earlier.old) line.now.awb (expected_now (get nat_eq earlier.old line.now.awb) line.now row.now) q) }
+    ensures refused { IfErr result (IsRefusal (refusal_now (get nat_eq earlier.old line.now.awb) line.now row.now)) }
+{
+    let before = earlier.get(&line.awb.key()).copied();
+    match find(before, line, row) {
+        Err(fault) => Err(fault),
+        Ok(finding) => Ok(write_line(changes, earlier, flight, line.awb, row.holder, &finding)?),
+    }
+}
+
+/// The lines for here, in their order.
+pub(crate) fn lines_here<'a>(
+    alloc: Global,
+    here: Airport,
+    lines: &'a [InboundLine],
+) -> Result<Vec<CargoRef<'a>>, AllocError>
+    ensures value { IfOk result (λ kept. kept.items ≡ lines_for here lines.now) }
+    ensures bound { IfOk result (λ kept. length kept.items ≤ length lines.now) }
+{
+    let mut kept = Vec::new(alloc);
+    for line in lines {
+        if is_same(line.unload, here) {
+            kept.push(CargoRef::new(&line.cargo))?;
+        }
+    }
+    Ok(kept)
+}
+
+/// What the lines write, each after those before it.
+pub(crate) fn announced<'a>(
+    alloc: Global,
+    flight: &FlightDate,
+    lines: &[CargoRef<'_>],
+    rows: &[LineRow],
+) -> Result<Vec<Change<'a>>, PlanFault>
+    requires { length rows.now ≡ length lines.now }
+    ensures ok { IfOk result (λ changes. announced_changes no_earlier flight.now lines.now rows.now ≡ Ok changes.items) }
+    ensures refused { IfErr result (IsPartFault (announced_changes no_earlier flight.now lines.now rows.now)) }
+{
+    let mut changes = Vec::new(alloc);
+    let mut earlier = HashMap::new(alloc);
+    for i in 0..lines.len() {
+        add_line(&mut changes, &mut earlier, flight, lines[i].get(), &rows[i])?;
+    }
+    Ok(changes)
+}
+
+/// The part of a manifest that a telegram is, its day being known.
+fn key_of(part: &InboundPart<'_>, day: u32) -> Part
+    ensures { result ≡ record { flight = record { flight = part.now.flight; day = day }; airport = part.now.loaded; number = part.now.number } }
+{
+    Part {
+        flight: FlightDate {
+            flight: part.flight,
+            day,
+        },
+        airport: part.loaded,
+        number: part.number,
+    }
+}
+
+/// The refusal of a date that means no day of a moment.
+fn no_day() -> PlanFault
+    ensures { result ≡ fault.Refused (record { number = 301; detail = detail.Line 2 why.Date }) }
+{
+    PlanFault::Refused(Refusal {
+        number: 301,
+        detail: Detail::Line {
+            line: 2,
+            why: Why::Date,
+        },
+    })
+}
+
+/// Takes a part of a manifest, whose date means this day: all its lines for here count, or none.
+pub(crate) fn announce<'a>(
+    on: &Setting,
+    taken: bool,
+    rows: &LineRows,
+    part: &InboundPart<'_>,
+    meant: Option<u32>,
+) -> Result<Plan<'a>, PlanFault>
+    requires { is_day meant ≡ true → length rows.now ≡ length (lines_for on.now.here part.now.lines) }
+    ensures { IsAnswer result (part_answer on.now.here taken rows.now part.now meant) }
+{
+    let Some(day) = meant else {
+        return Err(no_day());
+    };
+    if day < 10957 || 47481 < day {
+        return Err(no_day());
+    }
+    let key = &key_of(part, day);
+    if taken {
+        return Err(PlanFault::Refused(Refusal {
+            number: 213,
+            detail: Detail::Part(*key),
+        }));
+    }
+    let lines = lines_here(on.alloc, on.here, part.lines.as_slice())?;
+    let mut plan = blank(on.alloc, lines.len() as u32);
+    plan.changes = announced(on.alloc, &key.flight, lines.as_slice(), rows.as_slice())?;
+    plan.changes.push(Change::NotePart { part: *key })?;
+    Ok(plan)
+}

@@ -1,0 +1,157 @@
+//! What is missing and found.
+ghost use Rattle.std.specs.Prelude.{◌≡◌, ◌+◌, ◌≤◌, ◌++◌, OnOk, min};
+ghost use Rattle.shipment_machine.specs.Amount.{IsHeld, part};
+ghost use Rattle.shipment_machine.specs.Effect.{unless_refused, first_refusal, surplus, told_differs, missing_refusals, missing_outcome, found_refusals, found_outcome};
+ghost use Rattle.shipment_machine.specs.Agreement.{IsAnswer};
+
+use crate::amount::{Amount, part_of};
+use crate::drafting::{
+    Setting, add_move, add_notice, blank, fits_with, refuse_free, refuse_waybill, together,
+};
+use crate::flight::FlightDate;
+use crate::moves::{Declared, Place};
+use crate::notice::{Event, Notice};
+use crate::plans::{Plan, PlanFault};
+use crate::view::Sheet;
+use awb_number::Awb;
+use imp_fields::{Discrepancy, Pieces, Tenths, book_weight};
+use std::alloc::AllocError;
+
+/// Pieces that no one announced, with at least a tenth each.
+fn surplus_of(pieces: u32, tenths: u32) -> Amount
+    ensures { result ≡ surplus pieces tenths }
+{
+    if pieces == 0 {
+        return Amount {
+            pieces: 0,
+            tenths: 0,
+        };
+    }
+    Amount {
+        pieces,
+        tenths: book_weight(pieces, tenths),
+    }
+}
+
+/// How much of the missing comes back, where so many pieces are found.
+fn returned(missing: Amount, pieces: u32) -> Amount
+    requires held { IsHeld missing }
+    requires some { 1 ≤ pieces }
+    ensures value { result ≡ part missing (min pieces missing.pieces) }
+    ensures held { IsHeld result }
+    ensures within { result.tenths ≤ missing.tenths }
+{
+    if missing.pieces == 0 {
+        return Amount {
+            pieces: 0,
+            tenths: 0,
+        };
+    }
+    part_of(missing, pieces.min(missing.pieces))
+}
+
+/// Adds a discrepancy, where a flight is named.
+fn add_discrepancy(
+    notices: &mut Vec<Notice>,
+    on: &Setting,
+    awb: Awb,
+    declared: &Declared,
+    flight: &Option<FlightDate>,
+    discrepancy: Discrepancy,
+    amount: Amount,
+) -> Result<(), AllocError>
+    requires { IsHeld amount }
+    ensures { OnOk result (notices.new.items ≡ notices.old.items ++ told_differs on.now.here awb declared.now flight.now discrepancy on.now.at amount) }
+{
+    let Some(flight) = *flight else {
+        return Ok(());
+    };
+    let event = Event::Differs {
+        flight,
+        at: on.at,
+        discrepancy,
+    };
+    add_notice(notices, on.here, awb, declared, event, amount)
+}
+
+/// Records free pieces as missing.
+pub(crate) fn record_missing<'a>(
+    on: &Setting,
+    sheet: &Sheet,
+    awb: Awb,
+    pieces: Pieces,
+    flight: &Option<FlightDate>,
+) -> Result<Plan<'a>, PlanFault>
+    requires { IsHeld sheet.now.free }
+    ensures { IsAnswer result (unless_refused (first_refusal (missing_refusals sheet.now awb pieces)) (missing_outcome on.now.here sheet.now awb pieces flight.now on.now.at)) }
+{
+    let Some(declared) = &sheet.declared else {
+        return Err(refuse_waybill(201, awb));
+    };
+    if sheet.free.pieces < pieces.number() {
+        return Err(refuse_free(sheet.free));
+    }
+    let part = part_of(sheet.free, pieces.number());
+    let lost = Discrepancy::Missing;
+    let mut plan = blank(on.alloc, pieces.number());
+    add_move(
+        &mut plan.moves,
+        awb,
+        Place::Free,
+        Place::Missing,
+        part,
+        *flight,
+        on.at,
+    )?;
+    add_discrepancy(&mut plan.notices, on, awb, declared, flight, lost, part)?;
+    Ok(plan)
+}
+
+/// Records pieces as found: missing ones first, the others as a surplus.
+pub(crate) fn record_found<'a>(
+    on: &Setting,
+    sheet: &Sheet,
+    awb: Awb,
+    pieces: Pieces,
+    tenths: Tenths,
+    flight: &Option<FlightDate>,
+) -> Result<Plan<'a>, PlanFault>
+    requires held { IsHeld sheet.now.missing }
+    requires within { sheet.now.missing.tenths ≤ sheet.now.taken.tenths + sheet.now.found.tenths }
+    ensures { IsAnswer result (unless_refused (first_refusal (found_refusals sheet.now awb pieces tenths)) (found_outcome on.now.here sheet.now awb pieces tenths flight.now on.now.at)) }
+{
+    let Some(declared) = &sheet.declared else {
+        return Err(refuse_waybill(201, awb));
+    };
+    let more = surplus_of(
+        pieces.number().saturating_sub(sheet.missing.pieces),
+        tenths.number(),
+    );
+    if !fits_with(sheet, u64::from(more.pieces), u64::from(more.tenths)) {
+        return Err(refuse_waybill(217, awb));
+    }
+    let back = returned(sheet.missing, pieces.number());
+    let both = together(back, more);
+    let seen = Discrepancy::Found;
+    let mut plan = blank(on.alloc, pieces.number());
+    add_move(
+        &mut plan.moves,
+        awb,
+        Place::Missing,
+        Place::Free,
+        back,
+        *flight,
+        on.at,
+    )?;
+    add_move(
+        &mut plan.moves,
+        awb,
+        Place::Surplus,
+        Place::Free,
+        more,
+        *flight,
+        on.at,
+    )?;
+    add_discrepancy(&mut plan.notices, on, awb, declared, flight, seen, both)?;
+    Ok(plan)
+}

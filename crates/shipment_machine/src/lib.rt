@@ -1,0 +1,39 @@
+//! The movement book of a station, and what each command makes of it.
+#![tactic(auto)]
+
+mod acceptance;
+mod amount;
+mod arrival;
+mod claim;
+mod command;
+mod departure;
+mod drafting;
+mod flight;
+mod handover;
+mod inbound;
+mod irregular;
+pub mod laws;
+mod messages;
+mod moves;
+mod notice;
+mod outbound;
+mod planning;
+mod plans;
+mod text;
+mod view;
+
+pub use amount::Amount;
+pub use command::{
+    CargoLine, CargoRef, DeskCommand, DeskRef, InboundLine, InboundLines, InboundPart,
+    InboundStatus, PieceCount, ShipmentCommand, TrailLines,
+};
+pub use flight::FlightDate;
+pub use moves::{Declared, Expected, Move, Outbound, Part, Place};
+pub use notice::{Event, ManifestLine, ManifestLines, Notice};
+pub use planning::plan;
+pub use plans::{Change, Detail, Plan, PlanFault, Refusal};
+pub use text::Text;
+pub use view::{Aboard, FlightSheet, LineRow, LineRows, Loads, Rows, Sheet, View};
+
+#[cfg(test)]
+mod tests;

@@ -1,0 +1,71 @@
+use crate::flight::FlightDate;
+use awb_number::Awb;
+use imp_fields::{Airport, BookTenths, Goods, Moment, PartNumber, Pieces};
+
+/// Where pieces of a waybill can be. The first two are outside the station.
+#[derive(Clone, Copy, Debug, PartialEq, Eq)]
+pub enum Place {
+    /// With the shipper, an agent or an airline that hands the pieces over.
+    Hand,
+    /// Where pieces come from that no one announced.
+    Surplus,
+    /// In the store, not built for a flight.
+    Free,
+    /// In the store, built for a flight.
+    Built(FlightDate),
+    Departed,
+    Delivered,
+    Missing,
+}
+
+/// A line of the movement book.
+#[derive(Clone, Copy, Debug, PartialEq, Eq)]
+pub struct Move {
+    pub awb: Awb,
+    pub from: Place,
+    pub to: Place,
+    pub pieces: Pieces,
+    pub tenths: BookTenths,
+    /// The flight of the built place, of a check-in, or the one that was named.
+    pub flight: Option<FlightDate>,
+    pub at: Moment,
+}
+
+/// What was declared of a waybill.
+#[derive(Clone, Copy, Debug, PartialEq, Eq)]
+pub struct Declared {
+    pub origin: Airport,
+    pub destination: Airport,
+    pub pieces: Pieces,
+    pub tenths: BookTenths,
+    pub goods: Goods,
+    /// Whether the consignee was notified since.
+    pub notified: bool,
+}
+
+/// An outbound flight.
+#[derive(Clone, Copy, Debug, PartialEq, Eq)]
+pub struct Outbound {
+    /// Where it unloads.
+    pub unload: Airport,
+    /// Whether it has departed.
+    pub closed: bool,
+}
+
+/// What a manifest announced of a waybill on a flight.
+#[derive(Clone, Copy, Debug, PartialEq, Eq)]
+pub struct Expected {
+    pub pieces: Pieces,
+    pub tenths: BookTenths,
+    /// Whether it was checked in.
+    pub checked: bool,
+}
+
+/// A part of a flight manifest.
+#[derive(Clone, Copy, Debug, PartialEq, Eq)]
+pub struct Part {
+    pub flight: FlightDate,
+    /// Where the flight left.
+    pub airport: Airport,
+    pub number: PartNumber,
+}
