@@ -17,3 +17,6 @@ pub use ends::{ByteIn, ByteOut, Counted, ReadFault, WriteFault, send};
 pub use keeper::Keeper;
 pub use key::Key;
 pub use texts::{command_text, refusal_text, reply_text};
+
+#[cfg(test)]
+mod tests;

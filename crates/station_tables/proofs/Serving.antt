@@ -38,7 +38,6 @@ module _ (before : Tables) (mid : Tables) (key : List ℕ) (command : Command) (
     (none : get before.kept key ≡ None) (effect_is : effect (holders_in before.stock) command ≡ Ok (holders_in mid.stock))
     (stations : mid.stations ≡ before.stations) (kept : mid.kept ≡ before.kept)
     (is_text : text ≡ command_text command) (is_count : count ≡ count_of command) where
-
   step_is : step (meaning_of before) (Keyed key command) ≡ first_time (meaning_of before) key command (Ok (holders_in mid.stock))
   step_is = ap (λ (o : Option table.Kept). keyed (meaning_of before) key command (option_map keeping_in o)) none ∙ ap (first_time (meaning_of before) key command) effect_is
 

@@ -9,3 +9,6 @@ mod station;
 pub use desk::Desk;
 pub use opening::{AttachFault, create};
 pub use station::Station;
+
+#[cfg(test)]
+mod tests;

@@ -21,9 +21,9 @@ put-requires-clause-free g c = λ sound.
     let now_is = (c.in_ok-begin.ensures.ok begun).now_is ∙ (c.in_ok-rows.ensures.same read).now_is in
     let rows : map stock_meant c.deref.result.now ≡ run_rows old.now.stock c.args.run.now = ap (map stock_meant) c.deref.ensures.value ∙ c.in_ok-rows.ensures.rows read in
     none_left old.now.stock mid.now.stock c.args.run.now c.requires.run (λ k.
-        c.in_ok-remove.ensures.removed sound k
-        ∙ ap (λ (l : List (StockKey × Stock)). cond (list_any (λ (row : StockKey × Stock). eq_by_cmp stock_cmp k row.0) l) None (get (view c.begin.new.self).now.stock k)) rows
-        ∙ ap (λ (t : Tables). cond (list_any (λ (row : StockKey × Stock). eq_by_cmp stock_cmp k row.0) (run_rows old.now.stock c.args.run.now)) None (get t.stock k)) now_is)
+    c.in_ok-remove.ensures.removed sound k
+    ∙ ap (λ (l : List (StockKey × Stock)). cond (list_any (λ (row : StockKey × Stock). eq_by_cmp stock_cmp k row.0) l) None (get (view c.begin.new.self).now.stock k)) rows
+    ∙ ap (λ (t : Tables). cond (list_any (λ (row : StockKey × Stock). eq_by_cmp stock_cmp k row.0) (run_rows old.now.stock c.args.run.now)) None (get t.stock k)) now_is)
 
 pub returns-clause-answer : goal.returns-clause-answer
 returns-clause-answer g c = λ put.
@@ -42,7 +42,7 @@ returns-clause-answer g c = λ put.
     let beside = beside_then (view c.begin.new.self) mid new (c.in_ok-remove.ensures.beside sound opened.is_open) (c.in_ok-put.ensures.beside put ((c.in_ok-remove.ensures.beside sound opened.is_open).is_open opened.is_open)) in
     let lawful = beside.lawful (subst IsLawful (sym now_is) ready.lawful) in
     (λ i n. run_assigned old.now.stock mid.now.stock c.args.run.now c.requires.run (λ k.
-        c.in_ok-remove.ensures.removed sound k
-        ∙ ap (λ (l : List (StockKey × Stock)). cond (list_any (λ (row : StockKey × Stock). eq_by_cmp stock_cmp k row.0) l) None (get (view c.begin.new.self).now.stock k)) rows
-        ∙ ap (λ (t : Tables). cond (list_any (λ (row : StockKey × Stock). eq_by_cmp stock_cmp k row.0) (run_rows old.now.stock c.args.run.now)) None (get t.stock k)) now_is)
-        new.now.stock c.args.holder.now (lawful_stock old.now ready.lawful) (lawful_stock new.now lawful) (c.in_ok-put.ensures.given put) n i)
+    c.in_ok-remove.ensures.removed sound k
+    ∙ ap (λ (l : List (StockKey × Stock)). cond (list_any (λ (row : StockKey × Stock). eq_by_cmp stock_cmp k row.0) l) None (get (view c.begin.new.self).now.stock k)) rows
+    ∙ ap (λ (t : Tables). cond (list_any (λ (row : StockKey × Stock). eq_by_cmp stock_cmp k row.0) (run_rows old.now.stock c.args.run.now)) None (get t.stock k)) now_is)
+    new.now.stock c.args.holder.now (lawful_stock old.now ready.lawful) (lawful_stock new.now lawful) (c.in_ok-put.ensures.given put) n i)
