@@ -1,0 +1,5 @@
+mod Fields
+mod More
+mod Records
+mod Unanswered
+mod Written

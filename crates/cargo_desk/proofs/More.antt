@@ -1,0 +1,86 @@
+-- One row more.
+use Rattle.std.proofs.Common.{arith, ℕ, ◌+◌, ◌≡◌, ◌∙◌, sym, refl, ap, Bool, true, false, ◌&&◌, List, [], ◌∷◌, ◌++◌, append_assoc, length, Option, Some, None, IfSome, option_map}
+use Rattle.station_core.specs.Step.{State}
+use Rattle.csv.specs.declared.parser.State.TheVariants as st
+use Rattle.csv.specs.declared.reader.Reader.{Reader}
+use Rattle.csv.specs.Reading.{Reached, ReadRecord, default_config, source_of, strip_bom}
+use Rattle.csv.proofs.ReadFacts.{rows-end, rows-more}
+use Rattle.cargo_desk.specs.Lines.{Row, row_line, row_good, row_after, lines_from, rows_good, rows_after, stock_rows}
+use Rattle.cargo_desk.specs.Ended.{IsAnswered, HasRun}
+use Rattle.cargo_desk.proofs.Records.{all_records}
+
+after_more : (s : State) (rows : List Row) (row : Row) → rows_after s (rows ++ row ∷ []) ≡ row_after (rows_after s rows) row
+after_more s [] row = refl
+after_more s (r ∷ rows) row = after_more (row_after s r) rows row
+
+and_assoc : (a b c : Bool) → (a && (b && c)) ≡ ((a && b) && c)
+and_assoc true b c = refl
+and_assoc false b c = refl
+
+and_true : (a : Bool) → (a && true) ≡ a
+and_true true = refl
+and_true false = refl
+
+good_more : (s : State) (rows : List Row) (row : Row) → rows_good s (rows ++ row ∷ []) ≡ (rows_good s rows && row_good (rows_after s rows) row)
+good_more s [] row = and_true (row_good s row)
+good_more s (r ∷ rows) row = ap (λ b. row_good s r && b) (good_more (row_after s r) rows row) ∙ and_assoc (row_good s r) (rows_good (row_after s r) rows) (row_good (rows_after (row_after s r) rows) row)
+
+pub append_nil : (xs : List ℕ) → xs ++ [] ≡ xs
+append_nil [] = refl
+append_nil (x ∷ xs) = ap (λ ys. x ∷ ys) (append_nil xs)
+
+next_number : (n : ℕ) (row : Row) (rows : List Row) → (n + 1) + length rows ≡ n + length (row ∷ rows)
+next_number n row rows = omega arith
+
+same_number : (n : ℕ) → n ≡ n + 0
+same_number n = omega arith
+
+lines_more : (n : ℕ) (s : State) (rows : List Row) (row : Row) → lines_from n s (rows ++ row ∷ []) ≡ lines_from n s rows ++ row_line (n + length rows) (rows_after s rows) row
+lines_more n s [] row = append_nil (row_line n s row) ∙ ap (λ m. row_line m s row) (same_number n)
+lines_more n s (r ∷ rows) row =
+    let after : State = rows_after (row_after s r) rows in
+    ap (λ more. row_line n s r ++ more) (lines_more (n + 1) (row_after s r) rows row ∙ ap (λ m. lines_from (n + 1) (row_after s r) rows ++ row_line m after row) (next_number n r rows))
+    ∙ sym (append_assoc (row_line n s r) (lines_from (n + 1) (row_after s r) rows) (row_line (n + length (r ∷ rows)) after row))
+
+first_number : (k : ℕ) → k + 1 ≡ 1 + k
+first_number k = omega arith
+
+length_more : (rows : List Row) (row : Row) → length rows + 1 ≡ length (rows ++ row ∷ [])
+length_more [] row = refl
+length_more (r ∷ rows) row = let more = length_more rows row in omega (arith, more)
+
+pub counted_more : (number : ℕ) (rows : List Row) (row : Row) → number ≡ length rows → number + 1 ≡ length (rows ++ row ∷ [])
+counted_more number rows row counted = ap (λ k. k + 1) counted ∙ length_more rows row
+
+pub run_more : (s : State) (rows : List Row) (row : Row) (number : ℕ) (good accepted : Bool) (before between after : List ℕ) (kept keeps : State → Type 0) → number ≡ length rows
+    → HasRun s rows good before between kept → IsAnswered (number + 1) (rows_after s rows) row accepted between after keeps → HasRun s (rows ++ row ∷ []) (good && accepted) before after keeps
+run_more s rows row number good accepted before between after kept keeps counted run answered =
+    let here : State = rows_after s rows in
+    let number_is : number + 1 ≡ 1 + length rows = ap (λ k. k + 1) counted ∙ first_number (length rows) in
+    record {
+      lines = answered.line ∙ ap (λ b. b ++ row_line (number + 1) here row) run.lines ∙ append_assoc before (lines_from 1 s rows) (row_line (number + 1) here row)
+          ∙ ap (λ m. before ++ (lines_from 1 s rows ++ row_line m here row)) number_is ∙ ap (λ l. before ++ l) (sym (lines_more 1 s rows row));
+      good_is = (λ i. run.good_is i && answered.good_is i) ∙ sym (good_more s rows row);
+      state = rw (after_more s rows row) answered.state;
+    }
+
+-- what the reader has left of a text, after these rows
+abbrev pub Known : {R : Type 0} → (R → Option (List ℕ)) → Reader R → List Row → List ℕ → Type 0
+Known rem rdr rows bytes = (y : List ℕ) × (source_of rem rdr ≡ Some y) × Reached default_config st.StartRecord (strip_bom bytes) rows rdr.state y
+
+pub known_start : {R : Type 0} (rem : R → Option (List ℕ)) (rdr : Reader R) (known : Option (List ℕ))
+    → source_of rem rdr ≡ option_map strip_bom known → rdr.state ≡ st.StartRecord → IfSome known (Known rem rdr [])
+unfolding Reached
+known_start rem rdr None e s = tt
+known_start rem rdr (Some bytes) e s = (strip_bom bytes, e, (sym s, refl))
+
+pub known_more : {R : Type 0} (rem : R → Option (List ℕ)) (a b : Reader R) (f : List (List ℕ)) (rows : List Row) (known : Option (List ℕ))
+    → a.config ≡ default_config → ReadRecord rem a b true f → IfSome known (Known rem a rows) → IfSome known (Known rem b (rows ++ f ∷ []))
+known_more rem a b f rows None config r h = tt
+known_more rem a b f rows (Some bytes) config r h = rows-more rem a b f default_config st.StartRecord (strip_bom bytes) h.0 rows config h.1 h.2 r
+
+pub known_end : {R : Type 0} (rem : R → Option (List ℕ)) (a b : Reader R) (f : List (List ℕ)) (rows : List Row) (known : Option (List ℕ))
+    → a.config ≡ default_config → ReadRecord rem a b false f → IfSome known (Known rem a rows) → IfSome known (λ bytes. rows ≡ stock_rows bytes)
+known_end rem a b f rows None config r h = tt
+known_end rem a b f rows (Some bytes) config r h =
+    all_records default_config (strip_bom bytes) rows (a.state, h.0, h.2, rows-end rem a b f default_config h.0 config h.1 r)

@@ -1,0 +1,80 @@
+use Rattle.std.proofs.Common.{rules, arith, ◌∙◌, sym, refl, inl, inr, ◌+◌, ◌<◌, ◌≤◌, List, [], ◌∷◌, ◌++◌, Fits, w64}
+use Rattle.csv.specs.Records.{fields_of}
+use Rattle.cargo_desk.specs.Lines.{Row, rows_after}
+use Rattle.cargo_desk.proofs.More.{append_nil, known_start, known_more, known_end, counted_more, run_more}
+use Rattle.cargo_desk.proofs.run.run_stock.Goals as goal
+
+pub loop-row-init : goal.loop-row-init
+loop-row-init g c =
+    let fr = c.from_reader-rdr.ensures in
+    let start = c.into_iter-row-iterator.ensures.into_iter_gives ∙ refl in
+    let rdr = c.into_byte_records-row-items.ensures.rdr in
+    let left = c.into_byte_records-row-items.ensures.left in
+    let flexible = c.flexible.ensures in
+    let headers = c.has_headers.ensures in
+    let known = known_start g.R.Read.remaining c.from_reader-rdr.result (g.R.Read.remaining c.args.reader) fr.source fr.state in
+    let fits : Fits w64 c.into_iter-row-iterator.result.left = search rules in
+    record {
+      trim = rw (start, rdr) (rw (flexible, headers) at fr.trim ∙ c.new.ensures.trim);
+      ready = rw (start, rdr) (inr (inr (rw (flexible, headers) at fr.has_headers, fr.headers)));
+      left = rw (start) left;
+      config = rw (start, rdr) (rw (flexible, headers) at fr.config ∙ c.new.ensures.config);
+      counted = omega (arith, fits);
+      sound = λ sound. sound;
+      works = λ works. works;
+      rows = ([], refl, rw (start, rdr) known, λ s keeps works sound. record { lines = sym (append_nil (g.W.ByteOut.taken c.args.writer.now).bytes); good_is = refl; state = keeps });
+    }
+
+pub overflow_add-number : goal.overflow_add-number
+overflow_add-number g c =
+    let inv = c.loop-row.invariant in
+    let bound : c.loop-row.number + c.loop-row.row-iterator.left ≤ 18446744073709551615 = inv.counted in
+    let left : 0 < c.loop-row.row-iterator.left = inv.left in
+    omega (arith, bound, left)
+
+pub returns-in_err-accepted-in-Ok-clause-sound : goal.returns-in_err-accepted-in-Ok-clause-sound
+returns-in_err-accepted-in-Ok-clause-sound g c = λ sound. c.loop-row.invariant.sound (c.answer_row.ensures.sound sound)
+
+pub loop-row-preserved : goal.loop-row-preserved
+loop-row-preserved g c =
+    let inv = c.loop-row.invariant in
+    let step = rw (c.in-Some.is, c.in-Ok.is) at ((c.next.ensures.steps inv.left inv.trim).0 inv.ready) in
+    let rows : List Row = inv.rows.0 in
+    let f : Row = fields_of c.in-Ok.row in
+    let bound : c.loop-row.number + c.loop-row.row-iterator.left ≤ 18446744073709551615 = inv.counted in
+    let goes = rw (c.in-Some.is) at c.next.ensures.goes.on tt in
+    let fewer : c.next.new.self.left < c.loop-row.row-iterator.left = goes.2 in
+    record {
+      trim = step.0.3 ∙ inv.trim;
+      ready = inl step.1;
+      left = step.2;
+      config = step.0.2 ∙ inv.config;
+      counted = omega (arith, bound, fewer);
+      sound = λ sound. inv.sound (c.answer_row.ensures.sound sound);
+      works = λ works. c.in_ok-accepted-in-Ok.ensures.works (inv.works works);
+      rows = (
+        rows ++ f ∷ [],
+        counted_more c.loop-row.number rows f inv.rows.1,
+        known_more g.R.Read.remaining c.loop-row.row-iterator.rdr c.next.new.self.rdr f rows (g.R.Read.remaining c.args.reader) inv.config step.0 inv.rows.2,
+        λ s keeps works sound.
+            let run = inv.rows.3 s keeps works (c.answer_row.ensures.sound sound) in
+            run_more s rows f c.loop-row.number c.loop-row.good c.in_ok-accepted-in-Ok.accepted _ _ _ _ _ inv.rows.1 run
+            (c.in_ok-accepted-in-Ok.ensures.answered (rows_after s rows) run.state (inv.works works) sound),
+      );
+    }
+
+pub returns-in-Err-clause-sound : goal.returns-in-Err-clause-sound
+returns-in-Err-clause-sound g c = c.loop-row.invariant.sound
+
+pub returns-clause-sound : goal.returns-clause-sound
+returns-clause-sound g c = c.loop-row.invariant.sound
+
+pub returns-clause-works : goal.returns-clause-works
+returns-clause-works g c = c.loop-row.invariant.works
+
+pub returns-clause-ran : goal.returns-clause-ran
+returns-clause-ran g c = λ s keeps works sound.
+    let inv = c.loop-row.invariant in
+    let step = rw c.in-None.is at ((c.next.ensures.steps inv.left inv.trim).0 inv.ready) in
+    let all = known_end g.R.Read.remaining c.loop-row.row-iterator.rdr c.next.new.self.rdr [] inv.rows.0 (g.R.Read.remaining c.args.reader) inv.config step inv.rows.2 in
+    (inv.rows.0, all, inv.rows.3 s keeps works sound)

@@ -1,0 +1,24 @@
+use Rattle.std.proofs.Common.{◌≡◌, false, List, ◌+◌, ◌<◌, ◌≤◌, length, IfSome}
+use Rattle.csv.specs.Reading.{Ready, default_config}
+use Rattle.csv.specs.declared.reader.Trim.TheVariants as trim
+use Rattle.station_core.specs.Step.{State}
+use Rattle.cargo_desk.specs.Lines.{Row}
+use Rattle.cargo_desk.specs.Ended.{HasRun}
+use Rattle.cargo_desk.proofs.More.{Known}
+use Rattle.cargo_desk.proofs.run.run_stock.Given as goal
+
+-- the rows so far were answered, and take the text to what the reader has left
+abbrev pub invariant-loop-row : goal.invariant-loop-row
+invariant-loop-row g l =
+    record {
+      trim : l.row-iterator.rdr.trim ≡ trim.None;
+      ready : Ready l.row-iterator.rdr;
+      left : 0 < l.row-iterator.left;
+      config : l.row-iterator.rdr.config ≡ default_config;
+      counted : l.number + l.row-iterator.left ≤ 18446744073709551615;
+      sound : g.K.Keeper.is_sound l.keeper → g.K.Keeper.is_sound l.fn.keeper;
+      works : g.K.Keeper.is_broken l.fn.keeper ≡ false → g.K.Keeper.is_broken l.keeper ≡ false;
+      rows : (rows : List Row) × (l.number ≡ length rows) × IfSome (g.R.Read.remaining l.fn.reader) (Known g.R.Read.remaining l.row-iterator.rdr rows)
+          × ((s : State) → g.K.Keeper.keeps l.fn.keeper s → g.K.Keeper.is_broken l.fn.keeper ≡ false → g.K.Keeper.is_sound l.keeper
+          → HasRun s rows l.good (g.W.ByteOut.taken l.fn.writer).bytes (g.W.ByteOut.taken l.writer).bytes (g.K.Keeper.keeps l.keeper));
+    }

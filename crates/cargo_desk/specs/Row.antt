@@ -1,0 +1,47 @@
+-- Rows of a stock list: key, verb, prefix, serial, count and agent.
+use Rattle.std.specs.Prelude.{ℕ, ◌&&◌, ◌==◌, nat_le, if◌then◌else◌, Option, Some, None, List, [], ◌∷◌, length, codes}
+use Rattle.std.specs.Option.{option_map, option_and_then}
+use Rattle.std.specs.List.{list_all}
+use Rattle.std.specs.Str.{bytes_eq}
+use Rattle.awb_number.specs.Digits.{is_digit, decimal_value}
+use Rattle.awb_number.specs.Number.{key_of}
+use Rattle.agent_stock.specs.Code.{is_agent_code}
+use Rattle.agent_stock.specs.declared.stock.Run.{Run}
+use Rattle.agent_stock.specs.declared.stock.Order.{Order}
+use Rattle.agent_stock.specs.declared.stock.Order.TheVariants.{TakeIn, Issue, GiveBack, Void}
+use Rattle.station_core.specs.declared.command.Command.TheVariants.{Stock}
+use Rattle.station_core.specs.declared.command.Command.{Command}
+use Rattle.station_core.specs.Key.{is_key}
+
+-- the number that digits write, from so many to so many of them
+abbrev pub digits_of : ℕ → ℕ → List ℕ → Option ℕ
+digits_of least most text = if nat_le least (length text) && nat_le (length text) most && list_all is_digit text then Some (decimal_value text) else None
+
+-- a prefix of three digits, a serial of seven, and a count of one to seven
+abbrev pub run_of : List ℕ → List ℕ → List ℕ → Option Run
+run_of prefix serial count =
+    option_and_then (λ p. option_and_then (λ s. option_map (λ n. record { first = key_of p s; count = n }) (digits_of 1 7 count)) (digits_of 7 7 serial)) (digits_of 3 3 prefix)
+
+abbrev pub with_agent : List ℕ → Order → Option Order
+with_agent agent order = if is_agent_code agent then Some order else None
+
+abbrev pub without_agent : List ℕ → Order → Option Order
+without_agent agent order = if length agent == 0 then Some order else None
+
+-- an agent goes with issue and return, and with them alone
+abbrev pub order_of : List ℕ → Run → List ℕ → Option Order
+order_of verb run agent =
+    if bytes_eq verb (codes "take-in") then without_agent agent (TakeIn run)
+    else if bytes_eq verb (codes "void") then without_agent agent (Void run)
+    else if bytes_eq verb (codes "issue") then with_agent agent (Issue run agent)
+    else if bytes_eq verb (codes "return") then with_agent agent (GiveBack run agent)
+    else None
+
+abbrev pub asked_by : List ℕ → List ℕ → List ℕ → List ℕ → List ℕ → List ℕ → Option (List ℕ × Command)
+asked_by key verb prefix serial count agent =
+    if is_key key then option_and_then (λ run. option_map (λ order. (key, Stock order)) (order_of verb run agent)) (run_of prefix serial count) else None
+
+-- the key and the command of a row, where it has the shape of one
+abbrev pub row_asks : List (List ℕ) → Option (List ℕ × Command)
+row_asks (key ∷ verb ∷ prefix ∷ serial ∷ count ∷ agent ∷ []) = asked_by key verb prefix serial count agent
+row_asks _ = None

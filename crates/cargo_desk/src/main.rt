@@ -1,0 +1,66 @@
+//! The cargo desk of one air cargo station.
+#![tactic(auto)]
+
+mod row;
+mod run;
+mod stock;
+
+use run::run_stock;
+use station_core::Counted;
+use station_rows::open_memory;
+use station_tables::create;
+use std::process::ExitCode;
+use std::{env, io};
+use stock::RunFault;
+
+/// What is said of a call with other words.
+const USAGE: &str = "usage: cargo_desk stock < LIST";
+
+/// How a fault is named.
+fn fault_name(fault: RunFault) -> &'static str {
+    match fault {
+        RunFault::Read => "read",
+        RunFault::Write => "write",
+        RunFault::Memory => "memory",
+        RunFault::Store => "store",
+    }
+}
+
+/// Whether the words ask for a stock list to be answered.
+fn asks_for_stock(words: &[String]) -> bool {
+    match words {
+        [_program, verb] => verb.as_str() == "stock",
+        _ => false,
+    }
+}
+
+/// Answers the stock list at standard input over a station in memory.
+fn answer_list(rt: &HostRuntime) -> Result<bool, RunFault> {
+    let alloc = rt.alloc();
+    let Ok(conn) = open_memory(alloc) else {
+        return Err(RunFault::Memory);
+    };
+    let Ok(mut station) = create(alloc, conn) else {
+        return Err(RunFault::Store);
+    };
+    let mut output = Counted::new(rt.stdout());
+    run_stock(alloc, &mut station, rt.stdin(), &mut output)
+}
+
+/// Status 0: every row was accepted; 1: one wasn't; 2: other words; 3: the run stopped before its end.
+fn main(rt: HostRuntime) -> Result<ExitCode, io::Error> {
+    let words: Vec<String> = env::args(&rt)?.collect(rt.alloc())?;
+    if !asks_for_stock(&words) {
+        eprintln!(rt; "{USAGE}")?;
+        return Ok(ExitCode::from(2));
+    }
+    match answer_list(&rt) {
+        Ok(true) => Ok(ExitCode::from(0)),
+        Ok(false) => Ok(ExitCode::from(1)),
+        Err(fault) => {
+            let name = fault_name(fault);
+            eprintln!(rt; "fault {name}")?;
+            Ok(ExitCode::from(3))
+        }
+    }
+}

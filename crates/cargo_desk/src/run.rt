@@ -1,0 +1,53 @@
+ghost use Rattle.std.specs.Prelude.{◌≡◌, false, List, OnOk, IfOk, IfSome};
+ghost use Rattle.station_core.specs.Step.{State};
+ghost use Rattle.cargo_desk.specs.Ended.{HasRun};
+ghost use Rattle.cargo_desk.specs.Lines.{Row, stock_rows};
+
+use crate::stock::{RunFault, answer_row};
+use csv::{Error, ErrorKind, ReaderBuilder};
+use station_core::{ByteOut, Keeper};
+use std::alloc::Global;
+use std::io::Read;
+
+/// Why a run ends where no row was read.
+fn reader_fault(e: Error) -> RunFault {
+    match e.kind() {
+        ErrorKind::Io(_) => RunFault::Read,
+        _ => RunFault::Memory,
+    }
+}
+
+/// Answers the rows of a stock list, each after what it asks was done. `Ok` tells whether all were accepted.
+pub fn run_stock<K: Keeper, R: Read + Drop, W: ByteOut>(
+    alloc: Global,
+    keeper: &mut K,
+    reader: R,
+    writer: &mut W,
+) -> Result<bool, RunFault>
+    ensures sound { K.is_sound keeper.new → K.is_sound keeper.old }
+    ensures works { K.is_broken keeper.old ≡ false → OnOk result (K.is_broken keeper.new ≡ false) }
+
+    // Every row that was read, and of a known reader that is every row of its text, has its line, in their
+    // order, and the state is the one after them all.
+    ensures ran { (s : State) → K.keeps keeper.old s → K.is_broken keeper.old ≡ false → K.is_sound keeper.new
+        → IfOk result (λ good. (rows : List Row) × IfSome (R.remaining reader) (λ bytes. rows ≡ stock_rows bytes)
+        × HasRun s rows good (W.taken writer.old).bytes (W.taken writer.new).bytes (K.keeps keeper.new)) }
+{
+    let rdr = ReaderBuilder::new()
+        .has_headers(false)
+        .flexible(true)
+        .from_reader(alloc, reader);
+    let mut number: u64 = 0;
+    let mut good = true;
+    for row in rdr.into_byte_records() {
+        number += 1;
+        match row {
+            Ok(row) => {
+                let accepted = answer_row(alloc, keeper, writer, number, &row)?;
+                good &= accepted;
+            }
+            Err(e) => return Err(reader_fault(e)),
+        }
+    }
+    Ok(good)
+}

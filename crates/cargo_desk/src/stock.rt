@@ -1,0 +1,104 @@
+ghost use Rattle.std.specs.Prelude.{◌≡◌, ◌⊎◌, ℕ, ◌+◌, false, List, ◌++◌, Some, Option, IfOk, IfErr, OnOk, take, string_bytes};
+ghost use Rattle.csv.specs.Records.{fields_of};
+ghost use Rattle.station_core.specs.Step.{State};
+ghost use Rattle.cargo_desk.specs.Ended.{run_fault, IsAnswered, IsStopped};
+ghost use Rattle.cargo_desk.specs.Lines.{answer_text, answer_line, bad_line};
+
+use crate::row::read_row;
+use csv::ByteRecord;
+use station_core::{
+    ActFault, Answer, ByteOut, Input, Keeper, Key, answer_one, refusal_text, reply_text, send,
+};
+use std::alloc::{AllocError, Global};
+
+/// Why a run of rows ended before its end.
+#[derive(Clone, Copy, Debug, PartialEq, Eq)]
+pub enum RunFault {
+    /// The reader failed.
+    Read,
+    /// The writer failed, or took nothing.
+    Write,
+    /// Memory was wanting.
+    Memory,
+    /// The store failed, in this row or before.
+    Store,
+}
+
+/// An answer as it is printed.
+fn answer_text(alloc: Global, answer: &Answer) -> Result<String, AllocError>
+    ensures { IfOk result (λ text. string_bytes text ≡ answer_text answer.now) }
+{
+    match answer {
+        Answer::Done(reply) => reply_text(alloc, reply),
+        Answer::Refused(refusal) => refusal_text(alloc, refusal),
+    }
+}
+
+/// The line of an answer.
+fn answer_line(alloc: Global, key: &Key, answer: &Answer) -> Result<String, AllocError>
+    ensures { IfOk result (λ line. string_bytes line ≡ answer_line key.now answer.now) }
+{
+    let text = answer_text(alloc, answer)?;
+    format!(in alloc; "{key} {text}\n")
+}
+
+/// The line of a row of another shape.
+fn bad_line(alloc: Global, number: u64) -> Result<String, AllocError>
+    ensures { IfOk result (λ line. string_bytes line ≡ bad_line number) }
+{
+    format!(in alloc; "row {number} bad\n")
+}
+
+/// Writes a line.
+fn send_line<W: ByteOut>(writer: &mut W, line: &str) -> Result<(), RunFault>
+    ensures all { OnOk result ((W.taken writer.new).bytes ≡ (W.taken writer.old).bytes ++ line.now) }
+    ensures part { IfErr result (λ e. (e ≡ RunFault.Write) × ((sent : ℕ) × ((W.taken writer.new).bytes ≡ (W.taken writer.old).bytes ++ take sent line.now))) }
+{
+    match send(writer, line.as_bytes()) {
+        Ok(()) => Ok(()),
+        Err(_sent) => Err(RunFault::Write),
+    }
+}
+
+/// Why a run ends where a keeper doesn't answer.
+fn keeper_fault(fault: ActFault) -> RunFault
+    ensures { result ≡ run_fault fault }
+{
+    match fault {
+        ActFault::Memory => RunFault::Memory,
+        _ => RunFault::Store,
+    }
+}
+
+/// Answers a row, after what it asks was done. `Ok` tells whether it was accepted.
+pub fn answer_row<K: Keeper, W: ByteOut>(
+    alloc: Global,
+    keeper: &mut K,
+    writer: &mut W,
+    number: u64,
+    row: &ByteRecord,
+) -> Result<bool, RunFault>
+    ensures sound { K.is_sound keeper.new → K.is_sound keeper.old }
+    ensures works { K.is_broken keeper.old ≡ false → OnOk result (K.is_broken keeper.new ≡ false) }
+    ensures answered { (s : State) → K.keeps keeper.old s → K.is_broken keeper.old ≡ false → K.is_sound keeper.new
+        → IfOk result (λ good. IsAnswered number s (fields_of row.now) good (W.taken writer.old).bytes (W.taken writer.new).bytes (K.keeps keeper.new)) }
+    ensures stopped { (s : State) → K.keeps keeper.old s → K.is_broken keeper.old ≡ false → K.is_sound keeper.new
+        → IfErr result (λ e. IsStopped number s (fields_of row.now) e (W.taken writer.old).bytes (W.taken writer.new).bytes (K.keeps keeper.new) (K.may_find keeper.new)) }
+{
+    let Some(asked) = read_row(row) else {
+        let Ok(line) = bad_line(alloc, number) else {
+            return Err(RunFault::Memory);
+        };
+        send_line(writer, &line)?;
+        return Ok(false);
+    };
+    let answer = match answer_one(keeper, &Input::Keyed(asked.0, asked.1)) {
+        Ok(answer) => answer,
+        Err(fault) => return Err(keeper_fault(fault)),
+    };
+    let Ok(line) = answer_line(alloc, &asked.0, &answer) else {
+        return Err(RunFault::Memory);
+    };
+    send_line(writer, &line)?;
+    Ok(matches!(answer, Answer::Done(_)))
+}
