@@ -1,5 +1,5 @@
 -- What holds of each entry of a map holds at each key, and the other way round.
-use Rattle.std.proofs.Common.{◌≡◌, List, [], ◌∷◌, filter, Bool, true, false, cond, Some, None, Option, is_eq, refl, sym, ap, ap₂, subst, ◌∙◌, Ordering, Less, Equal, Greater}
+use Rattle.std.proofs.Common.{◌≡◌, List, [], ◌∷◌, filter, Bool, true, false, cond, Some, None, is_eq, refl, sym, ap, ap₂, subst, ◌∙◌, Ordering, Less, Equal, Greater}
 use Rattle.std.specs.Prelude.{◌||◌, ◌&&◌, is_some}
 use Rattle.std.specs.List.{AllByRecursion, list_all, list_any}
 use Rattle.std.specs.Cmp.{IsTotalOrder, eq_by_cmp_equiv, tied_itself}

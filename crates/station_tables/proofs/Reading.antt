@@ -1,7 +1,7 @@
 -- What the rows of a run say of its numbers.
-use Rattle.std.proofs.Common.{◌≡◌, ℕ, zero, suc, ◌+◌, ◌-◌, ◌<◌, ◌≤◌, ◌%◌, ℤ, pos, List, [], ◌∷◌, filter, Bool, true, false, cond, not, Option, Some, None, refl, sym, ap, ◌∙◌, arith, Ordering, Less}
+use Rattle.std.proofs.Common.{◌≡◌, ℕ, zero, suc, ◌+◌, ◌-◌, ◌<◌, ◌≤◌, ℤ, pos, filter, Bool, true, cond, not, Option, Some, refl, sym, ap, ◌∙◌, arith, Less}
 use Rattle.std.specs.Prelude.{◌&&◌, int_le, nat_le, nat_lt, ◌≤ℤ◌, ◌<ℤ◌}
-use Rattle.std.specs.List.{AllByRecursion, list_all, find, range_with_len}
+use Rattle.std.specs.List.{list_all, find, range_with_len}
 use Rattle.std.specs.Option.{option_and_then}
 use Rattle.std.specs.Ordering.{int_eq, int_cmp, ordering_then}
 use Rattle.std.specs.FinMap.{FinMap, entries}
@@ -9,7 +9,7 @@ use Rattle.std.proofs.lemmas.Int.{ints}
 use Rattle.std.proofs.lemmas.Bool.Decides.{nat_tests}
 use Rattle.sqlite_keyed.proofs.ListLemmas.{all_weaker, ascending-filter}
 use Rattle.awb_number.specs.Number.{prefix_of, serial_of}
-use Rattle.agent_stock.specs.Stock.{Holders, is_run, passes, lowest_failing}
+use Rattle.agent_stock.specs.Stock.{is_run, passes, lowest_failing}
 use Rattle.agent_stock.specs.declared.stock.Run.{Run}
 use Rattle.agent_stock.specs.declared.stock.Test.{Test}
 use Rattle.agent_stock.specs.declared.stock.Holder.{Holder}

@@ -1,5 +1,5 @@
 -- Rows that stand for one number each.
-use Rattle.std.proofs.Common.{◌≡◌, ℕ, ◌+◌, ◌-◌, ◌<◌, ◌≤◌, ◌%◌, ◌/◌, ◌*◌, ℤ, pos, List, [], ◌∷◌, filter, Bool, true, false, cond, Some, None, Option, refl, sym, ap, ap₂, ◌∙◌, arith}
+use Rattle.std.proofs.Common.{◌≡◌, ℕ, ◌%◌, ◌/◌, ℤ, pos, List, [], ◌∷◌, filter, Bool, true, false, cond, Some, refl, sym, ap, ap₂, ◌∙◌, arith}
 use Rattle.std.specs.Prelude.{◌&&◌, int_le, nat_eq, is_some}
 use Rattle.std.specs.Option.{option_and_then}
 use Rattle.std.specs.Ordering.{int_eq, int_cmp, eq_by_cmp}
@@ -9,7 +9,6 @@ use Rattle.std.specs.FinMap as map
 use Rattle.std.proofs.lemmas.Int.{ints}
 use Rattle.std.proofs.lemmas.Bool.Decides.{nat_tests}
 use Rattle.awb_number.specs.Number.{prefix_of, serial_of}
-use Rattle.agent_stock.specs.declared.stock.Holder.{Holder}
 use Rattle.station_rows.proofs.Keys.{pair_eq, int_tied}
 use Rattle.station_rows.specs.Tables.{Stock, StockKey, stock_cmp}
 use Rattle.station_rows.specs.Meant.{is_between}

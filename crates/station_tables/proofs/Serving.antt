@@ -1,23 +1,23 @@
 -- What a transaction leaves that changes the stock and keeps a reply.
-use Rattle.std.proofs.Common.{◌≡◌, ℕ, ◌<◌, pos, true, false, Bool, cond, ◌&&◌, List, Option, Some, None, Ok, Err, refl, sym, ◌∙◌, ap, subst, ◌⊎◌, inl, inr, ⊎_elim, arith, IsTrue}
+use Rattle.std.proofs.Common.{◌≡◌, ℕ, ◌<◌, pos, true, false, Bool, cond, ◌&&◌, List, Option, Some, None, Ok, refl, sym, ◌∙◌, ap, subst, ◌⊎◌, inl, inr, ⊎_elim, arith}
 use Rattle.std.specs.Prelude.{int_le, option_map}
 use Rattle.std.specs.Str.{bytes_eq}
-use Rattle.std.specs.Ordering.{eq_by_cmp, nat_cmp}
-use Rattle.std.specs.FinMap.{get, insert, get-insert}
+use Rattle.std.specs.Ordering.{eq_by_cmp}
+use Rattle.std.specs.FinMap.{get, get-insert}
 use Rattle.std.proofs.lemmas.Int.{ints}
 use Rattle.std.proofs.lemmas.Map.Text.{is_eq-slice_cmp}
 use Rattle.station_core.specs.declared.command.Command.{Command}
 use Rattle.station_core.specs.declared.command.Input.TheVariants.{Keyed}
 use Rattle.station_core.specs.Key.{is_key}
 use Rattle.station_core.specs.Texts.{command_text}
-use Rattle.station_core.specs.Step.{Kept, State, step, keyed, first_time, effect, count_of, keeping, accepted}
+use Rattle.station_core.specs.Step.{step, keyed, first_time, effect, count_of, keeping, accepted}
 use Rattle.station_rows.proofs.Keys.{kept_total, kept_same}
 use Rattle.station_rows.specs.Meant.{with_kept}
 use Rattle.station_rows.specs.Store.{View, Survives}
 use Rattle.station_rows.specs.Tables.{Tables, kept_cmp}
 use Rattle.station_rows.specs.Tables as table
 use Rattle.station_tables.specs.Meaning.{meaning_of, holders_in, keeping_in, airport_in, is_kept_row, IsLawful}
-use Rattle.station_tables.specs.Steady.{IsAfter, IsBeside, MayEndBy}
+use Rattle.station_tables.specs.Steady.{IsAfter, MayEndBy}
 use Rattle.station_tables.proofs.MapLaws.{all-insert}
 use Rattle.station_tables.proofs.Writing.{lawful_stations, lawful_stock, lawful_kept, lawful_of}
 

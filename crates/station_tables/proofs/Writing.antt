@@ -1,10 +1,10 @@
 -- What the writes of a run's rows make of the stock.
-use Rattle.std.proofs.Common.{◌≡◌, ℕ, ◌+◌, ◌-◌, ◌<◌, ◌≤◌, ◌%◌, ◌/◌, ℤ, pos, List, [], ◌∷◌, ◌++◌, map, take, length, slice_index_or, Bool, true, false, cond, Option, Some, None, refl, sym, ap, ap₂, subst, ◌∙◌, arith}
+use Rattle.std.proofs.Common.{◌≡◌, ℕ, ◌+◌, ◌<◌, ◌≤◌, pos, List, [], ◌∷◌, ◌++◌, map, take, length, slice_index_or, Bool, true, false, cond, Option, Some, None, refl, sym, ap, ap₂, subst, ◌∙◌, arith}
 use Rattle.std.specs.Prelude.{◌&&◌, ◌||◌, int_le, nat_le, nat_lt, nat_eq, is_some}
 use Rattle.std.specs.List.{list_all, list_any}
 use Rattle.std.specs.Option.{option_and_then}
 use Rattle.std.specs.Ordering.{int_eq, eq_by_cmp}
-use Rattle.std.specs.FinMap.{FinMap, entries, get, insert, remove, get-insert, get-remove}
+use Rattle.std.specs.FinMap.{FinMap, entries, get, get-insert, get-remove}
 use Rattle.std.proofs.lemmas.Int.{ints}
 use Rattle.std.proofs.lemmas.Bool.Decides.{nat_tests}
 use Rattle.std.proofs.lemmas.List.{take_more, map-append}
@@ -16,7 +16,7 @@ use Rattle.station_rows.specs.declared.store.StockRow.{StockRow}
 use Rattle.station_rows.specs.Meant.{stock_meant, with_stock, without_stock}
 use Rattle.station_rows.specs.Store.{View, Writes, Shows}
 use Rattle.station_rows.specs.Tables.{Stock, StockKey, stock_cmp, Tables}
-use Rattle.station_tables.specs.Meaning.{holder_in, is_stock_row, is_station, is_kept_row, is_lawful, IsLawful}
+use Rattle.station_tables.specs.Meaning.{holder_in, is_stock_row, is_station, is_kept_row, IsLawful}
 use Rattle.station_tables.specs.Ahead.{key_of}
 use Rattle.station_tables.specs.Steady.{IsBeside}
 use Rattle.station_tables.proofs.MapLaws.{first, second, all-insert, all-remove}

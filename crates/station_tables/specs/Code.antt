@@ -3,7 +3,7 @@ use Rattle.std.specs.Prelude.{ℕ, ℤ, List, refl}
 use Rattle.std.specs.Coded.{Coded, code_by, coded×, coded_ℕ, coded_ℤ, coded_list}
 use Rattle.std.specs.FinMap.{FinMap}
 use Rattle.std.specs.FinMap as map
-use Rattle.station_rows.specs.Tables.{Tables, Station, Stock, StockKey, stock_cmp, Kept, kept_cmp}
+use Rattle.station_rows.specs.Tables.{Tables, Station, Stock, stock_cmp, Kept, kept_cmp}
 
 abbrev pub station_code : Coded Station
 station_code = code_by (ℤ × (List ℕ × (ℤ × ℤ))) (coded× coded_ℤ (coded× (coded_list coded_ℕ) (coded× coded_ℤ coded_ℤ)))

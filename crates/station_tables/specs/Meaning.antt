@@ -1,5 +1,5 @@
 -- What the tables of a station mean.
-use Rattle.std.specs.Prelude.{◌≡◌, ℕ, ℤ, pos, negsuc, int_le, ◌==◌, nat_le, Bool, true, false, ◌&&◌, if◌then◌else◌, is_some, Option, Some, None, List, [], ◌∷◌, length}
+use Rattle.std.specs.Prelude.{◌≡◌, ℕ, ℤ, pos, negsuc, int_le, ◌==◌, Bool, true, false, ◌&&◌, if◌then◌else◌, is_some, Option, Some, None, List, [], ◌∷◌, length}
 use Rattle.std.specs.Option.{option_map, option_and_then}
 use Rattle.std.specs.Ordering.{int_eq}
 use Rattle.std.specs.List.{list_all, find}
@@ -12,7 +12,7 @@ use Rattle.agent_stock.specs.declared.stock.Holder.{Holder}
 use Rattle.agent_stock.specs.declared.stock.Holder.TheVariants as holder
 use Rattle.station_core.specs.Key.{is_key}
 use Rattle.station_core.specs.Step.{Kept as Keeping, State}
-use Rattle.station_rows.specs.Tables.{Tables, Station, Stock, StockKey, stock_cmp, Kept, kept_cmp}
+use Rattle.station_rows.specs.Tables.{Tables, Station, Stock, StockKey, stock_cmp, Kept}
 
 -- 0 the desk, 2 used, 3 void
 abbrev pub unnamed_holder : ℤ → Option Holder

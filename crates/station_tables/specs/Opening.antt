@@ -1,16 +1,15 @@
 -- The tables of a new station mean a station with nothing in it.
-use Rattle.std.proofs.Common.{◌≡◌, ℕ, List, [], ◌∷◌, length, true, Some, None, refl, sym, ◌∙◌, ap, subst, arith}
+use Rattle.std.proofs.Common.{◌≡◌, ℕ, List, [], ◌∷◌, length, Some, refl, sym, ◌∙◌, ap, subst, arith}
 use Rattle.std.specs.Prelude.{codes}
-use Rattle.std.specs.List.{list_all, find}
+use Rattle.std.specs.List.{find}
 use Rattle.std.specs.Option.{option_map, option_and_then}
-use Rattle.std.specs.Ordering.{eq_by_cmp}
-use Rattle.std.specs.FinMap.{FinMap, empty, entries, get, get-empty, len, len-empty, len-entries}
+use Rattle.std.specs.FinMap.{empty, entries, get-empty, len-empty, len-entries}
 use Rattle.station_core.specs.Step.{State}
 use Rattle.station_core.specs.Step as step
 use Rattle.station_rows.specs.Connection.{opening, IsOpening}
 use Rattle.station_rows.specs.Store.{View}
-use Rattle.station_rows.specs.Tables.{Tables, Stock, StockKey, stock_cmp, Kept, kept_cmp}
-use Rattle.station_tables.specs.Meaning.{meaning_of, state_of, is_lawful, IsLawful, is_stock_row, is_kept_row, holder_in, stands_for, keeping_in}
+use Rattle.station_rows.specs.Tables.{Stock, StockKey, stock_cmp, Kept, kept_cmp}
+use Rattle.station_tables.specs.Meaning.{meaning_of, state_of, IsLawful, holder_in, stands_for, keeping_in}
 use Rattle.station_tables.specs.Steady.{IsSteady}
 
 -- the airport of a station that was not given one

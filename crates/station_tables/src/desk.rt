@@ -1,13 +1,12 @@
-ghost use Rattle.std.specs.Prelude.{◌≡◌, ◌+◌, ℕ, ℤ, pos, List, true, not, map, if◌then◌else◌, Some, None, IfOk, OnOk};
+ghost use Rattle.std.specs.Prelude.{◌≡◌, ◌+◌, ℕ, ℤ, pos, List, true, not, map, if◌then◌else◌, Some, IfOk, OnOk};
 ghost use Rattle.std.specs.FinMap.{get};
-ghost use Rattle.std.specs.List.{find, range_with_len, list_any};
+ghost use Rattle.std.specs.List.{find, range_with_len};
 ghost use Rattle.std.specs.Option.{option_and_then};
-ghost use Rattle.std.specs.Ordering.{eq_by_cmp};
 ghost use Rattle.awb_number.specs.Number.{serial_of};
 ghost use Rattle.agent_stock.specs.Stock.{is_run, passes, covers};
-ghost use Rattle.station_rows.specs.Meant.{stock_meant};
-ghost use Rattle.station_rows.specs.Store.{IsUnchanged, Rests, Survives};
-ghost use Rattle.station_rows.specs.Tables.{Stock, StockKey, stock_cmp};
+ghost use Rattle.station_rows.specs.Meant.{stock_meant, with_stock};
+ghost use Rattle.station_rows.specs.Store.{IsUnchanged, Rests, Survives, Writes};
+ghost use Rattle.station_rows.specs.Tables.{Stock, StockKey};
 ghost use Rattle.station_tables.specs.Meaning.{IsLawful, holder_in, holders_in};
 ghost use Rattle.station_tables.specs.Ahead.{row_at, row_with, run_rows, key_of, AreAhead, Remains};
 ghost use Rattle.station_tables.specs.Steady.{IsReady, IsAsBefore, IsBeside};
@@ -125,23 +124,25 @@ impl<S: TableStore> Desk<S> {
         Ok(holder)
     }
 
-    /// Removes rows.
-    fn remove(&mut self, rows: &[StockRow]) -> Result<(), StoreFault>
-        ensures removed { OnOk result ((S.view self.new.store).IsSound → (k : StockKey) → get (S.view self.new.store).now.stock k
-            ≡ (if list_any (λ row. eq_by_cmp stock_cmp k row.0) (map stock_meant rows.now) then None else get (S.view self.old.store).now.stock k)) }
-        ensures beside { OnOk result ((S.view self.new.store).IsSound → (S.view self.old.store).is_open ≡ true → IsBeside (S.view self.old.store) (S.view self.new.store)) }
+    /// Writes a row over the one with its key, or anew.
+    fn write(&mut self, row: &StockRow, there: bool) -> Result<(), StoreFault>
+        requires there { there ≡ true → (S.view self.old.store).IsSound → (was : Stock) × (get (S.view self.old.store).now.stock (stock_meant row.now).0 ≡ Some was) }
+        ensures written { OnOk result ((S.view self.new.store).IsSound → Writes (S.view self.old.store) (S.view self.new.store) (with_stock (stock_meant row.now) (S.view self.old.store).now)) }
         ensures survives { Survives (S.view self.old.store) (S.view self.new.store) }
     {
-        for row in rows {
-            self.store.delete_stock(row.prefix, row.low)?;
+        if there {
+            self.store.update_stock(row)?;
+        } else {
+            self.store.insert_stock(row)?;
         }
         Ok(())
     }
 
-    /// Adds a row for each number of a run, of which none has one.
-    fn put(&mut self, run: &Run, holder: &Holder) -> Result<(), StoreFault>
+    /// Writes a row for each number of a run, whose rows these are.
+    fn put(&mut self, run: &Run, rows: &[StockRow], holder: &Holder) -> Result<(), StoreFault>
         requires run { is_run run.now ≡ true }
-        requires free { (S.view self.old.store).IsSound → (n : ℕ) → covers run.now n ≡ true → get (S.view self.old.store).now.stock (key_of n) ≡ None }
+        requires rows { (S.view self.old.store).IsSound → map stock_meant rows.now ≡ run_rows (S.view self.old.store).now.stock run.now }
+        requires lawful { (S.view self.old.store).IsSound → IsLawful (S.view self.old.store).now }
         ensures given { OnOk result ((S.view self.new.store).IsSound → (n : ℕ) → option_and_then holder_in (get (S.view self.new.store).now.stock (key_of n))
             ≡ (if covers run.now n then Some holder.now else option_and_then holder_in (get (S.view self.old.store).now.stock (key_of n)))) }
         ensures beside { OnOk result ((S.view self.new.store).IsSound → (S.view self.old.store).is_open ≡ true → IsBeside (S.view self.old.store) (S.view self.new.store)) }
@@ -158,10 +159,13 @@ impl<S: TableStore> Desk<S> {
             holder: code,
             agent,
         };
+        let mut rest = rows;
         for key in run.first.key()..run.first.key() + u64::from(run.count) {
             row.low = (key % SERIALS) as i64;
             row.high = row.low;
-            self.store.insert_stock(&row)?;
+            let (held, more) = take_row(rest, row.low);
+            rest = more;
+            self.write(&row, held.is_some())?;
         }
         Ok(())
     }
@@ -206,8 +210,7 @@ impl<S: TableStore> StockRows for Desk<S> {
     fn assign(&mut self, run: &Run, holder: &Holder) -> Result<(), StoreFault> {
         let rows = self.rows_of(run)?;
         self.store.begin()?;
-        self.remove(&rows)?;
-        self.put(run, holder)?;
+        self.put(run, &rows, holder)?;
         Ok(())
     }
 }

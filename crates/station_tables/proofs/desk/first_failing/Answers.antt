@@ -1,5 +1,4 @@
-use Rattle.std.proofs.Common.{◌≡◌, ◌∙◌, ◌+◌, ◌-◌, ◌≤◌, ◌<◌, ◌%◌, ℕ, pos, suc, Bool, true, false, not, map, refl, sym, ap, subst, arith, to_z, w64, Option}
-use Rattle.std.specs.Prelude.{ℤ}
+use Rattle.std.proofs.Common.{◌≡◌, ◌∙◌, ◌+◌, ◌-◌, ◌≤◌, ◌<◌, ℕ, suc, Bool, true, false, not, map, sym, ap, subst, arith, Option}
 use Rattle.std.proofs.lemmas.Int.{ints}
 use Rattle.std.specs.List.{find, range_with_len}
 use Rattle.std.specs.Option.{option_and_then}
@@ -10,7 +9,7 @@ use Rattle.agent_stock.proofs.Serials.{find_next, find_here, given_as, IsNumber-
 use Rattle.station_rows.specs.Meant.{stock_meant}
 use Rattle.station_rows.specs.Tables.{Stock, StockKey}
 use Rattle.station_tables.specs.Meaning.{holder_in}
-use Rattle.station_tables.specs.Ahead.{row_at, row_with, AreAhead, Remains}
+use Rattle.station_tables.specs.Ahead.{row_at, row_with, Remains}
 use Rattle.station_tables.proofs.Walk.{remains_all}
 use Rattle.station_tables.proofs.desk.first_failing.Goals as goal
 

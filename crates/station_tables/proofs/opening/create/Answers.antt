@@ -1,4 +1,4 @@
-use Rattle.std.proofs.Common.{◌≡◌, ◌∙◌, sym, ap, subst, inl, inr, ⊎_elim}
+use Rattle.std.proofs.Common.{◌∙◌, sym, ap, subst, inl, inr, ⊎_elim}
 use Rattle.station_core.specs.Step.{State}
 use Rattle.station_rows.specs.declared.rows.Rows.{Rows}
 use Rattle.station_rows.specs.Connection.{connection_view}

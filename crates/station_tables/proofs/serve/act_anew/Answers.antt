@@ -1,4 +1,4 @@
-use Rattle.std.proofs.Common.{◌≡◌, ◌∙◌, sym, ap, subst}
+use Rattle.std.proofs.Common.{◌∙◌, sym, ap, subst}
 use Rattle.station_tables.specs.Meaning.{meaning_of, IsLawful}
 use Rattle.station_tables.proofs.Serving.{after_is, answer_is, after_lawful, either}
 use Rattle.station_tables.proofs.serve.act_anew.Goals as goal

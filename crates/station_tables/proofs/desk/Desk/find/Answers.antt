@@ -1,8 +1,6 @@
-use Rattle.std.proofs.Common.{◌≡◌, ◌∙◌, ◌+◌, ◌-◌, ◌<◌, ◌≤◌, ℕ, pos, Bool, List, not, map, arith, sym, ap, subst, refl}
-use Rattle.std.specs.List.{find, range_with_len}
+use Rattle.std.proofs.Common.{◌≡◌, ◌∙◌, ◌+◌, ◌-◌, pos, List, map, arith, sym, ap, subst}
 use Rattle.std.specs.Option.{option_and_then}
 use Rattle.awb_number.specs.Number.{prefix_of, serial_of}
-use Rattle.agent_stock.specs.Stock.{passes}
 use Rattle.station_rows.specs.Meant.{stock_meant}
 use Rattle.std.proofs.lemmas.Int.{ints}
 use Rattle.agent_stock.specs.declared.stock.Run.{Run}

@@ -1,4 +1,4 @@
-use Rattle.std.proofs.Common.{◌≡◌, ◌∙◌, ◌+◌, ◌-◌, ◌<◌, ◌≤◌, ℕ, pos, Bool, List, not, map, sym, ap, subst, refl}
+use Rattle.std.proofs.Common.{◌≡◌, ◌∙◌, ◌+◌, ◌-◌, pos, List, not, map, sym, ap, subst}
 use Rattle.std.specs.List.{find, range_with_len}
 use Rattle.std.specs.Option.{option_and_then}
 use Rattle.awb_number.specs.Number.{prefix_of, serial_of}
