@@ -1,12 +1,13 @@
 -- Whatever is done, a lawful state stays lawful.
 use Rattle.std.proofs.Common.{ℕ, ◌≤◌}
+use Rattle.std.proofs.lemmas.List.Elements.{recursion_from_All}
 use Rattle.shipment_machine.specs.declared.flight.FlightDate.{FlightDate}
 use Rattle.shipment_machine.specs.declared.moves.Place.TheVariants.{Free, Built, Missing}
 use Rattle.shipment_machine.specs.declared.command.ShipmentCommand.TheVariants as order
 use Rattle.shipment_machine.specs.declared.command.DeskCommand.TheVariants as desk
 use Rattle.shipment_machine.specs.Book.{pieces_of}
 use Rattle.shipment_machine.specs.Cargo.{Cargo}
-use Rattle.shipment_machine.specs.Lawful.{IsLawful}
+use Rattle.shipment_machine.specs.Lawful.{IsLawful, HasPieces}
 use Rattle.shipment_machine.specs.Laws.{KeepsLawful}
 use Rattle.shipment_machine.proofs.Conserved.{held_free, held_built, held_missing}
 use Rattle.shipment_machine.proofs.Keeps.{keeps_confirm, keeps_notify}
@@ -39,5 +40,5 @@ keeps_lawful s (order.Desk (desk.Missing w p flight)) at text law proper = keeps
 keeps_lawful s (order.Desk (desk.Found w p t flight)) at text law proper = keeps_found s w p t flight at text (missing_few s w law) law
 keeps_lawful s (order.Desk (desk.Confirm upto)) at text law proper = keeps_confirm s upto at text law
 keeps_lawful s (order.Fwb c) at text law proper = keeps_fwb s c at text proper law
-keeps_lawful s (order.Ffm f) at text law proper = keeps_ffm s f at text (here_have_pieces s.here f.lines proper) law
+keeps_lawful s (order.Ffm f) at text law proper = keeps_ffm s f at text (here_have_pieces s.here f.lines (recursion_from_All HasPieces f.lines proper)) law
 keeps_lawful s (order.Fsu f) at text law proper = keeps_fsu s f at text law

@@ -26,3 +26,4 @@ pub mod KeepsFlights
 pub mod KeepsRows
 pub mod KeepsAll
 pub mod StaysLawful
+pub mod Opening

@@ -11,7 +11,7 @@ use Rattle.shipment_machine.specs.Lawful.{IsLawful, IsProper}
 use Rattle.shipment_machine.specs.Agreement.{outcome_of}
 use Rattle.shipment_machine.proofs.KeepsAll.{keeps_lawful}
 
-pub stays_lawful : (s : Cargo) (command : ShipmentCommand) (at : LocalMinute) (r : Result Plan PlanFault) → IsLawful s → IfOk r (λ plan. effect s command at ≡ Ok (outcome_of plan)) →
-    IfOk r (λ plan. (text : List ℕ) → IsProper command → IsLawful (carried_out text (outcome_of plan) s))
-stays_lawful s command at (Ok plan) law e = λ text proper. subst (λ (r : Result Outcome Refusal). IfOk r (λ done. IsLawful (carried_out text done s))) e (keeps_lawful s command at text law proper)
-stays_lawful s command at (Err told) law e = tt
+pub stays_lawful : (s : Cargo) (command : ShipmentCommand) (at : LocalMinute) (r : Result Plan PlanFault) → IsLawful s → IfOk r (λ _. IsProper command) → IfOk r (λ plan. effect s command at ≡ Ok (outcome_of plan)) →
+    IfOk r (λ plan. (text : List ℕ) → IsLawful (carried_out text (outcome_of plan) s))
+stays_lawful s command at (Ok plan) law proper e = λ text. subst (λ (r : Result Outcome Refusal). IfOk r (λ done. IsLawful (carried_out text done s))) e (keeps_lawful s command at text law proper)
+stays_lawful s command at (Err told) law proper e = tt

@@ -1,5 +1,5 @@
 -- What holds of every state of a station.
-use Rattle.std.specs.Prelude.{◌≡◌, ℕ, ◌≤◌, Bool, true, false, ◌&&◌, ◌↔◌, IsTrue, IsSome, IfSome, ⊤, Some, List, [], ◌∷◌, length}
+use Rattle.std.specs.Prelude.{◌≡◌, ℕ, ◌≤◌, Bool, true, false, ◌&&◌, ◌↔◌, IsTrue, IsSome, IfSome, ⊤, Some, List, [], ◌∷◌, length, All}
 use Rattle.std.specs.List.{AllByRecursion, list_any}
 use Rattle.std.specs.Str.{bytes_eq}
 use Rattle.shipment_machine.specs.declared.flight.FlightDate.{FlightDate}
@@ -102,5 +102,5 @@ abbrev pub IsProper : ShipmentCommand → Type 0
 IsProper (order.Desk (desk.Book w origin destination pieces tenths goods)) = 1 ≤ pieces
 IsProper (order.Desk _) = ⊤
 IsProper (order.Fwb c) = 1 ≤ c.pieces
-IsProper (order.Ffm f) = AllByRecursion HasPieces f.lines
+IsProper (order.Ffm f) = All HasPieces f.lines
 IsProper (order.Fsu f) = ⊤

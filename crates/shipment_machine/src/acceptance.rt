@@ -69,6 +69,7 @@ pub(crate) fn declared_as(claim: &Claim) -> Option<Declared>
 /// same weight a piece.
 pub(crate) fn claim_of(line: &CargoLine) -> Claim
     ensures value { claimed result ≡ declared_by line.now }
+    ensures own { 1 ≤ line.now.pieces }
     ensures some { 1 ≤ result.pieces }
     ensures bound { result.pieces ≤ 9999 }
 {

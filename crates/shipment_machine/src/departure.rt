@@ -1,7 +1,7 @@
 //! What leaves with a flight.
-ghost use Rattle.std.specs.Prelude.{◌≡◌, ◌==◌, false, ℕ, ◌+◌, ◌*◌, ◌≤◌, ◌++◌, ◌∷◌, [], ◌^◌, ◌<◌, All, IsSome, IfOk, OnOk, map, length, take};
+ghost use Rattle.std.specs.Prelude.{◌≡◌, ◌==◌, false, ◌+◌, ◌*◌, ◌≤◌, ◌<◌, All, IsSome, IfOk, map, length};
 ghost use Rattle.std.specs.List.{flat_map, sum_by};
-ghost use Rattle.shipment_machine.specs.Effect.{unless_refused, first_refusal, depart_refusals, depart_outcome, depart_moves, depart_notices, manifest_line, told, unload_of};
+ghost use Rattle.shipment_machine.specs.Effect.{unless_refused, first_refusal, depart_refusals, depart_outcome, depart_moves, manifest_line, told};
 ghost use Rattle.shipment_machine.specs.Agreement.{IsAnswer};
 ghost use Rattle.shipment_machine.specs.OnBoard.{IsOnBoard};
 ghost use Rattle.shipment_machine.specs.declared.notice.Event.TheVariants as event;

@@ -1,8 +1,9 @@
 //! What a part of a manifest announces.
-ghost use Rattle.std.specs.Prelude.{◌≡◌, ◌≤◌, ℕ, [], ◌∷◌, ◌++◌, Some, None, Ok, nat_eq, OnOk, IfOk, IfErr, if◌then◌else◌, length, not, true};
+ghost use Rattle.std.specs.Prelude.{◌≡◌, ◌≤◌, ℕ, [], ◌∷◌, ◌++◌, Some, None, Ok, nat_eq, OnOk, IfOk, IfErr, if◌then◌else◌, length, not, true, All};
 ghost use Rattle.std.specs.HashMap.{get};
 ghost use Rattle.shipment_machine.specs.Amount.{amount, fits};
 ghost use Rattle.shipment_machine.specs.Effect.{declared_by, expected_after, lines_for, is_day};
+ghost use Rattle.shipment_machine.specs.Lawful.{HasPieces};
 ghost use Rattle.imp_fields.specs.declared.fault.Why.TheVariants as why;
 ghost use Rattle.shipment_machine.specs.declared.plans.Detail.TheVariants as detail;
 ghost use Rattle.shipment_machine.specs.declared.plans.PlanFault.TheVariants as fault;
@@ -130,6 +131,15 @@ fn add_line<'a>(
     }
 }
 
+/// Each line has a piece: its type says so, once it is read.
+fn read_pieces(lines: &[InboundLine])
+    ensures { All HasPieces lines.now }
+{
+    for line in lines {
+        let _number = line.cargo.pieces.number();
+    }
+}
+
 /// The lines for here, in their order.
 pub(crate) fn lines_here<'a>(
     alloc: Global,
@@ -203,7 +213,8 @@ pub(crate) fn announce<'a>(
     meant: Option<u32>,
 ) -> Result<Plan<'a>, PlanFault>
     requires { is_day meant ≡ true → length rows.now ≡ length (lines_for on.now.here part.now.lines) }
-    ensures { IsAnswer result (part_answer on.now.here taken rows.now part.now meant) }
+    ensures answer { IsAnswer result (part_answer on.now.here taken rows.now part.now meant) }
+    ensures some { IfOk result (λ _. All HasPieces part.now.lines) }
 {
     let Some(day) = meant else {
         return Err(no_day());
@@ -218,6 +229,7 @@ pub(crate) fn announce<'a>(
             detail: Detail::Part(*key),
         }));
     }
+    read_pieces(part.lines.as_slice());
     let lines = lines_here(on.alloc, on.here, part.lines.as_slice())?;
     let mut plan = blank(on.alloc, lines.len() as u32);
     plan.changes = announced(on.alloc, &key.flight, lines.as_slice(), rows.as_slice())?;

@@ -2,7 +2,7 @@
 ghost use Rattle.std.specs.Prelude.{ℕ, List};
 ghost use Rattle.shipment_machine.specs.declared.moves.Move.{Move};
 ghost use Rattle.shipment_machine.specs.Book.{pieces_of, tenths_of};
-ghost use Rattle.shipment_machine.specs.Cargo.{Cargo};
+ghost use Rattle.shipment_machine.specs.Cargo.{Cargo, opening_cargo};
 ghost use Rattle.shipment_machine.specs.Lawful.{IsLawful};
 ghost use Rattle.shipment_machine.specs.Laws.{BalancesAgree, IsConserved, KeepsLawful};
 
@@ -16,6 +16,11 @@ pub fn balance_law()
 /// in pieces and in tenths, and no amount is below nothing.
 pub fn conservation_law()
     ensures { (s : Cargo) (w : ℕ) → IsLawful s → IsConserved s.book w }
+{}
+
+/// A station with nothing in it is lawful.
+pub fn opening_law()
+    ensures { (here : List ℕ) → IsLawful (opening_cargo here) }
 {}
 
 /// Whatever is done, a lawful state stays lawful.

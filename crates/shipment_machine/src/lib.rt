@@ -36,4 +36,12 @@ pub use text::Text;
 pub use view::{Aboard, FlightSheet, LineRow, LineRows, Loads, Rows, Sheet, View};
 
 #[cfg(test)]
+mod message_tests;
+#[cfg(test)]
+mod plan_tests;
+#[cfg(test)]
+mod samples;
+#[cfg(test)]
+mod seen;
+#[cfg(test)]
 mod tests;

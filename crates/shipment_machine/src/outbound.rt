@@ -1,9 +1,7 @@
 //! What is built for a flight and leaves with it.
-ghost use Rattle.std.specs.Prelude.{◌≡◌, ◌+◌, ◌*◌, ◌≤◌, ◌++◌, ◌∷◌, [], ◌^◌, ◌<◌, All, IfOk, OnOk, map, length, take};
-ghost use Rattle.std.specs.List.{flat_map, sum_by};
-ghost use Rattle.shipment_machine.specs.OnBoard.{IsOnBoard};
+ghost use Rattle.std.specs.Prelude.{◌*◌, ◌<◌};
 ghost use Rattle.shipment_machine.specs.Amount.{IsHeld};
-ghost use Rattle.shipment_machine.specs.Effect.{unless_refused, first_refusal, manifest_refusals, manifest_outcome, offload_refusals, offload_outcome, depart_refusals, depart_outcome, depart_moves, depart_notices, manifest_line, told, unload_of};
+ghost use Rattle.shipment_machine.specs.Effect.{unless_refused, first_refusal, manifest_refusals, manifest_outcome, offload_refusals, offload_outcome};
 ghost use Rattle.shipment_machine.specs.Agreement.{IsAnswer};
 
 use crate::amount::part_of;
@@ -11,13 +9,12 @@ use crate::drafting::{
     Setting, add_move, add_notice, blank, is_same, refuse_flight, refuse_free, refuse_waybill,
 };
 use crate::flight::FlightDate;
-use crate::moves::{Move, Outbound, Place};
+use crate::moves::{Outbound, Place};
 use crate::notice::Event;
 use crate::plans::{Change, Plan, PlanFault};
-use crate::view::{Aboard, FlightSheet, Sheet};
+use crate::view::{FlightSheet, Sheet};
 use awb_number::Awb;
 use imp_fields::{Airport, Discrepancy, Pieces};
-use std::alloc::AllocError;
 
 /// Builds free pieces on a flight, which is noted where it is new.
 pub(crate) fn manifest<'a>(

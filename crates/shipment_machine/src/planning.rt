@@ -33,7 +33,8 @@ pub(crate) fn plan_waybill<'a>(
 ) -> Result<Plan<'a>, PlanFault>
     requires sound { IsSoundSheet sheet.now }
     requires flight { HasFlight beside.now command.now }
-    ensures { IsAnswer result (waybill_answer on.now.here sheet.now beside.now command.now on.now.at) }
+    ensures answer { IsAnswer result (waybill_answer on.now.here sheet.now beside.now command.now on.now.at) }
+    ensures proper { IsProper (order.Desk command.now) }
 {
     match command {
         DeskCommand::Book {
@@ -110,7 +111,8 @@ fn plan_desk<'a>(
     meant: Option<u32>,
 ) -> Result<Plan<'a>, PlanFault>
     requires { Suits on.now.here rows.now (order.Desk command.now) meant }
-    ensures { IsAnswer result (rows_answer on.now.here rows.now (order.Desk command.now) on.now.at meant) }
+    ensures answer { IsAnswer result (rows_answer on.now.here rows.now (order.Desk command.now) on.now.at meant) }
+    ensures proper { IsProper (order.Desk command.now) }
 {
     match rows {
         Rows::One { sheet, flight } => plan_waybill(on, sheet, flight, command),
@@ -134,7 +136,9 @@ pub(crate) fn plan_from<'a>(
     meant: Option<u32>,
 ) -> Result<Plan<'a>, PlanFault>
     requires { Suits on.now.here rows.now command.now meant }
-    ensures { IsAnswer result (rows_answer on.now.here rows.now command.now on.now.at meant) }
+    ensures answer { IsAnswer result (rows_answer on.now.here rows.now command.now on.now.at meant) }
+    // The types say so.
+    ensures proper { IfOk result (λ _. IsProper command.now) }
 {
     match command {
         ShipmentCommand::Desk(desk) => plan_desk(on, rows, desk.get(), meant),
@@ -154,7 +158,7 @@ pub(crate) fn plan_from<'a>(
 }
 
 /// The day that a command's date means: a manifest has one.
-fn day_meant(command: &ShipmentCommand<'_>, at: Moment) -> Option<u32>
+pub(crate) fn day_meant(command: &ShipmentCommand<'_>, at: Moment) -> Option<u32>
     ensures { result ≡ meant_by command.now at }
 {
     match command {
@@ -181,7 +185,7 @@ pub fn plan<'a>(
     ensures planned { IfOk result (λ plan. effect state command.now at ≡ Ok (outcome_of plan)) }
     ensures refused { IfErr result (RefusesAs (effect state command.now at)) }
     // The text of a part that the telegram is has yet to be kept.
-    ensures stays_lawful { IfOk result (λ plan. (text : List ℕ) → IsProper command.now → IsLawful (carried_out text (outcome_of plan) state)) }
+    ensures stays_lawful { IfOk result (λ plan. (text : List ℕ) → IsLawful (carried_out text (outcome_of plan) state)) }
 {
     let on = Setting {
         alloc,

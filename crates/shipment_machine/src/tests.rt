@@ -1,116 +1,38 @@
-ghost use Rattle.std.specs.Prelude.{◌≡◌, true};
-ghost use Rattle.shipment_machine.specs.Amount.{IsHeld};
-ghost use Rattle.shipment_machine.specs.Effect.{expected_amount};
-ghost use Rattle.shipment_machine.specs.Suits.{IsSoundSheet, IsSoundFlight};
-
-use super::*;
-use crate::drafting::Setting;
-use crate::planning::plan_waybill;
-use awb_number::Awb;
-use imp_fields::{Airport, BookTenths, Flight, Goods, Moment, Name, Pieces, Tenths};
+use crate::samples::{Given, NEW, Names, Stock, all_names, answer, cargo, lh400, waybill_rows};
+use crate::seen::{About, NOTHING, Reply, Row, Spot, Tells};
+use crate::*;
+use imp_fields::{Airport, Pieces, Tenths};
 use std::alloc::Global;
 use std::test::*;
 
-/// What is known of a waybill from FRA to JFK, declared with 10 pieces of 100 kilograms.
-#[derive(Clone, Copy)]
-struct Given {
-    here: [u8; 3],
-    taken: (u32, u32),
-    free: (u32, u32),
-    missing: (u32, u32),
-    /// What is built of it on LH400.
-    load: (u32, u32),
-    /// What LH400 brings of it; no piece: nothing.
-    expected: (u32, u32),
-    checked: bool,
-    notified: bool,
-}
-
-const NEW: Given = Given {
-    here: *b"FRA",
-    taken: (0, 0),
-    free: (0, 0),
-    missing: (0, 0),
-    load: (0, 0),
-    expected: (0, 0),
-    checked: false,
-    notified: false,
-};
-
 #[derive(Clone, Copy)]
 enum Order {
-    Book(u32),
+    Book(u32, u32),
+    Fwb(&'static [u8]),
     Receive(u32, u32),
     Manifest(u32),
+    /// To MUC, where the others unload at JFK.
+    ManifestToMuc(u32),
     Offload(u32),
     CheckIn(u32),
     Notify,
     Deliver(u32),
-    Missing(u32),
-    Found(u32, u32),
+    /// Whether LH400 is named.
+    Missing(u32, bool),
+    Found(u32, u32, bool),
 }
 
-/// What an answer tells: the refusal's number and the free pieces that it names, or the count and the
-/// first and the last move.
-#[derive(Clone, Copy, Debug, PartialEq, Eq)]
-struct Reply {
-    refused: u16,
-    free: u16,
-    count: u32,
-    moves: usize,
-    first: (u32, u32),
-    last: (u32, u32),
-}
-
-const NO_REPLY: Reply = Reply {
-    refused: 0,
-    free: 0,
-    count: 0,
-    moves: 0,
-    first: (0, 0),
-    last: (0, 0),
-};
-
-/// What the commands name.
-#[derive(Clone, Copy)]
-struct Names {
-    awb: Awb,
-    fra: Airport,
-    jfk: Airport,
-    flight: Flight,
-    name: Name,
-    goods: Goods,
-}
-
-fn all_names() -> Option<Names> {
-    Some(Names {
-        awb: Awb::read(b"020-12345675").ok()?,
-        fra: Airport::read(b"FRA")?,
-        jfk: Airport::read(b"JFK")?,
-        flight: Flight::read(b"LH400")?,
-        name: Name::read(b"ACME")?,
-        goods: Goods::read(b"CARGO")?,
-    })
-}
-
-/// LH400 on 2026-01-12.
-fn lh400(names: &Names) -> FlightDate {
-    FlightDate {
-        flight: names.flight,
-        day: 20465,
-    }
-}
-
-fn command_of(order: Order, names: &Names) -> Option<DeskCommand> {
+fn desk_command(order: Order, names: &Names) -> Option<DeskCommand> {
     let awb = names.awb;
     let flight = lh400(names);
     let name = names.name;
     Some(match order {
-        Order::Book(tenths) => DeskCommand::Book {
+        Order::Fwb(_) => return None,
+        Order::Book(pieces, tenths) => DeskCommand::Book {
             awb,
             origin: names.fra,
             destination: names.jfk,
-            pieces: Pieces::new(10)?,
+            pieces: Pieces::new(pieces)?,
             tenths: Tenths::new(tenths)?,
             goods: names.goods,
         },
@@ -124,6 +46,12 @@ fn command_of(order: Order, names: &Names) -> Option<DeskCommand> {
             awb,
             flight,
             unload: names.jfk,
+            pieces: Pieces::new(pieces)?,
+        },
+        Order::ManifestToMuc(pieces) => DeskCommand::Manifest {
+            awb,
+            flight,
+            unload: Airport::read(b"MUC")?,
             pieces: Pieces::new(pieces)?,
         },
         Order::Offload(pieces) => DeskCommand::Offload {
@@ -142,344 +70,573 @@ fn command_of(order: Order, names: &Names) -> Option<DeskCommand> {
             pieces: Pieces::new(pieces)?,
             name,
         },
-        Order::Missing(pieces) => DeskCommand::Missing {
+        Order::Missing(pieces, named) => DeskCommand::Missing {
             awb,
             pieces: Pieces::new(pieces)?,
-            flight: None,
+            flight: named.then_some(flight),
         },
-        Order::Found(pieces, tenths) => DeskCommand::Found {
+        Order::Found(pieces, tenths, named) => DeskCommand::Found {
             awb,
             pieces: Pieces::new(pieces)?,
             tenths: Tenths::new(tenths)?,
-            flight: None,
+            flight: named.then_some(flight),
         },
     })
 }
 
-fn amount_of(given: (u32, u32)) -> Amount {
-    Amount {
-        pieces: given.0,
-        tenths: given.1,
-    }
-}
-
-fn declared_of(given: &Given, names: &Names) -> Option<Declared> {
-    Some(Declared {
-        origin: names.fra,
-        destination: names.jfk,
-        pieces: Pieces::new(10)?,
-        tenths: BookTenths::new(1000)?,
-        goods: names.goods,
-        notified: given.notified,
-    })
-}
-
-fn sheet_of(given: &Given, names: &Names) -> Sheet {
-    Sheet {
-        declared: declared_of(given, names),
-        has_moves: given.taken.0 > 0,
-        taken: amount_of(given.taken),
-        found: amount_of((0, 0)),
-        free: amount_of(given.free),
-        missing: amount_of(given.missing),
-        holder: None,
-    }
-}
-
-fn expected_of(given: &Given) -> Option<Expected> {
-    Some(Expected {
-        pieces: Pieces::new(given.expected.0)?,
-        tenths: BookTenths::new(given.expected.1)?,
-        checked: given.checked,
-    })
-}
-
-fn flight_of(given: &Given) -> FlightSheet {
-    FlightSheet {
-        outbound: None,
-        waybills: 0,
-        load: amount_of(given.load),
-        expected: expected_of(given),
-    }
-}
-
-fn is_held(amount: Amount) -> bool
-    ensures { result ≡ true → IsHeld amount }
-{
-    amount.pieces <= 9999 && amount.tenths <= 999_999 && amount.pieces <= amount.tenths
-}
-
-fn is_expected_held(expected: &Option<Expected>) -> bool
-    ensures { result ≡ true → IsHeld (expected_amount expected.now) }
-{
-    match expected {
-        None => true,
-        Some(row) => row.pieces.number() <= row.tenths.number(),
-    }
-}
-
-/// Whether the amounts are ones of a lawful state.
-fn is_sound(sheet: &Sheet) -> bool
-    ensures { result ≡ true → IsSoundSheet sheet.now }
-{
-    let came = u64::from(sheet.taken.tenths) + u64::from(sheet.found.tenths);
-    is_held(sheet.free) && is_held(sheet.missing) && u64::from(sheet.missing.tenths) <= came
-}
-
-fn is_sound_flight(beside: &FlightSheet) -> bool
-    ensures { result ≡ true → IsSoundFlight beside.now }
-{
-    is_held(beside.load) && is_expected_held(&beside.expected)
-}
-
-fn reply_of(answer: &Result<Plan<'_>, PlanFault>) -> Reply {
-    match answer {
-        Err(PlanFault::Refused(refusal)) => Reply {
-            refused: refusal.number,
-            free: match refusal.detail {
-                Detail::Pieces(free) => free,
-                _ => 0,
-            },
-            ..NO_REPLY
-        },
-        Err(PlanFault::Memory) => NO_REPLY,
-        Ok(plan) => Reply {
-            count: plan.count,
-            moves: plan.moves.len(),
-            first: amount_in(plan.moves.first()),
-            last: amount_in(plan.moves.last()),
-            ..NO_REPLY
-        },
-    }
-}
-
-fn amount_in(made: Option<&Move>) -> (u32, u32) {
-    match made {
-        None => (0, 0),
-        Some(made) => (made.pieces.number(), made.tenths.number()),
-    }
-}
-
-/// The answer to a command on a waybill, where the amounts are those of a lawful state.
-fn answer(on: &Setting, sheet: &Sheet, beside: &FlightSheet, command: &DeskCommand) -> Reply {
-    if !is_sound(sheet) || !is_sound_flight(beside) {
-        return NO_REPLY;
-    }
-    match command {
-        DeskCommand::Depart { .. } => NO_REPLY,
-        DeskCommand::Confirm { .. } => NO_REPLY,
-        _ => reply_of(&plan_waybill(on, sheet, &Some(*beside), command)),
-    }
-}
-
-fn answered(on: &Setting, given: &Given, names: &Names, command: &DeskCommand) -> Reply {
-    let sheet = sheet_of(given, names);
-    let beside = flight_of(given);
-    answer(on, &sheet, &beside, command)
-}
-
-fn reply_to(alloc: Global, given: &Given, order: Order) -> Option<Reply> {
+fn data_reply(alloc: Global, given: &Given, quantity: &[u8]) -> Option<Reply> {
     let names = all_names()?;
-    let here = Airport::read(&given.here)?;
-    let at = Moment::new(20465, 720)?;
-    let on = Setting { alloc, here, at };
-    match command_of(order, &names) {
+    let line = cargo(&names, quantity)?;
+    let rows = waybill_rows(given, &names);
+    let command = ShipmentCommand::Fwb(CargoRef::new(&line));
+    answer(alloc, given.here, &rows, &command)
+}
+
+fn desk_answer(alloc: Global, given: &Given, names: &Names, desk: &DeskCommand) -> Option<Reply> {
+    let rows = waybill_rows(given, names);
+    let command = ShipmentCommand::Desk(DeskRef::new(desk));
+    answer(alloc, given.here, &rows, &command)
+}
+
+fn desk_reply(alloc: Global, given: &Given, order: Order) -> Option<Reply> {
+    let names = all_names()?;
+    match desk_command(order, &names) {
         None => None,
-        Some(command) => Some(answered(&on, given, &names, &command)),
+        Some(desk) => desk_answer(alloc, given, &names, &desk),
     }
 }
 
-fn refused(number: u16) -> Option<Reply> {
-    Some(Reply {
-        refused: number,
-        ..NO_REPLY
-    })
+/// What a command on the waybill is answered.
+fn reply_to(alloc: Global, given: &Given, order: Order) -> Option<Reply> {
+    match order {
+        Order::Fwb(quantity) => data_reply(alloc, given, quantity),
+        _ => desk_reply(alloc, given, order),
+    }
 }
 
-fn too_few(free: u16) -> Option<Reply> {
-    Some(Reply {
-        refused: 206,
-        free,
-        ..NO_REPLY
-    })
+fn refused(number: u16, about: About) -> Reply {
+    Reply {
+        refused: Some((number, about)),
+        ..NOTHING
+    }
 }
 
-fn one_move(count: u32, tenths: u32) -> Option<Reply> {
-    Some(Reply {
+/// One move, with its message.
+fn moved(
+    from: Spot,
+    to: Spot,
+    tells: Tells,
+    amount: (u32, u32),
+    flight: bool,
+    row: Option<Row>,
+) -> Reply {
+    Reply {
+        count: amount.0,
+        moves: [Some((from, to, amount.0, amount.1, flight)), None, None],
+        told: [Some((tells, amount.0, amount.1)), None, None],
+        rows: [row, None, None, None],
+        ..NOTHING
+    }
+}
+
+/// No move and no message.
+fn noted(count: u32, first: Row, second: Option<Row>) -> Reply {
+    Reply {
         count,
-        moves: 1,
-        first: (count, tenths),
-        last: (count, tenths),
-        ..NO_REPLY
-    })
+        rows: [Some(first), second, None, None],
+        ..NOTHING
+    }
 }
 
-fn two_moves(count: u32, first: (u32, u32), last: (u32, u32)) -> Option<Reply> {
-    Some(Reply {
-        count,
-        moves: 2,
-        first,
-        last,
-        ..NO_REPLY
-    })
-}
+/// Ten pieces of 100 kilograms in the store.
+const FULL: Given = Given {
+    moved: true,
+    taken: (10, 1000),
+    free: (10, 1000),
+    ..NEW
+};
 
-fn no_move(count: u32) -> Option<Reply> {
-    Some(Reply { count, ..NO_REPLY })
+/// No such waybill.
+const UNKNOWN: Given = Given {
+    declared: false,
+    ..NEW
+};
+
+#[test]
+fn declared(rt: HostRuntime) {
+    let ten = noted(10, Row::Declared(10, 1000), None);
+    for (given, order, want) in [
+        (UNKNOWN, Order::Book(10, 1000), ten),
+        // A book weight is a tenth a piece at least.
+        (
+            UNKNOWN,
+            Order::Book(10, 3),
+            noted(10, Row::Declared(10, 10), None),
+        ),
+        (
+            UNKNOWN,
+            Order::Book(10, 1_000_000),
+            refused(217, About::Waybill),
+        ),
+        (
+            UNKNOWN,
+            Order::Fwb(b"P3K10.0T10"),
+            noted(10, Row::Declared(10, 333), None),
+        ),
+        (UNKNOWN, Order::Fwb(b"T10K100.0"), ten),
+        (
+            UNKNOWN,
+            Order::Fwb(b"P1K99999.9T2"),
+            refused(217, About::Waybill),
+        ),
+        (
+            Given {
+                notified: true,
+                ..NEW
+            },
+            Order::Book(10, 1000),
+            ten,
+        ),
+    ] {
+        assert_eq!(rt; reply_to(rt.alloc(), &given, order), Some(want));
+    }
 }
 
 #[test]
-fn declared_and_taken_over(rt: HostRuntime) {
-    let full = Given {
-        taken: (10, 1000),
-        free: (10, 1000),
-        ..NEW
+fn not_declared(rt: HostRuntime) {
+    let by = |stock| Given { stock, ..UNKNOWN };
+    let ten = Row::Declared(10, 1000);
+    for (given, want) in [
+        (by(Stock::Desk), refused(203, About::Waybill)),
+        (by(Stock::Void), refused(203, About::Waybill)),
+        (by(Stock::Agent), noted(10, ten, Some(Row::UsedUp))),
+        (by(Stock::Used), noted(10, ten, None)),
+        (FULL, refused(202, About::Waybill)),
+        // Moves count even where the balances are those of a waybill without any.
+        (Given { moved: true, ..NEW }, refused(202, About::Waybill)),
+        // 202 is tested before 203.
+        (
+            Given {
+                stock: Stock::Desk,
+                ..FULL
+            },
+            refused(202, About::Waybill),
+        ),
+    ] {
+        let booked = reply_to(rt.alloc(), &given, Order::Book(10, 1000));
+        assert_eq!(rt; booked, Some(want));
+        let told = reply_to(rt.alloc(), &given, Order::Fwb(b"T10K100.0"));
+        assert_eq!(rt; told, Some(want));
+    }
+}
+
+#[test]
+fn taken_over(rt: HostRuntime) {
+    let received = |pieces, tenths| {
+        let amount = (pieces, tenths);
+        let tells = Tells::ReceivedFromShipper;
+        moved(Spot::Hand, Spot::Free, tells, amount, false, None)
     };
     for (given, order, want) in [
-        (NEW, Order::Book(1000), no_move(10)),
-        (NEW, Order::Book(1_000_000), refused(217)),
-        (full, Order::Book(1000), refused(202)),
-        (NEW, Order::Receive(10, 1000), one_move(10, 1000)),
-        (full, Order::Receive(1, 1), refused(205)),
+        (NEW, Order::Receive(10, 1000), received(10, 1000)),
+        (NEW, Order::Receive(3, 0), received(3, 3)),
+        (UNKNOWN, Order::Receive(1, 1), refused(201, About::Waybill)),
+        (FULL, Order::Receive(1, 1), refused(205, About::Waybill)),
+        // What was found doesn't count against what was declared.
+        (
+            Given {
+                found: (10, 1000),
+                ..NEW
+            },
+            Order::Receive(10, 1000),
+            received(10, 1000),
+        ),
         (
             Given {
                 here: *b"JFK",
-                ..NEW
+                ..FULL
             },
             Order::Receive(1, 1),
-            refused(204),
+            refused(204, About::Waybill),
         ),
-        (NEW, Order::Receive(1, 1_000_000), refused(217)),
+        (
+            NEW,
+            Order::Receive(1, 1_000_000),
+            refused(217, About::Waybill),
+        ),
+        (
+            Given {
+                found: (9990, 9990),
+                ..NEW
+            },
+            Order::Receive(10, 10),
+            refused(217, About::Waybill),
+        ),
     ] {
-        assert_eq!(rt; reply_to(rt.alloc(), &given, order), want);
+        assert_eq!(rt; reply_to(rt.alloc(), &given, order), Some(want));
     }
 }
 
 #[test]
-fn built_and_taken_off(rt: HostRuntime) {
-    let full = Given {
-        taken: (10, 1000),
-        free: (10, 1000),
-        ..NEW
+fn built(rt: HostRuntime) {
+    let on = Given {
+        noted: true,
+        ..FULL
     };
-    let built = Given {
+    let four = |row| {
+        let amount = (4, 400);
+        moved(
+            Spot::Free,
+            Spot::Built,
+            Tells::Manifested,
+            amount,
+            true,
+            row,
+        )
+    };
+    let flight = |number| refused(number, About::Flight);
+    for (given, order, want) in [
+        (FULL, Order::Manifest(4), four(Some(Row::Noted))),
+        (on, Order::Manifest(4), four(None)),
+        (UNKNOWN, Order::Manifest(4), refused(201, About::Waybill)),
+        (
+            Given { closed: true, ..on },
+            Order::Manifest(11),
+            flight(208),
+        ),
+        (FULL, Order::Manifest(11), refused(206, About::Free(10))),
+        (
+            Given {
+                here: *b"JFK",
+                ..FULL
+            },
+            Order::Manifest(1),
+            refused(204, About::Waybill),
+        ),
+        // The flight goes elsewhere: tested after 208, before 206.
+        (on, Order::ManifestToMuc(11), flight(218)),
+        (
+            Given { closed: true, ..on },
+            Order::ManifestToMuc(4),
+            flight(208),
+        ),
+        // A further waybill on a full flight, and one that is on it.
+        (
+            Given {
+                waybills: 500,
+                ..on
+            },
+            Order::Manifest(4),
+            flight(219),
+        ),
+        (
+            Given {
+                waybills: 500,
+                load: (1, 10),
+                ..on
+            },
+            Order::Manifest(4),
+            four(None),
+        ),
+        (
+            Given {
+                waybills: 499,
+                ..on
+            },
+            Order::Manifest(4),
+            four(None),
+        ),
+        // 206 is tested before 219.
+        (
+            Given {
+                waybills: 500,
+                ..on
+            },
+            Order::Manifest(11),
+            refused(206, About::Free(10)),
+        ),
+    ] {
+        assert_eq!(rt; reply_to(rt.alloc(), &given, order), Some(want));
+    }
+}
+
+#[test]
+fn taken_off(rt: HostRuntime) {
+    let three = Given {
+        moved: true,
         taken: (3, 100),
+        noted: true,
         load: (3, 100),
         ..NEW
     };
+    let off = |pieces, tenths| {
+        let amount = (pieces, tenths);
+        moved(
+            Spot::Built,
+            Spot::Free,
+            Tells::Offloaded,
+            amount,
+            true,
+            None,
+        )
+    };
     for (given, order, want) in [
-        (full, Order::Manifest(4), one_move(4, 400)),
-        (full, Order::Manifest(11), too_few(10)),
+        (three, Order::Offload(2), off(2, 66)),
         (
             Given {
-                here: *b"JFK",
-                ..full
+                load: (1, 34),
+                ..three
             },
-            Order::Manifest(1),
-            refused(204),
+            Order::Offload(1),
+            off(1, 34),
         ),
-        (built, Order::Offload(2), one_move(2, 66)),
-        (built, Order::Offload(4), refused(207)),
+        (three, Order::Offload(4), refused(207, About::Waybill)),
+        (NEW, Order::Offload(1), refused(207, About::Waybill)),
+        (UNKNOWN, Order::Offload(1), refused(201, About::Waybill)),
+        (
+            Given {
+                closed: true,
+                ..three
+            },
+            Order::Offload(4),
+            refused(208, About::Flight),
+        ),
     ] {
-        assert_eq!(rt; reply_to(rt.alloc(), &given, order), want);
+        assert_eq!(rt; reply_to(rt.alloc(), &given, order), Some(want));
+    }
+}
+
+/// What a check-in of ten pieces of 100 kilograms does.
+fn counted(
+    count: u32,
+    first: (Spot, Spot, u32, u32),
+    second: Option<(Spot, Spot, u32, u32)>,
+    told: [Option<(Tells, u32, u32)>; 2],
+) -> Reply {
+    let (from, to, pieces, tenths) = first;
+    let [first_told, second_told] = told;
+    Reply {
+        count,
+        moves: [
+            Some((from, to, pieces, tenths, true)),
+            second.map(|(from, to, pieces, tenths)| (from, to, pieces, tenths, true)),
+            None,
+        ],
+        told: [first_told, second_told, None],
+        rows: [Some(Row::Checked(10, 1000)), None, None, None],
+        ..NOTHING
     }
 }
 
 #[test]
-fn counted_short_and_over(rt: HostRuntime) {
+fn checked_in(rt: HostRuntime) {
     let brought = Given {
         here: *b"JFK",
         expected: (10, 1000),
         ..NEW
     };
-    for (given, order, want) in [
-        (brought, Order::CheckIn(7), two_moves(7, (7, 700), (3, 300))),
-        (
-            brought,
-            Order::CheckIn(12),
-            two_moves(12, (10, 1000), (2, 200)),
-        ),
-        (NEW, Order::CheckIn(7), refused(211)),
+    let received = |pieces, tenths| Some((Tells::ReceivedFromFlight, pieces, tenths));
+    let missing = |pieces, tenths| Some((Tells::Missing, pieces, tenths));
+    let seven = counted(
+        7,
+        (Spot::Hand, Spot::Free, 7, 700),
+        Some((Spot::Hand, Spot::Missing, 3, 300)),
+        [received(7, 700), missing(3, 300)],
+    );
+    let ten = counted(
+        10,
+        (Spot::Hand, Spot::Free, 10, 1000),
+        None,
+        [received(10, 1000), None],
+    );
+    let twelve = counted(
+        12,
+        (Spot::Hand, Spot::Free, 10, 1000),
+        Some((Spot::Surplus, Spot::Free, 2, 200)),
+        [received(12, 1200), Some((Tells::Found, 2, 200))],
+    );
+    let none = counted(
+        0,
+        (Spot::Hand, Spot::Missing, 10, 1000),
+        None,
+        [missing(10, 1000), None],
+    );
+    for (given, count, want) in [
+        (brought, 7, seven),
+        (brought, 10, ten),
+        (brought, 12, twelve),
+        (brought, 0, none),
+        // It may bring more than was declared.
+        (FULL_OF_TEN, 10, ten),
+        (UNKNOWN, 7, refused(201, About::Waybill)),
+        (NEW, 7, refused(211, About::Waybill)),
         (
             Given {
                 checked: true,
                 ..brought
             },
-            Order::CheckIn(7),
-            refused(212),
+            7,
+            refused(212, About::Waybill),
         ),
         (
             Given {
-                taken: (9990, 9990),
+                taken: (9989, 9989),
                 ..brought
             },
-            Order::CheckIn(10),
-            refused(217),
+            11,
+            refused(217, About::Waybill),
         ),
     ] {
-        assert_eq!(rt; reply_to(rt.alloc(), &given, order), want);
+        assert_eq!(rt;
+            reply_to(rt.alloc(), &given, Order::CheckIn(count)),
+            Some(want)
+        );
     }
 }
 
+const FULL_OF_TEN: Given = Given {
+    here: *b"JFK",
+    expected: (10, 1000),
+    ..FULL
+};
+
 #[test]
-fn handed_over_and_lost(rt: HostRuntime) {
+fn handed_over(rt: HostRuntime) {
     let three = Given {
         here: *b"JFK",
+        moved: true,
         taken: (3, 100),
         free: (3, 100),
         notified: true,
         ..NEW
     };
-    let lost = Given {
-        taken: (3, 300),
-        missing: (3, 300),
-        ..NEW
+    let left = |pieces, tenths| Given {
+        free: (pieces, tenths),
+        ..three
     };
-    let ten = Given {
-        taken: (10, 1000),
-        free: (10, 1000),
-        ..NEW
+    let one = |tenths| {
+        let amount = (1, tenths);
+        moved(
+            Spot::Free,
+            Spot::Delivered,
+            Tells::Delivered,
+            amount,
+            false,
+            None,
+        )
+    };
+    let told = Reply {
+        told: [Some((Tells::Notified, 3, 100)), None, None],
+        ..noted(3, Row::Notified, None)
+    };
+    let elsewhere = Given {
+        here: *b"MUC",
+        ..three
     };
     for (given, order, want) in [
-        (three, Order::Notify, no_move(3)),
-        (three, Order::Deliver(1), one_move(1, 33)),
-        (
-            Given {
-                free: (2, 67),
-                ..three
-            },
-            Order::Deliver(1),
-            one_move(1, 33),
-        ),
-        (
-            Given {
-                free: (1, 34),
-                ..three
-            },
-            Order::Deliver(1),
-            one_move(1, 34),
-        ),
-        (
-            Given {
-                free: (0, 0),
-                ..three
-            },
-            Order::Deliver(1),
-            too_few(0),
-        ),
+        (three, Order::Notify, told),
+        (UNKNOWN, Order::Notify, refused(201, About::Waybill)),
+        (elsewhere, Order::Notify, refused(204, About::Waybill)),
+        (left(0, 0), Order::Notify, refused(206, About::Free(0))),
+        (three, Order::Deliver(1), one(33)),
+        (left(2, 67), Order::Deliver(1), one(33)),
+        (left(1, 34), Order::Deliver(1), one(34)),
+        (left(0, 0), Order::Deliver(1), refused(206, About::Free(0))),
+        (UNKNOWN, Order::Deliver(1), refused(201, About::Waybill)),
+        (elsewhere, Order::Deliver(1), refused(204, About::Waybill)),
         (
             Given {
                 notified: false,
-                ..three
+                ..left(0, 0)
             },
             Order::Deliver(1),
-            refused(210),
+            refused(210, About::Waybill),
         ),
-        (three, Order::Missing(4), too_few(3)),
-        (lost, Order::Found(5, 1), two_moves(5, (3, 300), (2, 2))),
-        (ten, Order::Found(9990, 1), refused(217)),
-        (ten, Order::Found(9989, 1), one_move(9989, 9989)),
     ] {
-        assert_eq!(rt; reply_to(rt.alloc(), &given, order), want);
+        assert_eq!(rt; reply_to(rt.alloc(), &given, order), Some(want));
     }
+}
+
+#[test]
+fn missing_and_found(rt: HostRuntime) {
+    let lost = Given {
+        moved: true,
+        taken: (10, 1000),
+        missing: (3, 300),
+        ..NEW
+    };
+    let amount = (3, 300);
+    let gone = moved(
+        Spot::Free,
+        Spot::Missing,
+        Tells::Missing,
+        amount,
+        true,
+        None,
+    );
+    let five = Reply {
+        count: 5,
+        moves: [
+            Some((Spot::Missing, Spot::Free, 3, 300, true)),
+            Some((Spot::Surplus, Spot::Free, 2, 2, true)),
+            None,
+        ],
+        told: [Some((Tells::Found, 5, 302)), None, None],
+        ..NOTHING
+    };
+    let many = Reply {
+        count: 9989,
+        moves: [
+            Some((Spot::Surplus, Spot::Free, 9989, 9989, false)),
+            None,
+            None,
+        ],
+        ..NOTHING
+    };
+    let two = moved(
+        Spot::Missing,
+        Spot::Free,
+        Tells::Found,
+        (2, 200),
+        true,
+        None,
+    );
+    for (given, order, want) in [
+        (FULL, Order::Missing(3, true), gone),
+        (
+            UNKNOWN,
+            Order::Missing(3, true),
+            refused(201, About::Waybill),
+        ),
+        (
+            FULL,
+            Order::Missing(11, true),
+            refused(206, About::Free(10)),
+        ),
+        (lost, Order::Found(5, 1, true), five),
+        // With no surplus the weight that was told counts for nothing.
+        (lost, Order::Found(2, 9_999_999, true), two),
+        (
+            UNKNOWN,
+            Order::Found(1, 1, true),
+            refused(201, About::Waybill),
+        ),
+        (
+            FULL,
+            Order::Found(9990, 1, false),
+            refused(217, About::Waybill),
+        ),
+        (FULL, Order::Found(9989, 1, false), many),
+    ] {
+        assert_eq!(rt; reply_to(rt.alloc(), &given, order), Some(want));
+    }
+    let untold = Reply {
+        moves: [Some((Spot::Free, Spot::Missing, 3, 300, false)), None, None],
+        told: [None, None, None],
+        ..gone
+    };
+    assert_eq!(rt;
+        reply_to(rt.alloc(), &FULL, Order::Missing(3, false)),
+        Some(untold)
+    );
 }

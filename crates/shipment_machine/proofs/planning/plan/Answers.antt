@@ -20,7 +20,7 @@ returns-clause-planned g c =
     ap (λ (m : Option ℕ). rows_answer c.args.view.now.here c.args.view.now.rows command c.args.at m) c.day_meant.ensures
     ∙ ap (λ (v : View). rows_answer v.here v.rows command c.args.at (meant_by command c.args.at)) c.requires.1
     ∙ answers g.state command c.args.at in
-    planned c.plan_from.result (rows_answer c.args.view.now.here c.args.view.now.rows command c.args.at c.day_meant.result) (effect g.state command c.args.at) c.plan_from.ensures told
+    planned c.plan_from.result (rows_answer c.args.view.now.here c.args.view.now.rows command c.args.at c.day_meant.result) (effect g.state command c.args.at) c.plan_from.ensures.answer told
 
 pub returns-clause-refused : goal.returns-clause-refused
 returns-clause-refused g c =
@@ -29,7 +29,7 @@ returns-clause-refused g c =
     ap (λ (m : Option ℕ). rows_answer c.args.view.now.here c.args.view.now.rows command c.args.at m) c.day_meant.ensures
     ∙ ap (λ (v : View). rows_answer v.here v.rows command c.args.at (meant_by command c.args.at)) c.requires.1
     ∙ answers g.state command c.args.at in
-    refused c.plan_from.result (rows_answer c.args.view.now.here c.args.view.now.rows command c.args.at c.day_meant.result) (effect g.state command c.args.at) c.plan_from.ensures told
+    refused c.plan_from.result (rows_answer c.args.view.now.here c.args.view.now.rows command c.args.at c.day_meant.result) (effect g.state command c.args.at) c.plan_from.ensures.answer told
 
 pub returns-clause-stays_lawful : goal.returns-clause-stays_lawful
 returns-clause-stays_lawful g c =
@@ -38,5 +38,5 @@ returns-clause-stays_lawful g c =
     ap (λ (m : Option ℕ). rows_answer c.args.view.now.here c.args.view.now.rows command c.args.at m) c.day_meant.ensures
     ∙ ap (λ (v : View). rows_answer v.here v.rows command c.args.at (meant_by command c.args.at)) c.requires.1
     ∙ answers g.state command c.args.at in
-    stays_lawful g.state command c.args.at c.plan_from.result c.requires.0
-    (planned c.plan_from.result (rows_answer c.args.view.now.here c.args.view.now.rows command c.args.at c.day_meant.result) (effect g.state command c.args.at) c.plan_from.ensures told)
+    stays_lawful g.state command c.args.at c.plan_from.result c.requires.0 c.plan_from.ensures.proper
+    (planned c.plan_from.result (rows_answer c.args.view.now.here c.args.view.now.rows command c.args.at c.day_meant.result) (effect g.state command c.args.at) c.plan_from.ensures.answer told)

@@ -1,0 +1,8 @@
+pub mod FieldsOf
+pub mod Examples
+pub mod Laws
+pub mod Appended
+pub mod SeenLaws
+pub mod ToldLaws
+pub mod WrittenLaws
+pub mod SentAgain

@@ -1,0 +1,7 @@
+use Rattle.std.proofs.Common.{◌≡◌, ◌++◌, map, take}
+use Rattle.imp_fields.specs.Message.{sent_text}
+use Rattle.ffm_text.specs.Written.{load_line}
+use Rattle.ffm_text.proofs.writing.put_loads.Given as goal
+
+abbrev pub invariant-loop-load : goal.invariant-loop-load
+invariant-loop-load l = l.out.items ≡ l.fn.out.items ++ sent_text (map load_line (take l.load-index l.loads))

@@ -1,0 +1,3 @@
+pub mod Ffm
+pub mod Seen
+pub mod Written

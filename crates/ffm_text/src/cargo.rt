@@ -1,0 +1,125 @@
+//! The lines behind the flight line: points of unloading, consignment lines, and lines that are not read.
+
+ghost use Rattle.std.specs.Prelude.{◌≡◌, ◌∷◌, ◌++◌, ◌≤◌, ◌<◌, ◌^◌, ℕ, List, [], length, map, Some, Ok, IfOk, IfErr, OnOk, option_map};
+ghost use Rattle.imp_fields.specs.Consignment.{consignment_of, shipment_of, HasSpans};
+ghost use Rattle.imp_fields.specs.NormalText.{fault_at, first_fault, IsFaultOf};
+ghost use Rattle.ffm_text.specs.Ffm.{is_cargo_line, ordered_fault, cargo_fault, cargo_faults};
+ghost use Rattle.ffm_text.specs.Seen.{IsSeen, AreCargo, texts_of};
+
+use crate::FfmLine;
+use crate::point::unloading_point;
+use imp_fields::{Airport, TextFault, Token, Why, read_consignment};
+use std::alloc::Global;
+
+/// A fault of a line.
+pub(crate) fn fault(line: u32, why: Why) -> TextFault
+    ensures { result ≡ fault_at line why }
+{
+    TextFault { line, why }
+}
+
+/// Whether a line begins with three digits and a hyphen, so that it has to be a consignment line.
+fn is_cargo_line(line: &[u8]) -> bool
+    ensures { result ≡ is_cargo_line line.now }
+{
+    match line {
+        [first, second, third, b'-', ..] => {
+            first.is_ascii_digit() && second.is_ascii_digit() && third.is_ascii_digit()
+        }
+        _ => false,
+    }
+}
+
+/// What a consignment line says, which stands below a point of unloading.
+///
+/// # Errors
+/// Those of a consignment line, and then `Order` where no point of unloading stands above it.
+fn cargo_line<'a>(point: Option<Airport>, line: &'a [u8]) -> Result<FfmLine<'a>, Why>
+    ensures read { IfOk result (λ l. (consignment_of line.now ≡ Ok (shipment_of l.consignment)) × (point ≡ Some l.unload)) }
+    ensures fault { IfErr result (λ why. ordered_fault (consignment_of line.now) point ≡ Some why) }
+    ensures spans { IfOk result (λ l. HasSpans line.now l.consignment) }
+{
+    match read_consignment(line) {
+        Ok(consignment) => match point {
+            Some(unload) => Ok(FfmLine {
+                unload,
+                consignment,
+            }),
+            None => Err(Why::Order),
+        },
+        Err(why) => Err(why),
+    }
+}
+
+/// What is known of a manifest once some of the lines behind its flight line were seen.
+#[derive(Drop)]
+pub(crate) struct Seen<'a> {
+    /// The last point of unloading.
+    point: Option<Airport>,
+    /// The consignment lines.
+    cargo: Vec<FfmLine<'a>>,
+}
+
+impl<'a> Seen<'a> {
+    /// No line was seen.
+    fn new(alloc: Global) -> Seen<'a>
+        ensures { IsSeen [] result }
+    {
+        Seen {
+            point: None,
+            cargo: Vec::new(alloc),
+        }
+    }
+
+    /// Takes a line that has to be a consignment line, and no other.
+    fn take(&mut self, number: u32, line: &'a [u8]) -> Result<(), TextFault>
+        ensures cargo { (above : List (List ℕ)) → IsSeen above self.old → OnOk result (AreCargo (above ++ line.now ∷ []) self.new.cargo.items) }
+        ensures point { OnOk result (self.new.point ≡ self.old.point) }
+        ensures fault { (above : List (List ℕ)) → IsSeen above self.old → IfErr result (IsFaultOf (option_map (fault_at number) (cargo_fault above line.now))) }
+    {
+        if !is_cargo_line(line) {
+            return Ok(());
+        }
+        let cargo = match cargo_line(self.point, line) {
+            Ok(cargo) => cargo,
+            Err(why) => return Err(fault(number, why)),
+        };
+        match self.cargo.push(cargo) {
+            Ok(()) => Ok(()),
+            Err(_) => Err(fault(0, Why::Memory)),
+        }
+    }
+
+    /// One more line was seen.
+    fn see(&mut self, number: u32, line: &'a [u8]) -> Result<(), TextFault>
+        ensures seen { (above : List (List ℕ)) → IsSeen above self.old → OnOk result (IsSeen (above ++ line.now ∷ []) self.new) }
+        ensures fault { (above : List (List ℕ)) → IsSeen above self.old → IfErr result (IsFaultOf (option_map (fault_at number) (cargo_fault above line.now))) }
+    {
+        self.take(number, line)?;
+        if let Some(point) = unloading_point(line) {
+            self.point = Some(point);
+        }
+        Ok(())
+    }
+}
+
+/// The consignment lines among the lines behind a flight line. The first of these is line 3.
+///
+/// # Errors
+/// The fault of the first line that has one: those of a consignment line, and `Order`. `Memory` of line 0 says nothing of
+/// the lines.
+pub(crate) fn cargo<'a>(alloc: Global, lines: &[Token<'a>]) -> Result<Vec<FfmLine<'a>>, TextFault>
+    requires { length lines.now ≤ 1000 }
+    ensures read { IfOk result (λ cargo. AreCargo (texts_of lines.now) cargo.items) }
+    ensures fault { IfErr result (IsFaultOf (first_fault 3 (cargo_faults [] (texts_of lines.now)))) }
+{
+    let mut seen = Seen::new(alloc);
+    let mut number = 2;
+    for line in lines {
+        number += 1;
+        if let Err(fault) = seen.see(number, line.text) {
+            return Err(fault);
+        }
+    }
+    Ok(seen.cargo)
+}

@@ -1,0 +1,61 @@
+//! Flight manifest messages (Cargo-IMP FFM): a head, a flight line, points of unloading and consignment lines among
+//! lines that are not read, and a last line.
+#![tactic(auto)]
+
+ghost use Rattle.std.specs.Prelude.{◌≡◌, ℕ, List, None};
+ghost use Rattle.ffm_text.specs.Ffm.{Manifest, IsFfm, ffm_fault};
+
+mod cargo;
+mod flight_line;
+mod point;
+mod reading;
+#[cfg(test)]
+mod tests;
+mod writing;
+
+use awb_number::Awb;
+use imp_fields::{Airport, BookTenths, Consignment, DayMonth, Flight, Goods, PartNumber, Pieces};
+pub use reading::read;
+pub use writing::{write_ffm, written_law};
+
+/// A consignment line of a manifest, and the point at which its goods are unloaded. The source of the line's tokens is
+/// that line.
+#[derive(Clone, Copy, Debug)]
+pub struct FfmLine<'a> {
+    pub unload: Airport,
+    pub consignment: Consignment<'a>,
+}
+
+/// One part of a flight's manifest.
+#[derive(Debug, Drop)]
+pub struct Ffm<'a> {
+    pub sequence: PartNumber,
+    pub flight: Flight,
+    pub date: DayMonth,
+    /// The airport at which the flight was loaded.
+    pub loaded: Airport,
+    /// The consignment lines, in the order of the text.
+    pub cargo: Vec<FfmLine<'a>>,
+}
+
+/// A waybill's load as a manifest that is sent tells it.
+#[derive(Clone, Copy, Debug)]
+pub struct Load {
+    pub awb: Awb,
+    pub origin: Airport,
+    pub destination: Airport,
+    /// The pieces on the flight.
+    pub pieces: Pieces,
+    /// Their weight.
+    pub tenths: BookTenths,
+    /// The pieces that were declared in all.
+    pub declared: Pieces,
+    pub goods: Goods,
+}
+
+/// Lines are a part of a manifest exactly where they have no fault, and then one part only.
+pub fn ffm_law()
+    ensures read { (lines : List (List ℕ)) (m : Manifest) → IsFfm lines m → ffm_fault lines ≡ None }
+    ensures faultless { (lines : List (List ℕ)) → ffm_fault lines ≡ None → (m : Manifest) × IsFfm lines m }
+    ensures one { (lines : List (List ℕ)) (l m : Manifest) → IsFfm lines l → IsFfm lines m → l ≡ m }
+{}

@@ -1,0 +1,180 @@
+//! The writer of manifests.
+
+ghost use Rattle.std.specs.Prelude.{◌≡◌, ◌≤◌, ◌++◌, ℕ, List, Ok, length, take, map, OnOk, OnErr};
+ghost use Rattle.imp_fields.specs.NormalText.{normal_lines};
+ghost use Rattle.imp_fields.specs.Message.{sent_text};
+ghost use Rattle.imp_fields.specs.Consignment.{goods_text, consignment_text};
+ghost use Rattle.ffm_text.specs.Ffm.{IsFfm, cargo_of, flight_line_text, ffm_lines, manifest_written};
+ghost use Rattle.imp_fields.specs.Flight.{Designator};
+ghost use Rattle.imp_fields.specs.Date.{CalendarDay};
+ghost use Rattle.ffm_text.specs.declared.Load.{Load};
+ghost use Rattle.ffm_text.specs.Written.{AreWritten, Begins, line_text, load_line, route_text, amount_text};
+
+use crate::Load;
+use imp_fields::{Airport, DayMonth, Flight, Goods, ShipmentCode, put_quantity};
+use std::alloc::AllocError;
+
+/// Appends a text.
+fn put(out: &mut Vec<u8>, text: &[u8]) -> Result<(), AllocError>
+    ensures text { OnOk result (out.new.items ≡ out.old.items ++ text.now) }
+    ensures begins { Begins out.old.items out.new.items }
+{
+    out.extend_from_slice(text)
+}
+
+/// Appends a line.
+fn put_line(out: &mut Vec<u8>, line: &[u8]) -> Result<(), AllocError>
+    ensures text { OnOk result (out.new.items ≡ out.old.items ++ line_text line.now) }
+    ensures begins { Begins out.old.items out.new.items }
+{
+    put(out, line)?;
+    put(out, b"\r\n")
+}
+
+/// Appends the flight line.
+fn put_flight_line(
+    out: &mut Vec<u8>,
+    flight: Flight,
+    date: DayMonth,
+    here: Airport,
+) -> Result<(), AllocError>
+    ensures text { OnOk result (out.new.items ≡ out.old.items ++ line_text (flight_line_text flight date here)) }
+    ensures begins { Begins out.old.items out.new.items }
+{
+    let mut designator = [0; 7];
+    let end = flight.write(&mut designator);
+    put(out, b"1/")?;
+    put(out, &designator[..end])?;
+    put(out, b"/")?;
+    put(out, &date.write())?;
+    put(out, b"/")?;
+    put_line(out, &here.letters())
+}
+
+/// Appends the number and the route of a load, and the slash behind them.
+fn put_route(out: &mut Vec<u8>, load: &Load) -> Result<(), AllocError>
+    ensures text { OnOk result (out.new.items ≡ out.old.items ++ route_text load.now) }
+    ensures begins { Begins out.old.items out.new.items }
+{
+    put(out, &load.awb.write())?;
+    put(out, &load.origin.letters())?;
+    put(out, &load.destination.letters())?;
+    put(out, b"/")
+}
+
+/// Appends the quantity of a load: with code T where all declared pieces are on the flight, else with code P and the
+/// declared pieces as the total.
+fn put_amount(out: &mut Vec<u8>, load: &Load) -> Result<(), AllocError>
+    ensures text { OnOk result (out.new.items ≡ out.old.items ++ amount_text load.now) }
+    ensures begins { Begins out.old.items out.new.items }
+{
+    let mut quantity = [0; 18];
+    let end = if load.pieces == load.declared {
+        put_quantity(
+            &mut quantity,
+            ShipmentCode::Total,
+            load.pieces,
+            load.tenths,
+            None,
+        )
+    } else {
+        let total = Some(load.declared);
+        put_quantity(
+            &mut quantity,
+            ShipmentCode::Part,
+            load.pieces,
+            load.tenths,
+            total,
+        )
+    };
+    put(out, &quantity[..end])
+}
+
+/// Appends a slash and the goods, where there are any.
+fn put_goods(out: &mut Vec<u8>, goods: &Goods) -> Result<(), AllocError>
+    ensures text { OnOk result (out.new.items ≡ out.old.items ++ goods_text goods.now) }
+    ensures begins { Begins out.old.items out.new.items }
+{
+    let goods = goods.as_bytes();
+    if goods.is_empty() {
+        return Ok(());
+    }
+    put(out, b"/")?;
+    put(out, goods)
+}
+
+/// Appends the consignment line of a load.
+fn put_load(out: &mut Vec<u8>, load: &Load) -> Result<(), AllocError>
+    ensures text { OnOk result (out.new.items ≡ out.old.items ++ line_text (load_line load.now)) }
+    ensures begins { Begins out.old.items out.new.items }
+{
+    put_route(out, load)?;
+    put_amount(out, load)?;
+    put_goods(out, &load.goods)?;
+    put(out, b"\r\n")
+}
+
+/// Appends the consignment lines of loads.
+fn put_loads(out: &mut Vec<u8>, loads: &[Load]) -> Result<(), AllocError>
+    ensures text { OnOk result (out.new.items ≡ out.old.items ++ sent_text (map load_line loads.now)) }
+    ensures begins { Begins out.old.items out.new.items }
+{
+    for load in loads {
+        put_load(out, load)?;
+    }
+    Ok(())
+}
+
+/// Appends a manifest; where there was no memory, a part of it.
+fn put_manifest(
+    out: &mut Vec<u8>,
+    flight: Flight,
+    date: DayMonth,
+    here: Airport,
+    unload: Airport,
+    loads: &[Load],
+) -> Result<(), AllocError>
+    ensures text { OnOk result (out.new.items ≡ out.old.items ++ sent_text (ffm_lines flight date here unload loads.now)) }
+    ensures begins { Begins out.old.items out.new.items }
+{
+    put_line(out, b"FFM/8")?;
+    put_flight_line(out, flight, date, here)?;
+    put_line(out, &unload.letters())?;
+    put_loads(out, loads)?;
+    put_line(out, b"LAST")
+}
+
+/// Appends the first part of a manifest, which is also its last: the loads that a flight takes on a date from one airport
+/// to one other. Each line ends with a carriage return and a newline. What is written is read as what was handed in.
+/// The memory is that of the buffer, so that no allocator is passed.
+///
+/// # Errors
+/// Want of memory, which leaves the buffer as it was.
+pub fn write_ffm(
+    out: &mut Vec<u8>,
+    flight: Flight,
+    date: DayMonth,
+    here: Airport,
+    unload: Airport,
+    loads: &[Load],
+) -> Result<(), AllocError>
+    requires count { length loads.now ≤ 500 }
+    ensures ok { OnOk result (out.new.items ≡ out.old.items ++ sent_text (ffm_lines flight date here unload loads.now)) }
+    ensures err { OnErr result (out.new.items ≡ out.old.items) }
+{
+    let before = out.len();
+    let written = put_manifest(out, flight, date, here, unload, loads);
+    if written.is_err() {
+        out.truncate(before);
+    }
+    written
+}
+
+/// The lines of a manifest that is sent are normal lines of what is sent, and are read as what was written: of each flight,
+/// date and airports, and of up to 500 loads, as the types allow them.
+pub fn written_law()
+    ensures normal { (flight : Designator) (date : CalendarDay) (here unload : List ℕ) (loads : List Load) → AreWritten flight date here unload loads
+        → normal_lines (sent_text (ffm_lines flight date here unload loads)) ≡ Ok (ffm_lines flight date here unload loads) }
+    ensures read_again { (flight : Designator) (date : CalendarDay) (here unload : List ℕ) (loads : List Load) → AreWritten flight date here unload loads
+        → IsFfm (ffm_lines flight date here unload loads) (manifest_written flight date here unload loads) }
+{}

@@ -1,0 +1,4 @@
+pub mod Status
+pub mod Trail
+pub mod Fsu
+pub mod Sent

@@ -1,0 +1,42 @@
+-- What the types of an update that is sent keep.
+use Rattle.std.specs.Prelude.{◌<◌, IsTrue}
+use Rattle.awb_number.specs.Number.{IsNumber}
+use Rattle.imp_fields.specs.Airport.{is_airport}
+use Rattle.imp_fields.specs.Amount.{IsPieces, IsBookTenths}
+use Rattle.imp_fields.specs.Date.{IsCalendarDay}
+use Rattle.imp_fields.specs.Flight.{IsDesignator}
+use Rattle.imp_fields.specs.Name.{is_name}
+use Rattle.imp_fields.specs.declared.consigned.Consigned.{Consigned}
+use Rattle.fsu_text.specs.declared.sent.SentStatus.{SentStatus}
+use Rattle.fsu_text.specs.declared.sent.SentStatus.TheVariants as sent
+use Rattle.fsu_text.specs.declared.sent.Update.{Update}
+
+-- the flight that a status names, if it names one, is a designator
+abbrev pub NamesDesignator : SentStatus → Type 0
+NamesDesignator (sent.Handled what at name) = Unit {0}
+NamesDesignator (sent.ReceivedFromFlight flight at) = IsDesignator flight
+NamesDesignator (sent.Carried what flight date to) = IsDesignator flight
+NamesDesignator (sent.Differs what flight at) = IsDesignator flight
+
+-- each field of the status is one of its type's values
+abbrev pub IsSent : SentStatus → Type 0
+IsSent (sent.Handled what at name) = IsCalendarDay at.date × (at.minute < 1440) × IsTrue (is_name name)
+IsSent (sent.ReceivedFromFlight flight at) = IsDesignator flight × IsCalendarDay at.date × (at.minute < 1440)
+IsSent (sent.Carried what flight date to) = IsDesignator flight × IsCalendarDay date × IsTrue (is_airport to)
+IsSent (sent.Differs what flight at) = IsDesignator flight × IsCalendarDay at.date × (at.minute < 1440)
+
+-- and so is each field of what is declared
+pub record IsDeclared (d : Consigned) : Type 0 where
+  pub awb : IsNumber d.awb
+  pub origin : IsTrue (is_airport d.origin)
+  pub destination : IsTrue (is_airport d.destination)
+  pub pieces : IsPieces d.pieces
+  pub tenths : IsBookTenths d.tenths
+
+-- and each field of the update
+pub record IsUpdate (u : Update) : Type 0 where
+  pub declared : IsDeclared u.of
+  pub status : IsSent u.status
+  pub here : IsTrue (is_airport u.here)
+  pub pieces : IsPieces u.pieces
+  pub tenths : IsBookTenths u.tenths

@@ -1,0 +1,357 @@
+//! The reader of status update messages.
+
+ghost use Rattle.std.specs.Prelude.{◌≡◌, ◌≤◌, ℕ, length, List, [], ◌∷◌, ◌++◌, drop, All, OnOk, IfOk, IfErr, IfSome, Ok, Some, None, map, option_map};
+ghost use Rattle.std.specs.List.{join_with_byte, position_or_len};
+ghost use Rattle.imp_fields.specs.Characters.{fields, is_slash};
+ghost use Rattle.imp_fields.specs.NormalText.{line_texts, IsFaultOf, fault_at};
+ghost use Rattle.fsu_text.specs.Status.{day_of, handling_of, carriage_of, discrepancy_of, handled_by, handled_of, received_by, received_of, route_of, carried_by, carried_of, differs_by, differs_of, status_of};
+ghost use Rattle.fsu_text.specs.Fsu.{IsFsu, fsu_fault, reading_of, update_of, HasFsuSpans, IsRead, AreRead};
+
+use crate::message::Fsu;
+use crate::status::{Carriage, FlightDay, Handling, Status, StatusLine};
+use imp_fields::{
+    Airport, DayMonth, DayTime, Discrepancy, Flight, Lines, Name, TextFault, Token, Why, is_head,
+    read_consignment, read_quantity,
+};
+use std::alloc::{AllocError, Global};
+use std::slice;
+
+/// How many bytes stand before the first slash, or in all where there is none.
+fn before_slash(text: &[u8]) -> usize
+    ensures place { result ≡ position_or_len is_slash text.now }
+    ensures bound { result ≤ length text.now }
+{
+    text.iter().take_while(|b| **b != b'/').count()
+}
+
+/// The first field of a text and what follows the slash behind it, where there is a slash.
+#[tactic(auto, using(crate::proofs::Cuts::cut_at, crate::proofs::Cuts::uncut))]
+fn cut(text: &[u8]) -> Option<(&[u8], &[u8])>
+    ensures some { IfSome result (λ parts. fields text.now ≡ parts.0.now ∷ fields parts.1.now) }
+    ensures none { result ≡ None → fields text.now ≡ text.now ∷ [] }
+{
+    let place = before_slash(text);
+    if place == text.len() {
+        return None;
+    }
+    let (_, rest) = text.split_at(place + 1);
+    Some((&text[..place], rest))
+}
+
+/// The code of RCS, NFD or DLV.
+fn handling(code: &[u8]) -> Option<Handling>
+    ensures { result ≡ handling_of code.now }
+{
+    match code {
+        b"RCS" => Some(Handling::ReceivedFromShipper),
+        b"NFD" => Some(Handling::Notified),
+        b"DLV" => Some(Handling::Delivered),
+        _ => None,
+    }
+}
+
+/// The code of BKD, MAN or DEP.
+fn carriage(code: &[u8]) -> Option<Carriage>
+    ensures { result ≡ carriage_of code.now }
+{
+    match code {
+        b"BKD" => Some(Carriage::Booked),
+        b"MAN" => Some(Carriage::Manifested),
+        b"DEP" => Some(Carriage::Departed),
+        _ => None,
+    }
+}
+
+/// The code of a discrepancy that is known.
+fn discrepancy(code: &[u8]) -> Option<Discrepancy>
+    ensures { result ≡ discrepancy_of code.now }
+{
+    match code {
+        b"OFLD" => Some(Discrepancy::Offloaded),
+        b"MSCA" => Some(Discrepancy::Missing),
+        b"FDCA" => Some(Discrepancy::Found),
+        _ => None,
+    }
+}
+
+/// A date, perhaps with a time.
+fn flight_day(text: &[u8]) -> Option<FlightDay>
+    ensures { result ≡ day_of text.now }
+{
+    if text.len() == 5 {
+        let date = DayMonth::read(text)?;
+        Some(FlightDay { date, minute: None })
+    } else {
+        let at = DayTime::read(text)?;
+        Some(FlightDay {
+            date: at.date,
+            minute: Some(at.minute),
+        })
+    }
+}
+
+/// The first field of a text, and all that follows the slash behind it; nothing where there is no slash.
+#[tactic(auto, using(crate::proofs::Cuts::joined_again))]
+fn first_field(text: &[u8]) -> (&[u8], &[u8])
+    ensures first { fields text.now ≡ result.0.now ∷ drop 1 (fields text.now) }
+    ensures rest { result.1.now ≡ join_with_byte 47 (drop 1 (fields text.now)) }
+{
+    match cut(text) {
+        Some(parts) => parts,
+        None => (text, &[]),
+    }
+}
+
+/// RCS, NFD or DLV, by its fields.
+fn handled_by(
+    code: &[u8],
+    at: &[u8],
+    airport: &[u8],
+    quantity: &[u8],
+    name: &[u8],
+) -> Option<Status>
+    ensures { option_map reading_of result ≡ handled_by code.now at.now airport.now quantity.now name.now }
+{
+    let event = handling(code)?;
+    let at = DayTime::read(at)?;
+    let airport = Airport::read(airport)?;
+    let quantity = read_quantity(quantity)?;
+    let name = Name::read(name)?;
+    Some(Status::Handled {
+        event,
+        at,
+        airport,
+        quantity,
+        name,
+    })
+}
+
+/// A line of the layout of RCS, NFD and DLV.
+fn handled(line: &[u8]) -> Option<Status>
+    ensures { option_map reading_of result ≡ handled_of (fields line.now) }
+{
+    let (code, rest) = cut(line)?;
+    let (at, rest) = cut(rest)?;
+    let (airport, rest) = cut(rest)?;
+    let (quantity, name) = first_field(rest);
+    handled_by(code, at, airport, quantity, name)
+}
+
+/// RCF, by its fields.
+fn received_by(
+    code: &[u8],
+    flight: &[u8],
+    at: &[u8],
+    airport: &[u8],
+    quantity: &[u8],
+) -> Option<Status>
+    ensures { option_map reading_of result ≡ received_by code.now flight.now at.now airport.now quantity.now }
+{
+    if code != b"RCF".as_slice() {
+        return None;
+    }
+    let flight = Flight::read(flight)?;
+    let at = DayTime::read(at)?;
+    let airport = Airport::read(airport)?;
+    let quantity = read_quantity(quantity)?;
+    Some(Status::ReceivedFromFlight {
+        flight,
+        at,
+        airport,
+        quantity,
+    })
+}
+
+/// A line of the layout of RCF.
+fn received(line: &[u8]) -> Option<Status>
+    ensures { option_map reading_of result ≡ received_of (fields line.now) }
+{
+    let code = cut(line)?;
+    let flight = cut(code.1)?;
+    let at = cut(flight.1)?;
+    let airport = cut(at.1)?;
+    match cut(airport.1) {
+        Some(_) => None,
+        None => received_by(code.0, flight.0, at.0, airport.0, airport.1),
+    }
+}
+
+/// The two airports of a route such as `FRAJFK`.
+fn route(text: &[u8]) -> Option<(Airport, Airport)>
+    ensures { result ≡ route_of text.now }
+{
+    let (from, to) = text.split_at_checked(3)?;
+    let (from, to) = (Airport::read(from)?, Airport::read(to)?);
+    Some((from, to))
+}
+
+/// BKD, MAN or DEP, by its fields.
+fn carried_by(
+    code: &[u8],
+    flight: &[u8],
+    day: &[u8],
+    stations: &[u8],
+    quantity: &[u8],
+) -> Option<Status>
+    ensures { option_map reading_of result ≡ carried_by code.now flight.now day.now stations.now quantity.now }
+{
+    let event = carriage(code)?;
+    let flight = Flight::read(flight)?;
+    let day = flight_day(day)?;
+    let (from, to) = route(stations)?;
+    let quantity = read_quantity(quantity)?;
+    Some(Status::Carried {
+        event,
+        flight,
+        day,
+        from,
+        to,
+        quantity,
+    })
+}
+
+/// A line of the layout of BKD, MAN and DEP. What stands behind its quantity is not read.
+fn carried(line: &[u8]) -> Option<Status>
+    ensures { option_map reading_of result ≡ carried_of (fields line.now) }
+{
+    let (code, rest) = cut(line)?;
+    let (flight, rest) = cut(rest)?;
+    let (day, rest) = cut(rest)?;
+    let (stations, rest) = cut(rest)?;
+    let (quantity, _) = first_field(rest);
+    carried_by(code, flight, day, stations, quantity)
+}
+
+/// DIS, by its fields.
+fn differs_by(
+    code: &[u8],
+    flight: &[u8],
+    day: &[u8],
+    airport: &[u8],
+    what: &[u8],
+    quantity: &[u8],
+) -> Option<Status>
+    ensures { option_map reading_of result ≡ differs_by code.now flight.now day.now airport.now what.now quantity.now }
+{
+    if code != b"DIS".as_slice() {
+        return None;
+    }
+    let flight = Flight::read(flight)?;
+    let day = flight_day(day)?;
+    let airport = Airport::read(airport)?;
+    let discrepancy = discrepancy(what)?;
+    let quantity = read_quantity(quantity)?;
+    Some(Status::Differs {
+        flight,
+        day,
+        airport,
+        discrepancy,
+        quantity,
+    })
+}
+
+/// A line of the layout of DIS.
+fn differs(line: &[u8]) -> Option<Status>
+    ensures { option_map reading_of result ≡ differs_of (fields line.now) }
+{
+    let code = cut(line)?;
+    let flight = cut(code.1)?;
+    let day = cut(flight.1)?;
+    let airport = cut(day.1)?;
+    let what = cut(airport.1)?;
+    match cut(what.1) {
+        Some(_) => None,
+        None => differs_by(code.0, flight.0, day.0, airport.0, what.0, what.1),
+    }
+}
+
+/// What a line tells, where it is of one of these layouts.
+fn status(line: &[u8]) -> Option<Status>
+    ensures { option_map reading_of result ≡ status_of line.now }
+{
+    if let Some(status) = handled(line) {
+        return Some(status);
+    }
+    if let Some(status) = received(line) {
+        return Some(status);
+    }
+    if let Some(status) = carried(line) {
+        return Some(status);
+    }
+    differs(line)
+}
+
+/// A line of a message as it joins the trail.
+fn status_line<'a>(text: &Token<'a>) -> StatusLine<'a>
+    ensures text { result.text ≡ text.now }
+    ensures read { IsRead result }
+{
+    StatusLine {
+        text: *text,
+        status: status(text.text),
+    }
+}
+
+/// A line joins the trail.
+fn join<'a>(trail: &mut Vec<StatusLine<'a>>, text: &Token<'a>) -> Result<(), AllocError>
+    ensures texts { OnOk result (map (λ l. l.text) trail.new.items ≡ map (λ l. l.text) trail.old.items ++ text.now ∷ []) }
+    ensures read { OnOk result (All IsRead trail.old.items → All IsRead trail.new.items) }
+{
+    let line = status_line(text);
+    trail.extend_from_slice(slice::from_ref(&line))
+}
+
+/// The lines that join the trail.
+fn trail<'a>(alloc: Global, lines: &[Token<'a>]) -> Result<Vec<StatusLine<'a>>, AllocError>
+    ensures texts { IfOk result (λ trail. map (λ l. l.text) trail.items ≡ lines.now) }
+    ensures read { IfOk result (λ trail. All IsRead trail.items) }
+{
+    let mut trail = Vec::new(alloc);
+    for text in lines {
+        join(&mut trail, text)?;
+    }
+    Ok(trail)
+}
+
+/// A fault of a line.
+fn fault(line: u32, why: Why) -> TextFault
+    ensures { result ≡ fault_at line why }
+{
+    TextFault { line, why }
+}
+
+/// The message that lines are.
+///
+/// # Errors
+/// The first line that is faulty: `Head` where the first isn't `FSU/` and one to three digits; for the second line those
+/// of a consignment line. `Ending`, at the last line, where there is no second or no third. `Memory` of line 0 says
+/// nothing of the lines.
+pub fn read<'a>(alloc: Global, lines: &Lines<'a>) -> Result<Fsu<'a>, TextFault>
+    ensures read { IfOk result (λ m. IsFsu (line_texts lines.now) (update_of m)) }
+    ensures statuses { IfOk result AreRead }
+    ensures fault { IfErr result (IsFaultOf (fsu_fault (line_texts lines.now))) }
+    ensures spans { IfOk result (HasFsuSpans lines.now) }
+{
+    let lines = lines.lines.as_slice();
+    if lines.is_empty() {
+        return Err(fault(0, Why::Ending));
+    }
+    if !is_head(b"FSU", lines[0].text) {
+        return Err(fault(1, Why::Head));
+    }
+    if lines.len() < 2 {
+        return Err(fault(1, Why::Ending));
+    }
+    let consignment = match read_consignment(lines[1].text) {
+        Ok(consignment) => consignment,
+        Err(why) => return Err(fault(2, why)),
+    };
+    if lines.len() < 3 {
+        return Err(fault(2, Why::Ending));
+    }
+    let (_, behind) = lines.split_at(2);
+    match trail(alloc, behind) {
+        Ok(trail) => Ok(Fsu { consignment, trail }),
+        Err(_) => Err(fault(0, Why::Memory)),
+    }
+}

@@ -1,0 +1,90 @@
+//! What the lines of a status update tell.
+
+ghost use Rattle.std.specs.Prelude.{◌<◌, IfSome};
+ghost use Rattle.fsu_text.specs.Status.{Day};
+
+use imp_fields::{Airport, DayMonth, DayTime, Discrepancy, Flight, Name, Quantity, Token};
+use std::marker::Model;
+
+/// What was done with goods at a station.
+#[derive(Clone, Copy, Debug, PartialEq, Eq)]
+pub enum Handling {
+    /// RCS, received from the shipper or an agent.
+    ReceivedFromShipper,
+    /// NFD, the consignee was notified.
+    Notified,
+    /// DLV, delivered.
+    Delivered,
+}
+
+/// What was done with goods and a flight.
+#[derive(Clone, Copy, Debug, PartialEq, Eq)]
+pub enum Carriage {
+    /// BKD, booked.
+    Booked,
+    /// MAN, manifested.
+    Manifested,
+    /// DEP, departed.
+    Departed,
+}
+
+/// A date without its year, and perhaps a minute of that day.
+#[derive(Clone, Copy, Debug, PartialEq, Eq)]
+pub struct FlightDay {
+    pub date: DayMonth,
+    pub minute: Option<u16>,
+}
+
+impl Model for FlightDay {
+    ghost Value = { Day };
+
+    ghost view = { λ d. record { date = d.date; minute = d.minute } };
+
+    ghost invariant = { λ d. IfSome d.minute (λ m. m < 1440) };
+
+    ghost inverse = { λ d. record { date = d.date; minute = d.minute } };
+}
+
+/// A status line of a known layout.
+#[derive(Clone, Copy, Debug, PartialEq, Eq)]
+pub enum Status {
+    /// RCS, NFD or DLV. An absent name is empty.
+    Handled {
+        event: Handling,
+        at: DayTime,
+        airport: Airport,
+        quantity: Quantity,
+        name: Name,
+    },
+    /// RCF, received from a flight.
+    ReceivedFromFlight {
+        flight: Flight,
+        at: DayTime,
+        airport: Airport,
+        quantity: Quantity,
+    },
+    /// BKD, MAN or DEP.
+    Carried {
+        event: Carriage,
+        flight: Flight,
+        day: FlightDay,
+        from: Airport,
+        to: Airport,
+        quantity: Quantity,
+    },
+    /// DIS with the code OFLD, MSCA or FDCA.
+    Differs {
+        flight: Flight,
+        day: FlightDay,
+        airport: Airport,
+        discrepancy: Discrepancy,
+        quantity: Quantity,
+    },
+}
+
+/// A line behind the consignment line: as it stands, and read where its layout is known.
+#[derive(Clone, Copy, Debug)]
+pub struct StatusLine<'a> {
+    pub text: Token<'a>,
+    pub status: Option<Status>,
+}
