@@ -24,6 +24,13 @@ impl PlainRows {
         }
     }
 
+    /// Who holds a number.
+    pub fn get(&self, number: &Awb) -> Option<Holder>
+        ensures { result ≡ holders_of self.now number.now }
+    {
+        self.by_number.get(&number.key()).copied()
+    }
+
     /// A second map with the same holders.
     pub fn try_clone(&self) -> Result<PlainRows, AllocError>
         ensures { IfOk result (λ copy. holders_of copy ≡ holders_of self.now) }
@@ -62,7 +69,7 @@ impl StockRows for PlainRows {
     ghost nothing_goes_on = { λ a b c first second. tt };
 
     fn holder(&mut self, number: &Awb) -> Result<Option<Holder>, AllocError> {
-        Ok(self.by_number.get(&number.key()).copied())
+        Ok(self.get(number))
     }
 
     fn uniform(&mut self, run: &Run, test: &Test) -> Result<Option<Awb>, AllocError> {

@@ -1,13 +1,16 @@
 -- One row more.
-use Rattle.std.proofs.Common.{arith, ℕ, ◌+◌, ◌≡◌, ◌∙◌, sym, refl, ap, Bool, true, false, ◌&&◌, List, [], ◌∷◌, ◌++◌, append_assoc, length, Option, Some, None, IfSome, option_map}
+use Rattle.std.proofs.Common.{arith, ℕ, ◌+◌, ◌≡◌, ◌∙◌, sym, refl, ap, Bool, true, false, ◌&&◌, List, [], ◌∷◌, ◌++◌, append_assoc, length, Option, Some, None, IfSome, option_map, inl, inr}
 use Rattle.station_core.specs.Step.{State}
+use Rattle.csv.specs.declared.error.ErrorKind.{ErrorKind}
+use Rattle.csv.specs.declared.error.ErrorKind.TheVariants as kind
 use Rattle.csv.specs.declared.parser.State.TheVariants as st
 use Rattle.csv.specs.declared.reader.Reader.{Reader}
 use Rattle.csv.specs.Reading.{Reached, ReadRecord, default_config, source_of, strip_bom}
 use Rattle.csv.proofs.ReadFacts.{rows-end, rows-more}
+use Rattle.cargo_desk.specs.declared.stock.RunFault.{RunFault}
 use Rattle.cargo_desk.specs.Lines.{Row, row_line, row_good, row_after, lines_from, rows_good, rows_after, stock_rows}
-use Rattle.cargo_desk.specs.Ended.{IsAnswered, HasRun}
-use Rattle.cargo_desk.proofs.Records.{all_records}
+use Rattle.cargo_desk.specs.Ended.{IsAnswered, IsStopped, HasRun, HasStopped, AreFirst, IsReadersFault, reader_fault}
+use Rattle.cargo_desk.proofs.Records.{all_records, first_records}
 
 after_more : (s : State) (rows : List Row) (row : Row) → rows_after s (rows ++ row ∷ []) ≡ row_after (rows_after s rows) row
 after_more s [] row = refl
@@ -84,3 +87,23 @@ pub known_end : {R : Type 0} (rem : R → Option (List ℕ)) (a b : Reader R) (f
 known_end rem a b f rows None config r h = tt
 known_end rem a b f rows (Some bytes) config r h =
     all_records default_config (strip_bom bytes) rows (a.state, h.0, h.2, rows-end rem a b f default_config h.0 config h.1 r)
+
+pub known_first : {R : Type 0} (rem : R → Option (List ℕ)) (rdr : Reader R) (rows : List Row) (known : Option (List ℕ))
+    → IfSome known (Known rem rdr rows) → IfSome known (AreFirst rows)
+known_first rem rdr rows None h = tt
+known_first rem rdr rows (Some bytes) h = first_records default_config (strip_bom bytes) rows rdr.state h.0 h.2
+
+pub readers_fault : (k : ErrorKind) → IsReadersFault (reader_fault k)
+readers_fault (kind.Io e) = inl refl
+readers_fault (kind.Utf8 pos err) = inr refl
+readers_fault (kind.UnequalLengths pos expected len) = inr refl
+readers_fault (kind.Serialize why) = inr refl
+readers_fault (kind.Deserialize pos err) = inr refl
+readers_fault kind.OutOfMemory = inr refl
+
+-- the row after those that were answered stops the run
+pub stops_more : (s : State) (rows : List Row) (row : Row) (number : ℕ) (good : Bool) (e : RunFault) (before between after : List ℕ) (kept keeps : State → Type 0) (may_find : Option State → Type 0)
+    → number ≡ length rows → HasRun s rows good before between kept → IsStopped (number + 1) (rows_after s rows) row e between after keeps may_find
+    → HasStopped s rows (Some row) e before after keeps may_find
+stops_more s rows row number good e before between after kept keeps may_find counted run stopped =
+    rw (← counted, ← run.lines) stopped

@@ -105,3 +105,19 @@ pub all_records : (cfg : Config) (xs : List ℕ) (rows : List (List (List ℕ)))
 all_records cfg xs rows h =
     let few = reached_bound cfg st.StartRecord xs rows h.0 h.1 refl h.2 in
     sym (records_from-reached cfg (length xs + 1) st.StartRecord xs rows h.0 h.1 (omega (arith, few)) h.2 h.3)
+
+-- the rows so far are the first records, given turns enough
+reached_first : (cfg : Config) (n : ℕ) (s : State) (xs : List ℕ) (rows : List (List (List ℕ))) (s2 : State) (ys : List ℕ)
+    → length rows ≤ n → Reached cfg s xs rows s2 ys → (more : List (List (List ℕ))) × (records_from cfg n s xs ≡ rows ++ more)
+unfolding Reached records_from
+reached_first cfg n s xs [] s2 ys few h = (records_from cfg n s xs, refl)
+reached_first cfg zero s xs (r ∷ rows) s2 ys few h = absurd (omega (arith, few))
+reached_first cfg (suc n) s xs (r ∷ rows) s2 ys few h =
+    let rest = reached_first cfg n h.0.1 h.0.2 rows s2 ys (omega (arith, few)) h.3 in
+    (rest.0, rw (h.1, h.2) (ap (λ more. h.0.0 ∷ more) rest.1))
+
+pub first_records : (cfg : Config) (xs : List ℕ) (rows : List (List (List ℕ))) (s2 : State) (ys : List ℕ)
+    → Reached cfg st.StartRecord xs rows s2 ys → (more : List (List (List ℕ))) × (records cfg xs ≡ rows ++ more)
+first_records cfg xs rows s2 ys h =
+    let few = reached_bound cfg st.StartRecord xs rows s2 ys refl h in
+    reached_first cfg (length xs + 1) st.StartRecord xs rows s2 ys (omega (arith, few)) h

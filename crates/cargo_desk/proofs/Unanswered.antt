@@ -1,5 +1,6 @@
 -- A row that the keeper didn't answer.
-use Rattle.std.proofs.Common.{◌≡◌, ℕ, List, Option, Some, Err, sym, ◌∙◌, ap, ◌⊎◌, inl, inr, ⊎_elim}
+use Rattle.std.specs.Result.{IsErrAnd}
+use Rattle.std.proofs.Common.{◌≡◌, ℕ, List, Option, Some, Result, Ok, Err, IfErr, subst, sym, ◌∙◌, ap, ◌⊎◌, inl, inr, ⊎_elim}
 use Rattle.station_core.specs.declared.answer.ActFault.{ActFault}
 use Rattle.station_core.specs.declared.answer.ActFault.TheVariants as act
 use Rattle.station_core.specs.declared.command.Input.{Input}
@@ -27,3 +28,8 @@ pub found_row : (s : State) (row : Row) (asked : List ℕ × Command) (e : ActFa
 found_row s row asked e found asks left =
     let after : asked_after s (Some asked) ≡ row_after s row = ap (asked_after s) (sym asks) in
     ⊎_elim (λ before. inl before) (λ store. inr (store.0, store.1 ∙ ap Some after)) (found_then s (Keyed asked.0 asked.1) e found left)
+
+-- an error that is passed on
+pub passed_on : {T E : Type 0} (r : Result T E) (e : E) (P : E → Type 0) → IsErrAnd r (λ x. x ≡ e) → P e → IfErr r P
+passed_on (Ok x) e P same told = tt
+passed_on (Err x) e P same told = subst P (sym same) told

@@ -1,6 +1,9 @@
 //! The cargo desk of one air cargo station.
 #![tactic(auto)]
 
+ghost use Rattle.std.specs.Prelude.{◌≡◌};
+ghost use Rattle.cargo_desk.specs.Words.{fault_text, asks_for_stock};
+
 mod row;
 mod run;
 mod stock;
@@ -17,7 +20,9 @@ use stock::RunFault;
 const USAGE: &str = "usage: cargo_desk stock < LIST";
 
 /// How a fault is named.
-fn fault_name(fault: RunFault) -> &'static str {
+fn fault_name(fault: RunFault) -> &'static str
+    ensures { result.now ≡ fault_text fault }
+{
     match fault {
         RunFault::Read => "read",
         RunFault::Write => "write",
@@ -27,7 +32,9 @@ fn fault_name(fault: RunFault) -> &'static str {
 }
 
 /// Whether the words ask for a stock list to be answered.
-fn asks_for_stock(words: &[String]) -> bool {
+fn asks_for_stock(words: &[String]) -> bool
+    ensures { result ≡ asks_for_stock words.now }
+{
     match words {
         [_program, verb] => verb.as_str() == "stock",
         _ => false,

@@ -1,6 +1,7 @@
-ghost use Rattle.std.specs.Prelude.{◌≡◌, false, List, OnOk, IfOk, IfSome};
+ghost use Rattle.std.specs.Prelude.{◌≡◌, false, List, Option, OnOk, IfOk, IfErr, IfSome};
+ghost use Rattle.csv.specs.Reading.{error_kind};
 ghost use Rattle.station_core.specs.Step.{State};
-ghost use Rattle.cargo_desk.specs.Ended.{HasRun};
+ghost use Rattle.cargo_desk.specs.Ended.{reader_fault, HasRun, HasStopped, rows_read, AreFirst};
 ghost use Rattle.cargo_desk.specs.Lines.{Row, stock_rows};
 
 use crate::stock::{RunFault, answer_row};
@@ -10,7 +11,9 @@ use std::alloc::Global;
 use std::io::Read;
 
 /// Why a run ends where no row was read.
-fn reader_fault(e: Error) -> RunFault {
+fn reader_fault(e: Error) -> RunFault
+    ensures { result ≡ reader_fault (error_kind e) }
+{
     match e.kind() {
         ErrorKind::Io(_) => RunFault::Read,
         _ => RunFault::Memory,
@@ -32,6 +35,12 @@ pub fn run_stock<K: Keeper, R: Read + Drop, W: ByteOut>(
     ensures ran { (s : State) → K.keeps keeper.old s → K.is_broken keeper.old ≡ false → K.is_sound keeper.new
         → IfOk result (λ good. (rows : List Row) × IfSome (R.remaining reader) (λ bytes. rows ≡ stock_rows bytes)
         × HasRun s rows good (W.taken writer.old).bytes (W.taken writer.new).bytes (K.keeps keeper.new)) }
+
+    // At a fault each row before the last that was read has its line. The last one acted, and a beginning of its line
+    // was written, or it did not, or the store failed within it, and nothing of its line was written.
+    ensures stopped { (s : State) → K.keeps keeper.old s → K.is_broken keeper.old ≡ false → K.is_sound keeper.new
+        → IfErr result (λ e. (rows : List Row) × ((next : Option Row) × (IfSome (R.remaining reader) (AreFirst (rows_read rows next))
+        × HasStopped s rows next e (W.taken writer.old).bytes (W.taken writer.new).bytes (K.keeps keeper.new) (K.may_find keeper.new)))) }
 {
     let rdr = ReaderBuilder::new()
         .has_headers(false)

@@ -1,4 +1,7 @@
+mod Examples
+mod KeptReplies
 mod Keys
 mod Runs
+mod TextLaws
 mod Walks
 mod Written

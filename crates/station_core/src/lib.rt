@@ -7,6 +7,9 @@ mod command;
 mod ends;
 mod keeper;
 mod key;
+mod laws;
+mod plain;
+mod stock;
 mod tally;
 mod texts;
 
@@ -16,6 +19,9 @@ pub use command::{Command, Input};
 pub use ends::{ByteIn, ByteOut, Counted, ReadFault, WriteFault, send};
 pub use keeper::Keeper;
 pub use key::Key;
+pub use laws::command_text_law;
+pub use plain::PlainStation;
+pub use stock::change_stock;
 pub use texts::{command_text, refusal_text, reply_text};
 
 #[cfg(test)]

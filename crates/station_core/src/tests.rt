@@ -1,6 +1,8 @@
 use super::*;
-use agent_stock::{AgentCode, Order, Run};
+use agent_stock::{AgentCode, Holder, Order, Run};
 use awb_number::Awb;
+use imp_fields::Airport;
+use std::process::Abort;
 use std::test::*;
 
 fn run(serial: u32, count: u32) -> Result<Run, Fail> {
@@ -111,4 +113,113 @@ fn a_full_writer_tells_how_many_bytes_went_out(rt: HostRuntime) {
     let mut room = [0u8; 4];
     let mut writer = Counted::new(room.as_mut_slice());
     assert_eq!(rt; send(&mut writer, b"ok 10\n"), Err(4));
+}
+
+fn station(rt: &HostRuntime) -> Result<PlainStation, Fail> {
+    let here = Airport::read(b"FRA").ok_or("an airport")?;
+    Ok(PlainStation::new(rt.alloc(), here))
+}
+
+fn asked(key: &str, order: Order) -> Result<Input, Fail> {
+    let key = Key::read(key.as_bytes()).ok_or("a key")?;
+    Ok(Input::Keyed(key, Command::Stock(order)))
+}
+
+fn take_in(key: &str, serial: u32, count: u32) -> Result<Input, Fail> {
+    asked(key, Order::TakeIn(run(serial, count)?))
+}
+
+fn issue(key: &str, serial: u32, count: u32, code: &str) -> Result<Input, Fail> {
+    asked(key, Order::Issue(run(serial, count)?, agent(code)?))
+}
+
+fn give_back(key: &str, serial: u32, count: u32, code: &str) -> Result<Input, Fail> {
+    asked(key, Order::GiveBack(run(serial, count)?, agent(code)?))
+}
+
+fn done(count: u32) -> Answer {
+    Answer::Done(Reply { count })
+}
+
+fn refused(number: u16) -> Answer {
+    Answer::Refused(Refusal::of_order(number, None))
+}
+
+fn refused_for(number: u16, lowest: &[u8; 12]) -> Result<Answer, Fail> {
+    let lowest = Awb::read(lowest)?;
+    Ok(Answer::Refused(Refusal::of_order(number, Some(lowest))))
+}
+
+/// A morning's inputs: ten numbers come, three go to an agent and come back; a repeat, and refusals.
+fn morning() -> Result<[Input; 11], Fail> {
+    Ok([
+        take_in("k1", 1234567, 10)?,
+        issue("k2", 1234570, 3, "ACME")?,
+        issue("k2", 1234570, 3, "ACME")?,
+        issue("k2", 1234570, 4, "ACME")?,
+        issue("k3", 1234572, 2, "BETA")?,
+        asked("k7", Order::Void(run(1234567, 1)?))?,
+        give_back("k4", 1234570, 3, "BETA")?,
+        give_back("k4", 1234570, 3, "ACME")?,
+        take_in("k5", 9999990, 11)?,
+        take_in("k5", 9999990, 10)?,
+        take_in("k8", 1234576, 2)?,
+    ])
+}
+
+/// What they are answered.
+fn morning_answers() -> Result<[Answer; 11], Fail> {
+    Ok([
+        done(10),
+        done(3),
+        done(3),
+        refused(501),
+        refused_for(102, b"020-12345723")?,
+        done(1),
+        refused_for(103, b"020-12345701")?,
+        done(3),
+        refused(105),
+        done(10),
+        refused_for(101, b"020-12345760")?,
+    ])
+}
+
+fn holders(rt: &impl Abort, station: &mut PlainStation) -> Result<(), Fail> {
+    for (serial, want) in [
+        (1234566, None),
+        (1234567, Some(Holder::Void)),
+        (1234568, Some(Holder::Desk)),
+        (1234570, Some(Holder::Desk)),
+        (1234576, Some(Holder::Desk)),
+        (1234577, None),
+        (9999989, None),
+        (9999990, Some(Holder::Desk)),
+        (9999999, Some(Holder::Desk)),
+    ] {
+        let number = Awb::new(20, serial).ok_or("a number")?;
+        assert_eq!(rt; station.holder(&number), Ok(want), "{serial}");
+    }
+    Ok(())
+}
+
+#[test]
+fn a_morning_on_a_plain_station(rt: HostRuntime) -> Result<(), Fail> {
+    let mut station = station(&rt)?;
+    let inputs = morning()?;
+    let answers = morning_answers()?;
+    for (input, want) in inputs.iter().zip(answers.iter()) {
+        assert_eq!(rt; answer_one(&mut station, input), Ok(*want));
+    }
+    holders(&rt, &mut station)
+}
+
+#[test]
+fn a_morning_at_once(rt: HostRuntime) -> Result<(), Fail> {
+    let mut station = station(&rt)?;
+    let inputs = morning()?;
+    let answers = morning_answers()?;
+    let told = act_all(rt.alloc(), &mut station, inputs.as_slice());
+    assert_eq!(rt; told.fault, None);
+    assert_eq!(rt; told.answers.as_slice(), answers.as_slice());
+    holders(&rt, &mut station)
 }

@@ -1,12 +1,8 @@
 -- A station's store between two calls, and what a call does to it.
-use Rattle.std.specs.Prelude.{◌≡◌, ◌⊎◌, true, Result, Err}
-use Rattle.agent_stock.specs.Stock.{Holders}
-use Rattle.agent_stock.specs.declared.stock.StockFault.{StockFault}
-use Rattle.agent_stock.specs.declared.stock.StockFault.TheVariants as stock
-use Rattle.station_core.specs.declared.answer.Refusal.{Refusal}
+use Rattle.std.specs.Prelude.{◌≡◌, ◌⊎◌, true}
 use Rattle.station_core.specs.declared.answer.Answer.{Answer}
 use Rattle.station_core.specs.declared.command.Input.{Input}
-use Rattle.station_core.specs.Step.{State, step, waybill_or_nothing}
+use Rattle.station_core.specs.Step.{State, step}
 use Rattle.station_rows.specs.Tables.{Tables}
 use Rattle.station_rows.specs.Store.{View, IsAtRest}
 use Rattle.station_tables.specs.Meaning.{meaning_of, IsLawful}
@@ -51,8 +47,3 @@ pub record IsAfter (before : State) (input : Input) (t : Tables) : Type 0 where
 pub record MayEndBy (old new : View) (after : Tables) : Type 0 where
   pub sound : new.IsSound → old.IsSound
   pub crash : new.IsSound → (t : Tables) → new.may_leave t → old.may_leave t ⊎ (t ≡ after)
-
--- what a fault of the stock says of a command's effect
-abbrev pub RefusesBy : {F : Type 0} → Result Holders Refusal → StockFault F → Type 0
-RefusesBy effect (stock.Refused number lowest) = effect ≡ Err (record { number = number; detail = waybill_or_nothing lowest })
-RefusesBy effect (stock.Rows _) = Unit {0}

@@ -1,37 +1,19 @@
 ghost use Rattle.std.specs.Prelude.{◌≡◌, ◌⊎◌, pos, true, IsTrue, Some, None, IfOk, IfErr, OnOk};
 ghost use Rattle.std.specs.FinMap.{get};
-ghost use Rattle.agent_stock.specs.Stock.{UnlessRows};
 ghost use Rattle.station_core.specs.Key.{is_key};
-ghost use Rattle.station_core.specs.Step.{effect, repeated, waybill_or_nothing};
+ghost use Rattle.station_core.specs.Step.{repeated};
 ghost use Rattle.station_core.specs.Texts.{command_text};
 ghost use Rattle.station_core.specs.declared.command.Input.TheVariants.{Keyed};
 ghost use Rattle.station_rows.specs.Meant.{kept_meant, with_kept};
-ghost use Rattle.station_rows.specs.Store.{IsAtRest, Survives};
+ghost use Rattle.station_rows.specs.Store.{IsAtRest};
 ghost use Rattle.station_rows.specs.Tables.{Tables};
-ghost use Rattle.station_tables.specs.Meaning.{meaning_of, holders_in, keeping_in};
-ghost use Rattle.station_tables.specs.Steady.{IsReady, IsSteady, IsAsBefore, IsBeside, RefusesBy, Serves, IsAfter, MayEndBy};
+ghost use Rattle.station_tables.specs.Meaning.{meaning_of, keeping_in};
+ghost use Rattle.station_tables.specs.Steady.{IsSteady, Serves, IsAfter, MayEndBy};
 
 use crate::desk::Desk;
-use agent_stock::{StockFault, carry_out};
-use awb_number::Awb;
-use station_core::{Answer, Command, Detail, Key, Refusal, Reply};
+use agent_stock::StockFault;
+use station_core::{Answer, Command, Detail, Key, Refusal, Reply, change_stock};
 use station_rows::{KeptRow, StoreFault, TableStore};
-
-/// A refusal of an order, with the lowest number that fails.
-fn refusal(number: u16, lowest: Option<Awb>) -> Refusal
-    ensures { result ≡ record { number = number; detail = waybill_or_nothing lowest } }
-{
-    match lowest {
-        None => Refusal {
-            number,
-            detail: Detail::Nothing,
-        },
-        Some(awb) => Refusal {
-            number,
-            detail: Detail::Waybill(awb),
-        },
-    }
-}
 
 /// The answer to a key that is known.
 fn repeat(kept: &KeptRow, text: &str) -> Result<Answer, StoreFault>
@@ -46,23 +28,6 @@ fn repeat(kept: &KeptRow, text: &str) -> Result<Answer, StoreFault>
     match u32::try_from(kept.count) {
         Ok(count) => Ok(Answer::Done(Reply { count })),
         Err(_) => Err(StoreFault),
-    }
-}
-
-/// What the command does to the stock, in a transaction that it begins where it does something.
-fn change<S: TableStore>(
-    desk: &mut Desk<S>,
-    command: &Command,
-) -> Result<(), StockFault<StoreFault>>
-    requires { (S.view desk.old.store).IsSound → IsReady (S.view desk.old.store) }
-    ensures accepted { (S.view desk.new.store).IsSound → OnOk result (effect (holders_in (S.view desk.old.store).now.stock) command.now ≡ Ok (holders_in (S.view desk.new.store).now.stock)) }
-    ensures beside { (S.view desk.new.store).IsSound → OnOk result (IsBeside (S.view desk.old.store) (S.view desk.new.store)) }
-    ensures refused { (S.view desk.new.store).IsSound → IfErr result (RefusesBy (effect (holders_in (S.view desk.old.store).now.stock) command.now)) }
-    ensures as_before { (S.view desk.new.store).IsSound → IfErr result (UnlessRows (IsAsBefore (S.view desk.old.store) (S.view desk.new.store))) }
-    ensures survives { Survives (S.view desk.old.store) (S.view desk.new.store) }
-{
-    match command {
-        Command::Stock(order) => carry_out(desk, order),
     }
 }
 
@@ -100,13 +65,15 @@ fn act_anew<S: TableStore>(
     ensures sound { (S.view desk.new.store).IsSound → (S.view desk.old.store).IsSound }
     ensures leaves { (S.view desk.new.store).IsSound → (t : Tables) → (S.view desk.new.store).may_leave t → (S.view desk.old.store).may_leave t ⊎ IsAfter (meaning_of (S.view desk.old.store).now) (Keyed key.now command.now) t }
 {
-    match change(desk, command) {
+    match change_stock(desk, command) {
         Ok(()) => {
             let count = command.count();
             keep(desk, key, text, count)?;
             Ok(Answer::Done(Reply { count }))
         }
-        Err(StockFault::Refused(number, lowest)) => Ok(Answer::Refused(refusal(number, lowest))),
+        Err(StockFault::Refused(number, lowest)) => {
+            Ok(Answer::Refused(Refusal::of_order(number, lowest)))
+        },
         Err(StockFault::Rows(fault)) => Err(fault),
     }
 }

@@ -1,7 +1,9 @@
-use Rattle.std.proofs.Common.{rules, arith, ◌∙◌, sym, refl, inl, inr, ◌+◌, ◌<◌, ◌≤◌, List, [], ◌∷◌, ◌++◌, Fits, w64}
+use Rattle.std.proofs.Common.{rules, arith, ◌∙◌, sym, refl, inl, inr, ◌+◌, ◌<◌, ◌≤◌, List, [], ◌∷◌, ◌++◌, Some, None, subst, Fits, w64}
+use Rattle.cargo_desk.specs.Ended.{IsReadersFault}
 use Rattle.csv.specs.Records.{fields_of}
 use Rattle.cargo_desk.specs.Lines.{Row, rows_after}
-use Rattle.cargo_desk.proofs.More.{append_nil, known_start, known_more, known_end, counted_more, run_more}
+use Rattle.cargo_desk.proofs.More.{append_nil, known_start, known_more, known_end, known_first, counted_more, run_more, readers_fault, stops_more}
+use Rattle.cargo_desk.proofs.Unanswered.{passed_on}
 use Rattle.cargo_desk.proofs.run.run_stock.Goals as goal
 
 pub loop-row-init : goal.loop-row-init
@@ -78,3 +80,26 @@ returns-clause-ran g c = λ s keeps works sound.
     let step = rw c.in-None.is at ((c.next.ensures.steps inv.left inv.trim).0 inv.ready) in
     let all = known_end g.R.Read.remaining c.loop-row.row-iterator.rdr c.next.new.self.rdr [] inv.rows.0 (g.R.Read.remaining c.args.reader) inv.config step inv.rows.2 in
     (inv.rows.0, all, inv.rows.3 s keeps works sound)
+
+pub returns-in-Err-clause-stopped : goal.returns-in-Err-clause-stopped
+returns-in-Err-clause-stopped g c = λ s keeps works sound.
+    let inv = c.loop-row.invariant in
+    let run = inv.rows.3 s keeps works sound in
+    (inv.rows.0, (None, (
+      known_first g.R.Read.remaining c.loop-row.row-iterator.rdr inv.rows.0 (g.R.Read.remaining c.args.reader) inv.rows.2,
+      (subst IsReadersFault (sym c.reader_fault.ensures) (readers_fault _), run.lines, run.state),
+    )))
+
+pub returns-in_err-accepted-in-Ok-clause-stopped : goal.returns-in_err-accepted-in-Ok-clause-stopped
+returns-in_err-accepted-in-Ok-clause-stopped g c = λ s keeps works sound.
+    let inv = c.loop-row.invariant in
+    let rows : List Row = inv.rows.0 in
+    let f : Row = fields_of c.in-Ok.row in
+    let step = rw (c.in-Some.is, c.in-Ok.is) at ((c.next.ensures.steps inv.left inv.trim).0 inv.ready) in
+    let run = inv.rows.3 s keeps works (c.answer_row.ensures.sound sound) in
+    let known = known_more g.R.Read.remaining c.loop-row.row-iterator.rdr c.next.new.self.rdr f rows (g.R.Read.remaining c.args.reader) inv.config step.0 inv.rows.2 in
+    let stopped = c.in_err-accepted-in-Ok.ensures.stopped (rows_after s rows) run.state (inv.works works) sound in
+    passed_on c.from_residual.result c.in_err-accepted-in-Ok.field-0.0 _ c.from_residual.ensures.1 (rows, (Some f, (
+      known_first g.R.Read.remaining c.next.new.self.rdr (rows ++ f ∷ []) (g.R.Read.remaining c.args.reader) known,
+      stops_more s rows f c.loop-row.number c.loop-row.good _ _ _ _ _ _ _ inv.rows.1 run stopped,
+    )))

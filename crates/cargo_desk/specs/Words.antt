@@ -1,0 +1,18 @@
+-- The words of the command line, and of a fault.
+use Rattle.std.specs.Prelude.{ℕ, Bool, false, List, [], ◌∷◌, codes, string_bytes}
+use Rattle.std.specs.declared.string.String.{String}
+use Rattle.std.specs.Str.{bytes_eq}
+use Rattle.cargo_desk.specs.declared.stock.RunFault.{RunFault}
+use Rattle.cargo_desk.specs.declared.stock.RunFault.TheVariants as fault
+
+-- what stands behind `fault` on standard error
+abbrev pub fault_text : RunFault → List ℕ
+fault_text fault.Read = codes "read"
+fault_text fault.Write = codes "write"
+fault_text fault.Memory = codes "memory"
+fault_text fault.Store = codes "store"
+
+-- the program's name, and the one word `stock`
+abbrev pub asks_for_stock : {A : Type 0} → List (String A) → Bool
+asks_for_stock (program ∷ verb ∷ []) = bytes_eq (string_bytes verb) (codes "stock")
+asks_for_stock _ = false

@@ -1,0 +1,10 @@
+//! What holds of the definitions.
+ghost use Rattle.std.specs.Prelude.{◌≡◌};
+ghost use Rattle.station_core.specs.Ranges.{IsCommand};
+ghost use Rattle.station_core.specs.Texts.{command_text};
+ghost use Rattle.station_core.specs.declared.command.Command.{Command};
+
+/// Commands with one text are one command: a key is known by its command's text alone.
+pub fn command_text_law()
+    ensures { (c d : Command) → IsCommand c → IsCommand d → command_text c ≡ command_text d → c ≡ d }
+{}
