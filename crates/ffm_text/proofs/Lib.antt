@@ -6,3 +6,4 @@ pub mod SeenLaws
 pub mod ToldLaws
 pub mod WrittenLaws
 pub mod SentAgain
+mod KnownLoads

@@ -7,6 +7,7 @@ ghost use Rattle.ffm_text.specs.Ffm.{Manifest, IsFfm, ffm_fault};
 
 mod cargo;
 mod flight_line;
+mod known;
 mod point;
 mod reading;
 #[cfg(test)]
@@ -16,7 +17,7 @@ mod writing;
 use awb_number::Awb;
 use imp_fields::{Airport, BookTenths, Consignment, DayMonth, Flight, Goods, PartNumber, Pieces};
 pub use reading::read;
-pub use writing::{write_ffm, written_law};
+pub use writing::write_ffm;
 
 /// A consignment line of a manifest, and the point at which its goods are unloaded. The source of the line's tokens is
 /// that line.

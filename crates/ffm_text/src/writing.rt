@@ -11,6 +11,7 @@ ghost use Rattle.ffm_text.specs.declared.Load.{Load};
 ghost use Rattle.ffm_text.specs.Written.{AreWritten, Begins, line_text, load_line, route_text, amount_text};
 
 use crate::Load;
+use crate::known::written_known;
 use imp_fields::{Airport, DayMonth, Flight, Goods, ShipmentCode, put_quantity};
 use std::alloc::AllocError;
 
@@ -161,7 +162,12 @@ pub fn write_ffm(
     requires count { length loads.now ≤ 500 }
     ensures ok { OnOk result (out.new.items ≡ out.old.items ++ sent_text (ffm_lines flight date here unload loads.now)) }
     ensures err { OnErr result (out.new.items ≡ out.old.items) }
+
+    // The lines that are sent are normal, and are read as what was written.
+    ensures normal { normal_lines (sent_text (ffm_lines flight date here unload loads.now)) ≡ Ok (ffm_lines flight date here unload loads.now) }
+    ensures read_again { IsFfm (ffm_lines flight date here unload loads.now) (manifest_written flight date here unload loads.now) }
 {
+    written_known(&flight, &date, &here, &unload, loads);
     let before = out.len();
     let written = put_manifest(out, flight, date, here, unload, loads);
     if written.is_err() {
@@ -169,12 +175,3 @@ pub fn write_ffm(
     }
     written
 }
-
-/// The lines of a manifest that is sent are normal lines of what is sent, and are read as what was written: of each flight,
-/// date and airports, and of up to 500 loads, as the types allow them.
-pub fn written_law()
-    ensures normal { (flight : Designator) (date : CalendarDay) (here unload : List ℕ) (loads : List Load) → AreWritten flight date here unload loads
-        → normal_lines (sent_text (ffm_lines flight date here unload loads)) ≡ Ok (ffm_lines flight date here unload loads) }
-    ensures read_again { (flight : Designator) (date : CalendarDay) (here unload : List ℕ) (loads : List Load) → AreWritten flight date here unload loads
-        → IsFfm (ffm_lines flight date here unload loads) (manifest_written flight date here unload loads) }
-{}

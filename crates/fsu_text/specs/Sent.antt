@@ -11,13 +11,6 @@ use Rattle.fsu_text.specs.declared.sent.SentStatus.{SentStatus}
 use Rattle.fsu_text.specs.declared.sent.SentStatus.TheVariants as sent
 use Rattle.fsu_text.specs.declared.sent.Update.{Update}
 
--- the flight that a status names, if it names one, is a designator
-abbrev pub NamesDesignator : SentStatus → Type 0
-NamesDesignator (sent.Handled what at name) = Unit {0}
-NamesDesignator (sent.ReceivedFromFlight flight at) = IsDesignator flight
-NamesDesignator (sent.Carried what flight date to) = IsDesignator flight
-NamesDesignator (sent.Differs what flight at) = IsDesignator flight
-
 -- each field of the status is one of its type's values
 abbrev pub IsSent : SentStatus → Type 0
 IsSent (sent.Handled what at name) = IsCalendarDay at.date × (at.minute < 1440) × IsTrue (is_name name)

@@ -3,7 +3,8 @@
 ghost use Rattle.std.specs.Prelude.{◌<◌, IsTrue};
 ghost use Rattle.imp_fields.specs.Airport.{is_airport};
 ghost use Rattle.imp_fields.specs.Date.{IsCalendarDay};
-ghost use Rattle.fsu_text.specs.Sent.{NamesDesignator, IsSent, IsDeclared, IsUpdate};
+ghost use Rattle.imp_fields.specs.Flight.{IsDesignator};
+ghost use Rattle.fsu_text.specs.Sent.{IsSent, IsDeclared, IsUpdate};
 
 use crate::status::Handling;
 use imp_fields::{
@@ -79,6 +80,13 @@ fn time_known(time: &DayTime)
     date_known(&time.date);
 }
 
+fn flight_known(flight: &Flight)
+    ensures { IsDesignator flight.now }
+{
+    let mut text = [0; 7];
+    let _len = flight.write(&mut text);
+}
+
 fn declared_known(of: &Consigned)
     ensures { IsDeclared of.now }
 {
@@ -90,24 +98,36 @@ fn declared_known(of: &Consigned)
 }
 
 fn status_known(status: &SentStatus)
-    ensures { NamesDesignator status.now → IsSent status.now }
+    ensures { IsSent status.now }
 {
     match status {
         SentStatus::Handled { at, name, .. } => {
             time_known(at);
             let _bytes = name.as_bytes();
         }
-        SentStatus::ReceivedFromFlight { at, .. } => time_known(at),
-        SentStatus::Carried { date, to, .. } => {
+        SentStatus::ReceivedFromFlight { flight, at } => {
+            flight_known(flight);
+            time_known(at);
+        }
+        SentStatus::Carried {
+            flight,
+            date,
+            to,
+            ..
+        } => {
+            flight_known(flight);
             date_known(date);
             airport_known(to);
         }
-        SentStatus::Differs { at, .. } => time_known(at),
+        SentStatus::Differs { flight, at, .. } => {
+            flight_known(flight);
+            time_known(at);
+        }
     }
 }
 
 pub(crate) fn update_known(update: &Update)
-    ensures { NamesDesignator update.now.status → IsUpdate update.now }
+    ensures { IsUpdate update.now }
 {
     declared_known(&update.of);
     status_known(&update.status);

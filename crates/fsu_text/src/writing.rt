@@ -8,7 +8,6 @@ ghost use Rattle.imp_fields.specs.Consignment.{consignment_text};
 ghost use Rattle.imp_fields.specs.NormalText.{normal_lines};
 ghost use Rattle.imp_fields.specs.Message.{sent_text};
 ghost use Rattle.fsu_text.specs.Status.{status_of, handling_code, carriage_code, discrepancy_code, name_tail};
-ghost use Rattle.fsu_text.specs.Sent.{NamesDesignator};
 ghost use Rattle.fsu_text.specs.Fsu.{IsFsu, fsu_lines, declared_cargo, amount_of, told_as, sent_status_text, sent_status_reading, update_written};
 ghost use Rattle.fsu_text.specs.declared.sent.SentStatus.TheVariants as sent;
 
@@ -281,9 +280,9 @@ pub fn write_fsu(out: &mut Vec<u8>, update: &Update) -> Result<(), AllocError>
     ensures err { OnErr result (out.new.items ≡ out.old.items) }
 
     // The lines that are sent are normal, and are read as what was written.
-    ensures normal { NamesDesignator update.now.status → normal_lines (sent_text (fsu_lines update.now)) ≡ Ok (fsu_lines update.now) }
-    ensures read_again { NamesDesignator update.now.status → IsFsu (fsu_lines update.now) (update_written update.now) }
-    ensures status { NamesDesignator update.now.status → status_of (sent_status_text update.now.status update.now) ≡ Some (sent_status_reading update.now.status update.now) }
+    ensures normal { normal_lines (sent_text (fsu_lines update.now)) ≡ Ok (fsu_lines update.now) }
+    ensures read_again { IsFsu (fsu_lines update.now) (update_written update.now) }
+    ensures status { status_of (sent_status_text update.now.status update.now) ≡ Some (sent_status_reading update.now.status update.now) }
 {
     update_known(update);
     let mut text = [0; 128];

@@ -73,6 +73,7 @@ impl Flight {
     pub fn write(&self, out: &mut [u8; 7]) -> usize
         ensures bound { result ≤ 7 }
         ensures text { take result out.new ≡ flight_text self.now }
+        ensures designator { IsDesignator self.now }
     {
         let at = put(out, 0, self.carrier[0]);
         let at = put(out, at, self.carrier[1]);

@@ -1,0 +1,9 @@
+use Rattle.std.proofs.Common.{ℕ, ◌<◌}
+use Rattle.std.specs.Prelude.{slice_index_or}
+use Rattle.ffm_text.specs.declared.Load.{Load}
+use Rattle.ffm_text.specs.Written.{IsLoad}
+use Rattle.ffm_text.proofs.known.loads_known.Given as goal
+
+-- each load so far is one
+abbrev pub invariant-loop-load : goal.invariant-loop-load
+invariant-loop-load l = (k : ℕ) (d : Load) → k < l.load-index → IsLoad (slice_index_or l.loads k d)
