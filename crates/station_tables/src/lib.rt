@@ -11,4 +11,6 @@ pub use opening::{AttachFault, create};
 pub use station::Station;
 
 #[cfg(test)]
+mod stops;
+#[cfg(test)]
 mod tests;

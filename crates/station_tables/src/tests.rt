@@ -1,9 +1,11 @@
 use super::*;
 use agent_stock::{AgentCode, Holder, Order, Run};
 use awb_number::Awb;
+use imp_fields::Airport;
 use sqlite::{Connection, MemStore};
 use station_core::{
-    ActFault, Answer, Command, Detail, Input, Keeper, Key, Refusal, Reply, act_all, answer_one,
+    ActFault, Answer, Command, Detail, Input, Keeper, Key, PlainStation, Refusal, Reply, act_all,
+    answer_one,
 };
 use station_rows::{Rows, open_memory};
 use std::alloc::Global;
@@ -287,4 +289,74 @@ fn nothing_is_made_inside_a_transaction(rt: HostRuntime) -> Result<(), Fail> {
     assert_eq!(rt; fault, AttachFault::Store);
     assert!(rt; !conn.is_autocommit());
     Ok(())
+}
+
+/// Another station that is to answer like the tables.
+fn plain(alloc: Global) -> Result<PlainStation, Fail> {
+    let here = Airport::read(b"XXX").ok_or("an airport")?;
+    Ok(PlainStation::new(alloc, here))
+}
+
+/// An input made by a rule: the four orders in turn over some thirty numbers. Each tenth repeats one before it,
+/// and after 97 the keys come again.
+fn made(alloc: Global, n: u32) -> Result<Input, Fail> {
+    let n = n % 1000;
+    let m = if n % 10 == 9 { n - 9 } else { n };
+    let id = m % 97;
+    let key = format!(in alloc; "k{id}")?;
+    let serial = 1234567 + m * 7 % 30;
+    let count = m * 5 % 9;
+    let code = if m % 3 == 0 { "ACME" } else { "BETA" };
+    match m % 4 {
+        0 => take_in(&key, serial, count),
+        1 => issue(&key, serial, count, code),
+        2 => give_back(&key, serial, count, code),
+        _ => void_run(&key, serial, count),
+    }
+}
+
+/// The numbers that the rule's inputs may touch, and some more.
+fn same_holders(
+    rt: &impl Abort,
+    one: &mut impl Keeper,
+    other: &mut impl Keeper,
+) -> Result<(), Fail> {
+    for serial in 1234560..1234610 {
+        assert_eq!(rt; holder(one, serial)?, holder(other, serial)?, "{serial}");
+    }
+    Ok(())
+}
+
+/// Each input is answered so.
+fn answers_one_by_one(
+    rt: &impl Abort,
+    keeper: &mut impl Keeper,
+    inputs: &[Input],
+    answers: &[Answer],
+) -> Result<(), Fail> {
+    for (input, want) in inputs.iter().zip(answers.iter()) {
+        assert_eq!(rt; answer_one(keeper, input), Ok(*want));
+    }
+    Ok(())
+}
+
+#[test]
+fn tables_answer_as_the_plain_station(rt: HostRuntime) -> Result<(), Fail> {
+    let alloc = rt.alloc();
+    let mut tables = station(alloc)?;
+    let mut others = station(alloc)?;
+    let mut plain = plain(alloc)?;
+    let mut inputs = Vec::new(alloc);
+    for n in 0..200 {
+        inputs.push(made(alloc, n)?)?;
+    }
+    let told = act_all(alloc, &mut plain, &inputs);
+    let all = act_all(alloc, &mut tables, &inputs);
+    assert_eq!(rt; told.fault, None);
+    assert_eq!(rt; all.fault, None);
+    assert_eq!(rt; told.answers.len(), 200);
+    assert_eq!(rt; all.answers.as_slice(), told.answers.as_slice());
+    answers_one_by_one(&rt, &mut others, &inputs, &told.answers)?;
+    same_holders(&rt, &mut tables, &mut plain)?;
+    same_holders(&rt, &mut others, &mut plain)
 }
