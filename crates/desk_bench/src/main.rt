@@ -1,0 +1,105 @@
+//! How fast the desk is: with the word `run` it prints a line for each kind of work.
+#![tactic(auto)]
+
+mod stock;
+mod telegrams;
+
+use std::process::ExitCode;
+use std::time::{Duration, Instant};
+use std::{env, io};
+
+/// Prints how many were done in a second, and how long one took.
+fn report(rt: &HostRuntime, what: &str, count: u64, spent: Duration) -> Result<(), io::Error> {
+    let nanos = u64::try_from(spent.as_nanos()).unwrap_or(u64::MAX);
+    let rate = count.saturating_mul(1_000_000_000) / nanos.max(1);
+    let each = nanos / count.max(1);
+    println!(rt; "{rate:>10} a second {each:>10} ns each  {what}")
+}
+
+/// Prints that work of a kind couldn't be done.
+fn gave_up(rt: &HostRuntime, what: &str) -> Result<(), io::Error> {
+    println!(rt; "gave up: {what}")
+}
+
+/// Orders over a station in memory.
+fn orders(rt: &HostRuntime, what: &str, work: stock::Work) -> Result<(), io::Error> {
+    let alloc = rt.alloc();
+    let Some(mut station) = stock::station(alloc) else {
+        return gave_up(rt, what);
+    };
+    if !stock::prepare(alloc, &mut station, work) {
+        return gave_up(rt, what);
+    }
+    let start = Instant::now(rt)?;
+    match stock::run(alloc, &mut station, work) {
+        Some(count) => report(rt, what, count, start.elapsed(rt)?),
+        None => gave_up(rt, what),
+    }
+}
+
+/// A message that is read again and again.
+fn read(rt: &HostRuntime, what: &str, text: &[u8]) -> Result<(), io::Error> {
+    let start = Instant::now(rt)?;
+    let count = telegrams::read_often(rt.alloc(), text);
+    report(rt, what, count, start.elapsed(rt)?)
+}
+
+/// The lines and the consignment line of a message.
+fn scan(rt: &HostRuntime, what: &str, text: &[u8]) -> Result<(), io::Error> {
+    let start = Instant::now(rt)?;
+    let count = telegrams::scan_often(rt.alloc(), text);
+    report(rt, what, count, start.elapsed(rt)?)
+}
+
+fn manifests(rt: &HostRuntime, what: &str) -> Result<(), io::Error> {
+    let start = Instant::now(rt)?;
+    match telegrams::write_manifests(rt.alloc()) {
+        Some(count) => report(rt, what, count, start.elapsed(rt)?),
+        None => gave_up(rt, what),
+    }
+}
+
+fn updates(rt: &HostRuntime, what: &str) -> Result<(), io::Error> {
+    let start = Instant::now(rt)?;
+    match telegrams::write_updates(rt.alloc()) {
+        Some(count) => report(rt, what, count, start.elapsed(rt)?),
+        None => gave_up(rt, what),
+    }
+}
+
+/// Each kind of work, one after another.
+fn measure(rt: &HostRuntime) -> Result<(), io::Error> {
+    orders(
+        rt,
+        "order: take-in 10, issue 3, return 3",
+        stock::Work::Days,
+    )?;
+    orders(rt, "order that is repeated", stock::Work::Repeats)?;
+    orders(rt, "take-in 10,000", stock::Work::Runs)?;
+    orders(rt, "issue of one number of 10,000", stock::Work::Singles)?;
+    scan(
+        rt,
+        "lines and consignment line of 400 bytes",
+        telegrams::FWB,
+    )?;
+    read(rt, "FWB of 400 bytes read", telegrams::FWB)?;
+    read(rt, "FFM of 400 bytes read", telegrams::FFM)?;
+    read(rt, "FSU of 400 bytes read", telegrams::FSU)?;
+    manifests(rt, "FFM of one waybill written")?;
+    updates(rt, "FSU written")
+}
+
+/// Status 0: all was measured; 2: other words than `run`.
+fn main(rt: HostRuntime) -> Result<ExitCode, io::Error> {
+    let words: Vec<String> = env::args(&rt)?.collect(rt.alloc())?;
+    match words.as_slice() {
+        [_program, verb] if verb.as_str() == "run" => {
+            measure(&rt)?;
+            Ok(ExitCode::from(0))
+        }
+        _ => {
+            eprintln!(rt; "usage: desk_bench run")?;
+            Ok(ExitCode::from(2))
+        }
+    }
+}
