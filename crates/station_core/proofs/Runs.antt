@@ -1,9 +1,14 @@
 -- Runs of inputs, one input longer.
-use Rattle.std.proofs.Common.{◌≡◌, ℕ, ◌+◌, ◌<◌, List, [], ◌∷◌, ◌++◌, length, get_or, take, refl, sym, ◌∙◌, ap}
+use Rattle.std.proofs.Common.{◌≡◌, Ok, Err, ℕ, ◌+◌, ◌<◌, List, [], ◌∷◌, ◌++◌, length, get_or, take, refl, sym, ◌∙◌, ap}
 use Rattle.std.proofs.lemmas.List.{take_more}
 use Rattle.station_core.specs.declared.command.Input.{Input}
 use Rattle.station_core.specs.declared.answer.Answer.{Answer}
+use Rattle.station_core.specs.declared.answer.ActFault.{ActFault}
 use Rattle.station_core.specs.Step.{State, step, after_all, answers_of}
+
+-- what is answered is no fault
+pub never_both : {a : Answer} {e : ActFault} → Ok a ≡ Err e → ⊥
+never_both h = cc
 
 after_one_more : (s : State) (inputs : List Input) (i : Input) → after_all s (inputs ++ i ∷ []) ≡ (step (after_all s inputs) i).state
 after_one_more s [] i = refl

@@ -1,5 +1,5 @@
 -- What an input makes of a station, whatever it is answered.
-use Rattle.std.specs.Prelude.{◌≡◌, ◌⊎◌, ℕ, ◌+◌, ◌<◌, Bool, true, false, Result, Ok, Err, List, take, length, Option, Some}
+use Rattle.std.specs.Prelude.{◌≡◌, ◌⊎◌, ℕ, ◌+◌, ◌<◌, Bool, true, false, Result, Ok, Err, List, take, length, Option, Some, None}
 use Rattle.station_core.specs.declared.answer.Reply.{Reply}
 use Rattle.station_core.specs.declared.answer.Answer.{Answer}
 use Rattle.station_core.specs.declared.answer.Answer.TheVariants as answer
@@ -47,6 +47,21 @@ abbrev pub IsMemoryOrStore : ActFault → Type 0
 IsMemoryOrStore fault.Memory = Unit {0}
 IsMemoryOrStore fault.Store = Unit {0}
 IsMemoryOrStore _ = ⊥
+
+-- whether it answers Reopen after a fault, or after a list of inputs: where a Store ended them, and then only
+abbrev pub IsBrokenAfter : ActFault → Bool → Type 0
+IsBrokenAfter fault.Store broken = broken ≡ true
+IsBrokenAfter _ broken = broken ≡ false
+
+abbrev pub IsBrokenAtEnd : Option ActFault → Bool → Type 0
+IsBrokenAtEnd None broken = broken ≡ false
+IsBrokenAtEnd (Some e) broken = IsBrokenAfter e broken
+
+-- on a station that has to be opened again no input is done
+abbrev pub IsMemoryOrReopen : ActFault → Type 0
+IsMemoryOrReopen fault.Memory = Unit {0}
+IsMemoryOrReopen fault.Reopen = Unit {0}
+IsMemoryOrReopen _ = ⊥
 
 -- a reader never refuses
 abbrev pub IsReadersFault : ActFault → Type 0

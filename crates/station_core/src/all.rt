@@ -1,7 +1,7 @@
-ghost use Rattle.std.specs.Prelude.{◌≡◌, true, false, take, length, None, Some, Err, Option, IfErr, OnOk};
+ghost use Rattle.std.specs.Prelude.{◌≡◌, ◌<◌, true, false, [], take, length, None, Some, Err, Option, IfErr, OnOk};
 ghost use Rattle.station_core.specs.declared.answer.ActFault.{ActFault};
 ghost use Rattle.station_core.specs.Step.{State, after_all, answers_of};
-ghost use Rattle.station_core.specs.Keeping.{Answers, MayLeave, IsMemoryOrStore, IsAfterAnswered};
+ghost use Rattle.station_core.specs.Keeping.{Answers, MayLeave, IsMemoryOrStore, IsMemoryOrReopen, IsBrokenAfter, IsBrokenAtEnd, IsAfterAnswered};
 
 use crate::answer::{ActFault, AllAnswers, Answer};
 use crate::command::Input;
@@ -14,6 +14,7 @@ pub fn answer_one<K: Keeper>(keeper: &mut K, input: &Input) -> Result<Answer, Ac
     ensures works { K.is_broken keeper.old ≡ false → OnOk result (K.is_broken keeper.new ≡ false) }
     ensures reopen { K.is_broken keeper.old ≡ true → (result ≡ Err ActFault.Reopen) × (keeper.new ≡ keeper.old) }
     ensures fault { K.is_broken keeper.old ≡ false → IfErr result IsMemoryOrStore }
+    ensures breaks { K.is_broken keeper.old ≡ false → IfErr result (λ e. IsBrokenAfter e (K.is_broken keeper.new)) }
     ensures answers { (s : State) → K.keeps keeper.old s → K.is_broken keeper.old ≡ false → K.is_sound keeper.new → Answers s input.now result (K.keeps keeper.new) }
     ensures leaves { (s : State) → K.keeps keeper.old s → K.is_broken keeper.old ≡ false → K.is_sound keeper.new → (found : Option State) → K.may_find keeper.new found → MayLeave s input.now result found }
 {
@@ -34,7 +35,12 @@ pub fn act_all<K: Keeper>(alloc: Global, keeper: &mut K, inputs: &[Input]) -> Al
     ensures all { result.fault ≡ None → length result.answers.items ≡ length inputs.now }
     ensures state { (s : State) → K.keeps keeper.old s → K.is_broken keeper.old ≡ false → K.is_sound keeper.new → (result.fault ≡ Some ActFault.Store → ⊥)
         → K.keeps keeper.new (after_all s (take (length result.answers.items) inputs.now)) }
+    // A fault stands for an input that wasn't answered.
+    ensures part { (e : ActFault) → result.fault ≡ Some e → length result.answers.items < length inputs.now }
     ensures fault { K.is_broken keeper.old ≡ false → (e : ActFault) → result.fault ≡ Some e → IsMemoryOrStore e }
+    ensures breaks { K.is_broken keeper.old ≡ false → IsBrokenAtEnd result.fault (K.is_broken keeper.new) }
+    ensures reopen { K.is_broken keeper.old ≡ true → (result.answers.items ≡ []) × (keeper.new ≡ keeper.old) }
+    ensures reopen_fault { K.is_broken keeper.old ≡ true → (e : ActFault) → result.fault ≡ Some e → IsMemoryOrReopen e }
     ensures sound { K.is_sound keeper.new → K.is_sound keeper.old }
 
     // A reopening finds the state after the inputs that were answered, or where it ended by `Store`, after one more.

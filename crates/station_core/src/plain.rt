@@ -1,5 +1,5 @@
 //! A station in memory alone: the plain program that does what the definitions say.
-ghost use Rattle.std.specs.Prelude.{◌≡◌, false, None, string_bytes};
+ghost use Rattle.std.specs.Prelude.{◌≡◌, false, None, Ok, string_bytes};
 ghost use Rattle.std.specs.Option.{option_map, option_copied};
 ghost use Rattle.std.specs.List.{find};
 ghost use Rattle.std.specs.Str.{bytes_eq};
@@ -140,7 +140,11 @@ impl Keeper for PlainStation {
         }
     }
 
-    fn holder(&mut self, number: &Awb) -> Result<Option<Holder>, ActFault> {
+    // It takes no memory, and always answers.
+    fn holder(&mut self, number: &Awb) -> Result<Option<Holder>, ActFault>
+        ensures answer { result ≡ Ok ((state_of self.old).holders number.now) }
+        ensures as_before { self.new ≡ self.old }
+    {
         Ok(self.rows.get(number))
     }
 }

@@ -2,6 +2,8 @@ use super::*;
 use agent_stock::{AgentCode, Holder, Order, Run};
 use awb_number::Awb;
 use imp_fields::Airport;
+use std::io;
+use std::io::Read;
 use std::process::Abort;
 use std::test::*;
 
@@ -113,6 +115,40 @@ fn a_full_writer_tells_how_many_bytes_went_out(rt: HostRuntime) {
     let mut room = [0u8; 4];
     let mut writer = Counted::new(room.as_mut_slice());
     assert_eq!(rt; send(&mut writer, b"ok 10\n"), Err(4));
+}
+
+/// A reader that is interrupted, then gives what it has, and then fails.
+#[derive(Drop)]
+struct Halting<'a> {
+    calls: u8,
+    bytes: &'a [u8],
+}
+
+impl Read for Halting<'_> {
+    fn read(&mut self, buf: &mut [u8]) -> io::Result<usize> {
+        self.calls = self.calls.saturating_add(1);
+        match self.calls {
+            1 => Err(io::Error::from(io::ErrorKind::Interrupted)),
+            2 => self.bytes.read(buf),
+            _ => Err(io::Error::from(io::ErrorKind::Other)),
+        }
+    }
+}
+
+#[test]
+fn a_read_tells_an_interruption_from_a_failure(rt: HostRuntime) {
+    let mut reader = Counted::new(Halting {
+        calls: 0,
+        bytes: b"ok 10\n",
+    });
+    let mut buf = [b'-'; 8];
+    assert_eq!(rt;
+        ByteIn::read(&mut reader, &mut buf),
+        Err(ReadFault::Interrupted)
+    );
+    assert_eq!(rt; ByteIn::read(&mut reader, &mut buf), Ok(6));
+    assert_eq!(rt; ByteIn::read(&mut reader, &mut buf), Err(ReadFault::Failed));
+    assert_eq!(rt; buf, *b"ok 10\n--");
 }
 
 fn station(rt: &HostRuntime) -> Result<PlainStation, Fail> {

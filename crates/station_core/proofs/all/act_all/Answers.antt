@@ -1,7 +1,7 @@
-use Rattle.std.proofs.Common.{◌≡◌, ◌+◌, Some, take, length, List, [], ◌∷◌, ◌++◌, sym, ◌∙◌, ap, subst, inl, inr, ⊎_elim, arith, length-append}
+use Rattle.std.proofs.Common.{◌≡◌, true, ◌+◌, Some, take, length, List, [], ◌∷◌, ◌++◌, sym, ◌∙◌, ap, subst, inl, inr, ⊎_elim, arith, length-append}
 use Rattle.station_core.specs.declared.answer.Answer.{Answer}
 use Rattle.station_core.specs.Step.{after_all, answers_of}
-use Rattle.station_core.proofs.Runs.{state_after, answers_after}
+use Rattle.station_core.proofs.Runs.{state_after, answers_after, never_both}
 use Rattle.station_core.proofs.all.act_all.Goals as goal
 
 pub returns-in-Err-clause-leaves : goal.returns-in-Err-clause-leaves
@@ -25,6 +25,9 @@ loop-input-preserved g c =
     record {
       count = omega (arith, ap length c.in-Ok-push.ensures.items, ap length c.try_reserve.ensures.items, c.loop-input.invariant.count, length-append c.try_reserve.new.self.items (c.in-Ok.answer ∷ []));
       works = λ works. c.in-Ok.ensures.works (c.loop-input.invariant.works works);
+      idle = λ broken.
+          let still : g.K.Keeper.is_broken c.loop-input.keeper ≡ true = subst (λ keeper. g.K.Keeper.is_broken keeper ≡ true) (sym (c.loop-input.invariant.idle broken).1) broken in
+          absurd (never_both (c.in-Ok.ensures.reopen still).0);
       sound = λ sound. c.loop-input.invariant.sound (c.answer_one.ensures.sound sound);
       told = λ s keeps works sound.
           let before = c.answer_one.ensures.sound sound in

@@ -16,6 +16,6 @@ loop-sent-preserved g c =
       within = grind (arith, rules, step.0, inv.within);
       bytes = step.1.bytes ∙ ap (λ front. front ++ take c.in-Ok.n (drop c.loop-sent.sent c.args.bytes.now)) inv.bytes
           ∙ append_assoc front (take c.loop-sent.sent c.args.bytes.now) (take c.in-Ok.n (drop c.loop-sent.sent c.args.bytes.now)) ∙ ap (λ back. (g.W.ByteOut.taken c.args.writer.now).bytes ++ back) (sym (take-add c.loop-sent.sent c.in-Ok.n c.args.bytes.now));
-      failures = omega (arith, step.1.failures, inv.failures);
+      failures = step.1.failures ∙ inv.failures;
       idle = omega (arith, step.1.idle, inv.idle);
     }
