@@ -1,0 +1,14 @@
+-- The lines of a manifest, each of which is as its types allow.
+use Rattle.std.proofs.Common.{List, [], ◌∷◌, map}
+use Rattle.std.specs.List.{All}
+use Rattle.std.proofs.lemmas.List.Elements.{All-head, All-tail}
+use Rattle.ffm_text.specs.Written.{IsLoad, AreLoads}
+use Rattle.shipment_machine.specs.declared.notice.ManifestLine.{ManifestLine}
+use Rattle.telegrams.specs.NoticeText.{sent_load}
+
+abbrev pub IsLine : ManifestLine → Type 0
+IsLine l = IsLoad (sent_load l)
+
+pub are_loads : (lines : List ManifestLine) → All IsLine lines → AreLoads (map sent_load lines)
+are_loads [] h = tt
+are_loads (l ∷ lines) h = (All-head IsLine l lines h, are_loads lines (All-tail IsLine l lines h))

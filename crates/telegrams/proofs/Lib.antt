@@ -1,0 +1,7 @@
+pub mod Meanings
+pub mod Bounds
+pub mod PlainLines
+pub mod RefusedLaws
+pub mod KnownLines
+pub mod NoticeLaws
+pub mod Examples

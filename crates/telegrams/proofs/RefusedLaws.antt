@@ -1,0 +1,34 @@
+-- From the fault of a part to the fault of the bytes.
+use Rattle.std.proofs.Common.{◌≡◌, ℕ, List, Option, Some, None, Result, Ok, Err, sym, ap, ◌∙◌, subst}
+use Rattle.imp_fields.specs.NormalText.{fault_of, normal_lines, first_kind}
+use Rattle.imp_fields.specs.declared.fault.TextFault.{TextFault}
+use Rattle.imp_fields.specs.declared.line.MessageKind.{MessageKind}
+use Rattle.telegrams.specs.declared.telegram.TelegramFault.{TelegramFault}
+use Rattle.telegrams.specs.declared.telegram.TelegramFault.TheVariants as fault
+use Rattle.telegrams.specs.Meaning.{message_fault, fault_by, RefusesAs, RefusesText}
+
+abbrev none : Option TextFault
+none = None
+
+abbrev some_fault : TextFault → Option TextFault
+some_fault told = Some told
+
+-- a refusal for a fault that there isn't
+no_fault : (due : Option TextFault) (f : TelegramFault) → RefusesAs None f → RefusesAs due f
+no_fault due (fault.Refused refusal) h = absurd (nothing h.0 h.1)
+  where
+    nothing : (told : TextFault) → none ≡ some_fault told → ⊥
+    nothing told e = cc
+no_fault due fault.Memory h = tt
+
+refused_by : (r : Result (List (List ℕ)) TextFault) (f : TelegramFault) → RefusesAs (fault_of r) f → RefusesAs (fault_by r) f
+refused_by (Ok lines) f h = no_fault (fault_by (Ok lines)) f h
+refused_by (Err told) f h = h
+
+pub text_refused : (bytes : List ℕ) (f : TelegramFault) → RefusesAs (fault_of (normal_lines bytes)) f → RefusesText bytes f
+text_refused bytes f h = refused_by (normal_lines bytes) f h
+
+pub message_refused : (bytes : List ℕ) (lines : List (List ℕ)) (kind : MessageKind) (f : TelegramFault) → normal_lines bytes ≡ Ok lines → first_kind lines ≡ Some kind
+    → RefusesAs (message_fault (Some kind) lines) f → RefusesText bytes f
+message_refused bytes lines kind f normal is h =
+    subst (λ (due : Option TextFault). RefusesAs due f) (sym (ap fault_by normal ∙ ap (λ k. message_fault k lines) is)) h

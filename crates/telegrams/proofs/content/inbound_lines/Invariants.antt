@@ -1,0 +1,7 @@
+use Rattle.std.proofs.Common.{◌≡◌, map, take}
+use Rattle.ffm_text.specs.Ffm.{unloaded_of}
+use Rattle.telegrams.specs.Meaning.{inbound_line}
+use Rattle.telegrams.proofs.content.inbound_lines.Given as goal
+
+abbrev pub invariant-loop-line : goal.invariant-loop-line
+invariant-loop-line l = l.lines.items ≡ map (λ u. inbound_line (unloaded_of u)) (take l.line-index l.cargo)

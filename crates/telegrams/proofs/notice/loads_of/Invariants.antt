@@ -1,0 +1,6 @@
+use Rattle.std.proofs.Common.{◌≡◌, map, take}
+use Rattle.telegrams.specs.NoticeText.{sent_load}
+use Rattle.telegrams.proofs.notice.loads_of.Given as goal
+
+abbrev pub invariant-loop-line : goal.invariant-loop-line
+invariant-loop-line l = l.loads.items ≡ map sent_load (take l.line-index l.lines)

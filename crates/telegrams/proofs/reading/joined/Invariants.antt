@@ -1,0 +1,6 @@
+use Rattle.std.proofs.Common.{◌≡◌, ◌+◌, map, take}
+use Rattle.imp_fields.specs.NormalText.{normal_text}
+use Rattle.telegrams.proofs.reading.joined.Given as goal
+
+abbrev pub invariant-loop-line : goal.invariant-loop-line
+invariant-loop-line l = l.text.items ≡ normal_text (map (λ t. t.text.now) (take (l.line-index + 1) l.lines))

@@ -1,0 +1,13 @@
+use Rattle.std.proofs.Common.{◌≡◌, true, ℕ, List, map, sym, ap, subst, ◌∙◌}
+use Rattle.std.specs.List.{list_all}
+use Rattle.imp_fields.specs.NormalText.{normal_text, line_texts}
+use Rattle.imp_fields.specs.declared.token.Token.{Token}
+use Rattle.telegrams.specs.Kept.{is_text_byte}
+use Rattle.telegrams.proofs.PlainLines.{plain_normal, plain_texts}
+use Rattle.telegrams.proofs.reading.text_of.Goals as goal
+
+pub new-requires : goal.new-requires
+new-requires c =
+    subst (λ (t : List ℕ). list_all is_text_byte t ≡ true)
+    (sym (c.in_ok-text.ensures ∙ ap (λ ts. normal_text (map (λ (t : Token). t.text.now) ts)) c.as_slice.ensures.value))
+    (plain_normal (line_texts c.args.lines.now) (plain_texts c.args.lines.now.lines.items c.args.lines.now.printable))

@@ -1,0 +1,99 @@
+-- The text of a notice: that of the status or the manifest which it is.
+use Rattle.std.specs.Prelude.{◌≡◌, ℕ, List, map, Some, Ok}
+use Rattle.imp_fields.specs.Date.{IsMomentDay, date_on, when_at}
+use Rattle.imp_fields.specs.Message.{sent_text}
+use Rattle.imp_fields.specs.NormalText.{normal_lines}
+use Rattle.imp_fields.specs.declared.consigned.Consigned.{Consigned}
+use Rattle.ffm_text.specs.Ffm.{IsFfm, ffm_lines, manifest_written}
+use Rattle.ffm_text.specs.declared.Load.{Load}
+use Rattle.fsu_text.specs.Fsu.{IsFsu, fsu_lines, update_written, sent_status_text, sent_status_reading}
+use Rattle.fsu_text.specs.Status.{status_of}
+use Rattle.fsu_text.specs.declared.status.Handling.TheVariants as handling
+use Rattle.fsu_text.specs.declared.sent.SentCarriage.TheVariants as leaving
+use Rattle.fsu_text.specs.declared.sent.SentStatus.{SentStatus}
+use Rattle.fsu_text.specs.declared.sent.SentStatus.TheVariants as sent
+use Rattle.fsu_text.specs.declared.sent.Update.{Update}
+use Rattle.shipment_machine.specs.declared.flight.FlightDate.{FlightDate}
+use Rattle.shipment_machine.specs.declared.notice.Event.{Event}
+use Rattle.shipment_machine.specs.declared.notice.Event.TheVariants as event
+use Rattle.shipment_machine.specs.declared.notice.ManifestLine.{ManifestLine}
+use Rattle.shipment_machine.specs.declared.notice.Notice.{Notice}
+use Rattle.shipment_machine.specs.declared.notice.Notice.TheVariants as notice
+
+-- What happened, as a status message tells it: a flight by its date without the year, and else the moment.
+abbrev pub status_of_event : Event → SentStatus
+status_of_event (event.ReceivedFromShipper name at) = sent.Handled handling.ReceivedFromShipper (when_at at) name
+status_of_event (event.Manifested flight unload) = sent.Carried leaving.Manifested flight.flight (date_on flight.day) unload
+status_of_event (event.Departed flight unload) = sent.Carried leaving.Departed flight.flight (date_on flight.day) unload
+status_of_event (event.ReceivedFromFlight flight at) = sent.ReceivedFromFlight flight.flight (when_at at)
+status_of_event (event.Notified name at) = sent.Handled handling.Notified (when_at at) name
+status_of_event (event.Delivered name at) = sent.Handled handling.Delivered (when_at at) name
+status_of_event (event.Differs flight at what) = sent.Differs what flight.flight (when_at at)
+
+-- the status message that a notice is
+abbrev pub sent_update : List ℕ → Consigned → Event → ℕ → ℕ → Update
+sent_update here consigned what pieces tenths = record {
+  «of» = consigned;
+  status = status_of_event what;
+  here = here;
+  pieces = pieces;
+  tenths = tenths;
+}
+
+-- a waybill on a manifest
+abbrev pub sent_load : ManifestLine → Load
+sent_load l = record {
+  awb = l.consigned.awb;
+  origin = l.consigned.origin;
+  destination = l.consigned.destination;
+  pieces = l.pieces;
+  tenths = l.tenths;
+  declared = l.consigned.pieces;
+  goods = l.goods;
+}
+
+-- the lines of a manifest
+abbrev pub manifest_lines : List ℕ → FlightDate → List ℕ → List ManifestLine → List (List ℕ)
+manifest_lines here flight unload lines = ffm_lines flight.flight (date_on flight.day) here unload (map sent_load lines)
+
+-- the lines of a notice
+abbrev pub notice_lines : Notice → List (List ℕ)
+notice_lines (notice.Status here consigned what pieces tenths) = fsu_lines (sent_update here consigned what pieces tenths)
+notice_lines (notice.Manifest here flight unload lines) = manifest_lines here flight unload lines
+
+-- each ends with a carriage return and a newline
+abbrev pub notice_text : Notice → List ℕ
+notice_text n = sent_text (notice_lines n)
+
+-- the date of a flight that is told is that of a day from 2000-01-01 to 2099-12-31
+abbrev pub IsDatedEvent : Event → Type 0
+IsDatedEvent (event.Manifested flight unload) = IsMomentDay flight.day
+IsDatedEvent (event.Departed flight unload) = IsMomentDay flight.day
+IsDatedEvent (event.ReceivedFromShipper name at) = Unit {0}
+IsDatedEvent (event.ReceivedFromFlight flight at) = Unit {0}
+IsDatedEvent (event.Notified name at) = Unit {0}
+IsDatedEvent (event.Delivered name at) = Unit {0}
+IsDatedEvent (event.Differs flight at what) = Unit {0}
+
+abbrev pub IsDated : Notice → Type 0
+IsDated (notice.Status here consigned what pieces tenths) = IsDatedEvent what
+IsDated (notice.Manifest here flight unload lines) = IsMomentDay flight.day
+
+-- a status message is read as the update that was written, and its status line as the status
+abbrev pub IsUpdateAgain : Update → Type 0
+IsUpdateAgain u =
+    IsFsu (fsu_lines u) (update_written u) × (status_of (sent_status_text u.status u) ≡ Some (sent_status_reading u.status u))
+
+-- the lines of a manifest are normal lines of what is sent, and are read as what was written
+abbrev pub IsNormalManifest : List ℕ → FlightDate → List ℕ → List ManifestLine → Type 0
+IsNormalManifest here flight unload lines =
+    normal_lines (sent_text (manifest_lines here flight unload lines)) ≡ Ok (manifest_lines here flight unload lines)
+
+abbrev pub IsManifestAgain : List ℕ → FlightDate → List ℕ → List ManifestLine → Type 0
+IsManifestAgain here flight unload lines =
+    IsFfm (manifest_lines here flight unload lines) (manifest_written flight.flight (date_on flight.day) here unload (map sent_load lines))
+
+-- the lines of a notice are read as what was written
+abbrev pub IsReadAgain : Notice → Type 0
+IsReadAgain (notice.Status here consigned what pieces tenths) = IsUpdateAgain (sent_update here consigned what pieces tenths)
+IsReadAgain (notice.Manifest here flight unload lines) = IsManifestAgain here flight unload lines

@@ -1,0 +1,178 @@
+//! What the lines of a normal text say to the machine.
+
+ghost use Rattle.std.specs.Prelude.{◌≡◌, ◌≤◌, ◌++◌, ◌∷◌, [], Option, Some, IsTrue, IfOk, IfErr, OnOk, length, map};
+ghost use Rattle.std.specs.Option.{unwrap_or};
+ghost use Rattle.std.specs.List.{list_all};
+ghost use Rattle.imp_fields.specs.declared.fault.TextFault.{TextFault};
+ghost use Rattle.imp_fields.specs.declared.line.MessageKind.TheVariants as kinds;
+ghost use Rattle.imp_fields.specs.Consignment.{shipment_of};
+ghost use Rattle.imp_fields.specs.NormalText.{line_texts, IsFaultOf};
+ghost use Rattle.fwb_text.specs.Fwb.{fwb_fault};
+ghost use Rattle.ffm_text.specs.Ffm.{ffm_fault, unloaded_of};
+ghost use Rattle.fsu_text.specs.Fsu.{fsu_fault};
+ghost use Rattle.telegrams.specs.Kept.{has_plain_goods, has_plain_cargo};
+ghost use Rattle.telegrams.specs.Meaning.{cargo_line, inbound_line, message_fault, SaysAs, RefusesAs};
+
+use crate::telegram::{Content, PartContent, PartLines, StatusContent, StatusLines, TelegramFault};
+use ffm_text::FfmLine;
+use fsu_text::StatusLine;
+use imp_fields::{Consignment, Goods, Lines, MessageKind, Tenths, TextFault, Why};
+use shipment_machine::{CargoLine, Detail, InboundLine, Refusal, Text};
+use std::alloc::{AllocError, Global};
+use std::slice;
+
+/// What a fault that a reader tells makes of a telegram.
+pub(crate) fn refusal(told: TextFault) -> TelegramFault
+    requires { told.line ≤ 1000 }
+    ensures reader { (due : Option TextFault) → IsFaultOf due told → RefusesAs due result }
+    ensures text { (due : Option TextFault) → due ≡ Some told → RefusesAs due result }
+{
+    match told.why {
+        Why::Memory => TelegramFault::Memory,
+        Why::Kind => TelegramFault::Refused(Refusal {
+            number: 302,
+            detail: Detail::Nothing,
+        }),
+        why => TelegramFault::Refused(Refusal {
+            number: 301,
+            detail: Detail::Line {
+                line: told.line as u16,
+                why,
+            },
+        }),
+    }
+}
+
+/// The weight that is told, or none.
+fn weight_told(weight: Option<Tenths>) -> Tenths
+    ensures { result ≡ unwrap_or weight 0 }
+{
+    match weight {
+        Some(tenths) => tenths,
+        None => match Tenths::new(0) {
+            Some(nothing) => nothing,
+            None => unreachable!(),
+        },
+    }
+}
+
+/// What a consignment line says.
+fn cargo_line(consignment: &Consignment<'_>) -> CargoLine
+    requires { IsTrue (has_plain_goods consignment.now) }
+    ensures { result ≡ cargo_line (shipment_of consignment.now) }
+{
+    CargoLine {
+        awb: consignment.awb,
+        origin: consignment.origin,
+        destination: consignment.destination,
+        pieces: consignment.quantity.pieces,
+        tenths: weight_told(consignment.quantity.weight),
+        total: consignment.quantity.total,
+        goods: Goods::kept(consignment.goods.text),
+    }
+}
+
+/// What a line of a manifest says.
+fn inbound_line(line: &FfmLine<'_>) -> InboundLine
+    requires { IsTrue (has_plain_cargo line.now) }
+    ensures { result ≡ inbound_line (unloaded_of line.now) }
+{
+    InboundLine {
+        unload: line.unload,
+        cargo: cargo_line(&line.consignment),
+    }
+}
+
+/// Appends what a line of a manifest says.
+fn put_line(lines: &mut Vec<InboundLine>, line: &FfmLine<'_>) -> Result<(), AllocError>
+    requires { IsTrue (has_plain_cargo line.now) }
+    ensures { OnOk result (lines.new.items ≡ lines.old.items ++ inbound_line (unloaded_of line.now) ∷ []) }
+{
+    let said = inbound_line(line);
+    lines.extend_from_slice(slice::from_ref(&said))
+}
+
+/// What the lines of a manifest say.
+fn inbound_lines(alloc: Global, cargo: &[FfmLine<'_>]) -> Result<Vec<InboundLine>, AllocError>
+    requires { IsTrue (list_all has_plain_cargo cargo.now) }
+    ensures { IfOk result (λ lines. lines.items ≡ map (λ l. inbound_line (unloaded_of l)) cargo.now) }
+{
+    let mut lines = Vec::new(alloc);
+    for line in cargo {
+        put_line(&mut lines, line)?;
+    }
+    Ok(lines)
+}
+
+/// The lines of a status message, as they stand.
+fn trail_lines<'a>(alloc: Global, trail: &[StatusLine<'a>]) -> Result<Vec<Text<'a>>, AllocError>
+    ensures { IfOk result (λ lines. lines.items ≡ map (λ l. l.text.text.now) trail.now) }
+{
+    let mut lines = Vec::new(alloc);
+    for line in trail {
+        lines.push(Text::new(line.text.text))?;
+    }
+    Ok(lines)
+}
+
+/// What the lines of a waybill's data say.
+fn fwb_content<'a>(lines: &Lines<'a>) -> Result<Content<'a>, TelegramFault>
+    ensures said { IfOk result (SaysAs kinds.Fwb (line_texts lines.now)) }
+    ensures refused { IfErr result (RefusesAs (fwb_fault (line_texts lines.now))) }
+{
+    match fwb_text::read(lines) {
+        Ok(message) => Ok(Content::Fwb(cargo_line(&message.consignment))),
+        Err(told) => Err(refusal(told)),
+    }
+}
+
+/// What the lines of a manifest say.
+fn ffm_content<'a>(alloc: Global, lines: &Lines<'a>) -> Result<Content<'a>, TelegramFault>
+    ensures said { IfOk result (SaysAs kinds.Ffm (line_texts lines.now)) }
+    ensures refused { IfErr result (RefusesAs (ffm_fault (line_texts lines.now))) }
+{
+    let part = match ffm_text::read(alloc, lines) {
+        Ok(part) => part,
+        Err(told) => return Err(refusal(told)),
+    };
+    match inbound_lines(alloc, part.cargo.as_slice()) {
+        Ok(cargo) => Ok(Content::Ffm(PartContent {
+            sequence: part.sequence,
+            flight: part.flight,
+            date: part.date,
+            loaded: part.loaded,
+            lines: PartLines::new(cargo),
+        })),
+        Err(_) => Err(TelegramFault::Memory),
+    }
+}
+
+/// What the lines of a status message say.
+fn fsu_content<'a>(alloc: Global, lines: &Lines<'a>) -> Result<Content<'a>, TelegramFault>
+    ensures said { IfOk result (SaysAs kinds.Fsu (line_texts lines.now)) }
+    ensures refused { IfErr result (RefusesAs (fsu_fault (line_texts lines.now))) }
+{
+    let message = match fsu_text::read(alloc, lines) {
+        Ok(message) => message,
+        Err(told) => return Err(refusal(told)),
+    };
+    match trail_lines(alloc, message.trail.as_slice()) {
+        Ok(trail) => Ok(Content::Fsu(StatusContent {
+            awb: message.consignment.awb,
+            lines: StatusLines::new(trail),
+        })),
+        Err(_) => Err(TelegramFault::Memory),
+    }
+}
+
+/// What the lines of a normal text say.
+pub(crate) fn content<'a>(alloc: Global, lines: &Lines<'a>) -> Result<Content<'a>, TelegramFault>
+    ensures said { IfOk result (SaysAs lines.now.kind (line_texts lines.now)) }
+    ensures refused { IfErr result (RefusesAs (message_fault (Some lines.now.kind) (line_texts lines.now))) }
+{
+    match lines.kind {
+        MessageKind::Fwb => fwb_content(lines),
+        MessageKind::Ffm => ffm_content(alloc, lines),
+        MessageKind::Fsu => fsu_content(alloc, lines),
+    }
+}

@@ -1,0 +1,19 @@
+//! Telegrams that arrive, and the texts of those that are sent.
+#![tactic(auto)]
+
+mod content;
+mod known;
+mod laws;
+mod notice;
+mod reading;
+mod telegram;
+#[cfg(test)]
+mod tests;
+
+pub use laws::telegram_law;
+pub use notice::notice_text;
+pub use reading::read_telegram;
+pub use telegram::{
+    Content, NormalText, PartContent, PartLines, StatusContent, StatusLines, Telegram,
+    TelegramFault,
+};
