@@ -84,11 +84,16 @@ returns-clause-ran g c = λ s keeps works sound.
 pub returns-in-Err-clause-stopped : goal.returns-in-Err-clause-stopped
 returns-in-Err-clause-stopped g c = λ s keeps works sound.
     let inv = c.loop-row.invariant in
-    let run = inv.rows.3 s keeps works sound in
-    (inv.rows.0, (None, (
-      known_first g.R.Read.remaining c.loop-row.row-iterator.rdr inv.rows.0 (g.R.Read.remaining c.args.reader) inv.rows.2,
-      (subst IsReadersFault (sym c.reader_fault.ensures) (readers_fault _), run.lines, run.state),
-    )))
+    let run = inv.rows.3 s keeps works sound in (
+      inv.rows.0,
+      (
+        None,
+        (
+          known_first g.R.Read.remaining c.loop-row.row-iterator.rdr inv.rows.0 (g.R.Read.remaining c.args.reader) inv.rows.2,
+          (subst IsReadersFault (sym c.reader_fault.ensures) (readers_fault _), run.lines, run.state),
+        ),
+      ),
+    )
 
 pub returns-in_err-accepted-in-Ok-clause-stopped : goal.returns-in_err-accepted-in-Ok-clause-stopped
 returns-in_err-accepted-in-Ok-clause-stopped g c = λ s keeps works sound.
@@ -99,7 +104,13 @@ returns-in_err-accepted-in-Ok-clause-stopped g c = λ s keeps works sound.
     let run = inv.rows.3 s keeps works (c.answer_row.ensures.sound sound) in
     let known = known_more g.R.Read.remaining c.loop-row.row-iterator.rdr c.next.new.self.rdr f rows (g.R.Read.remaining c.args.reader) inv.config step.0 inv.rows.2 in
     let stopped = c.in_err-accepted-in-Ok.ensures.stopped (rows_after s rows) run.state (inv.works works) sound in
-    passed_on c.from_residual.result c.in_err-accepted-in-Ok.field-0.0 _ c.from_residual.ensures.1 (rows, (Some f, (
-      known_first g.R.Read.remaining c.next.new.self.rdr (rows ++ f ∷ []) (g.R.Read.remaining c.args.reader) known,
-      stops_more s rows f c.loop-row.number c.loop-row.good _ _ _ _ _ _ _ inv.rows.1 run stopped,
-    )))
+    passed_on c.from_residual.result c.in_err-accepted-in-Ok.field-0.0 _ c.from_residual.ensures.1 (
+      rows,
+      (
+        Some f,
+        (
+          known_first g.R.Read.remaining c.next.new.self.rdr (rows ++ f ∷ []) (g.R.Read.remaining c.args.reader) known,
+          stops_more s rows f c.loop-row.number c.loop-row.good _ _ _ _ _ _ _ inv.rows.1 run stopped,
+        ),
+      ),
+    )
