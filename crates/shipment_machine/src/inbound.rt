@@ -21,7 +21,7 @@ use crate::plans::{Change, Detail, Plan, PlanFault, Refusal};
 use crate::view::{LineRow, LineRows};
 use agent_stock::Holder;
 use awb_number::Awb;
-use imp_fields::{Airport, Why, book_weight};
+use imp_fields::{Airport, LocalDay, Why, book_weight};
 use std::alloc::{AllocError, Global};
 use std::collections::HashMap;
 
@@ -178,7 +178,7 @@ pub(crate) fn announced<'a>(
 }
 
 /// The part of a manifest that a telegram is, its day being known.
-fn key_of(part: &InboundPart<'_>, day: u32) -> Part
+fn key_of(part: &InboundPart<'_>, day: LocalDay) -> Part
     ensures { result ≡ record { flight = record { flight = part.now.flight; day = day }; airport = part.now.loaded; number = part.now.number } }
 {
     Part {
@@ -216,12 +216,12 @@ pub(crate) fn announce<'a>(
     ensures answer { IsAnswer result (part_answer on.now.here taken rows.now part.now meant) }
     ensures some { IfOk result (λ _. All HasPieces part.now.lines) }
 {
-    let Some(day) = meant else {
+    let Some(number) = meant else {
         return Err(no_day());
     };
-    if day < 10957 || 47481 < day {
+    let Some(day) = LocalDay::new(number) else {
         return Err(no_day());
-    }
+    };
     let key = &key_of(part, day);
     if taken {
         return Err(PlanFault::Refused(Refusal {

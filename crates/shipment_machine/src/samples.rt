@@ -17,7 +17,9 @@ use crate::seen::{Reply, seen};
 use crate::view::{Aboard, FlightSheet, LineRow, LineRows, Loads, Rows, Sheet};
 use agent_stock::{AgentCode, Holder};
 use awb_number::Awb;
-use imp_fields::{Airport, BookTenths, Flight, Goods, Moment, Name, Pieces, Tenths, read_quantity};
+use imp_fields::{
+    Airport, BookTenths, Flight, Goods, LocalDay, Moment, Name, Pieces, Tenths, read_quantity,
+};
 use std::alloc::Global;
 
 /// What the samples name.
@@ -27,6 +29,8 @@ pub(crate) struct Names {
     pub(crate) fra: Airport,
     pub(crate) jfk: Airport,
     pub(crate) flight: Flight,
+    /// 2026-01-12.
+    pub(crate) day: LocalDay,
     pub(crate) name: Name,
     pub(crate) goods: Goods,
     pub(crate) agent: AgentCode,
@@ -40,6 +44,7 @@ pub(crate) fn all_names() -> Option<Names> {
         fra: Airport::read(b"FRA")?,
         jfk: Airport::read(b"JFK")?,
         flight: Flight::read(b"LH400")?,
+        day: LocalDay::new(20465)?,
         name: Name::read(b"ACME")?,
         goods: Goods::read(b"CARGO")?,
         agent: AgentCode::read(b"ACME")?,
@@ -51,7 +56,7 @@ pub(crate) fn all_names() -> Option<Names> {
 pub(crate) fn lh400(names: &Names) -> FlightDate {
     FlightDate {
         flight: names.flight,
-        day: 20465,
+        day: names.day,
     }
 }
 

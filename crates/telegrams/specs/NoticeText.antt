@@ -1,6 +1,6 @@
 -- The text of a notice: that of the status or the manifest which it is.
 use Rattle.std.specs.Prelude.{◌≡◌, ℕ, List, map, Some, Ok}
-use Rattle.imp_fields.specs.Date.{IsMomentDay, date_on, when_at}
+use Rattle.imp_fields.specs.Date.{date_on, when_at}
 use Rattle.imp_fields.specs.Message.{sent_text}
 use Rattle.imp_fields.specs.NormalText.{normal_lines}
 use Rattle.imp_fields.specs.declared.consigned.Consigned.{Consigned}
@@ -64,20 +64,6 @@ notice_lines (notice.Manifest here flight unload lines) = manifest_lines here fl
 -- each ends with a carriage return and a newline
 abbrev pub notice_text : Notice → List ℕ
 notice_text n = sent_text (notice_lines n)
-
--- the date of a flight that is told is that of a day from 2000-01-01 to 2099-12-31
-abbrev pub IsDatedEvent : Event → Type 0
-IsDatedEvent (event.Manifested flight unload) = IsMomentDay flight.day
-IsDatedEvent (event.Departed flight unload) = IsMomentDay flight.day
-IsDatedEvent (event.ReceivedFromShipper name at) = Unit {0}
-IsDatedEvent (event.ReceivedFromFlight flight at) = Unit {0}
-IsDatedEvent (event.Notified name at) = Unit {0}
-IsDatedEvent (event.Delivered name at) = Unit {0}
-IsDatedEvent (event.Differs flight at what) = Unit {0}
-
-abbrev pub IsDated : Notice → Type 0
-IsDated (notice.Status here consigned what pieces tenths) = IsDatedEvent what
-IsDated (notice.Manifest here flight unload lines) = IsMomentDay flight.day
 
 -- a status message is read as the update that was written, and its status line as the status
 abbrev pub IsUpdateAgain : Update → Type 0

@@ -2,14 +2,14 @@
 
 ghost use Rattle.std.specs.Prelude.{◌≤◌, IsTrue, All, length, map};
 ghost use Rattle.imp_fields.specs.Airport.{is_airport};
-ghost use Rattle.imp_fields.specs.Date.{IsMomentDay, IsCalendarDay, date_on};
+ghost use Rattle.imp_fields.specs.Date.{IsCalendarDay, date_on};
 ghost use Rattle.imp_fields.specs.Flight.{IsDesignator};
 ghost use Rattle.ffm_text.specs.Written.{IsLoad, AreWritten};
 ghost use Rattle.telegrams.specs.NoticeText.{sent_load, IsNormalManifest, IsManifestAgain};
 
-use crate::notice::load_of;
+use crate::notice::{date_of, load_of};
 use ffm_text::Load;
-use imp_fields::{Airport, DayMonth, Flight};
+use imp_fields::{Airport, Flight, LocalDay};
 use shipment_machine::{FlightDate, ManifestLine, ManifestLines};
 
 fn airport_known(airport: &Airport)
@@ -18,11 +18,10 @@ fn airport_known(airport: &Airport)
     let _letters = airport.letters();
 }
 
-fn day_known(day: u32)
-    requires { IsMomentDay day }
+fn day_known(day: LocalDay)
     ensures { IsCalendarDay (date_on day) }
 {
-    let date = DayMonth::on(day);
+    let date = date_of(day);
     let _day = date.day;
 }
 
@@ -61,7 +60,6 @@ fn lines_known(lines: &[ManifestLine])
 }
 
 fn parts_known(here: &Airport, flight: &FlightDate, unload: &Airport, lines: &[ManifestLine])
-    requires day { IsMomentDay flight.now.day }
     requires few { length lines.now ≤ 500 }
     ensures { AreWritten flight.now.flight (date_on flight.now.day) here.now unload.now (map sent_load lines.now) }
 {
@@ -79,7 +77,6 @@ pub(crate) fn manifest_known(
     unload: &Airport,
     lines: &ManifestLines,
 )
-    requires { IsMomentDay flight.now.day }
     ensures normal { IsNormalManifest here.now flight.now unload.now lines.now }
     ensures read_again { IsManifestAgain here.now flight.now unload.now lines.now }
 {

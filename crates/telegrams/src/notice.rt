@@ -1,23 +1,29 @@
 //! The texts of notices.
 
 ghost use Rattle.std.specs.Prelude.{◌≡◌, ◌++◌, ◌∷◌, [], Ok, IfOk, OnOk, map};
-ghost use Rattle.imp_fields.specs.Date.{IsMomentDay};
+ghost use Rattle.imp_fields.specs.Date.{date_on};
 ghost use Rattle.imp_fields.specs.Message.{sent_text};
 ghost use Rattle.imp_fields.specs.NormalText.{normal_lines};
 ghost use Rattle.fsu_text.specs.Fsu.{fsu_lines};
-ghost use Rattle.telegrams.specs.NoticeText.{status_of_event, sent_update, sent_load, manifest_lines, notice_lines, notice_text, IsDatedEvent, IsDated, IsUpdateAgain, IsReadAgain};
+ghost use Rattle.telegrams.specs.NoticeText.{status_of_event, sent_update, sent_load, manifest_lines, notice_lines, notice_text, IsUpdateAgain, IsReadAgain};
 
 use crate::known::manifest_known;
 use ffm_text::{Load, write_ffm};
 use fsu_text::{Handling, SentCarriage, SentStatus, Update, write_fsu};
-use imp_fields::{Airport, DayMonth, DayTime};
+use imp_fields::{Airport, DayMonth, DayTime, LocalDay};
 use shipment_machine::{Event, FlightDate, ManifestLine, ManifestLines, Notice};
 use std::alloc::{AllocError, Global};
 use std::slice;
 
+/// The date of a flight's day, without its year.
+pub(crate) fn date_of(day: LocalDay) -> DayMonth
+    ensures { result ≡ date_on day }
+{
+    DayMonth::on(day.number())
+}
+
 /// What happened, as a status message tells it: a flight that leaves by its date, all else by its moment.
 fn status_of(event: &Event) -> SentStatus
-    requires { IsDatedEvent event.now }
     ensures { result ≡ status_of_event event.now }
 {
     match event {
@@ -29,13 +35,13 @@ fn status_of(event: &Event) -> SentStatus
         Event::Manifested { flight, unload } => SentStatus::Carried {
             event: SentCarriage::Manifested,
             flight: flight.flight,
-            date: DayMonth::on(flight.day),
+            date: date_of(flight.day),
             to: *unload,
         },
         Event::Departed { flight, unload } => SentStatus::Carried {
             event: SentCarriage::Departed,
             flight: flight.flight,
-            date: DayMonth::on(flight.day),
+            date: date_of(flight.day),
             to: *unload,
         },
         Event::ReceivedFromFlight { flight, at } => SentStatus::ReceivedFromFlight {
@@ -117,7 +123,6 @@ fn manifest_text(
     unload: Airport,
     lines: &ManifestLines,
 ) -> Result<Vec<u8>, AllocError>
-    requires { IsMomentDay flight.now.day }
     ensures { IfOk result (λ text. text.items ≡ sent_text (manifest_lines here flight.now unload lines.now)) }
 {
     let loads = loads_of(alloc, lines.as_slice())?;
@@ -125,7 +130,7 @@ fn manifest_text(
     write_ffm(
         &mut text,
         flight.flight,
-        DayMonth::on(flight.day),
+        date_of(flight.day),
         here,
         unload,
         loads.as_slice(),
@@ -141,8 +146,6 @@ fn manifest_text(
 /// # Errors
 /// Want of memory.
 pub fn notice_text(alloc: Global, notice: &Notice) -> Result<Vec<u8>, AllocError>
-    // A flight whose date is told is on a day from 2000-01-01 to 2099-12-31.
-    requires { IsDated notice.now }
     ensures text { IfOk result (λ text. text.items ≡ notice_text notice.now) }
 
     // The lines that are sent are normal, and are read as what was written.

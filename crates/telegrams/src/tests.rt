@@ -1,10 +1,7 @@
-ghost use Rattle.std.specs.Prelude.{◌≡◌, true};
-ghost use Rattle.telegrams.specs.NoticeText.{IsDated};
-
 use super::*;
 use awb_number::Awb;
 use imp_fields::{
-    Airport, BookTenths, Consigned, Discrepancy, Flight, Goods, Moment, Name, Pieces, Why,
+    Airport, BookTenths, Consigned, Discrepancy, Flight, Goods, LocalDay, Moment, Name, Pieces, Why,
 };
 use shipment_machine::{
     CargoLine, Detail, Event, FlightDate, ManifestLine, ManifestLines, Notice, Refusal,
@@ -241,21 +238,8 @@ fn consigned() -> Option<Consigned> {
 fn lh400() -> Option<FlightDate> {
     Some(FlightDate {
         flight: Flight::read(b"LH400")?,
-        day: 20465,
+        day: LocalDay::new(20465)?,
     })
-}
-
-fn is_dated(notice: &Notice) -> bool
-    ensures { result ≡ true → IsDated notice.now }
-{
-    match notice {
-        Notice::Status { event, .. } => match event {
-            Event::Manifested { flight, .. } => 10957 <= flight.day && flight.day <= 47481,
-            Event::Departed { flight, .. } => 10957 <= flight.day && flight.day <= 47481,
-            _ => true,
-        },
-        Notice::Manifest { flight, .. } => 10957 <= flight.day && flight.day <= 47481,
-    }
 }
 
 /// The text of what happened here to so many pieces of the ten, and their tenths.
@@ -273,9 +257,6 @@ fn status(
         pieces: Pieces::new(pieces)?,
         tenths: BookTenths::new(tenths)?,
     };
-    if !is_dated(&notice) {
-        return None;
-    }
     notice_text(alloc, &notice).ok()
 }
 
@@ -477,9 +458,6 @@ fn manifest(alloc: Global) -> Option<Vec<u8>> {
         unload: Airport::read(b"JFK")?,
         lines: ManifestLines::new(lines)?,
     };
-    if !is_dated(&notice) {
-        return None;
-    }
     notice_text(alloc, &notice).ok()
 }
 

@@ -1,6 +1,6 @@
 use Rattle.std.proofs.Common.{◌≡◌, IfOk, sym, subst}
 use Rattle.shipment_machine.specs.declared.notice.Notice.{Notice}
-use Rattle.telegrams.specs.NoticeText.{IsDated, notice_text}
+use Rattle.telegrams.specs.NoticeText.{notice_text}
 use Rattle.telegrams.proofs.NoticeLaws.{status_normal, status_again, flight_normal, flight_again}
 use Rattle.telegrams.proofs.notice.notice_text.Goals as goal
 
@@ -23,9 +23,6 @@ pub returns-in-Manifest-clause-read_again : goal.returns-in-Manifest-clause-read
 returns-in-Manifest-clause-read_again c =
     let m = c.in-Manifest in
     flight_again c.args.notice.now m.here m.flight m.unload m.lines m.is c.manifest_known.ensures.read_again
-
-pub manifest_text-requires : goal.manifest_text-requires
-manifest_text-requires c = subst IsDated c.in-Manifest.is c.requires
 
 pub returns-in-Manifest-clause-text : goal.returns-in-Manifest-clause-text
 returns-in-Manifest-clause-text c =
