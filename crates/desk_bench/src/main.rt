@@ -1,6 +1,7 @@
 //! How fast the desk is: with the word `run` it prints a line for each kind of work.
 #![tactic(auto)]
 
+mod planning;
 mod stock;
 mod telegrams;
 
@@ -67,6 +68,24 @@ fn updates(rt: &HostRuntime, what: &str) -> Result<(), io::Error> {
     }
 }
 
+/// A departure of 500 waybills, planned from a view.
+fn departures(rt: &HostRuntime, what: &str) -> Result<(), io::Error> {
+    let start = Instant::now(rt)?;
+    match planning::plan_departures(rt.alloc()) {
+        Some(count) => report(rt, what, count, start.elapsed(rt)?),
+        None => gave_up(rt, what),
+    }
+}
+
+/// A part of a manifest with 500 lines, planned from a view.
+fn parts(rt: &HostRuntime, what: &str) -> Result<(), io::Error> {
+    let start = Instant::now(rt)?;
+    match planning::plan_manifests(rt.alloc()) {
+        Some(count) => report(rt, what, count, start.elapsed(rt)?),
+        None => gave_up(rt, what),
+    }
+}
+
 /// Each kind of work, one after another.
 fn measure(rt: &HostRuntime) -> Result<(), io::Error> {
     orders(
@@ -86,7 +105,9 @@ fn measure(rt: &HostRuntime) -> Result<(), io::Error> {
     read(rt, "FFM of 400 bytes read", telegrams::FFM)?;
     read(rt, "FSU of 400 bytes read", telegrams::FSU)?;
     manifests(rt, "FFM of one waybill written")?;
-    updates(rt, "FSU written")
+    updates(rt, "FSU written")?;
+    departures(rt, "departure of 500 waybills planned")?;
+    parts(rt, "FFM of 500 lines planned")
 }
 
 /// Status 0: all was measured; 2: other words than `run`.

@@ -1,0 +1,2 @@
+pub mod CrowdLaws
+pub mod Shown
