@@ -6,6 +6,7 @@ pub mod ExamplesLarge
 pub mod ShareLemmas
 pub mod FaultLaws
 pub mod Runs
+pub mod Cuts
 pub mod NameLaws
 pub mod WeightLaws
 pub mod ShapeLaws

@@ -1,14 +1,14 @@
 -- What is known of a telegram once one more line was seen.
 use Rattle.std.proofs.Common.{◌≡◌, ℕ, suc, ◌+◌, ◌-◌, ◌<◌, ◌≤◌, Bool, true, false, cond, List, [], ◌∷◌, ◌++◌, length, take, drop, map, Option, Some, None, refl, sym, ap, ◌∙◌, inl, inr, arith, append_assoc, subst}
-use Rattle.std.specs.Prelude.{position, not, nat_lt, ◌&&◌, is_some, slice_range}
-use Rattle.std.specs.List.{AllByRecursion, slice_split, position_or_len, before_first}
-use Rattle.std.proofs.lemmas.Bool.{cases_lt, cond-true, cond-false, lt-ltb, le-ltb, le-leb, lt-leb, not-true}
+use Rattle.std.specs.Prelude.{position, not, nat_le, nat_lt, ◌&&◌, is_some, slice_range}
+use Rattle.std.specs.List.{AllByRecursion, list_all, prefix_len, slice_split, position_or_len, before_first}
+use Rattle.std.proofs.lemmas.Bool.{and_parts, leb-true, ne_eqb, cases_lt, cond-true, cond-false, lt-ltb, le-ltb, le-leb, lt-leb, not-true}
 use Rattle.std.proofs.lemmas.List.{length-append, take-take, length-map, map-append, take-append-le, take_all, drop_all, drop-append-le, length-take, length-drop, drop-drop}
 use Rattle.std.proofs.lemmas.List.Splits.{slice_split_first, slice_split_none}
 use Rattle.std.proofs.lemmas.List.Sums.{prefix_len-le-length, prefix_len_passes}
 use Rattle.std.proofs.lemmas.List.Folds.{length-prefix_len}
 use Rattle.imp_fields.specs.Steps.{or_else}
-use Rattle.imp_fields.specs.Characters.{before_last_while}
+use Rattle.imp_fields.specs.Characters.{is_printable, before_last_while}
 use Rattle.imp_fields.specs.Token.{IsSlice, AreSlicesFrom}
 use Rattle.imp_fields.specs.NormalText.{is_newline, is_empty, line_without_end, line_fault, first_fault, kind_of, is_message_line, starts_from}
 use Rattle.imp_fields.specs.Scan.{AreKept, IsScanned, Sees, AreSlicesBefore, pieces_from, IsScannedTo}
@@ -16,6 +16,8 @@ use Rattle.imp_fields.specs.declared.fault.Why.{Why}
 use Rattle.imp_fields.specs.declared.token.Token.{Token}
 use Rattle.imp_fields.specs.declared.line.MessageKind.{MessageKind}
 use Rattle.imp_fields.specs.declared.normal.Scan.{Scan}
+use Rattle.imp_fields.proofs.Runs.{passes_within, run_goes_on}
+use Rattle.imp_fields.proofs.WrittenLaws.{all_weaker}
 use Rattle.imp_fields.proofs.ListLaws.{before_last_while-more, position-some, position-append, position-more_no, position-more_yes, take-more, take-full}
 
 -- ---- faults
@@ -291,3 +293,31 @@ seen_to_step source rest piece place len size line old new h within is_rest run 
     let all : place + len + 1 ≡ place + (len + 1) = omega arith in
     subst (λ k. IsScannedTo source k new) all
     (scanned_to_step source place len line old new h within run' slice start (omega (arith, end, short, most)) (text ∙ cut ∙ ap line_without_end is_first) sees)
+
+-- ---- which bytes of a line print
+
+line_of : (source rest : List ℕ) (place size : ℕ) (line : Token) → rest ≡ drop place source → IsSlice source line → line.start ≡ place → line.end ≡ place + size
+    → line.text.now ≡ take size rest
+line_of source rest place size line is_rest slice start end =
+    let sum : place + size - place ≡ size = omega arith in
+    slice.bytes ∙ ap (λ n. slice_range source n line.end) start ∙ ap (slice_range source place) end ∙ ap (λ n. take n (drop place source)) sum ∙ ap (take size) (sym is_rest)
+
+pub printable_so : (source rest piece : List ℕ) (place len size front : ℕ) (line : Token) → rest ≡ drop place source → piece ≡ take len rest → size ≤ length piece
+    → front ≡ prefix_len is_printable rest → IsSlice source line → line.start ≡ place → line.end ≡ place + size
+    → nat_le (length line.text.now) front ≡ list_all is_printable line.text.now
+printable_so source rest piece place len size front line is_rest is_piece short is_front slice start end =
+    let text = line_of source rest place size line is_rest slice start end in
+    let within : size ≤ length rest = omega (arith, short, ap length is_piece, length-take len rest) in
+    let whole : length line.text.now ≡ size = omega (arith, ap length text, length-take size rest, within) in
+    ap (λ n. nat_le n front) whole ∙ ap (nat_le size) is_front ∙ passes_within is_printable size rest within ∙ ap (list_all is_printable) (sym text)
+
+no_newline : (b : ℕ) → is_printable b ≡ true → not (is_newline b) ≡ true
+no_newline b h = let low = leb-true 32 b (and_parts _ _ h).0 in ap not (ne_eqb b 10 (λ e. omega (arith, e, low)))
+
+pub newline_behind : (rest : List ℕ) (front more : ℕ) → front ≡ prefix_len is_printable rest → more ≡ position_or_len is_newline (slice_range rest front (length rest))
+    → front + more ≡ position_or_len is_newline rest
+newline_behind rest front more is_front is_more =
+    let within : front ≤ length rest = omega (arith, is_front, prefix_len-le-length is_printable rest) in
+    let print : list_all is_printable (take front rest) ≡ true =
+    sym (passes_within is_printable front rest within) ∙ le-leb front (prefix_len is_printable rest) (omega (arith, is_front)) in
+    run_goes_on (λ b. not (is_newline b)) front more rest within (all_weaker is_printable (λ b. not (is_newline b)) no_newline (take front rest) print) is_more

@@ -90,7 +90,8 @@ fn digit(n: u16) -> u8
 impl DayMonth {
     /// The date as messages tell it: `12JAN`.
     pub fn write(&self) -> [u8; 5]
-        ensures { result ≡ date_text self.now }
+        ensures text { result ≡ date_text self.now }
+        ensures in_range { IsCalendarDay self.now }
     {
         let day = u16::from(self.day);
         let [first, second, third] = month_name(self.month);
@@ -132,7 +133,9 @@ impl Model for DayTime {
 impl DayTime {
     /// The date and the time as messages tell them: `12JAN1030`.
     pub fn write(&self) -> [u8; 9]
-        ensures { result ≡ when_text self.now }
+        ensures text { result ≡ when_text self.now }
+        ensures date { IsCalendarDay self.now.date }
+        ensures minute { self.now.minute < 1440 }
     {
         let [tens, ones, first, second, third] = self.date.write();
         let (hour, minute) = (self.minute / 60, self.minute % 60);

@@ -1,6 +1,8 @@
 //! The normal text of a telegram: its lines from the message line on.
 
 ghost use Rattle.std.specs.Prelude.{◌≡◌, ◌+◌, ◌≤◌, ◌<◌, ◌^◌, ◌∷◌, ◌++◌, ℕ, List, IfOk, OnOk, [], nat_lt, if◌then◌else◌, length, take, Some, None};
+ghost use Rattle.std.specs.List.{list_all};
+ghost use Rattle.imp_fields.specs.Characters.{is_printable};
 ghost use Rattle.imp_fields.specs.Steps.{or_else};
 ghost use Rattle.imp_fields.specs.Token.{IsSlice, AreSlices};
 ghost use Rattle.imp_fields.specs.Message.{is_head};
@@ -18,6 +20,9 @@ const MOST_BYTES: usize = 65_536;
 /// The most lines that a text may have.
 const MOST_LINES: usize = 1000;
 
+/// How many bytes a line has, to guess how many lines there are.
+const USUAL_LINE: usize = 16;
+
 /// How many bytes a line has without one carriage return at its end and the blanks before that.
 fn line_len(line: &[u8]) -> usize
     ensures bound { result ≤ length line.now }
@@ -30,11 +35,12 @@ fn line_len(line: &[u8]) -> usize
     stripped.len() - run::blanks_at_end(stripped)
 }
 
-/// What is wrong with a line.
-fn line_fault(line: &[u8]) -> Option<Why>
+/// What is wrong with a line, of which is known whether it is printable.
+fn line_fault(line: &[u8], printable: bool) -> Option<Why>
+    requires { printable ≡ list_all is_printable line.now }
     ensures { result ≡ line_fault line.now }
 {
-    if !run::is_printable(line) {
+    if !printable {
         Some(Why::Byte)
     } else if line.len() > 255 {
         Some(Why::Long)
@@ -76,14 +82,20 @@ fn kind_among_first(before: usize, line: &[u8]) -> Option<MessageKind>
 }
 
 /// The first fault of some lines and one more, of which so many stand before it.
-fn fault_after(fault: Option<TextFault>, before: usize, line: &[u8]) -> Option<TextFault>
-    requires { before < 2 ^ 31 }
+fn fault_after(
+    fault: Option<TextFault>,
+    before: usize,
+    line: &[u8],
+    printable: bool,
+) -> Option<TextFault>
+    requires small { before < 2 ^ 31 }
+    requires printable { printable ≡ list_all is_printable line.now }
     ensures { result ≡ or_else fault (first_fault (before + 1) (line_fault line.now ∷ [])) }
 {
     if fault.is_some() {
         return fault;
     }
-    match line_fault(line) {
+    match line_fault(line, printable) {
         Some(why) => Some(TextFault {
             line: before as u32 + 1,
             why,
@@ -112,24 +124,25 @@ struct Scan<'a> {
 impl<'a> Scan<'a> {
     ghost use Rattle.imp_fields.specs.Scan.{IsScanned, IsScannedTo, Sees, AreSlicesBefore};
 
-    /// Nothing was seen.
-    fn new(alloc: Global) -> Scan<'a>
-        ensures scanned { IsScanned [] [] result }
-        ensures slices { (source : List ℕ) → AreSlicesBefore source 0 result.lines.items }
+    /// Nothing was seen. There is room for so many lines.
+    fn new(alloc: Global, room: usize) -> Result<Scan<'a>, AllocError>
+        ensures scanned { IfOk result (IsScanned [] []) }
+        ensures slices { IfOk result (λ scan. (source : List ℕ) → AreSlicesBefore source 0 scan.lines.items) }
     {
-        Scan {
+        Ok(Scan {
             count: 0,
             filled: 0,
             fault: None,
             kind: None,
             before: 0,
-            lines: Vec::new(alloc),
-        }
+            lines: Vec::with_capacity(alloc, room)?,
+        })
     }
 
-    /// One more line was seen.
-    fn see(&mut self, line: Token<'a>) -> Result<(), AllocError>
-        requires { self.old.count < 2 ^ 31 }
+    /// One more line was seen, of which is known whether it is printable.
+    fn see(&mut self, line: Token<'a>, printable: bool) -> Result<(), AllocError>
+        requires small { self.old.count < 2 ^ 31 }
+        requires printable { printable ≡ list_all is_printable line.text.now }
         ensures { OnOk result (Sees line.entry self.old self.new) }
     {
         if self.kind.is_none() {
@@ -139,7 +152,7 @@ impl<'a> Scan<'a> {
         if self.kind.is_some() && self.count < MOST_LINES {
             self.lines.push(line)?;
         }
-        self.fault = fault_after(self.fault, self.count, line.text);
+        self.fault = fault_after(self.fault, self.count, line.text, printable);
         self.count += 1;
         if !line.text.is_empty() {
             self.filled = self.count;
@@ -152,12 +165,14 @@ impl<'a> Scan<'a> {
         requires { length bytes.now ≤ 65_536 }
         ensures { IfOk result (IsScannedTo bytes.now (length bytes.now + 1)) }
     {
-        let mut scan = Scan::new(alloc);
+        let mut scan = Scan::new(alloc, MOST_LINES.min(bytes.len() / USUAL_LINE + 1))?;
         let mut start = 0;
         while start <= bytes.len() {
             let rest = &bytes[start..];
-            let len = run::before_newline(rest);
-            scan.see(Token::new(bytes, start, start + line_len(&rest[..len])))?;
+            let printable = run::printable_in_front(rest);
+            let len = printable + run::before_newline(&rest[printable..]);
+            let line = Token::new(bytes, start, start + line_len(&rest[..len]));
+            scan.see(line, line.text.len() <= printable)?;
             start += len + 1;
         }
         Ok(scan)

@@ -1,6 +1,6 @@
 //! Quantities of messages, as `T10K100MC0.5`, and the weights in them.
 
-ghost use Rattle.std.specs.Prelude.{◌≡◌, ◌+◌, ◌++◌, take, decimal, ◌≤◌, ◌<◌, ◌*◌, ◌^◌, ℕ, length, filter, IfSome, Some};
+ghost use Rattle.std.specs.Prelude.{◌≡◌, ◌+◌, ◌++◌, take, decimal, ◌≤◌, ◌<◌, ◌*◌, ◌^◌, ℕ, length, filter, count_by, is_some, IfSome, Some, None};
 ghost use Rattle.std.specs.List.{list_all, position_or_len};
 ghost use Rattle.awb_number.specs.Digits.{is_digit, decimal_value};
 ghost use Rattle.imp_fields.specs.Steps.{where_true};
@@ -12,30 +12,43 @@ use crate::amount::{BookTenths, Pieces, Quantity, ShipmentCode, Tenths, WeightUn
 use crate::put::{put, put_decimal};
 use crate::run;
 
-/// Whether a text is a weight's number: one to seven digits and points, at most one a point, and none at an end.
-fn is_weight_numeral(text: &[u8]) -> bool
-    ensures { result ≡ is_weight_numeral text.now }
-{
-    if text.is_empty() || text.len() > 7 || !run::is_numeral(text) || run::points(text) > 1 {
-        return false;
-    }
-    text[0] != b'.' && text[text.len() - 1] != b'.'
-}
-
-/// The number that the digits of a weight's number write, without its point.
+/// The number that the digits of a weight's number write, without its points, and how many points there are; nothing
+/// where there is another byte.
 #[tactic(auto, using(crate::proofs::WeightLaws::ten_pow_of_seven))]
-fn numerator(numeral: &[u8]) -> u64
+fn digits_and_points(numeral: &[u8]) -> Option<(u64, u32)>
     requires { length numeral.now ≤ 7 }
-    ensures value { result ≡ numerator_of numeral.now }
-    ensures bound { result < 10_000_000 }
+    ensures number { IfSome result (λ r. r.0 ≡ numerator_of numeral.now) }
+    ensures points { IfSome result (λ r. r.1 ≡ count_by is_point numeral.now) }
+    ensures bound { IfSome result (λ r. r.0 < 10_000_000) }
+    ensures all { is_some result ≡ list_all is_digit_or_point numeral.now }
 {
-    let mut number = 0;
+    let (mut number, mut points) = (0, 0);
     for &b in numeral {
         if b.is_ascii_digit() {
             number = number * 10 + u64::from(b - b'0');
+        } else if b == b'.' {
+            points += 1;
+        } else {
+            return None;
         }
     }
-    number
+    Some((number, points))
+}
+
+/// The number that the digits of a weight's number write, without its point: one to seven digits and points, at most one
+/// a point, and none at an end.
+fn numerator(numeral: &[u8]) -> Option<u64>
+    ensures value { result ≡ where_true (is_weight_numeral numeral.now) (numerator_of numeral.now) }
+    ensures bound { IfSome result (λ n. n < 10_000_000) }
+{
+    if numeral.is_empty() || numeral.len() > 7 {
+        return None;
+    }
+    let read = digits_and_points(numeral)?;
+    if read.1 > 1 || numeral[0] == b'.' || numeral[numeral.len() - 1] == b'.' {
+        return None;
+    }
+    Some(read.0)
 }
 
 /// How many bytes of a weight's number stand before its point.
@@ -75,10 +88,8 @@ fn rounded_tenths(numerator: u64, denominator: u64) -> Option<Tenths>
 fn tenths(unit: WeightUnit, numeral: &[u8]) -> Option<Tenths>
     ensures { result ≡ where_true (is_weight_numeral numeral.now) (tenths_of unit numeral.now) }
 {
-    if !is_weight_numeral(numeral) {
-        return None;
-    }
-    let (numerator, denominator) = (numerator(numeral), denominator(numeral));
+    let numerator = numerator(numeral)?;
+    let denominator = denominator(numeral);
     match unit {
         WeightUnit::Kilograms => rounded_tenths(numerator, denominator),
         WeightUnit::Pounds => rounded_tenths(numerator * 45_359_237, denominator * 100_000_000),
@@ -117,31 +128,21 @@ fn pieces(digits: &[u8]) -> Option<Pieces>
     Pieces::new(run::count(digits)?)
 }
 
-/// The weight in front of what follows the pieces, where a K or an L stands there.
-fn weight_at_front(text: &[u8]) -> Option<Option<Tenths>>
-    ensures { result ≡ weight_at_front text.now }
+/// The weight in front of what follows the pieces, where a K or an L stands there, and what is left behind it.
+fn weight_and_left(text: &[u8]) -> Option<(Option<Tenths>, &[u8])>
+    ensures weight { IfSome result (λ r. weight_at_front text.now ≡ Some r.0) }
+    ensures left { IfSome result (λ r. r.1.now ≡ left_of_weight text.now) }
+    ensures none { result ≡ None → weight_at_front text.now ≡ None }
 {
     let Some((first, behind)) = text.split_first() else {
-        return Some(None);
+        return Some((None, text));
     };
     let Some(unit) = unit(*first) else {
-        return Some(None);
+        return Some((None, text));
     };
-    let (numeral, _) = behind.split_at(run::numeral_in_front(behind));
+    let (numeral, left) = behind.split_at(run::numeral_in_front(behind));
     let weight = tenths(unit, numeral)?;
-    Some(Some(weight))
-}
-
-/// What is left behind that weight.
-fn left_of_weight(text: &[u8]) -> &[u8]
-    ensures { result.now ≡ left_of_weight text.now }
-{
-    match text.split_first() {
-        Some((first, behind)) if unit(*first).is_some() => {
-            &behind[run::numeral_in_front(behind)..]
-        }
-        _ => text,
-    }
+    Some((Some(weight), left))
 }
 
 /// Whether a text has only what a quantity may have unread: letters, digits and points.
@@ -181,8 +182,9 @@ pub fn read_quantity(text: &[u8]) -> Option<Quantity>
     let code = code(*letter)?;
     let (digits, rest) = text.split_at(run::digits_in_front(text));
     let pieces = pieces(digits)?;
-    let weight = weight_at_front(rest)?;
-    let left = left_of_weight(rest);
+    let Some((weight, left)) = weight_and_left(rest) else {
+        return None;
+    };
     if is_unread(left) {
         Some(Quantity {
             code,

@@ -1,10 +1,10 @@
 //! Runs of bytes of one kind at an end of a text, and the numbers that they write.
 
-ghost use Rattle.std.specs.Prelude.{◌≡◌, ◌<◌, ◌≤◌, ◌^◌, ℕ, length, take, is_some, IfSome, count_by};
+ghost use Rattle.std.specs.Prelude.{◌≡◌, ◌<◌, ◌≤◌, ◌^◌, ℕ, length, take, is_some, IfSome};
 ghost use Rattle.std.specs.List.{list_all, position_or_len, prefix_len, suffix_len};
 ghost use Rattle.awb_number.specs.Digits.{is_digit, decimal_value};
 ghost use Rattle.imp_fields.specs.Amount.{IsPieces, count_of, is_digit_or_point};
-ghost use Rattle.imp_fields.specs.Characters.{is_blank, is_point, is_printable, is_slash};
+ghost use Rattle.imp_fields.specs.Characters.{is_blank, is_printable, is_slash};
 ghost use Rattle.imp_fields.specs.NormalText.{is_newline};
 
 /// How many digits stand in front.
@@ -48,6 +48,42 @@ pub(crate) fn is_printable(text: &[u8]) -> bool
     text.iter().all(|b| (b' '..=b'~').contains(b))
 }
 
+/// The same of eight bytes, each of which is looked at, so that they are looked at together.
+fn are_printable(eight: &[u8; 8]) -> bool
+    ensures { result ≡ list_all is_printable eight.now }
+{
+    let mut all = true;
+    for b in eight {
+        all = all & (b' '..=b'~').contains(b);
+    }
+    all
+}
+
+/// How many of them stand in front, where they are looked at one by one.
+fn few_printable_in_front(text: &[u8]) -> usize
+    ensures run { result ≡ prefix_len is_printable text.now }
+    ensures bound { result ≤ length text.now }
+{
+    text.iter()
+        .take_while(|b| (b' '..=b'~').contains(*b))
+        .count()
+}
+
+/// How many blanks and bytes that print stand in front.
+pub(crate) fn printable_in_front(text: &[u8]) -> usize
+    ensures run { result ≡ prefix_len is_printable text.now }
+    ensures bound { result ≤ length text.now }
+{
+    let mut len = 0;
+    while let Some(eight) = text[len..].first_chunk() {
+        if !are_printable(eight) {
+            break;
+        }
+        len += 8;
+    }
+    len + few_printable_in_front(&text[len..])
+}
+
 /// The number that one to four digits write, where it is at least 1.
 pub(crate) fn count(digits: &[u8]) -> Option<u32>
     ensures value { result ≡ count_of digits.now }
@@ -64,20 +100,6 @@ pub(crate) fn count(digits: &[u8]) -> Option<u32>
         number = number * 10 + u32::from(b - b'0');
     }
     if number == 0 { None } else { Some(number) }
-}
-
-/// Whether each byte is a digit or a point.
-pub(crate) fn is_numeral(text: &[u8]) -> bool
-    ensures { result ≡ list_all is_digit_or_point text.now }
-{
-    text.iter().all(|b| b.is_ascii_digit() || *b == b'.')
-}
-
-/// How many points there are.
-pub(crate) fn points(text: &[u8]) -> usize
-    ensures { result ≡ count_by is_point text.now }
-{
-    text.iter().filter(|b| **b == b'.').count()
 }
 
 /// Whether each byte is a digit.

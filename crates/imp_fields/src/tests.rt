@@ -339,6 +339,43 @@ fn heads_have_one_to_three_digits(rt: HostRuntime) {
 }
 
 #[test]
+fn lines_are_cut_at_their_slashes(rt: HostRuntime) {
+    for (line, cut, first) in [
+        (
+            b"RCS/FRA/T1".as_slice(),
+            Some((b"RCS".as_slice(), b"FRA/T1".as_slice())),
+            (b"RCS".as_slice(), b"FRA/T1".as_slice()),
+        ),
+        (b"/", Some((b"", b"")), (b"", b"")),
+        (b"RCS", None, (b"RCS", b"")),
+        (b"", None, (b"", b"")),
+    ] {
+        assert_eq!(rt; cut_at_slash(line), cut, "{line:?}");
+        assert_eq!(rt; first_field(line), first, "{line:?}");
+    }
+}
+
+// A byte that doesn't print is told at each place, and so is a return that doesn't end its line.
+#[test]
+fn bytes_are_tested_at_each_place(rt: HostRuntime) -> Result<(), Fail> {
+    for place in 6..30 {
+        for byte in [b'\t', b'\x1f', b'\x7f', b'\r'] {
+            let mut text = b"FWB/16\nABCDEFGHIJKLMNOPQRSTUVWXYZ".to_vec(rt.alloc())?;
+            text.insert(place, byte)?;
+            text.extend_from_slice(b"\nLAST")?;
+            let line = if place == 6 { 1 } else { 2 };
+            let expected = if place == 6 && byte == b'\r' {
+                None
+            } else {
+                fault(line, Why::Byte)
+            };
+            assert_eq!(rt; fault_of(rt.alloc(), &text), expected, "{place} {byte}");
+        }
+    }
+    Ok(())
+}
+
+#[test]
 fn texts_are_cut_into_lines(rt: HostRuntime) -> Result<(), Fail> {
     let text = b"QK FRACGXX\r\n.HAMFMXX 121000\r\nFFM/8  \r\nLAST\r\n\r\n \n";
     let Ok(read) = normal_text(rt.alloc(), text) else {

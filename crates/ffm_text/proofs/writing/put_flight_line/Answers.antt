@@ -15,7 +15,7 @@ returns-clause-text c =
     (c.in_ok-put-2.ensures.text ∙ ap (λ t. c.put.new.out.items ++ t) c.write-end.ensures.text) in
     let slash = joined old c.put-2.new.out.items c.put-3.new.out.items part (47 ∷ []) flight c.in_ok-put-3.ensures.text in
     let date = joined old c.put-3.new.out.items c.put-4.new.out.items (part ++ (47 ∷ [])) (date_text c.args.date) slash
-    (c.in_ok-put-4.ensures.text ∙ ap (λ t. c.put-3.new.out.items ++ t) c.write.ensures) in
+    (c.in_ok-put-4.ensures.text ∙ ap (λ t. c.put-3.new.out.items ++ t) c.write.ensures.text) in
     let last = joined old c.put-4.new.out.items c.put-5.new.out.items dated (47 ∷ []) date c.in_ok-put-5.ensures.text in
     joined_line c.put_line.result old c.put-5.new.out.items c.put_line.new.out.items (dated ++ (47 ∷ [])) c.args.here last
     (subst (λ (t : List ℕ). OnOk c.put_line.result (c.put_line.new.out.items ≡ c.put-5.new.out.items ++ line_text t)) c.letters.ensures.value c.put_line.ensures.text)

@@ -1,0 +1,10 @@
+use Rattle.std.proofs.Common.{◌≡◌, ◌≤◌, ◌-◌, true, length, take}
+use Rattle.std.specs.List.{list_all}
+use Rattle.imp_fields.specs.Characters.{is_printable}
+use Rattle.imp_fields.proofs.run.printable_in_front.Given as goal
+
+abbrev pub invariant-loop-eight : goal.invariant-loop-eight
+invariant-loop-eight l = (l.len ≤ length l.text) × (list_all is_printable (take l.len l.text) ≡ true)
+
+abbrev pub decreases-loop-eight : goal.decreases-loop-eight
+decreases-loop-eight l = length l.text - l.len
