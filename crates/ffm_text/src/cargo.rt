@@ -9,7 +9,7 @@ ghost use Rattle.ffm_text.specs.Seen.{IsSeen, AreCargo, texts_of};
 use crate::FfmLine;
 use crate::point::unloading_point;
 use imp_fields::{Airport, TextFault, Token, Why, read_consignment};
-use std::alloc::Global;
+use std::alloc::{AllocError, Global};
 
 /// A fault of a line.
 pub(crate) fn fault(line: u32, why: Why) -> TextFault
@@ -61,14 +61,14 @@ pub(crate) struct Seen<'a> {
 }
 
 impl<'a> Seen<'a> {
-    /// No line was seen.
-    fn new(alloc: Global) -> Seen<'a>
-        ensures { IsSeen [] result }
+    /// No line was seen. There is room for so many.
+    fn new(alloc: Global, room: usize) -> Result<Seen<'a>, AllocError>
+        ensures { IfOk result (IsSeen []) }
     {
-        Seen {
+        Ok(Seen {
             point: None,
-            cargo: Vec::new(alloc),
-        }
+            cargo: Vec::with_capacity(alloc, room)?,
+        })
     }
 
     /// Takes a line that has to be a consignment line, and no other.
@@ -113,7 +113,9 @@ pub(crate) fn cargo<'a>(alloc: Global, lines: &[Token<'a>]) -> Result<Vec<FfmLin
     ensures read { IfOk result (λ cargo. AreCargo (texts_of lines.now) cargo.items) }
     ensures fault { IfErr result (IsFaultOf (first_fault 3 (cargo_faults [] (texts_of lines.now)))) }
 {
-    let mut seen = Seen::new(alloc);
+    let Ok(mut seen) = Seen::new(alloc, lines.len()) else {
+        return Err(fault(0, Why::Memory));
+    };
     let mut number = 2;
     for line in lines {
         number += 1;

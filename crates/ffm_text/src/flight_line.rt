@@ -1,15 +1,13 @@
 //! The flight line of a manifest: `1/LH400/12JAN/FRA`.
 
-ghost use Rattle.std.specs.Prelude.{◌≡◌, ℕ, ◌≤◌, length, Ok, Err, IfOk, IfErr, option_copied, option_and_then};
-ghost use Rattle.std.specs.List.{position_or_len};
-ghost use Rattle.imp_fields.specs.Characters.{is_slash};
+ghost use Rattle.std.specs.Prelude.{◌≡◌, Ok, Err, IfOk, IfErr, option_copied, option_and_then};
 ghost use Rattle.imp_fields.specs.Amount.{count_of};
 ghost use Rattle.imp_fields.specs.Flight.{flight_of};
 ghost use Rattle.imp_fields.specs.Airport.{airport_of};
 ghost use Rattle.ffm_text.specs.Ffm.{field, date_in, flight_line_of, part_of};
 
 use awb_number::decimal;
-use imp_fields::{Airport, DayMonth, DayTime, Flight, PartNumber, Why};
+use imp_fields::{Airport, DayMonth, DayTime, Flight, PartNumber, Why, cut_at_slash};
 
 /// What a flight line says.
 #[derive(Clone, Copy, Debug)]
@@ -20,26 +18,20 @@ pub(crate) struct Part {
     pub(crate) loaded: Airport,
 }
 
-/// How many bytes stand before the first slash, or in all where there is none.
-fn before_slash(text: &[u8]) -> usize
-    ensures place { result ≡ position_or_len is_slash text.now }
-    ensures bound { result ≤ length text.now }
-{
-    text.iter().take_while(|b| **b != b'/').count()
-}
-
 /// One of the fields that slashes part; the first is field 0.
 fn field(line: &[u8], number: usize) -> Option<&[u8]>
     ensures { option_copied result ≡ field line.now number }
 {
-    let end = before_slash(line);
-    if number == 0 {
-        return Some(&line[..end]);
+    match cut_at_slash(line) {
+        Some((first, rest)) => {
+            if number == 0 {
+                Some(first)
+            } else {
+                field(rest, number - 1)
+            }
+        }
+        None => { if number == 0 { Some(line) } else { None } }
     }
-    if end == line.len() {
-        return None;
-    }
-    field(&line[end + 1..], number - 1)
 }
 
 /// The number that one to four digits write, where it is at least 1.

@@ -1,38 +1,16 @@
-//! What the types of a written manifest keep, for the proof of what is read again. The functions do nothing.
+//! What the types of a written manifest keep, for the proof of what is read again. The functions do nothing else.
 
-ghost use Rattle.std.specs.Prelude.{◌≤◌, IsTrue, All, length};
-ghost use Rattle.imp_fields.specs.Airport.{is_airport};
-ghost use Rattle.imp_fields.specs.Date.{IsCalendarDay};
-ghost use Rattle.imp_fields.specs.Flight.{IsDesignator};
+ghost use Rattle.std.specs.Prelude.{◌≤◌, All, length};
 ghost use Rattle.ffm_text.specs.Written.{IsLoad, AreWritten};
 
 use crate::Load;
 use imp_fields::{Airport, DayMonth, Flight};
 
-fn airport_known(airport: &Airport)
-    ensures { IsTrue (is_airport airport.now) }
-{
-    let _letters = airport.letters();
-}
-
-fn date_known(date: &DayMonth)
-    ensures { IsCalendarDay date.now }
-{
-    let _day = date.day;
-}
-
-fn flight_known(flight: &Flight)
-    ensures { IsDesignator flight.now }
-{
-    let mut text = [0; 7];
-    let _len = flight.write(&mut text);
-}
-
 fn load_known(load: &Load)
     ensures { IsLoad load.now }
 {
-    airport_known(&load.origin);
-    airport_known(&load.destination);
+    let _origin = load.origin.letters();
+    let _destination = load.destination.letters();
     let _key = load.awb.key();
     let _pieces = load.pieces.number();
     let _tenths = load.tenths.number();
@@ -59,9 +37,9 @@ pub(crate) fn written_known(
     requires count { length loads.now ≤ 500 }
     ensures { AreWritten flight.now date.now here.now unload.now loads.now }
 {
-    flight_known(flight);
-    date_known(date);
-    airport_known(here);
-    airport_known(unload);
+    let _flight = flight.write(&mut [0; 7]);
+    let _date = date.write();
+    let _here = here.letters();
+    let _unload = unload.letters();
     loads_known(loads);
 }
