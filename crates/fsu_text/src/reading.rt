@@ -1,8 +1,8 @@
-//! The reader of status update messages.
+//! The reader of status update messages. Each layout's function stands apart in the built program: all in one would be
+//! slower.
 
-ghost use Rattle.std.specs.Prelude.{◌≡◌, ◌≤◌, ℕ, length, List, [], ◌∷◌, ◌++◌, drop, All, OnOk, IfOk, IfErr, IfSome, Ok, Some, None, map, option_map};
-ghost use Rattle.std.specs.List.{join_with_byte, position_or_len};
-ghost use Rattle.imp_fields.specs.Characters.{fields, is_slash};
+ghost use Rattle.std.specs.Prelude.{◌≡◌, ℕ, List, [], ◌∷◌, ◌++◌, All, OnOk, IfOk, IfErr, Some, map, option_map, codes};
+ghost use Rattle.imp_fields.specs.Characters.{fields};
 ghost use Rattle.imp_fields.specs.NormalText.{line_texts, IsFaultOf, fault_at};
 ghost use Rattle.fsu_text.specs.Status.{day_of, handling_of, carriage_of, discrepancy_of, handled_by, handled_of, received_by, received_of, route_of, carried_by, carried_of, differs_by, differs_of, status_of};
 ghost use Rattle.fsu_text.specs.Fsu.{IsFsu, fsu_fault, reading_of, update_of, HasFsuSpans, IsRead, AreRead};
@@ -10,33 +10,11 @@ ghost use Rattle.fsu_text.specs.Fsu.{IsFsu, fsu_fault, reading_of, update_of, Ha
 use crate::message::Fsu;
 use crate::status::{Carriage, FlightDay, Handling, Status, StatusLine};
 use imp_fields::{
-    Airport, DayMonth, DayTime, Discrepancy, Flight, Lines, Name, TextFault, Token, Why, is_head,
-    read_consignment, read_quantity,
+    Airport, DayMonth, DayTime, Discrepancy, Flight, Lines, Name, TextFault, Token, Why,
+    cut_at_slash, first_field, is_head, read_consignment, read_quantity,
 };
 use std::alloc::{AllocError, Global};
 use std::slice;
-
-/// How many bytes stand before the first slash, or in all where there is none.
-fn before_slash(text: &[u8]) -> usize
-    ensures place { result ≡ position_or_len is_slash text.now }
-    ensures bound { result ≤ length text.now }
-{
-    text.iter().take_while(|b| **b != b'/').count()
-}
-
-/// The first field of a text and what follows the slash behind it, where there is a slash.
-#[tactic(auto, using(crate::proofs::Cuts::cut_at, crate::proofs::Cuts::uncut))]
-fn cut(text: &[u8]) -> Option<(&[u8], &[u8])>
-    ensures some { IfSome result (λ parts. fields text.now ≡ parts.0.now ∷ fields parts.1.now) }
-    ensures none { result ≡ None → fields text.now ≡ text.now ∷ [] }
-{
-    let place = before_slash(text);
-    if place == text.len() {
-        return None;
-    }
-    let (_, rest) = text.split_at(place + 1);
-    Some((&text[..place], rest))
-}
 
 /// The code of RCS, NFD or DLV.
 fn handling(code: &[u8]) -> Option<Handling>
@@ -90,29 +68,16 @@ fn flight_day(text: &[u8]) -> Option<FlightDay>
     }
 }
 
-/// The first field of a text, and all that follows the slash behind it; nothing where there is no slash.
-#[tactic(auto, using(crate::proofs::Cuts::joined_again))]
-fn first_field(text: &[u8]) -> (&[u8], &[u8])
-    ensures first { fields text.now ≡ result.0.now ∷ drop 1 (fields text.now) }
-    ensures rest { result.1.now ≡ join_with_byte 47 (drop 1 (fields text.now)) }
-{
-    match cut(text) {
-        Some(parts) => parts,
-        None => (text, &[]),
-    }
-}
-
-/// RCS, NFD or DLV, by its fields.
+/// RCS, NFD or DLV, by the fields behind its code.
 fn handled_by(
-    code: &[u8],
+    event: Handling,
     at: &[u8],
     airport: &[u8],
     quantity: &[u8],
     name: &[u8],
 ) -> Option<Status>
-    ensures { option_map reading_of result ≡ handled_by code.now at.now airport.now quantity.now name.now }
+    ensures { (code : List ℕ) → handling_of code ≡ Some event → option_map reading_of result ≡ handled_by code at.now airport.now quantity.now name.now }
 {
-    let event = handling(code)?;
     let at = DayTime::read(at)?;
     let airport = Airport::read(airport)?;
     let quantity = read_quantity(quantity)?;
@@ -126,30 +91,21 @@ fn handled_by(
     })
 }
 
-/// A line of the layout of RCS, NFD and DLV.
-fn handled(line: &[u8]) -> Option<Status>
-    ensures { option_map reading_of result ≡ handled_of (fields line.now) }
+/// What follows the code of RCS, NFD or DLV and its slash.
+#[inline(never)]
+fn handled(event: Handling, text: &[u8]) -> Option<Status>
+    ensures { (code : List ℕ) → handling_of code ≡ Some event → option_map reading_of result ≡ handled_of (code ∷ fields text.now) }
 {
-    let (code, rest) = cut(line)?;
-    let (at, rest) = cut(rest)?;
-    let (airport, rest) = cut(rest)?;
+    let (at, rest) = cut_at_slash(text)?;
+    let (airport, rest) = cut_at_slash(rest)?;
     let (quantity, name) = first_field(rest);
-    handled_by(code, at, airport, quantity, name)
+    handled_by(event, at, airport, quantity, name)
 }
 
-/// RCF, by its fields.
-fn received_by(
-    code: &[u8],
-    flight: &[u8],
-    at: &[u8],
-    airport: &[u8],
-    quantity: &[u8],
-) -> Option<Status>
-    ensures { option_map reading_of result ≡ received_by code.now flight.now at.now airport.now quantity.now }
+/// RCF, by the fields behind its code.
+fn received_by(flight: &[u8], at: &[u8], airport: &[u8], quantity: &[u8]) -> Option<Status>
+    ensures { option_map reading_of result ≡ received_by (codes "RCF") flight.now at.now airport.now quantity.now }
 {
-    if code != b"RCF".as_slice() {
-        return None;
-    }
     let flight = Flight::read(flight)?;
     let at = DayTime::read(at)?;
     let airport = Airport::read(airport)?;
@@ -162,17 +118,17 @@ fn received_by(
     })
 }
 
-/// A line of the layout of RCF.
-fn received(line: &[u8]) -> Option<Status>
-    ensures { option_map reading_of result ≡ received_of (fields line.now) }
+/// What follows the code of RCF and its slash.
+#[inline(never)]
+fn received(text: &[u8]) -> Option<Status>
+    ensures { option_map reading_of result ≡ received_of (codes "RCF" ∷ fields text.now) }
 {
-    let code = cut(line)?;
-    let flight = cut(code.1)?;
-    let at = cut(flight.1)?;
-    let airport = cut(at.1)?;
-    match cut(airport.1) {
+    let flight = cut_at_slash(text)?;
+    let at = cut_at_slash(flight.1)?;
+    let airport = cut_at_slash(at.1)?;
+    match cut_at_slash(airport.1) {
         Some(_) => None,
-        None => received_by(code.0, flight.0, at.0, airport.0, airport.1),
+        None => received_by(flight.0, at.0, airport.0, airport.1),
     }
 }
 
@@ -185,17 +141,16 @@ fn route(text: &[u8]) -> Option<(Airport, Airport)>
     Some((from, to))
 }
 
-/// BKD, MAN or DEP, by its fields.
+/// BKD, MAN or DEP, by the fields behind its code.
 fn carried_by(
-    code: &[u8],
+    event: Carriage,
     flight: &[u8],
     day: &[u8],
     stations: &[u8],
     quantity: &[u8],
 ) -> Option<Status>
-    ensures { option_map reading_of result ≡ carried_by code.now flight.now day.now stations.now quantity.now }
+    ensures { (code : List ℕ) → carriage_of code ≡ Some event → option_map reading_of result ≡ carried_by code flight.now day.now stations.now quantity.now }
 {
-    let event = carriage(code)?;
     let flight = Flight::read(flight)?;
     let day = flight_day(day)?;
     let (from, to) = route(stations)?;
@@ -210,32 +165,28 @@ fn carried_by(
     })
 }
 
-/// A line of the layout of BKD, MAN and DEP. What stands behind its quantity is not read.
-fn carried(line: &[u8]) -> Option<Status>
-    ensures { option_map reading_of result ≡ carried_of (fields line.now) }
+/// What follows the code of BKD, MAN or DEP and its slash. What stands behind the quantity is not read.
+#[inline(never)]
+fn carried(event: Carriage, text: &[u8]) -> Option<Status>
+    ensures { (code : List ℕ) → carriage_of code ≡ Some event → option_map reading_of result ≡ carried_of (code ∷ fields text.now) }
 {
-    let (code, rest) = cut(line)?;
-    let (flight, rest) = cut(rest)?;
-    let (day, rest) = cut(rest)?;
-    let (stations, rest) = cut(rest)?;
+    let (flight, rest) = cut_at_slash(text)?;
+    let (day, rest) = cut_at_slash(rest)?;
+    let (stations, rest) = cut_at_slash(rest)?;
     let (quantity, _) = first_field(rest);
-    carried_by(code, flight, day, stations, quantity)
+    carried_by(event, flight, day, stations, quantity)
 }
 
-/// DIS, by its fields.
+/// DIS, by the fields behind its code.
 fn differs_by(
-    code: &[u8],
     flight: &[u8],
     day: &[u8],
     airport: &[u8],
     what: &[u8],
     quantity: &[u8],
 ) -> Option<Status>
-    ensures { option_map reading_of result ≡ differs_by code.now flight.now day.now airport.now what.now quantity.now }
+    ensures { option_map reading_of result ≡ differs_by (codes "DIS") flight.now day.now airport.now what.now quantity.now }
 {
-    if code != b"DIS".as_slice() {
-        return None;
-    }
     let flight = Flight::read(flight)?;
     let day = flight_day(day)?;
     let airport = Airport::read(airport)?;
@@ -250,35 +201,39 @@ fn differs_by(
     })
 }
 
-/// A line of the layout of DIS.
-fn differs(line: &[u8]) -> Option<Status>
-    ensures { option_map reading_of result ≡ differs_of (fields line.now) }
+/// What follows the code of DIS and its slash.
+#[inline(never)]
+fn differs(text: &[u8]) -> Option<Status>
+    ensures { option_map reading_of result ≡ differs_of (codes "DIS" ∷ fields text.now) }
 {
-    let code = cut(line)?;
-    let flight = cut(code.1)?;
-    let day = cut(flight.1)?;
-    let airport = cut(day.1)?;
-    let what = cut(airport.1)?;
-    match cut(what.1) {
+    let flight = cut_at_slash(text)?;
+    let day = cut_at_slash(flight.1)?;
+    let airport = cut_at_slash(day.1)?;
+    let what = cut_at_slash(airport.1)?;
+    match cut_at_slash(what.1) {
         Some(_) => None,
-        None => differs_by(code.0, flight.0, day.0, airport.0, what.0, what.1),
+        None => differs_by(flight.0, day.0, airport.0, what.0, what.1),
     }
 }
 
-/// What a line tells, where it is of one of these layouts.
+/// What a line tells, where it is of one of these layouts: its code says of which.
 fn status(line: &[u8]) -> Option<Status>
     ensures { option_map reading_of result ≡ status_of line.now }
 {
-    if let Some(status) = handled(line) {
-        return Some(status);
+    let (code, rest) = cut_at_slash(line)?;
+    if let Some(event) = handling(code) {
+        return handled(event, rest);
     }
-    if let Some(status) = received(line) {
-        return Some(status);
+    if let Some(event) = carriage(code) {
+        return carried(event, rest);
     }
-    if let Some(status) = carried(line) {
-        return Some(status);
+    if code == b"RCF".as_slice() {
+        return received(rest);
     }
-    differs(line)
+    if code == b"DIS".as_slice() {
+        return differs(rest);
+    }
+    None
 }
 
 /// A line of a message as it joins the trail.
@@ -306,7 +261,7 @@ fn trail<'a>(alloc: Global, lines: &[Token<'a>]) -> Result<Vec<StatusLine<'a>>, 
     ensures texts { IfOk result (λ trail. map (λ l. l.text) trail.items ≡ lines.now) }
     ensures read { IfOk result (λ trail. All IsRead trail.items) }
 {
-    let mut trail = Vec::new(alloc);
+    let mut trail = Vec::with_capacity(alloc, lines.len())?;
     for text in lines {
         join(&mut trail, text)?;
     }

@@ -1,9 +1,5 @@
 //! Status updates that are sent.
 
-ghost use Rattle.std.specs.Prelude.{◌<◌, IsTrue};
-ghost use Rattle.imp_fields.specs.Airport.{is_airport};
-ghost use Rattle.imp_fields.specs.Date.{IsCalendarDay};
-ghost use Rattle.imp_fields.specs.Flight.{IsDesignator};
 ghost use Rattle.fsu_text.specs.Sent.{IsSent, IsDeclared, IsUpdate};
 
 use crate::status::Handling;
@@ -59,39 +55,13 @@ pub struct Update {
     pub tenths: BookTenths,
 }
 
-// What the types of an update keep, for the proof of what is read again. They do nothing.
-
-fn airport_known(airport: &Airport)
-    ensures { IsTrue (is_airport airport.now) }
-{
-    let _letters = airport.letters();
-}
-
-fn date_known(date: &DayMonth)
-    ensures { IsCalendarDay date.now }
-{
-    let _day = date.day;
-}
-
-fn time_known(time: &DayTime)
-    ensures date { IsCalendarDay time.now.date }
-    ensures minute { time.now.minute < 1440 }
-{
-    date_known(&time.date);
-}
-
-fn flight_known(flight: &Flight)
-    ensures { IsDesignator flight.now }
-{
-    let mut text = [0; 7];
-    let _len = flight.write(&mut text);
-}
+// What the types of an update keep, for the proof of what is read again. The functions do nothing else.
 
 fn declared_known(of: &Consigned)
     ensures { IsDeclared of.now }
 {
-    airport_known(&of.origin);
-    airport_known(&of.destination);
+    let _origin = of.origin.letters();
+    let _destination = of.destination.letters();
     let _key = of.awb.key();
     let _pieces = of.pieces.number();
     let _tenths = of.tenths.number();
@@ -100,14 +70,15 @@ fn declared_known(of: &Consigned)
 fn status_known(status: &SentStatus)
     ensures { IsSent status.now }
 {
+    let mut text = [0; 7];
     match status {
         SentStatus::Handled { at, name, .. } => {
-            time_known(at);
-            let _bytes = name.as_bytes();
+            let _at = at.write();
+            let _name = name.as_bytes();
         }
         SentStatus::ReceivedFromFlight { flight, at } => {
-            flight_known(flight);
-            time_known(at);
+            let _flight = flight.write(&mut text);
+            let _at = at.write();
         }
         SentStatus::Carried {
             flight,
@@ -115,13 +86,13 @@ fn status_known(status: &SentStatus)
             to,
             ..
         } => {
-            flight_known(flight);
-            date_known(date);
-            airport_known(to);
+            let _flight = flight.write(&mut text);
+            let _date = date.write();
+            let _to = to.letters();
         }
         SentStatus::Differs { flight, at, .. } => {
-            flight_known(flight);
-            time_known(at);
+            let _flight = flight.write(&mut text);
+            let _at = at.write();
         }
     }
 }
@@ -131,7 +102,7 @@ pub(crate) fn update_known(update: &Update)
 {
     declared_known(&update.of);
     status_known(&update.status);
-    airport_known(&update.here);
+    let _here = update.here.letters();
     let _pieces = update.pieces.number();
     let _tenths = update.tenths.number();
 }
