@@ -131,15 +131,6 @@ fn add_line<'a>(
     }
 }
 
-/// Each line has a piece: its type says so, once it is read.
-fn read_pieces(lines: &[InboundLine])
-    ensures { All HasPieces lines.now }
-{
-    for line in lines {
-        let _number = line.cargo.pieces.number();
-    }
-}
-
 /// The lines for here, in their order.
 pub(crate) fn lines_here<'a>(
     alloc: Global,
@@ -148,9 +139,12 @@ pub(crate) fn lines_here<'a>(
 ) -> Result<Vec<CargoRef<'a>>, AllocError>
     ensures value { IfOk result (λ kept. kept.items ≡ lines_for here lines.now) }
     ensures bound { IfOk result (λ kept. length kept.items ≤ length lines.now) }
+    // Their type says so, once they are read.
+    ensures some { IfOk result (λ _. All HasPieces lines.now) }
 {
     let mut kept = Vec::new(alloc);
     for line in lines {
+        let _number = line.cargo.pieces.number();
         if is_same(line.unload, here) {
             kept.push(CargoRef::new(&line.cargo))?;
         }
@@ -229,7 +223,6 @@ pub(crate) fn announce<'a>(
             detail: Detail::Part(*key),
         }));
     }
-    read_pieces(part.lines.as_slice());
     let lines = lines_here(on.alloc, on.here, part.lines.as_slice())?;
     let mut plan = blank(on.alloc, lines.len() as u32);
     plan.changes = announced(on.alloc, &key.flight, lines.as_slice(), rows.as_slice())?;

@@ -1,6 +1,7 @@
-use Rattle.std.proofs.Common.{◌≡◌, ◌≤◌, take, length}
+use Rattle.std.proofs.Common.{◌≡◌, ◌≤◌, take, length, All}
 use Rattle.shipment_machine.specs.Effect.{lines_for}
+use Rattle.shipment_machine.specs.Lawful.{HasPieces}
 use Rattle.shipment_machine.proofs.inbound.lines_here.Given as goal
 
 abbrev pub invariant-loop-line : goal.invariant-loop-line
-invariant-loop-line l = (l.kept.items ≡ lines_for l.here (take l.line-index l.lines)) × (length l.kept.items ≤ l.line-index)
+invariant-loop-line l = (l.kept.items ≡ lines_for l.here (take l.line-index l.lines)) × (length l.kept.items ≤ l.line-index) × All HasPieces (take l.line-index l.lines)
