@@ -1,0 +1,4 @@
+mod Ascii
+mod Days
+mod Verbs
+mod Written

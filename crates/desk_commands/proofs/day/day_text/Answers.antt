@@ -1,0 +1,19 @@
+use Rattle.std.proofs.Common.{◌∙◌, ap, sym, subst}
+use Rattle.std.specs.Str.{IsAscii}
+use Rattle.jiff_core.proofs.DateLemmas.{civil}
+use Rattle.imp_fields.proofs.DateLaws.{year_is, year_kept}
+use Rattle.imp_fields.proofs.DateOnLaws.{date_is}
+use Rattle.desk_commands.specs.Day.{day_line}
+use Rattle.desk_commands.proofs.Days.{day_written, IsAscii-line}
+use Rattle.desk_commands.proofs.day.day_text.Goals as goal
+
+pub returns-clause-value : goal.returns-clause-value
+returns-clause-value c =
+    let d = c.date_of-date.result in
+    let day = c.number.result in
+    let year = c.unsigned_abs.ensures.value ∙ year_kept day d.year (year_is day d.year d.month d.day c.number.ensures.in_range (civil d) c.date_of-date.ensures) in
+    let date = date_is day d.year d.month d.day c.number.ensures.in_range (civil d) c.date_of-date.ensures in
+    c.date_text.ensures ∙ day_written day c.unsigned_abs.result (record { day = d.day; month = d.month }) year date ∙ ap day_line c.number.ensures.value
+
+pub returns-clause-ascii : goal.returns-clause-ascii
+returns-clause-ascii c = subst IsAscii (sym (returns-clause-value c)) (IsAscii-line c.args.day)

@@ -1,0 +1,325 @@
+//! Commands as texts.
+
+ghost use Rattle.std.specs.Prelude.{◌≡◌, IfOk, Some, string_bytes};
+ghost use Rattle.imp_fields.specs.Flight.{flight_text};
+ghost use Rattle.desk_commands.specs.Command.{command_text, order_text, desk_text};
+
+use crate::command::Command;
+use crate::day::day_text;
+use agent_stock::{AgentCode, Order, Run};
+use awb_number::{Awb, ascii_text};
+use imp_fields::{Airport, Flight, Goods, Name, Pieces, Tenths};
+use shipment_machine::{DeskCommand, FlightDate, PieceCount};
+use std::alloc::{AllocError, Global};
+
+/// A command as a text: its verb and its fields, one a line, numbers without leading zeros, flights in their written
+/// form, days as `2026-01-12`, and empty lines for a flight and a day that aren't named.
+pub fn command_text(alloc: Global, command: &Command) -> Result<String, AllocError>
+    ensures { IfOk result (λ text. string_bytes text ≡ command_text command.now) }
+{
+    match command {
+        Command::Stock(order) => order_text(alloc, order),
+        Command::Cargo(command) => desk_text(alloc, command),
+    }
+}
+
+fn order_text(alloc: Global, order: &Order) -> Result<String, AllocError>
+    ensures { IfOk result (λ text. string_bytes text ≡ order_text order.now) }
+{
+    match order {
+        Order::TakeIn(run) => take_in_text(alloc, run),
+        Order::Issue(run, agent) => issue_text(alloc, run, agent),
+        Order::GiveBack(run, agent) => return_text(alloc, run, agent),
+        Order::Void(run) => void_text(alloc, run),
+    }
+}
+
+fn desk_text(alloc: Global, command: &DeskCommand) -> Result<String, AllocError>
+    ensures { IfOk result (λ text. string_bytes text ≡ desk_text command.now) }
+{
+    match command {
+        DeskCommand::Book {
+            awb,
+            origin,
+            destination,
+            pieces,
+            tenths,
+            goods,
+        } => book_text(alloc, awb, origin, destination, *pieces, *tenths, goods),
+        DeskCommand::Receive {
+            awb,
+            pieces,
+            tenths,
+            name,
+        } => receive_text(alloc, awb, *pieces, *tenths, name),
+        DeskCommand::Manifest {
+            awb,
+            flight,
+            unload,
+            pieces,
+        } => manifest_text(alloc, awb, flight, unload, *pieces),
+        DeskCommand::Offload {
+            awb,
+            flight,
+            pieces,
+        } => offload_text(alloc, awb, flight, *pieces),
+        DeskCommand::Depart { flight } => depart_text(alloc, flight),
+        DeskCommand::CheckIn {
+            awb,
+            flight,
+            counted,
+        } => check_in_text(alloc, awb, flight, *counted),
+        DeskCommand::Notify { awb, name } => notify_text(alloc, awb, name),
+        DeskCommand::Deliver { awb, pieces, name } => deliver_text(alloc, awb, *pieces, name),
+        DeskCommand::Missing {
+            awb,
+            pieces,
+            flight,
+        } => missing_text(alloc, awb, *pieces, flight),
+        DeskCommand::Found {
+            awb,
+            pieces,
+            tenths,
+            flight,
+        } => found_text(alloc, awb, *pieces, *tenths, flight),
+        DeskCommand::Confirm { upto } => confirm_text(alloc, *upto),
+    }
+}
+
+fn name_str(name: &Name) -> &str
+    ensures { result.now ≡ name.now }
+{
+    ascii_text(name.as_bytes())
+}
+
+fn goods_str(goods: &Goods) -> &str
+    ensures { result.now ≡ goods.now }
+{
+    ascii_text(goods.as_bytes())
+}
+
+/// A flight in its written form.
+fn flight_string(alloc: Global, flight: &Flight) -> Result<String, AllocError>
+    ensures { IfOk result (λ text. string_bytes text ≡ flight_text flight.now) }
+{
+    let mut bytes = [0; 7];
+    let len = flight.write(&mut bytes);
+    let text = ascii_text(&bytes[..len]);
+    format!(in alloc; "{text}")
+}
+
+fn take_in_text(alloc: Global, run: &Run) -> Result<String, AllocError>
+    ensures { IfOk result (λ text. string_bytes text ≡ order_text (Order.TakeIn run.now)) }
+{
+    let number = run.first.write();
+    let prefix = ascii_text(&number[..3]);
+    let serial = ascii_text(&number[4..11]);
+    let count = run.count;
+    format!(in alloc; "take-in\n{prefix}\n{serial}\n{count}")
+}
+
+fn issue_text(alloc: Global, run: &Run, agent: &AgentCode) -> Result<String, AllocError>
+    ensures { IfOk result (λ text. string_bytes text ≡ order_text (Order.Issue run.now agent.now)) }
+{
+    let number = run.first.write();
+    let prefix = ascii_text(&number[..3]);
+    let serial = ascii_text(&number[4..11]);
+    let count = run.count;
+    format!(in alloc; "issue\n{prefix}\n{serial}\n{count}\n{agent}")
+}
+
+fn return_text(alloc: Global, run: &Run, agent: &AgentCode) -> Result<String, AllocError>
+    ensures { IfOk result (λ text. string_bytes text ≡ order_text (Order.GiveBack run.now agent.now)) }
+{
+    let number = run.first.write();
+    let prefix = ascii_text(&number[..3]);
+    let serial = ascii_text(&number[4..11]);
+    let count = run.count;
+    format!(in alloc; "return\n{prefix}\n{serial}\n{count}\n{agent}")
+}
+
+fn void_text(alloc: Global, run: &Run) -> Result<String, AllocError>
+    ensures { IfOk result (λ text. string_bytes text ≡ order_text (Order.Void run.now)) }
+{
+    let number = run.first.write();
+    let prefix = ascii_text(&number[..3]);
+    let serial = ascii_text(&number[4..11]);
+    let count = run.count;
+    format!(in alloc; "void\n{prefix}\n{serial}\n{count}")
+}
+
+fn book_text(
+    alloc: Global,
+    awb: &Awb,
+    origin: &Airport,
+    destination: &Airport,
+    pieces: Pieces,
+    tenths: Tenths,
+    goods: &Goods,
+) -> Result<String, AllocError>
+    ensures { IfOk result (λ text. string_bytes text ≡ desk_text (DeskCommand.Book awb.now origin.now destination.now pieces tenths goods.now)) }
+{
+    let (origin, destination) = (origin.letters(), destination.letters());
+    let (origin, destination) = (ascii_text(&origin), ascii_text(&destination));
+    let (pieces, tenths) = (pieces.number(), tenths.number());
+    let goods = goods_str(goods);
+    format!(in alloc; "book\n{awb}\n{origin}\n{destination}\n{pieces}\n{tenths}\n{goods}")
+}
+
+fn receive_text(
+    alloc: Global,
+    awb: &Awb,
+    pieces: Pieces,
+    tenths: Tenths,
+    name: &Name,
+) -> Result<String, AllocError>
+    ensures { IfOk result (λ text. string_bytes text ≡ desk_text (DeskCommand.Receive awb.now pieces tenths name.now)) }
+{
+    let (pieces, tenths) = (pieces.number(), tenths.number());
+    let name = name_str(name);
+    format!(in alloc; "receive\n{awb}\n{pieces}\n{tenths}\n{name}")
+}
+
+fn manifest_text(
+    alloc: Global,
+    awb: &Awb,
+    flight: &FlightDate,
+    unload: &Airport,
+    pieces: Pieces,
+) -> Result<String, AllocError>
+    ensures { IfOk result (λ text. string_bytes text ≡ desk_text (DeskCommand.Manifest awb.now flight.now unload.now pieces)) }
+{
+    let day = day_text(flight.day);
+    let day = ascii_text(&day);
+    let flight = flight_string(alloc, &flight.flight)?;
+    let unload = unload.letters();
+    let unload = ascii_text(&unload);
+    let pieces = pieces.number();
+    format!(in alloc; "manifest\n{awb}\n{flight}\n{day}\n{unload}\n{pieces}")
+}
+
+fn offload_text(
+    alloc: Global,
+    awb: &Awb,
+    flight: &FlightDate,
+    pieces: Pieces,
+) -> Result<String, AllocError>
+    ensures { IfOk result (λ text. string_bytes text ≡ desk_text (DeskCommand.Offload awb.now flight.now pieces)) }
+{
+    let day = day_text(flight.day);
+    let day = ascii_text(&day);
+    let flight = flight_string(alloc, &flight.flight)?;
+    let pieces = pieces.number();
+    format!(in alloc; "offload\n{awb}\n{flight}\n{day}\n{pieces}")
+}
+
+fn depart_text(alloc: Global, flight: &FlightDate) -> Result<String, AllocError>
+    ensures { IfOk result (λ text. string_bytes text ≡ desk_text (DeskCommand.Depart flight.now)) }
+{
+    let day = day_text(flight.day);
+    let day = ascii_text(&day);
+    let flight = flight_string(alloc, &flight.flight)?;
+    format!(in alloc; "depart\n{flight}\n{day}")
+}
+
+fn check_in_text(
+    alloc: Global,
+    awb: &Awb,
+    flight: &FlightDate,
+    counted: PieceCount,
+) -> Result<String, AllocError>
+    ensures { IfOk result (λ text. string_bytes text ≡ desk_text (DeskCommand.CheckIn awb.now flight.now counted)) }
+{
+    let day = day_text(flight.day);
+    let day = ascii_text(&day);
+    let flight = flight_string(alloc, &flight.flight)?;
+    let counted = counted.number();
+    format!(in alloc; "check-in\n{awb}\n{flight}\n{day}\n{counted}")
+}
+
+fn notify_text(alloc: Global, awb: &Awb, name: &Name) -> Result<String, AllocError>
+    ensures { IfOk result (λ text. string_bytes text ≡ desk_text (DeskCommand.Notify awb.now name.now)) }
+{
+    let name = name_str(name);
+    format!(in alloc; "notify\n{awb}\n{name}")
+}
+
+fn deliver_text(alloc: Global, awb: &Awb, pieces: Pieces, name: &Name) -> Result<String, AllocError>
+    ensures { IfOk result (λ text. string_bytes text ≡ desk_text (DeskCommand.Deliver awb.now pieces name.now)) }
+{
+    let pieces = pieces.number();
+    let name = name_str(name);
+    format!(in alloc; "deliver\n{awb}\n{pieces}\n{name}")
+}
+
+fn missing_text(
+    alloc: Global,
+    awb: &Awb,
+    pieces: Pieces,
+    flight: &Option<FlightDate>,
+) -> Result<String, AllocError>
+    ensures { IfOk result (λ text. string_bytes text ≡ desk_text (DeskCommand.Missing awb.now pieces flight.now)) }
+{
+    match flight {
+        Some(flight) => missing_from_text(alloc, awb, pieces, flight),
+        None => {
+            let pieces = pieces.number();
+            format!(in alloc; "missing\n{awb}\n{pieces}\n\n")
+        }
+    }
+}
+
+fn missing_from_text(
+    alloc: Global,
+    awb: &Awb,
+    pieces: Pieces,
+    flight: &FlightDate,
+) -> Result<String, AllocError>
+    ensures { IfOk result (λ text. string_bytes text ≡ desk_text (DeskCommand.Missing awb.now pieces (Some flight.now))) }
+{
+    let pieces = pieces.number();
+    let day = day_text(flight.day);
+    let day = ascii_text(&day);
+    let flight = flight_string(alloc, &flight.flight)?;
+    format!(in alloc; "missing\n{awb}\n{pieces}\n{flight}\n{day}")
+}
+
+fn found_text(
+    alloc: Global,
+    awb: &Awb,
+    pieces: Pieces,
+    tenths: Tenths,
+    flight: &Option<FlightDate>,
+) -> Result<String, AllocError>
+    ensures { IfOk result (λ text. string_bytes text ≡ desk_text (DeskCommand.Found awb.now pieces tenths flight.now)) }
+{
+    match flight {
+        Some(flight) => found_from_text(alloc, awb, pieces, tenths, flight),
+        None => {
+            let (pieces, tenths) = (pieces.number(), tenths.number());
+            format!(in alloc; "found\n{awb}\n{pieces}\n{tenths}\n\n")
+        }
+    }
+}
+
+fn found_from_text(
+    alloc: Global,
+    awb: &Awb,
+    pieces: Pieces,
+    tenths: Tenths,
+    flight: &FlightDate,
+) -> Result<String, AllocError>
+    ensures { IfOk result (λ text. string_bytes text ≡ desk_text (DeskCommand.Found awb.now pieces tenths (Some flight.now))) }
+{
+    let (pieces, tenths) = (pieces.number(), tenths.number());
+    let day = day_text(flight.day);
+    let day = ascii_text(&day);
+    let flight = flight_string(alloc, &flight.flight)?;
+    format!(in alloc; "found\n{awb}\n{pieces}\n{tenths}\n{flight}\n{day}")
+}
+
+fn confirm_text(alloc: Global, upto: u32) -> Result<String, AllocError>
+    ensures { IfOk result (λ text. string_bytes text ≡ desk_text (DeskCommand.Confirm upto)) }
+{
+    format!(in alloc; "confirm\n{upto}")
+}
