@@ -1,4 +1,5 @@
 mod Ascii
 mod Days
+mod Examples
 mod Verbs
 mod Written
