@@ -1,5 +1,15 @@
+mod Again
 mod Ascii
+mod BodyLaws
+mod Cuts
 mod Days
 mod Examples
+mod Fields
+mod Fit
+mod Free
+mod LineLaws
+mod Made
+mod Steps
+mod TextLaws
 mod Verbs
 mod Written

@@ -1,9 +1,8 @@
 -- Commands by their verbs and fields, and as texts.
-use Rattle.std.specs.Prelude.{ℕ, decimal, Option, Some, None, List, [], ◌∷◌}
+use Rattle.std.specs.Prelude.{ℕ, Option, Some, None, List, [], ◌∷◌, map}
 use Rattle.std.specs.List.{join_with_byte}
 use Rattle.awb_number.specs.Digits.{padded}
 use Rattle.awb_number.specs.Number.{number_text, prefix_of, serial_of}
-use Rattle.imp_fields.specs.Flight.{flight_text}
 use Rattle.desk_commands.specs.Day.{day_line}
 use Rattle.agent_stock.specs.declared.stock.Run.{Run}
 use Rattle.agent_stock.specs.declared.stock.Order.{Order}
@@ -15,7 +14,10 @@ use Rattle.desk_commands.specs.declared.command.Command.{Command}
 use Rattle.desk_commands.specs.declared.command.Command.TheVariants.{Stock, Cargo}
 use Rattle.desk_commands.specs.declared.verb.Verb.{Verb}
 use Rattle.desk_commands.specs.declared.verb.Verb.TheVariants as verb
+use Rattle.desk_commands.specs.declared.given.Given.{Given}
+use Rattle.desk_commands.specs.declared.given.Given.TheVariants.{Text, Number, Flight, Absent}
 use Rattle.desk_commands.specs.Verb.{word}
+use Rattle.desk_commands.specs.Given.{written}
 
 abbrev pub order_verb : Order → Verb
 order_verb (TakeIn run) = verb.TakeIn
@@ -41,63 +43,63 @@ verb_of (Stock order) = order_verb order
 verb_of (Cargo command) = desk_verb command
 
 -- the first number of a run, and the fields of a flight of one day, which may be left out
-abbrev pub prefix_text : Run → List ℕ
-prefix_text run = padded 3 (prefix_of run.first)
+abbrev pub prefix_text : Run → Given
+prefix_text run = Text (padded 3 (prefix_of run.first))
 
-abbrev pub serial_text : Run → List ℕ
-serial_text run = padded 7 (serial_of run.first)
+abbrev pub serial_text : Run → Given
+serial_text run = Text (padded 7 (serial_of run.first))
 
-abbrev pub number : ℕ → List ℕ
-number w = number_text w
+abbrev pub number : ℕ → Given
+number w = Text (number_text w)
 
-abbrev pub flight : FlightDate → List ℕ
-flight f = flight_text f.flight
+abbrev pub flight : FlightDate → Given
+flight f = Flight f.flight
 
-abbrev pub day : FlightDate → List ℕ
-day f = day_line f.day
+abbrev pub day : FlightDate → Given
+day f = Text (day_line f.day)
 
-abbrev pub flight_if_any : Option FlightDate → List ℕ
-flight_if_any None = []
+abbrev pub flight_if_any : Option FlightDate → Given
+flight_if_any None = Absent
 flight_if_any (Some f) = flight f
 
-abbrev pub day_if_any : Option FlightDate → List ℕ
-day_if_any None = []
+abbrev pub day_if_any : Option FlightDate → Given
+day_if_any None = Absent
 day_if_any (Some f) = day f
 
--- the fields of each verb, in their order: numbers without leading zeros, flights in their written form
-abbrev pub order_fields : Order → List (List ℕ)
-order_fields (TakeIn run) = prefix_text run ∷ serial_text run ∷ decimal run.count ∷ []
-order_fields (Issue run agent) = prefix_text run ∷ serial_text run ∷ decimal run.count ∷ agent ∷ []
-order_fields (GiveBack run agent) = prefix_text run ∷ serial_text run ∷ decimal run.count ∷ agent ∷ []
-order_fields (Void run) = prefix_text run ∷ serial_text run ∷ decimal run.count ∷ []
+-- what the fields hold, in the order of the verb's row
+abbrev pub order_values : Order → List Given
+order_values (TakeIn run) = prefix_text run ∷ serial_text run ∷ Number run.count ∷ []
+order_values (Issue run agent) = prefix_text run ∷ serial_text run ∷ Number run.count ∷ Text agent ∷ []
+order_values (GiveBack run agent) = prefix_text run ∷ serial_text run ∷ Number run.count ∷ Text agent ∷ []
+order_values (Void run) = prefix_text run ∷ serial_text run ∷ Number run.count ∷ []
 
-abbrev pub desk_fields : DeskCommand → List (List ℕ)
-desk_fields (Book w origin destination pieces tenths goods) =
-    number w ∷ origin ∷ destination ∷ decimal pieces ∷ decimal tenths ∷ goods ∷ []
-desk_fields (Receive w pieces tenths name) = number w ∷ decimal pieces ∷ decimal tenths ∷ name ∷ []
-desk_fields (Manifest w f unload pieces) = number w ∷ flight f ∷ day f ∷ unload ∷ decimal pieces ∷ []
-desk_fields (Offload w f pieces) = number w ∷ flight f ∷ day f ∷ decimal pieces ∷ []
-desk_fields (Depart f) = flight f ∷ day f ∷ []
-desk_fields (CheckIn w f counted) = number w ∷ flight f ∷ day f ∷ decimal counted ∷ []
-desk_fields (Notify w name) = number w ∷ name ∷ []
-desk_fields (Deliver w pieces name) = number w ∷ decimal pieces ∷ name ∷ []
-desk_fields (Missing w pieces f) = number w ∷ decimal pieces ∷ flight_if_any f ∷ day_if_any f ∷ []
-desk_fields (Found w pieces tenths f) = number w ∷ decimal pieces ∷ decimal tenths ∷ flight_if_any f ∷ day_if_any f ∷ []
-desk_fields (Confirm upto) = decimal upto ∷ []
+abbrev pub desk_values : DeskCommand → List Given
+desk_values (Book w origin destination pieces tenths goods) =
+    number w ∷ Text origin ∷ Text destination ∷ Number pieces ∷ Number tenths ∷ Text goods ∷ []
+desk_values (Receive w pieces tenths name) = number w ∷ Number pieces ∷ Number tenths ∷ Text name ∷ []
+desk_values (Manifest w f unload pieces) = number w ∷ flight f ∷ day f ∷ Text unload ∷ Number pieces ∷ []
+desk_values (Offload w f pieces) = number w ∷ flight f ∷ day f ∷ Number pieces ∷ []
+desk_values (Depart f) = flight f ∷ day f ∷ []
+desk_values (CheckIn w f counted) = number w ∷ flight f ∷ day f ∷ Number counted ∷ []
+desk_values (Notify w name) = number w ∷ Text name ∷ []
+desk_values (Deliver w pieces name) = number w ∷ Number pieces ∷ Text name ∷ []
+desk_values (Missing w pieces f) = number w ∷ Number pieces ∷ flight_if_any f ∷ day_if_any f ∷ []
+desk_values (Found w pieces tenths f) = number w ∷ Number pieces ∷ Number tenths ∷ flight_if_any f ∷ day_if_any f ∷ []
+desk_values (Confirm upto) = Number upto ∷ []
 
-abbrev pub fields_of : Command → List (List ℕ)
-fields_of (Stock order) = order_fields order
-fields_of (Cargo command) = desk_fields command
+abbrev pub values_of : Command → List Given
+values_of (Stock order) = order_values order
+values_of (Cargo command) = desk_values command
 
 -- the verb and the fields, one a line
-abbrev pub text_of : Verb → List (List ℕ) → List ℕ
-text_of verb fields = join_with_byte 10 (word verb ∷ fields)
+abbrev pub text_of : Verb → List Given → List ℕ
+text_of verb values = join_with_byte 10 (word verb ∷ map written values)
 
 abbrev pub order_text : Order → List ℕ
-order_text order = text_of (order_verb order) (order_fields order)
+order_text order = text_of (order_verb order) (order_values order)
 
 abbrev pub desk_text : DeskCommand → List ℕ
-desk_text command = text_of (desk_verb command) (desk_fields command)
+desk_text command = text_of (desk_verb command) (desk_values command)
 
 abbrev pub command_text : Command → List ℕ
-command_text command = text_of (verb_of command) (fields_of command)
+command_text command = text_of (verb_of command) (values_of command)

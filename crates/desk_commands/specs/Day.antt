@@ -1,7 +1,47 @@
 -- Days as texts of commands have them: `2026-01-12`.
-use Rattle.std.specs.Prelude.{ℕ, List}
-use Rattle.imp_fields.specs.Date.{day_text}
+use Rattle.std.specs.Prelude.{ℕ, Bool, ◌&&◌, ◌==◌, nat_le, List, length, take, drop, slice_range, Option}
+use Rattle.std.specs.List.{list_all}
+use Rattle.std.specs.Str.{bytes_eq}
+use Rattle.awb_number.specs.Digits.{is_digit, decimal_value}
+use Rattle.imp_fields.specs.Steps.{◌>>=◌, where_true}
+use Rattle.imp_fields.specs.Date.{CalendarDay, day_in_year, day_text, is_moment_day}
+
+-- the digits of the year, the month and the day
+abbrev pub year_part : List ℕ → List ℕ
+year_part text = take 4 text
+
+abbrev pub month_part : List ℕ → List ℕ
+month_part text = slice_range text 5 7
+
+abbrev pub day_part : List ℕ → List ℕ
+day_part text = drop 8 text
+
+abbrev pub date_part : List ℕ → CalendarDay
+date_part text = record { day = decimal_value (day_part text); month = decimal_value (month_part text) }
+
+abbrev pub has_digits : List ℕ → Bool
+has_digits text =
+    (length text == 10) && list_all is_digit (year_part text) && list_all is_digit (month_part text) && list_all is_digit (day_part text)
+
+abbrev pub is_calendar_day : CalendarDay → Bool
+is_calendar_day d = nat_le 1 d.day && nat_le d.day 31 && nat_le 1 d.month && nat_le d.month 12
 
 -- a day as it is written
 unfoldable pub day_line : ℕ → List ℕ
 day_line day = day_text day
+
+abbrev pub date_in : List ℕ → Option CalendarDay
+date_in text = where_true (has_digits text && is_calendar_day (date_part text)) (date_part text)
+
+abbrev pub named_day : CalendarDay → List ℕ → Option ℕ
+named_day date text = day_in_year date (decimal_value (year_part text))
+
+abbrev pub if_written : ℕ → List ℕ → Option ℕ
+if_written day text = where_true (is_moment_day day && bytes_eq (day_line day) text) day
+
+-- the day that its digits name, where that is a day of a moment and is written so
+unfoldable pub day_of : List ℕ → Option ℕ
+day_of text = do
+  date ← date_in text
+  day ← named_day date text
+  if_written day text

@@ -1,3 +1,10 @@
+pub mod Body
 pub mod Command
 pub mod Day
+pub mod Field
+pub mod Given
+pub mod Lines
+pub mod Number
+pub mod Ranges
+pub mod Reading
 pub mod Verb

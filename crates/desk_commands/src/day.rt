@@ -1,13 +1,16 @@
 //! Days of commands, as `2026-01-12`, by the calendar of jiff.
 
-ghost use Rattle.std.specs.Prelude.{◌≡◌, ◌+◌, ◌%◌, ◌++◌, ◌∷◌, [], pos};
+ghost use Rattle.std.specs.Prelude.{◌≡◌, ◌+◌, ◌%◌, ◌≤◌, ◌++◌, ◌∷◌, [], pos, option_map, IfSome};
 ghost use Rattle.std.specs.Str.{IsAscii};
-ghost use Rattle.awb_number.specs.Digits.{padded};
+ghost use Rattle.awb_number.specs.Digits.{padded, decimal_value};
+ghost use Rattle.imp_fields.specs.Steps.{where_true};
 ghost use Rattle.jiff_core.specs.Calendar.{days_from_civil};
-ghost use Rattle.imp_fields.specs.Date.{IsMomentDay};
-ghost use Rattle.desk_commands.specs.Day.{day_line};
+ghost use Rattle.imp_fields.specs.Date.{IsMomentDay, day_in_year};
+ghost use Rattle.desk_commands.specs.Day.{is_calendar_day, day_line, date_in, year_part, if_written, day_of};
 
-use imp_fields::LocalDay;
+use awb_number::decimal;
+use imp_fields::{DayMonth, LocalDay};
+use jiff::civil::Date;
 use jiff_core::civil;
 
 /// The date of a day.
@@ -54,4 +57,65 @@ pub(crate) fn day_text(day: LocalDay) -> [u8; 10]
 {
     let date = date_of(day.number());
     date_text(date.year.unsigned_abs(), date.month, date.day)
+}
+
+/// The day of a date in a year, where the calendar has that date.
+fn day_in_year(date: DayMonth, year: u16) -> Option<u32>
+    requires { year ≤ 9999 }
+    ensures { result ≡ day_in_year date year }
+{
+    match Date::new(year as i16, date.month as i8, date.day as i8) {
+        Ok(found) => Some(found.to_plain().to_unix_epoch_day().unsigned_abs()),
+        Err(_) => None,
+    }
+}
+
+/// The day and the month that two digits each tell.
+fn day_month(day: u32, month: u32) -> Option<DayMonth>
+    ensures { result ≡ where_true (is_calendar_day (record { day = day; month = month })) (record { day = day; month = month }) }
+{
+    if 1 <= day && day <= 31 && 1 <= month && month <= 12 {
+        Some(DayMonth {
+            day: day as u8,
+            month: month as u8,
+        })
+    } else {
+        None
+    }
+}
+
+/// The date that ten bytes such as `2026-01-12` tell, with its year.
+fn read_date(text: &[u8]) -> Option<(DayMonth, u16)>
+    ensures date { result ≡ option_map (λ date. (date, decimal_value (year_part text.now))) (date_in text.now) }
+    ensures year { IfSome result (λ r. r.1 ≤ 9999) }
+{
+    if text.len() != 10 {
+        return None;
+    }
+    let year = decimal(&text[..4])?;
+    let month = decimal(&text[5..7])?;
+    let day = decimal(&text[8..])?;
+    let date = day_month(day, month)?;
+    Some((date, year as u16))
+}
+
+/// The day of that number, where it is a day of a moment and is written so.
+fn if_written(day: u32, text: &[u8]) -> Option<LocalDay>
+    ensures { result ≡ if_written day text.now }
+{
+    let day = LocalDay::new(day)?;
+    if day_text(day).as_slice() == text {
+        Some(day)
+    } else {
+        None
+    }
+}
+
+/// The day that ten bytes such as `2026-01-12` tell, where it is a day of a moment.
+#[tactic(auto, unfolding(crate::specs::Day::day_of))]
+pub(crate) fn read_day(text: &[u8]) -> Option<LocalDay>
+    ensures { result ≡ day_of text.now }
+{
+    let (date, year) = read_date(text)?;
+    if_written(day_in_year(date, year)?, text)
 }

@@ -1,13 +1,25 @@
-//! What a desk is asked: its commands, as values and as texts.
+//! What a desk is asked: its commands, as values, as texts and as bodies of JSON.
 #![tactic(auto)]
 
+mod body;
 mod command;
 mod day;
+mod field;
+mod given;
+mod laws;
+mod lines;
+mod number;
+mod reading;
+#[cfg(test)]
+mod reading_tests;
 #[cfg(test)]
 mod tests;
 mod texts;
 mod verb;
 
+pub use body::{BadBody, read_command};
 pub use command::Command;
+pub use laws::command_text_law;
+pub use reading::read_command_text;
 pub use texts::command_text;
 pub use verb::Verb;

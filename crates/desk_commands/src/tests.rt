@@ -12,7 +12,7 @@ fn run(serial: u32, count: u32) -> Option<Run> {
     Some(Run { first, count })
 }
 
-fn flight(text: &str, day: u32) -> Option<FlightDate> {
+pub(crate) fn flight(text: &str, day: u32) -> Option<FlightDate> {
     Some(FlightDate {
         flight: Flight::read(text.as_bytes())?,
         day: LocalDay::new(day)?,
@@ -74,7 +74,7 @@ fn orders_as_texts(rt: HostRuntime) -> Result<(), Fail> {
     Ok(())
 }
 
-fn book(tenths: u32, goods: &str) -> Option<Command> {
+pub(crate) fn book(tenths: u32, goods: &str) -> Option<Command> {
     Some(Command::Cargo(DeskCommand::Book {
         awb: Awb::new(20, 1234567)?,
         origin: airport("FRA")?,
@@ -85,7 +85,7 @@ fn book(tenths: u32, goods: &str) -> Option<Command> {
     }))
 }
 
-fn receive(pieces: u32, from: &str) -> Option<Command> {
+pub(crate) fn receive(pieces: u32, from: &str) -> Option<Command> {
     Some(Command::Cargo(DeskCommand::Receive {
         awb: Awb::new(20, 1234567)?,
         pieces: Pieces::new(pieces)?,
@@ -94,7 +94,7 @@ fn receive(pieces: u32, from: &str) -> Option<Command> {
     }))
 }
 
-fn manifest(text: &str, day: u32) -> Option<Command> {
+pub(crate) fn manifest(text: &str, day: u32) -> Option<Command> {
     Some(Command::Cargo(DeskCommand::Manifest {
         awb: Awb::new(20, 1234567)?,
         flight: flight(text, day)?,
@@ -103,7 +103,7 @@ fn manifest(text: &str, day: u32) -> Option<Command> {
     }))
 }
 
-fn offload() -> Option<Command> {
+pub(crate) fn offload() -> Option<Command> {
     Some(Command::Cargo(DeskCommand::Offload {
         awb: Awb::new(20, 1234567)?,
         flight: flight("LH400", 20465)?,
@@ -111,13 +111,13 @@ fn offload() -> Option<Command> {
     }))
 }
 
-fn depart(text: &str, day: u32) -> Option<Command> {
+pub(crate) fn depart(text: &str, day: u32) -> Option<Command> {
     Some(Command::Cargo(DeskCommand::Depart {
         flight: flight(text, day)?,
     }))
 }
 
-fn check_in(counted: u32) -> Option<Command> {
+pub(crate) fn check_in(counted: u32) -> Option<Command> {
     Some(Command::Cargo(DeskCommand::CheckIn {
         awb: Awb::new(20, 1234567)?,
         flight: flight("LH400", 20465)?,
@@ -140,7 +140,7 @@ fn deliver() -> Option<Command> {
     }))
 }
 
-fn missing(flight: Option<FlightDate>) -> Option<Command> {
+pub(crate) fn missing(flight: Option<FlightDate>) -> Option<Command> {
     Some(Command::Cargo(DeskCommand::Missing {
         awb: Awb::new(20, 1234567)?,
         pieces: Pieces::new(1)?,
@@ -148,7 +148,7 @@ fn missing(flight: Option<FlightDate>) -> Option<Command> {
     }))
 }
 
-fn found(flight: Option<FlightDate>) -> Option<Command> {
+pub(crate) fn found(flight: Option<FlightDate>) -> Option<Command> {
     Some(Command::Cargo(DeskCommand::Found {
         awb: Awb::new(20, 1234567)?,
         pieces: Pieces::new(9999)?,

@@ -1,0 +1,19 @@
+use Rattle.std.proofs.Common.{◌∙◌, sym, ap}
+use Rattle.serde_json.specs.View.{view}
+use Rattle.desk_commands.specs.Body.{fields_say}
+use Rattle.desk_commands.proofs.BodyLaws.{members_counted, body_read, same_count, other_count}
+use Rattle.desk_commands.proofs.body.read.Goals as goal
+
+pub returns-then-members-present : goal.returns-then-members-present
+returns-then-members-present c =
+    let d = view c.args.body.now in
+    let count = members_counted c.in_ok-as_object.field-0.now.entries d c.len-members.result c.in_ok-as_object.ensures c.len-members.ensures.len in
+    let givens = c.in_ok-givens.ensures ∙ ap (λ p. fields_say p d) c.places.ensures in
+    sym (body_read c.args.verb d c.len-members.result c.in_ok-givens.givens count givens ∙ other_count c.args.verb c.len-members.result c.in_ok-givens.givens (λ same. c.if-members-present.true (same ∙ sym c.present.ensures)))
+
+pub returns : goal.returns
+returns c =
+    let d = view c.args.body.now in
+    let count = members_counted c.in_ok-as_object.field-0.now.entries d c.len-members.result c.in_ok-as_object.ensures c.len-members.ensures.len in
+    let givens = c.in_ok-givens.ensures ∙ ap (λ p. fields_say p d) c.places.ensures in
+    c.command_of.ensures ∙ sym (body_read c.args.verb d c.len-members.result c.in_ok-givens.givens count givens ∙ same_count c.args.verb c.len-members.result c.in_ok-givens.givens (c.if-members-present.false ∙ c.present.ensures))

@@ -1,0 +1,111 @@
+//! The lines of a text, one field each.
+
+ghost use Rattle.std.specs.Prelude.{◌≡◌, ◌≤◌, ◌∷◌, [], length};
+ghost use Rattle.std.specs.List.{position_or_len};
+ghost use Rattle.desk_commands.specs.Lines.{IsNext, is_end, lines_left, lines_of, line_says, place_says, places_say, written_flight_of};
+
+use crate::field::{Field, Kind};
+use crate::given::Given;
+use crate::number::read_number;
+use imp_fields::Flight;
+use shipment_machine::Text;
+
+/// How many bytes stand before the first end of a line, or in all where there is none.
+fn before_end(text: &[u8]) -> usize
+    ensures place { result ≡ position_or_len is_end text.now }
+    ensures bound { result ≤ length text.now }
+{
+    text.iter().take_while(|b| **b != b'\n').count()
+}
+
+/// The first line of a text, and what is left behind it.
+#[tactic(auto, using(crate::proofs::Cuts::cut_at, crate::proofs::Cuts::uncut))]
+pub(crate) fn first_line<'a>(text: &'a [u8]) -> (Text<'a>, Option<Text<'a>>)
+    ensures { lines_of text.now ≡ result.0 ∷ lines_left result.1 }
+{
+    let place = before_end(text);
+    if place == text.len() {
+        return (Text::new(text), None);
+    }
+    let (_, rest) = text.split_at(place + 1);
+    (Text::new(&text[..place]), Some(Text::new(rest)))
+}
+
+/// The first line of what is left of a text, and what is left behind it.
+pub(crate) fn next_line<'a>(left: Option<Text<'a>>) -> (Option<Text<'a>>, Option<Text<'a>>)
+    ensures { IsNext left.entry result.0 result.1 }
+{
+    match left {
+        Some(text) => {
+            let first = first_line(text.as_bytes());
+            (Some(first.0), first.1)
+        }
+        None => (None, None),
+    }
+}
+
+/// The flight that a line is, in its written form.
+fn written_flight(line: &[u8]) -> Option<Flight>
+    ensures { result ≡ written_flight_of line.now }
+{
+    let flight = Flight::read(line)?;
+    let mut bytes = [0; 7];
+    let len = flight.write(&mut bytes);
+    if &bytes[..len] == line {
+        Some(flight)
+    } else {
+        None
+    }
+}
+
+fn given<'a>(kind: Kind, line: &'a [u8]) -> Option<Given<'a>>
+    ensures { result ≡ line_says kind line.now }
+{
+    match kind {
+        Kind::Text => Some(Given::Text(Text::new(line))),
+        Kind::Number => match read_number(line) {
+            Some(number) => Some(Given::Number(number)),
+            None => None,
+        },
+        Kind::FlightIfAny | Kind::TextIfAny if line.is_empty() => Some(Given::Absent),
+        Kind::TextIfAny => Some(Given::Text(Text::new(line))),
+        Kind::Flight | Kind::FlightIfAny => match written_flight(line) {
+            Some(flight) => Some(Given::Flight(flight)),
+            None => None,
+        },
+    }
+}
+
+/// What a place's field says. It has a line exactly where it has a field.
+fn place<'a>(field: Option<Field>, line: Option<Text<'a>>) -> Option<Given<'a>>
+    ensures { result ≡ place_says field line.entry }
+{
+    match (field, line) {
+        (None, None) => Some(Given::Absent),
+        (Some(field), Some(line)) => given(field.kind(), line.as_bytes()),
+        _ => None,
+    }
+}
+
+/// What six places say.
+pub(crate) fn givens<'a>(
+    places: [Option<Field>; 6],
+    line_0: Option<Text<'a>>,
+    line_1: Option<Text<'a>>,
+    line_2: Option<Text<'a>>,
+    line_3: Option<Text<'a>>,
+    line_4: Option<Text<'a>>,
+    line_5: Option<Text<'a>>,
+) -> Option<[Given<'a>; 6]>
+    ensures { result ≡ places_say places (line_0.entry ∷ line_1.entry ∷ line_2.entry ∷ line_3.entry ∷ line_4.entry ∷ line_5.entry ∷ []) }
+{
+    let [field_0, field_1, field_2, field_3, field_4, field_5] = places;
+    Some([
+        place(field_0, line_0)?,
+        place(field_1, line_1)?,
+        place(field_2, line_2)?,
+        place(field_3, line_3)?,
+        place(field_4, line_4)?,
+        place(field_5, line_5)?,
+    ])
+}
