@@ -121,16 +121,20 @@ suffix_made (b ∷ []) suffix h =
     subst (λ s. IfSome s (λ b. IsTrue (is_letter b))) p.1 p.0
 suffix_made (b ∷ c ∷ text) suffix h = cc h
 
+four_digits : (ds : List ℕ) → list_all is_digit ds ≡ true → length ds ≤ 4 → decimal_value ds ≤ 9999
+four_digits ds digits short =
+    let ten : 0 < 10 = omega arith in
+    let most : 10 ^ length ds ≤ 10 ^ 4 = pow-le-pow_right ten short in
+    let low = decimal_value_bound ds digits in
+    omega (arith, most, low)
+
 count_made : (ds : List ℕ) (n : ℕ) → count_of ds ≡ Some n → (1 ≤ n) × (n ≤ 9999)
 count_made ds n h =
     let p = passed (nat_le 1 (length ds) && nat_le (length ds) 4 && list_all is_digit ds && nat_le 1 (decimal_value ds)) (decimal_value ds) n h in
     let a = and_parts _ _ p.0 in
     let b = and_parts _ _ a.0 in
     let c = and_parts _ _ b.0 in
-    let ten : 0 < 10 = omega arith in
-    let most : 10 ^ length ds ≤ 10 ^ 4 = pow-le-pow_right ten (leb-true _ _ c.1) in
-    let low = decimal_value_bound ds b.1 in
-    subst (λ m. (1 ≤ m) × (m ≤ 9999)) p.1 (leb-true _ _ a.1, omega (arith, most, low))
+    subst (λ m. (1 ≤ m) × (m ≤ 9999)) p.1 (leb-true _ _ a.1, four_digits ds b.1 (leb-true _ _ c.1))
 
 pub flight_made : (text : List ℕ) (f : Designator) → flight_of text ≡ Some f → IsDesignator f
 flight_made text f h =

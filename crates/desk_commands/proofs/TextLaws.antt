@@ -113,19 +113,31 @@ text_again c h =
     ap lines_command (lines_joined (word (verb_of c)) (map written (values_of c)) (free_word (verb_of c)) (values_free (row (verb_of c)) (values_of c) (fits c h)))
     ∙ lines_again c h
 
-by_lines : (lines : List (List ℕ)) (c : Command) → lines_command lines ≡ Some c → IsCommand c × (word (verb_of c) ∷ map written (values_of c) ≡ lines)
+-- the command has these lines
+abbrev HasLines : Command → List (List ℕ) → Type 0
+HasLines c lines = IsCommand c × (word (verb_of c) ∷ map written (values_of c) ≡ lines)
+
+by_verb : (w : List ℕ) (ls : List (List ℕ)) (v : Verb) (six : List Given) (c : Command) → length ls ≤ 6 → verb_called w ≡ Some v
+    → places_say (places v) (spread 6 ls) ≡ Some six → command_of v six ≡ Some c → HasLines c (w ∷ ls)
+by_verb w ls v six c short called said h =
+    let s = says_made 6 (row v) ls six (row_short v) short (ap (λ q. places_say q (spread 6 ls)) (sym (places_are v)) ∙ said) in
+    let m = made_of_list v six c s.given h in
+    let verb : word (verb_of c) ≡ w = ap word m.verb_is ∙ called_is w v called in
+    let values : map written (values_of c) ≡ ls = ap (map written) (sym m.front) ∙ s.are_lines in
+    (m.in_range, λ i. verb i ∷ values i)
+
+by_word : (w : List ℕ) (ls : List (List ℕ)) (c : Command) → length ls ≤ 6 → lines_say w (spread 6 ls) ≡ Some c → HasLines c (w ∷ ls)
+by_word w ls c short h =
+    let v = bound (verb_called w) (λ u. places_say (places u) (spread 6 ls) >>= command_of u) c h in
+    let g = bound (places_say (places v.x) (spread 6 ls)) (command_of v.x) c v.goes in
+    by_verb w ls v.x g.x c short v.is_x g.is_x g.goes
+
+by_lines : (lines : List (List ℕ)) (c : Command) → lines_command lines ≡ Some c → HasLines c lines
 by_lines [] c h = cc h
 by_lines (w ∷ ls) c h =
     let t = bound (where_true (nat_le (length ls) 6) (spread 6 ls)) (lines_say w) c h in
     let p = passed (nat_le (length ls) 6) (spread 6 ls) t.x t.is_x in
-    let said : lines_say w (spread 6 ls) ≡ Some c = ap (lines_say w) p.1 ∙ t.goes in
-    let v = bound (verb_called w) (λ u. places_say (places u) (spread 6 ls) >>= command_of u) c said in
-    let g = bound (places_say (places v.x) (spread 6 ls)) (command_of v.x) c v.goes in
-    let s = says_made 6 (row v.x) ls g.x (row_short v.x) (leb-true _ _ p.0) (ap (λ q. places_say q (spread 6 ls)) (sym (places_are v.x)) ∙ g.is_x) in
-    let m = made_of_list v.x g.x c s.given g.goes in
-    let called : word (verb_of c) ≡ w = ap word m.verb_is ∙ called_is w v.x v.is_x in
-    let values : map written (values_of c) ≡ ls = ap (map written) (sym m.front) ∙ s.are_lines in
-    (m.in_range, λ i. called i ∷ values i)
+    by_word w ls c (leb-true _ _ p.0) (ap (lines_say w) p.1 ∙ t.goes)
 
 pub text_made : (text : List ℕ) (c : Command) → text_says text ≡ Some c → IsCommand c × (command_text c ≡ text)
 text_made text c h =
