@@ -1,0 +1,17 @@
+-- Rows that are written one after another.
+use Rattle.std.proofs.Common.{◌≡◌, ℕ, List, [], ◌∷◌, refl}
+use Rattle.shipment_machine.specs.declared.moves.Move.{Move}
+use Rattle.shipment_machine.specs.declared.plans.Change.{Change}
+use Rattle.shipment_machine.specs.declared.plans.Change.TheVariants.{Declare, UseUp, NoteFlight, Expect, NotePart, Trail, Confirm}
+use Rattle.shipment_machine.specs.Cargo.{Cargo, written, written_all}
+
+-- No row is of the book.
+pub booked : (text : List ℕ) (changes : List Change) (s : Cargo) (book : List Move) → written_all text changes (record s { book = book }) ≡ record (written_all text changes s) { book = book }
+booked text [] s book = refl
+booked text (Declare w declared ∷ changes) s book = booked text changes (written text (Declare w declared) s) book
+booked text (UseUp w ∷ changes) s book = booked text changes (written text (UseUp w) s) book
+booked text (NoteFlight flight outbound ∷ changes) s book = booked text changes (written text (NoteFlight flight outbound) s) book
+booked text (Expect flight w expected ∷ changes) s book = booked text changes (written text (Expect flight w expected) s) book
+booked text (NotePart part ∷ changes) s book = booked text changes (written text (NotePart part) s) book
+booked text (Trail w line ∷ changes) s book = booked text changes (written text (Trail w line) s) book
+booked text (Confirm upto ∷ changes) s book = booked text changes (written text (Confirm upto) s) book

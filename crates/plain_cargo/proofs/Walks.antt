@@ -1,0 +1,34 @@
+-- One more element of a list that is walked.
+use Rattle.std.proofs.Common.{◌≡◌, ℕ, ◌+◌, ◌<◌, ◌≤◌, Bool, true, false, List, [], ◌∷◌, ◌++◌, length, take, drop, map, sym, ap, ◌∙◌, get_or, All, append-nil, subst}
+use Rattle.std.specs.List.{filter}
+use Rattle.std.proofs.lemmas.Bool.{cond-true, cond-false}
+use Rattle.std.proofs.lemmas.List.{map_more, drop_more, drop_all}
+use Rattle.std.proofs.lemmas.List.Elements.{filter_more, All-get_or}
+use Rattle.std.proofs.Math.Bool.{cond}
+
+pub kept : {X : Type 0} (p : X → Bool) (xs ys zs : List X) (i : ℕ) (x : X) → i < length xs → x ≡ get_or xs i x → ys ≡ filter p (take i xs) → p x ≡ true → zs ≡ ys ++ x ∷ [] → zs ≡ filter p (take (i + 1) xs)
+kept p xs ys zs i x lt read before passes after =
+    after ∙ ap (λ l. l ++ x ∷ []) before
+    ∙ ap (λ l. filter p (take i xs) ++ l) (sym (cond-true (p x) (x ∷ []) [] passes) ∙ ap (λ y. cond (p y) (y ∷ []) []) read)
+    ∙ sym (filter_more p xs i x lt)
+
+pub passed_over : {X : Type 0} (p : X → Bool) (xs ys zs : List X) (i : ℕ) (x : X) → i < length xs → x ≡ get_or xs i x → ys ≡ filter p (take i xs) → p x ≡ false → zs ≡ ys → zs ≡ filter p (take (i + 1) xs)
+passed_over p xs ys zs i x lt read before fails after =
+    after ∙ before ∙ sym (append-nil (filter p (take i xs)))
+    ∙ ap (λ l. filter p (take i xs) ++ l) (sym (cond-false (p x) (x ∷ []) [] fails) ∙ ap (λ y. cond (p y) (y ∷ []) []) read)
+    ∙ sym (filter_more p xs i x lt)
+
+pub mapped : {X Y : Type 0} (f : X → Y) (xs : List X) (ys zs : List Y) (i : ℕ) (x : X) → i < length xs → x ≡ get_or xs i x → ys ≡ map f (take i xs) → zs ≡ ys ++ f x ∷ [] → zs ≡ map f (take (i + 1) xs)
+mapped f xs ys zs i x lt read before after =
+    after ∙ ap (λ l. l ++ f x ∷ []) before ∙ ap (λ y. map f (take i xs) ++ f y ∷ []) read ∙ sym (map_more f xs i x lt)
+
+-- what holds of all elements holds of the one that was read
+pub holds_of : {X : Type 0} (P : X → Type 0) (xs ys : List X) (i : ℕ) (x : X) → ys ≡ xs → i < length ys → x ≡ get_or ys i x → All P xs → P x
+holds_of P xs ys i x e lt read all = subst P (sym read) (All-get_or P ys i x lt (subst (All P) (sym e) all))
+
+-- what is left of a list from an element on, and at its end
+pub left_from : {X : Type 0} (xs : List X) (i : ℕ) (x : X) → i < length xs → x ≡ get_or xs i x → drop i xs ≡ x ∷ drop (i + 1) xs
+left_from xs i x lt read = drop_more xs i x lt ∙ ap (λ y. y ∷ drop (i + 1) xs) (sym read)
+
+pub none_left : {X : Type 0} (xs : List X) (i : ℕ) → length xs ≤ i → drop i xs ≡ []
+none_left xs i le = drop_all i xs le

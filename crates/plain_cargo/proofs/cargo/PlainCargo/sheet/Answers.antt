@@ -1,0 +1,31 @@
+use Rattle.std.proofs.Common.{◌∙◌, ap}
+use Rattle.shipment_machine.specs.Book.{has_moves, taken, found, free, missing}
+use Rattle.plain_cargo.proofs.Within.{within_taken, within_found, within_held}
+use Rattle.shipment_machine.proofs.Conserved.{held_free, held_missing}
+use Rattle.plain_cargo.specs.Plain.{cargo_of}
+use Rattle.plain_cargo.proofs.cargo.PlainCargo.sheet.Goals as goal
+
+pub drawn-requires-clause-within : goal.drawn-requires-clause-within
+drawn-requires-clause-within c = rw c.as_slice-book.ensures.value (within_taken (cargo_of c.args.self.now) c.args.awb.now c.requires.lawful)
+
+pub drawn-requires-2-clause-within : goal.drawn-requires-2-clause-within
+drawn-requires-2-clause-within c = rw c.as_slice-book.ensures.value (within_found (cargo_of c.args.self.now) c.args.awb.now c.requires.lawful)
+
+pub held-requires-clause-within : goal.held-requires-clause-within
+held-requires-clause-within c = rw c.as_slice-book.ensures.value (within_held (held_free (cargo_of c.args.self.now) c.args.awb.now c.requires.lawful))
+
+pub held-requires-2-clause-within : goal.held-requires-2-clause-within
+held-requires-2-clause-within c = rw c.as_slice-book.ensures.value (within_held (held_missing (cargo_of c.args.self.now) c.args.awb.now c.requires.lawful))
+
+pub returns : goal.returns
+returns c =
+    let b = c.as_slice-book.ensures.value in
+    λ i. record {
+      declared = c.declared_of.ensures i;
+      has_moves = (c.is_moved.ensures ∙ ap (λ l. has_moves l c.args.awb.now) b) i;
+      taken = (c.drawn.ensures ∙ ap (λ l. taken l c.args.awb.now) b) i;
+      found = (c.drawn-2.ensures ∙ ap (λ l. found l c.args.awb.now) b) i;
+      free = (c.held.ensures ∙ ap (λ l. free l c.args.awb.now) b) i;
+      missing = (c.held-2.ensures ∙ ap (λ l. missing l c.args.awb.now) b) i;
+      holder = c.get.ensures i;
+    }

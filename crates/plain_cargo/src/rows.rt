@@ -1,0 +1,63 @@
+ghost use Rattle.std.specs.Prelude.{◌≡◌, ◌&&◌, ◌==◌};
+ghost use Rattle.shipment_machine.specs.Cargo.{same_part};
+ghost use Rattle.shipment_machine.specs.Flights.{same_flight_date};
+
+use crate::balances::is_flight;
+use awb_number::Awb;
+use shipment_machine::{Declared, Expected, FlightDate, Outbound, Part};
+
+/// What was declared of a waybill.
+#[derive(Clone, Copy, Debug)]
+pub(crate) struct DeclaredRow {
+    pub(crate) awb: Awb,
+    pub(crate) declared: Declared,
+}
+
+/// What was noted of an outbound flight.
+#[derive(Clone, Copy, Debug)]
+pub(crate) struct FlightRow {
+    pub(crate) flight: FlightDate,
+    pub(crate) outbound: Outbound,
+}
+
+/// What a flight brings of a waybill.
+#[derive(Clone, Copy, Debug)]
+pub(crate) struct ExpectedRow {
+    pub(crate) flight: FlightDate,
+    pub(crate) awb: Awb,
+    pub(crate) expected: Expected,
+}
+
+impl ExpectedRow {
+    /// Whether it is of this waybill on this flight.
+    pub(crate) fn is_of(&self, flight: &FlightDate, awb: &Awb) -> bool
+        ensures { result ≡ same_flight_date flight.now self.now.flight && (awb.now == self.now.awb) }
+    {
+        is_flight(flight, &self.flight) && *awb == self.awb
+    }
+}
+
+/// A part of a manifest, and its telegram.
+#[derive(Debug, Drop)]
+pub(crate) struct PartRow {
+    pub(crate) part: Part,
+    pub(crate) text: Vec<u8>,
+}
+
+impl PartRow {
+    /// Whether it is this part.
+    pub(crate) fn is_of(&self, part: &Part) -> bool
+        ensures { result ≡ same_part part.now self.now.part }
+    {
+        is_flight(&part.flight, &self.part.flight)
+            && part.airport == self.part.airport
+            && part.number == self.part.number
+    }
+}
+
+/// A line of the trail of a waybill.
+#[derive(Debug, Drop)]
+pub struct TrailRow {
+    pub awb: Awb,
+    pub line: Vec<u8>,
+}

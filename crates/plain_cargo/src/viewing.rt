@@ -1,0 +1,271 @@
+//! What a command is planned from.
+ghost use Rattle.std.specs.Prelude.{Some, None, true, false, [], IfSome, ◌≡◌, ◌≤◌, ◌<◌, ℕ, nat_lt, length, map, take, IfOk, OnOk, IsSome, All};
+ghost use Rattle.std.specs.List.{prefix_len};
+ghost use Rattle.shipment_machine.specs.declared.command.ShipmentCommand.TheVariants as order;
+ghost use Rattle.shipment_machine.specs.declared.view.Rows.TheVariants as rows;
+ghost use Rattle.imp_fields.specs.Date.{resolved};
+ghost use Rattle.shipment_machine.specs.Agreement.{rows_for, view_of};
+ghost use Rattle.shipment_machine.specs.Book.{built, put_rising, waybills_of, waybills_on};
+ghost use Rattle.shipment_machine.specs.Effect.{lines_for, is_day};
+ghost use Rattle.shipment_machine.specs.Lawful.{IsLawful};
+ghost use Rattle.shipment_machine.specs.Sheets.{sheet_of, loads_of, flight_sheet_of, line_row_of};
+ghost use Rattle.plain_cargo.specs.Aboard.{is_built_on, aboard_of};
+ghost use Rattle.plain_cargo.specs.Plain.{cargo_of};
+
+use crate::balances::{Spot, held};
+use crate::cargo::PlainCargo;
+use awb_number::Awb;
+use imp_fields::{DayMonth, LocalDay, Moment, resolve};
+use shipment_machine::{
+    Aboard, Amount, DeskCommand, FlightDate, FlightSheet, InboundLine, InboundPart, LineRow,
+    LineRows, Loads, Move, Part, Place, Rows, ShipmentCommand, View,
+};
+use std::alloc::{AllocError, Global};
+
+/// How many numbers in front are below a number.
+fn below(numbers: &[Awb], number: Awb) -> usize
+    ensures count { result ≡ prefix_len (λ n. nat_lt n number) numbers.now }
+    ensures within { result ≤ length numbers.now }
+{
+    numbers
+        .iter()
+        .take_while(|other| other.key() < number.key())
+        .count()
+}
+
+/// Puts a number in its place among rising ones, once.
+fn put_rising(numbers: &mut Vec<Awb>, number: Awb) -> Result<(), AllocError>
+    ensures { OnOk result (numbers.new.items ≡ put_rising number numbers.old.items) }
+{
+    let at = below(numbers, number);
+    if let Some(other) = numbers.get(at) {
+        if other.key() == number.key() {
+            return Ok(());
+        }
+    }
+    numbers.insert(at, number)?;
+    Ok(())
+}
+
+/// The waybills of a book, rising, each once.
+fn waybills_of(alloc: Global, book: &[Move]) -> Result<Vec<Awb>, AllocError>
+    ensures { IfOk result (λ numbers. numbers.items ≡ waybills_of book.now) }
+{
+    let mut numbers: Vec<Awb> = Vec::new(alloc);
+    let mut left = book.len();
+    while left > 0 {
+        left -= 1;
+        put_rising(&mut numbers, book[left].awb)?;
+    }
+    Ok(numbers)
+}
+
+/// The day that a date means, where it is one of a Moment.
+fn day_meant(date: DayMonth, at: Moment) -> Option<LocalDay>
+    ensures some { IfSome result (λ day. (resolved date at.day ≡ Some day) × (is_day (resolved date at.day) ≡ true)) }
+    ensures none { result ≡ None → is_day (resolved date at.day) ≡ false }
+{
+    let number = resolve(date, at.day)?;
+    LocalDay::new(number)
+}
+
+impl PlainCargo {
+    /// The waybills that are built on a flight, rising.
+    fn numbers_on(&self, flight: &FlightDate) -> Result<Vec<Awb>, AllocError>
+        requires lawful { IsLawful (cargo_of self.now) }
+        requires few { length self.now.book.items ≤ 4_294_967_295 }
+        ensures { IfOk result (λ numbers. numbers.items ≡ waybills_on self.now.book.items flight.now) }
+    {
+        let mut numbers = Vec::new(self.alloc);
+        for number in &waybills_of(self.alloc, self.book.as_slice())? {
+            if self.is_on(number, flight) {
+                numbers.push(*number)?;
+            }
+        }
+        Ok(numbers)
+    }
+
+    /// What is built of a waybill on a flight.
+    fn load_on(&self, awb: &Awb, flight: &FlightDate) -> Amount
+        requires lawful { IsLawful (cargo_of self.now) }
+        requires few { length self.now.book.items ≤ 4_294_967_295 }
+        ensures { result ≡ built self.now.book.items awb.now flight.now }
+    {
+        held(self.book.as_slice(), awb, &Spot::At(Place::Built(*flight)))
+    }
+
+    /// Whether a waybill is built on a flight.
+    fn is_on(&self, awb: &Awb, flight: &FlightDate) -> bool
+        requires lawful { IsLawful (cargo_of self.now) }
+        requires few { length self.now.book.items ≤ 4_294_967_295 }
+        ensures { result ≡ is_built_on self.now.book.items flight.now awb.now }
+    {
+        self.load_on(awb, flight).pieces > 0
+    }
+
+    /// A flight, seen from one waybill.
+    fn flight_sheet(&self, awb: &Awb, flight: &FlightDate) -> Result<FlightSheet, AllocError>
+        requires lawful { IsLawful (cargo_of self.now) }
+        requires few { length self.now.book.items ≤ 4_294_967_295 }
+        ensures { IfOk result (λ sheet. sheet ≡ flight_sheet_of (cargo_of self.now) awb.now flight.now) }
+    {
+        let numbers = self.numbers_on(flight)?;
+        Ok(FlightSheet {
+            outbound: self.outbound_of(flight),
+            waybills: numbers.len() as u16,
+            load: self.load_on(awb, flight),
+            expected: self.expected_of(flight, awb),
+        })
+    }
+
+    /// A waybill that is built on a flight.
+    fn aboard(&self, awb: &Awb, flight: &FlightDate) -> Aboard
+        requires lawful { IsLawful (cargo_of self.now) }
+        requires few { length self.now.book.items ≤ 4_294_967_295 }
+        requires declared { IsSome ((cargo_of self.now).declared awb.now) }
+        ensures { result ≡ aboard_of (cargo_of self.now) flight.now awb.now }
+    {
+        Aboard {
+            awb: *awb,
+            declared: self.declared_of(awb).unwrap(),
+            load: self.load_on(awb, flight),
+        }
+    }
+
+    /// What is built on a flight, rising.
+    fn loads(&self, flight: &FlightDate) -> Result<Loads, AllocError>
+        requires lawful { IsLawful (cargo_of self.now) }
+        requires few { length self.now.book.items ≤ 4_294_967_295 }
+        ensures { IfOk result (λ loads. loads ≡ loads_of (cargo_of self.now) flight.now) }
+    {
+        let mut loads = Vec::new(self.alloc);
+        let numbers = self.numbers_on(flight)?;
+        for number in &numbers {
+            loads.push(self.aboard(number, flight))?;
+        }
+        Ok(Loads::new(loads).unwrap())
+    }
+
+    /// What is kept of each line of a manifest that is for here.
+    fn line_rows(&self, flight: &FlightDate, lines: &[InboundLine]) -> Result<LineRows, AllocError>
+        ensures { IfOk result (λ rows. rows ≡ map (line_row_of (cargo_of self.now) flight.now) (lines_for self.now.here lines.now)) }
+    {
+        let mut rows = Vec::new(self.alloc);
+        for line in lines {
+            if line.unload == self.here {
+                let awb = &line.cargo.awb;
+                rows.push(LineRow {
+                    declared: self.declared_of(awb),
+                    holder: self.stock.get(awb),
+                    expected: self.expected_of(flight, awb),
+                })?;
+            }
+        }
+        Ok(LineRows::new(rows))
+    }
+}
+
+impl PlainCargo {
+    /// What a command on a waybill is planned from.
+    fn waybill_rows(&self, awb: &Awb) -> Rows
+        requires lawful { IsLawful (cargo_of self.now) }
+        requires few { length self.now.book.items ≤ 4_294_967_295 }
+        ensures { result ≡ rows.One (sheet_of (cargo_of self.now) awb.now) None }
+    {
+        Rows::One {
+            sheet: self.sheet(awb),
+            flight: None,
+        }
+    }
+
+    /// What a command on a waybill and a flight is planned from.
+    fn flight_rows(&self, awb: &Awb, flight: &FlightDate) -> Result<Rows, AllocError>
+        requires lawful { IsLawful (cargo_of self.now) }
+        requires few { length self.now.book.items ≤ 4_294_967_295 }
+        ensures { IfOk result (λ made. made ≡ rows.One (sheet_of (cargo_of self.now) awb.now) (Some (flight_sheet_of (cargo_of self.now) awb.now flight.now))) }
+    {
+        Ok(Rows::One {
+            sheet: self.sheet(awb),
+            flight: Some(self.flight_sheet(awb, flight)?),
+        })
+    }
+
+    /// What a part of a manifest is planned from whose date names no day.
+    fn no_lines(&self) -> Rows
+        ensures { result ≡ rows.Lines false [] }
+    {
+        Rows::Lines {
+            taken: false,
+            lines: LineRows::new(Vec::new(self.alloc)),
+        }
+    }
+
+    /// What a part of a manifest is planned from: nothing where its date names no day.
+    fn part_rows(&self, part: &InboundPart<'_>, at: Moment) -> Result<Rows, AllocError>
+        ensures { IfOk result (λ made. made ≡ rows_for (cargo_of self.now) (order.Ffm part.now) at) }
+    {
+        let Some(day) = day_meant(part.date, at) else {
+            return Ok(self.no_lines());
+        };
+        let flight = FlightDate {
+            flight: part.flight,
+            day,
+        };
+        let key = Part {
+            flight,
+            airport: part.loaded,
+            number: part.number,
+        };
+        Ok(Rows::Lines {
+            taken: self.text_of(&key).is_some(),
+            lines: self.line_rows(&flight, part.lines.as_slice())?,
+        })
+    }
+
+    /// What a command of the desk is planned from.
+    fn desk_rows(&self, command: &DeskCommand, at: Moment) -> Result<Rows, AllocError>
+        requires lawful { IsLawful (cargo_of self.now) }
+        requires few { length self.now.book.items ≤ 4_294_967_295 }
+        requires sent { length self.now.outbox.items ≤ 4_294_967_295 }
+        ensures { IfOk result (λ made. made ≡ rows_for (cargo_of self.now) (order.Desk command.now) at) }
+    {
+        match command {
+            DeskCommand::Depart { flight } => Ok(Rows::Loads {
+                outbound: self.outbound_of(flight),
+                loads: self.loads(flight)?,
+            }),
+            DeskCommand::Confirm { .. } => Ok(Rows::Messages {
+                confirmed: self.confirmed,
+                last: self.outbox.len() as u32,
+            }),
+            DeskCommand::Manifest { awb, flight, .. } => self.flight_rows(awb, flight),
+            DeskCommand::Offload { awb, flight, .. } => self.flight_rows(awb, flight),
+            DeskCommand::CheckIn { awb, flight, .. } => self.flight_rows(awb, flight),
+            DeskCommand::Book { awb, .. } => Ok(self.waybill_rows(awb)),
+            DeskCommand::Receive { awb, .. } => Ok(self.waybill_rows(awb)),
+            DeskCommand::Notify { awb, .. } => Ok(self.waybill_rows(awb)),
+            DeskCommand::Deliver { awb, .. } => Ok(self.waybill_rows(awb)),
+            DeskCommand::Missing { awb, .. } => Ok(self.waybill_rows(awb)),
+            DeskCommand::Found { awb, .. } => Ok(self.waybill_rows(awb)),
+        }
+    }
+
+    /// What a command is planned from: all that the state has for it.
+    pub fn view(&self, command: &ShipmentCommand<'_>, at: Moment) -> Result<View, AllocError>
+        requires lawful { IsLawful (cargo_of self.now) }
+        requires few { length self.now.book.items ≤ 4_294_967_295 }
+        requires sent { length self.now.outbox.items ≤ 4_294_967_295 }
+        ensures { IfOk result (λ view. view ≡ view_of (cargo_of self.now) command.now at) }
+    {
+        let rows = match command {
+            ShipmentCommand::Desk(desk) => self.desk_rows(desk.get(), at)?,
+            ShipmentCommand::Fwb(line) => self.waybill_rows(&line.get().awb),
+            ShipmentCommand::Ffm(part) => self.part_rows(part, at)?,
+            ShipmentCommand::Fsu(status) => self.waybill_rows(&status.awb),
+        };
+        Ok(View {
+            here: self.here,
+            rows,
+        })
+    }
+}

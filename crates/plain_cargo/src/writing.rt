@@ -1,0 +1,202 @@
+//! What an accepted command changes.
+ghost use Rattle.std.specs.Prelude.{◌≡◌, ◌==◌, if◌then◌else◌, ℕ, Some, ◌++◌, IfOk, OnOk, OnErr};
+ghost use Rattle.agent_stock.specs.Plain.{holders_of};
+ghost use Rattle.agent_stock.specs.declared.stock.Holder.TheVariants.{Used};
+ghost use Rattle.shipment_machine.specs.Cargo.{written, written_all};
+ghost use Rattle.plain_cargo.specs.Plain.{cargo_of, texts_in};
+ghost use Rattle.plain_cargo.specs.Next.{cargo_with};
+ghost use Rattle.plain_cargo.specs.Sent.{sent};
+ghost use Rattle.shipment_machine.specs.Agreement.{outcome_of};
+ghost use Rattle.shipment_machine.specs.Effect.{carried_out};
+ghost use Rattle.plain_cargo.specs.declared.cargo.PlainCargo.{PlainCargo};
+
+use crate::cargo::PlainCargo;
+use crate::rows::{DeclaredRow, ExpectedRow, FlightRow, PartRow, TrailRow};
+use agent_stock::{Holder, PlainRows, Run, StockRows};
+use awb_number::Awb;
+use shipment_machine::{Change, Move, Plan};
+use std::alloc::{AllocError, Global};
+
+/// The same declarations once more.
+fn same_declared(rows: &Vec<DeclaredRow>) -> Result<Vec<DeclaredRow>, AllocError>
+    ensures { IfOk result (λ copy. copy.items ≡ rows.now.items) }
+{
+    rows.clone()
+}
+
+/// The same flights once more.
+fn same_flights(rows: &Vec<FlightRow>) -> Result<Vec<FlightRow>, AllocError>
+    ensures { IfOk result (λ copy. copy.items ≡ rows.now.items) }
+{
+    rows.clone()
+}
+
+/// The same expectations once more.
+fn same_expected(rows: &Vec<ExpectedRow>) -> Result<Vec<ExpectedRow>, AllocError>
+    ensures { IfOk result (λ copy. copy.items ≡ rows.now.items) }
+{
+    rows.clone()
+}
+
+/// An agent's number is used up.
+fn use_up(stock: &mut PlainRows, awb: &Awb) -> Result<(), AllocError>
+    ensures { OnOk result ((q : ℕ) → holders_of stock.new q ≡ (if q == awb.now then Some Used else holders_of stock.old q)) }
+{
+    let run = Run {
+        first: *awb,
+        count: 1,
+    };
+    stock.assign(&run, &Holder::Used)
+}
+
+/// The same bytes once more.
+fn bytes_of(alloc: Global, bytes: &[u8]) -> Result<Vec<u8>, AllocError>
+    ensures { IfOk result (λ copy. copy.items ≡ bytes.now) }
+{
+    let mut copy = Vec::new(alloc);
+    copy.extend_from_slice(bytes)?;
+    Ok(copy)
+}
+
+/// The rows that a command changes, made beside those that are kept.
+#[derive(Drop)]
+pub(crate) struct Next {
+    alloc: Global,
+    stock: PlainRows,
+    declared: Vec<DeclaredRow>,
+    flights: Vec<FlightRow>,
+    expected: Vec<ExpectedRow>,
+    // Parts and lines that are new.
+    parts: Vec<PartRow>,
+    trail: Vec<TrailRow>,
+    confirmed: u32,
+}
+
+impl Next {
+    /// The rows as they are.
+    fn of(cargo: &PlainCargo) -> Result<Next, AllocError>
+        ensures { IfOk result (λ next. cargo_with cargo.now next ≡ cargo_of cargo.now) }
+    {
+        Ok(Next {
+            alloc: cargo.alloc,
+            stock: cargo.stock.try_clone()?,
+            declared: same_declared(&cargo.declared)?,
+            flights: same_flights(&cargo.flights)?,
+            expected: same_expected(&cargo.expected)?,
+            parts: Vec::new(cargo.alloc),
+            trail: Vec::new(cargo.alloc),
+            confirmed: cargo.confirmed,
+        })
+    }
+
+    /// Writes a row, where the telegram in work has this text.
+    fn write(&mut self, text: &[u8], change: &Change<'_>) -> Result<(), AllocError>
+        ensures { (c : PlainCargo) → OnOk result (cargo_with c self.new ≡ written text.now change.now (cargo_with c self.old)) }
+    {
+        match change {
+            Change::Declare { awb, declared } => {
+                let row = DeclaredRow {
+                    awb: *awb,
+                    declared: *declared,
+                };
+                self.declared.insert(0, row)?;
+            }
+            Change::UseUp { awb } => use_up(&mut self.stock, awb)?,
+            Change::NoteFlight { flight, outbound } => {
+                let row = FlightRow {
+                    flight: *flight,
+                    outbound: *outbound,
+                };
+                self.flights.insert(0, row)?;
+            }
+            Change::Expect {
+                flight,
+                awb,
+                expected,
+            } => {
+                let row = ExpectedRow {
+                    flight: *flight,
+                    awb: *awb,
+                    expected: *expected,
+                };
+                self.expected.insert(0, row)?;
+            }
+            Change::NotePart { part } => {
+                let row = PartRow {
+                    part: *part,
+                    text: bytes_of(self.alloc, text)?,
+                };
+                self.parts.insert(0, row)?;
+            }
+            Change::Trail { awb, line } => {
+                let row = TrailRow {
+                    awb: *awb,
+                    line: bytes_of(self.alloc, line.as_bytes())?,
+                };
+                self.trail.push(row)?;
+            }
+            Change::Confirm { upto } => self.confirmed = *upto,
+        }
+        Ok(())
+    }
+
+    /// The rows after some were written, in order.
+    fn after(cargo: &PlainCargo, text: &[u8], changes: &[Change<'_>]) -> Result<Next, AllocError>
+        ensures { IfOk result (λ next. cargo_with cargo.now next ≡ written_all text.now changes.now (cargo_of cargo.now)) }
+    {
+        let mut next = Next::of(cargo)?;
+        for change in changes {
+            next.write(text, change)?;
+        }
+        Ok(next)
+    }
+}
+
+impl PlainCargo {
+    /// Takes rows over, with moves and messages behind the others.
+    fn take_over(
+        &mut self,
+        mut next: Next,
+        moves: &[Move],
+        mut messages: Vec<Vec<u8>>,
+    ) -> Result<(), AllocError>
+        ensures ok { OnOk result (cargo_of self.new ≡ sent (texts_in messages.items) (record (cargo_with self.old next) { book = self.old.book.items ++ moves.now })) }
+        ensures err { OnErr result (cargo_of self.new ≡ cargo_of self.old) }
+    {
+        self.book.try_reserve(moves.len())?;
+        self.trail.try_reserve(next.trail.len())?;
+        self.outbox.try_reserve(messages.len())?;
+        next.parts.append(&mut self.parts)?;
+        let Ok(()) = self.book.extend_from_slice(moves) else {
+            unreachable!();
+        };
+        let Ok(()) = self.trail.append(&mut next.trail) else {
+            unreachable!();
+        };
+        let Ok(()) = self.outbox.append(&mut messages) else {
+            unreachable!();
+        };
+        self.stock = next.stock;
+        self.declared = next.declared;
+        self.flights = next.flights;
+        self.expected = next.expected;
+        self.parts = next.parts;
+        self.confirmed = next.confirmed;
+        Ok(())
+    }
+
+    /// Does what a plan says, where the telegram in work has this text: its rows are written, and its moves and these
+    /// messages stand behind the others. For want of memory nothing changes.
+    pub fn carry_out(
+        &mut self,
+        text: &[u8],
+        plan: &Plan<'_>,
+        messages: Vec<Vec<u8>>,
+    ) -> Result<(), AllocError>
+        ensures ok { OnOk result (cargo_of self.new ≡ sent (texts_in messages.items) (carried_out text.now (outcome_of plan.now) (cargo_of self.old))) }
+        ensures err { OnErr result (cargo_of self.new ≡ cargo_of self.old) }
+    {
+        let next = Next::after(self, text, &plan.changes)?;
+        self.take_over(next, &plan.moves, messages)
+    }
+}
