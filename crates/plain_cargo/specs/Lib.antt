@@ -3,4 +3,3 @@ pub mod Bounds
 pub mod Next
 pub mod Plain
 pub mod Sent
-pub mod Spots

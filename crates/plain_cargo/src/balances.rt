@@ -4,7 +4,6 @@ ghost use Rattle.plain_cargo.specs.Bounds.{IsWithin};
 ghost use Rattle.imp_fields.specs.Flight.{same_flight};
 ghost use Rattle.shipment_machine.specs.Flights.{same_flight_date};
 ghost use Rattle.shipment_machine.specs.Book.{same_place, pieces_of, tenths_of, moved_in, moved_out, held, drawn, has_moves};
-ghost use Rattle.plain_cargo.specs.Spots.{is_there};
 
 use awb_number::Awb;
 use imp_fields::Flight;
@@ -44,26 +43,6 @@ fn is_place(a: &Place, b: &Place) -> bool
     }
 }
 
-/// Places that are asked for.
-#[derive(Clone, Copy)]
-pub(crate) enum Spot {
-    At(Place),
-    /// Free, or built on any flight.
-    Store,
-}
-
-impl Spot {
-    /// Whether a place is one of them.
-    fn has(&self, place: &Place) -> bool
-        ensures { result ≡ is_there self.now place.now }
-    {
-        match self {
-            Spot::At(here) => is_place(here, place),
-            Spot::Store => matches!(place, Place::Free | Place::Built(_)),
-        }
-    }
-}
-
 /// Pieces and tenths, as a sum over the book has them.
 #[derive(Clone, Copy)]
 struct Total {
@@ -90,15 +69,15 @@ impl Total {
     }
 }
 
-/// What moved to some places.
-fn total_in(book: &[Move], awb: &Awb, spot: &Spot) -> Total
+/// What moved to a place.
+fn total_in(book: &[Move], awb: &Awb, place: &Place) -> Total
     requires { length book.now ≤ 4_294_967_295 }
-    ensures pieces { result.pieces ≡ moved_in pieces_of book.now awb.now (is_there spot.now) }
-    ensures tenths { result.tenths ≡ moved_in tenths_of book.now awb.now (is_there spot.now) }
+    ensures pieces { result.pieces ≡ moved_in pieces_of book.now awb.now (same_place place.now) }
+    ensures tenths { result.tenths ≡ moved_in tenths_of book.now awb.now (same_place place.now) }
 {
     let mut total = NOTHING;
     for m in book {
-        if m.awb == *awb && spot.has(&m.to) {
+        if m.awb == *awb && is_place(place, &m.to) {
             total.pieces += u64::from(m.pieces.number());
             total.tenths += u64::from(m.tenths.number());
         }
@@ -106,15 +85,15 @@ fn total_in(book: &[Move], awb: &Awb, spot: &Spot) -> Total
     total
 }
 
-/// What moved from some places.
-fn total_out(book: &[Move], awb: &Awb, spot: &Spot) -> Total
+/// What moved from a place.
+fn total_out(book: &[Move], awb: &Awb, place: &Place) -> Total
     requires { length book.now ≤ 4_294_967_295 }
-    ensures pieces { result.pieces ≡ moved_out pieces_of book.now awb.now (is_there spot.now) }
-    ensures tenths { result.tenths ≡ moved_out tenths_of book.now awb.now (is_there spot.now) }
+    ensures pieces { result.pieces ≡ moved_out pieces_of book.now awb.now (same_place place.now) }
+    ensures tenths { result.tenths ≡ moved_out tenths_of book.now awb.now (same_place place.now) }
 {
     let mut total = NOTHING;
     for m in book {
-        if m.awb == *awb && spot.has(&m.from) {
+        if m.awb == *awb && is_place(place, &m.from) {
             total.pieces += u64::from(m.pieces.number());
             total.tenths += u64::from(m.tenths.number());
         }
@@ -122,22 +101,22 @@ fn total_out(book: &[Move], awb: &Awb, spot: &Spot) -> Total
     total
 }
 
-/// What is at some places.
-pub(crate) fn held(book: &[Move], awb: &Awb, spot: &Spot) -> Amount
+/// What is at a place.
+pub(crate) fn held(book: &[Move], awb: &Awb, place: &Place) -> Amount
     requires few { length book.now ≤ 4_294_967_295 }
-    requires within { IsWithin (held book.now awb.now (is_there spot.now)) }
-    ensures { result ≡ held book.now awb.now (is_there spot.now) }
+    requires within { IsWithin (held book.now awb.now (same_place place.now)) }
+    ensures { result ≡ held book.now awb.now (same_place place.now) }
 {
-    total_in(book, awb, spot).less(&total_out(book, awb, spot))
+    total_in(book, awb, place).less(&total_out(book, awb, place))
 }
 
-/// What came from some places.
-pub(crate) fn drawn(book: &[Move], awb: &Awb, spot: &Spot) -> Amount
+/// What came from a place.
+pub(crate) fn drawn(book: &[Move], awb: &Awb, place: &Place) -> Amount
     requires few { length book.now ≤ 4_294_967_295 }
-    requires within { IsWithin (drawn book.now awb.now (is_there spot.now)) }
-    ensures { result ≡ drawn book.now awb.now (is_there spot.now) }
+    requires within { IsWithin (drawn book.now awb.now (same_place place.now)) }
+    ensures { result ≡ drawn book.now awb.now (same_place place.now) }
 {
-    total_out(book, awb, spot).less(&total_in(book, awb, spot))
+    total_out(book, awb, place).less(&total_in(book, awb, place))
 }
 
 /// Whether the book has a move of a waybill.

@@ -1,20 +1,17 @@
-ghost use Rattle.std.specs.Prelude.{is_some, ◌≡◌, ◌≤◌, ◌&&◌, ◌==◌, length};
+ghost use Rattle.std.specs.Prelude.{◌≡◌, ◌≤◌, length};
 ghost use Rattle.std.specs.Option.{option_copied};
-ghost use Rattle.shipment_machine.specs.Cargo.{opening_cargo, same_part};
-ghost use Rattle.shipment_machine.specs.Flights.{same_flight_date};
+ghost use Rattle.shipment_machine.specs.Cargo.{opening_cargo};
 ghost use Rattle.shipment_machine.specs.Lawful.{IsLawful};
-ghost use Rattle.shipment_machine.specs.Sheets.{sheet_of, flight_sheet_of};
+ghost use Rattle.shipment_machine.specs.Sheets.{sheet_of};
 ghost use Rattle.plain_cargo.specs.Bounds.{has_room};
 ghost use Rattle.plain_cargo.specs.Plain.{cargo_of, declared_in, flights_in, expected_in, parts_in};
 
-use crate::balances::{Spot, drawn, held, is_flight, is_moved};
+use crate::balances::{drawn, held, is_flight, is_moved};
 use crate::rows::{DeclaredRow, ExpectedRow, FlightRow, PartRow, TrailRow};
 use agent_stock::PlainRows;
 use awb_number::Awb;
 use imp_fields::Airport;
-use shipment_machine::{
-    Declared, Expected, FlightDate, FlightSheet, Move, Outbound, Part, Place, Sheet,
-};
+use shipment_machine::{Declared, Expected, FlightDate, Move, Outbound, Part, Place, Sheet};
 use std::alloc::Global;
 
 /// The cargo of a station in memory. A row that is written anew stands in front of the older one.
@@ -107,10 +104,10 @@ impl PlainCargo {
         Sheet {
             declared: self.declared_of(awb),
             has_moves: is_moved(book, awb),
-            taken: drawn(book, awb, &Spot::At(Place::Hand)),
-            found: drawn(book, awb, &Spot::At(Place::Surplus)),
-            free: held(book, awb, &Spot::At(Place::Free)),
-            missing: held(book, awb, &Spot::At(Place::Missing)),
+            taken: drawn(book, awb, &Place::Hand),
+            found: drawn(book, awb, &Place::Surplus),
+            free: held(book, awb, &Place::Free),
+            missing: held(book, awb, &Place::Missing),
             holder: self.stock.get(awb),
         }
     }

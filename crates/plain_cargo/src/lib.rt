@@ -9,7 +9,6 @@ mod viewing;
 mod writing;
 
 pub use cargo::PlainCargo;
-pub use rows::TrailRow;
 
 #[cfg(test)]
 mod tests;

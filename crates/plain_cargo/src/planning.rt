@@ -34,7 +34,7 @@ impl PlainCargo {
     pub fn plan<'a>(&self, command: &ShipmentCommand<'a>, at: Moment) -> Result<Plan<'a>, PlanFault>
         requires lawful { IsLawful (cargo_of self.now) }
         requires few { length self.now.book.items ≤ 4_294_967_295 }
-        requires told { length self.now.outbox.items ≤ 4_294_967_295 }
+        requires sent { length self.now.outbox.items ≤ 4_294_967_295 }
         ensures planned { IfOk result (λ plan. effect (cargo_of self.now) command.now at ≡ Ok (outcome_of plan)) }
         ensures refused { IfErr result (RefusesAs (effect (cargo_of self.now) command.now at)) }
         // The text of a part that the telegram is has yet to be kept.

@@ -57,7 +57,7 @@ impl PartRow {
 
 /// A line of the trail of a waybill.
 #[derive(Debug, Drop)]
-pub struct TrailRow {
-    pub awb: Awb,
-    pub line: Vec<u8>,
+pub(crate) struct TrailRow {
+    pub(crate) awb: Awb,
+    pub(crate) line: Vec<u8>,
 }

@@ -12,7 +12,7 @@ ghost use Rattle.shipment_machine.specs.Sheets.{sheet_of, loads_of, flight_sheet
 ghost use Rattle.plain_cargo.specs.Aboard.{is_built_on, aboard_of};
 ghost use Rattle.plain_cargo.specs.Plain.{cargo_of};
 
-use crate::balances::{Spot, held};
+use crate::balances::held;
 use crate::cargo::PlainCargo;
 use awb_number::Awb;
 use imp_fields::{DayMonth, LocalDay, Moment, resolve};
@@ -91,7 +91,7 @@ impl PlainCargo {
         requires few { length self.now.book.items ≤ 4_294_967_295 }
         ensures { result ≡ built self.now.book.items awb.now flight.now }
     {
-        held(self.book.as_slice(), awb, &Spot::At(Place::Built(*flight)))
+        held(self.book.as_slice(), awb, &Place::Built(*flight))
     }
 
     /// Whether a waybill is built on a flight.
