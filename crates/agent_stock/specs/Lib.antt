@@ -1,3 +1,4 @@
 pub mod Code
 pub mod Plain
+pub mod Runs
 pub mod Stock

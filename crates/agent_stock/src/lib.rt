@@ -5,12 +5,14 @@ mod agent_code;
 mod orders;
 mod plain;
 mod rows;
+mod runs;
 mod stock;
 
 pub use agent_code::AgentCode;
 pub use orders::{carry_out, give_back, issue, take_in, void_run};
 pub use plain::PlainRows;
 pub use rows::StockRows;
+pub use runs::{Held, StockRun, runs_of};
 pub use stock::{Holder, Order, Run, StockFault, Test};
 
 #[cfg(test)]

@@ -1,8 +1,13 @@
-ghost use Rattle.std.specs.Prelude.{◌≡◌, OnOk, IfOk};
+ghost use Rattle.std.specs.Prelude.{◌≡◌, ℕ, IsSome, OnOk, IfOk};
+ghost use Rattle.std.specs.Ordering.{nat_cmp};
+ghost use Rattle.std.specs.BTreeMap.{get};
+ghost use Rattle.std.proofs.Props.{props};
+ghost use Rattle.awb_number.specs.Number.{IsNumber};
 ghost use Rattle.agent_stock.specs.Stock.{Holders};
-ghost use Rattle.agent_stock.specs.Plain.{holders_of, nobody};
+ghost use Rattle.agent_stock.specs.Runs.{AreRising, AreStockRuns, holders_among};
 
 use crate::rows::StockRows;
+use crate::runs::{Held, StockRun, runs_of};
 use crate::stock::{Holder, Run, Test};
 use awb_number::Awb;
 use std::alloc::{AllocError, Global};
@@ -12,9 +17,13 @@ use std::collections::BTreeMap;
 #[derive(Drop)]
 pub struct PlainRows {
     by_number: BTreeMap<u64, Holder>,
+    // Each key is that of a number.
+    ghost are_numbers: { (q : ℕ) → IsSome (get nat_cmp by_number q) → IsNumber q } by { Prim.hlevel props },
 }
 
 impl PlainRows {
+    ghost use Rattle.agent_stock.specs.Plain.{holders_of, nobody};
+
     /// Nothing is in stock.
     pub fn new(alloc: Global) -> PlainRows
         ensures { holders_of result ≡ nobody }
@@ -39,9 +48,35 @@ impl PlainRows {
             by_number: self.by_number.clone()?,
         })
     }
+
+    /// The numbers in stock, rising.
+    fn in_stock(&self, alloc: Global) -> Result<Vec<Held>, AllocError>
+        ensures rising { IfOk result (λ numbers. AreRising numbers.items) }
+        ensures holders { IfOk result (λ numbers. holders_among numbers.items ≡ holders_of self.now) }
+    {
+        let mut numbers = Vec::new(alloc);
+        for (key, holder) in &self.by_number {
+            let number = Awb::of_key(*key).unwrap();
+            numbers.push(Held {
+                number,
+                holder: *holder,
+            })?;
+        }
+        Ok(numbers)
+    }
+
+    /// The maximal runs of the stock, rising. Fails where memory is short, and else never.
+    pub fn runs(&self, alloc: Global) -> Result<Vec<StockRun>, AllocError>
+        ensures { IfOk result (λ rows. AreStockRuns (holders_of self.now) rows.items) }
+    {
+        let numbers = self.in_stock(alloc)?;
+        runs_of(alloc, numbers.as_slice())
+    }
 }
 
 impl StockRows for PlainRows {
+    ghost use Rattle.agent_stock.specs.Plain.{holders_of};
+
     type Fault = AllocError;
 
     ghost holders = { holders_of };

@@ -1,4 +1,4 @@
-ghost use Rattle.std.specs.Prelude.{◌≡◌};
+ghost use Rattle.std.specs.Prelude.{◌≡◌, ◌↔◌, IsTrue};
 ghost use Rattle.agent_stock.specs.Stock.{is_run, passes};
 
 use crate::agent_code::AgentCode;
@@ -21,6 +21,21 @@ pub enum Holder {
     Used,
     /// It is never to be used.
     Void,
+}
+
+impl Holder {
+    /// Whether both are the same holder.
+    pub(crate) fn is_same(&self, other: &Holder) -> bool
+        ensures { IsTrue result ↔ (self.now ≡ other.now) }
+    {
+        match (self, other) {
+            (Holder::Desk, Holder::Desk) => true,
+            (Holder::Agent(code), Holder::Agent(other)) => code.as_bytes() == other.as_bytes(),
+            (Holder::Used, Holder::Used) => true,
+            (Holder::Void, Holder::Void) => true,
+            _ => false,
+        }
+    }
 }
 
 /// Numbers one after another: the first, and how many. It may have any count, and end past its prefix.

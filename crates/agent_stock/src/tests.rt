@@ -131,3 +131,87 @@ fn codes_of_agents(rt: HostRuntime) {
         );
     }
 }
+
+/// A row of runs.
+fn row(run: Run, holder: Holder) -> StockRun {
+    StockRun { run, holder }
+}
+
+#[test]
+fn runs_after_a_morning(rt: HostRuntime) -> Result<(), Fail> {
+    let mut rows = PlainRows::new(rt.alloc());
+    morning(&rt, &mut rows)?;
+    let acme = Holder::Agent(agent("ACME")?);
+    let runs = rows.runs(rt.alloc())?;
+    assert_eq!(rt;
+        runs.as_slice(),
+        [
+            row(run(b"020-12345675", 3)?, Holder::Desk),
+            row(run(b"020-12345701", 3)?, acme),
+            row(run(b"020-12345734", 4)?, Holder::Desk),
+        ]
+        .as_slice()
+    );
+    Ok(())
+}
+
+#[test]
+fn runs_stay_within_their_prefix(rt: HostRuntime) -> Result<(), Fail> {
+    let mut rows = PlainRows::new(rt.alloc());
+    let last = Run {
+        first: Awb::new(20, 9_999_998).ok_or("a number")?,
+        count: 2,
+    };
+    let next = Run {
+        first: Awb::new(21, 0).ok_or("a number")?,
+        count: 1,
+    };
+    assert_eq!(rt; take_in(&mut rows, &next), Ok(()));
+    assert_eq!(rt; take_in(&mut rows, &last), Ok(()));
+    let runs = rows.runs(rt.alloc())?;
+    assert_eq!(rt;
+        runs.as_slice(),
+        [row(last, Holder::Desk), row(next, Holder::Desk)].as_slice()
+    );
+    Ok(())
+}
+
+#[test]
+fn an_empty_stock_has_no_runs(rt: HostRuntime) -> Result<(), Fail> {
+    let rows = PlainRows::new(rt.alloc());
+    assert_eq!(rt; rows.runs(rt.alloc())?.len(), 0);
+    assert_eq!(rt; runs_of(rt.alloc(), &[])?.len(), 0);
+    Ok(())
+}
+
+#[test]
+fn used_and_void_numbers_have_runs_of_their_own(rt: HostRuntime) -> Result<(), Fail> {
+    let acme = Holder::Agent(agent("ACME")?);
+    let beta = Holder::Agent(agent("BETA")?);
+    let held = [
+        (1_234_567, Holder::Void),
+        (1_234_568, Holder::Void),
+        (1_234_569, Holder::Used),
+        (1_234_570, acme),
+        (1_234_571, beta),
+        (1_234_573, beta),
+    ];
+    let mut numbers = Vec::new(rt.alloc());
+    for (serial, holder) in held {
+        let number = Awb::new(20, serial).ok_or("a number")?;
+        numbers.push(Held { number, holder })?;
+    }
+    let runs = runs_of(rt.alloc(), &numbers)?;
+    assert_eq!(rt;
+        runs.as_slice(),
+        [
+            row(run(b"020-12345675", 2)?, Holder::Void),
+            row(run(b"020-12345690", 1)?, Holder::Used),
+            row(run(b"020-12345701", 1)?, acme),
+            row(run(b"020-12345712", 1)?, beta),
+            row(run(b"020-12345734", 1)?, beta),
+        ]
+        .as_slice()
+    );
+    Ok(())
+}

@@ -1,0 +1,73 @@
+ghost use Rattle.std.specs.Prelude.{◌≡◌, ◌↔◌, ◌∷◌, IsTrue, IfOk};
+ghost use Rattle.agent_stock.specs.Runs.{AreRising, AreStockRuns, GoesOn, holders_among};
+
+use crate::stock::{Holder, Run};
+use awb_number::Awb;
+use std::alloc::{AllocError, Global};
+
+/// A number in stock, and who holds it.
+#[derive(Clone, Copy, Debug, PartialEq, Eq)]
+pub struct Held {
+    pub number: Awb,
+    pub holder: Holder,
+}
+
+/// Numbers one after another that one holder has.
+#[derive(Clone, Copy, Debug, PartialEq, Eq)]
+pub struct StockRun {
+    pub run: Run,
+    pub holder: Holder,
+}
+
+impl StockRun {
+    /// The run of one number.
+    fn of_one(held: &Held) -> StockRun
+        ensures { result ≡ record { run = record { first = held.now.number; count = 1 }; holder = held.now.holder } }
+    {
+        StockRun {
+            run: Run {
+                first: held.number,
+                count: 1,
+            },
+            holder: held.holder,
+        }
+    }
+
+    /// Whether a number is the next one of the run's prefix, and with its holder.
+    fn goes_on(&self, held: &Held) -> bool
+        ensures { IsTrue result ↔ GoesOn self.now held.now }
+    {
+        self.run.first.prefix() == held.number.prefix()
+            && self.run.first.key() + u64::from(self.run.count) == held.number.key()
+            && self.holder.is_same(&held.holder)
+    }
+}
+
+/// The maximal runs of a number and those that follow it, where they rise.
+fn runs_from(alloc: Global, first: &Held, following: &[Held]) -> Result<Vec<StockRun>, AllocError>
+    ensures { AreRising (first.now ∷ following.now) → IfOk result (λ rows. AreStockRuns (holders_among (first.now ∷ following.now)) rows.items) }
+{
+    let mut rows = Vec::new(alloc);
+    let mut row = StockRun::of_one(first);
+    for held in following {
+        if row.goes_on(held) {
+            row.run.count += 1;
+        } else {
+            rows.push(row)?;
+            row = StockRun::of_one(held);
+        }
+    }
+    rows.push(row)?;
+    Ok(rows)
+}
+
+/// The maximal runs of numbers that rise: as many as follow one another in a prefix and have one
+/// holder. Nothing is said of the runs of other numbers. Fails where memory is short, and else never.
+pub fn runs_of(alloc: Global, numbers: &[Held]) -> Result<Vec<StockRun>, AllocError>
+    ensures { AreRising numbers.now → IfOk result (λ rows. AreStockRuns (holders_among numbers.now) rows.items) }
+{
+    match numbers.split_first() {
+        None => Ok(Vec::new(alloc)),
+        Some((first, following)) => runs_from(alloc, first, following),
+    }
+}
