@@ -23,7 +23,8 @@ use Rattle.sqlite_schema.specs.declared.schema.Constraint.TheVariants.{Unique}
 use Rattle.sqlite_value.specs.Keys.{first_key}
 use Rattle.sqlite_value.proofs.OrderLemmas.{value_cmp-Int}
 use Rattle.sqlite_sql.specs.declared.ops.CompareOp.TheVariants.{Eq, Ge, Le}
-use Rattle.sqlite_typed.proofs.TestLemmas.{at_ints, last_term, then_term, last_key}
+use Rattle.sqlite_typed.proofs.AnswerLemmas.{unfiltered}
+use Rattle.sqlite_typed.proofs.TestLemmas.{at_ints, last_term, then_term, then_key, last_key}
 use Rattle.station_rows.specs.Schema.{station_schema, stock}
 use Rattle.station_rows.specs.Columns.{adjust}
 use Rattle.station_rows.specs.Tables.{Stock, StockKey, stock_cmp, tables_of, IsStation, stock_row, stock_in, stock_read}
@@ -34,7 +35,7 @@ use Rattle.station_rows.proofs.Keyed.{one_table}
 use Rattle.station_rows.proofs.Keys.{stock_total, stock_same, pair_eq, int_tied}
 use Rattle.station_rows.proofs.Columns.{Compares, IsMap, map_of, inserted, updated_at, deleted_at, rows_in_order}
 use Rattle.station_rows.proofs.Inside.{execute_survives}
-use Rattle.station_rows.proofs.Texts.{asks, by_column, insert_text, insert_is, stock_terms, pair_is, lies_between, stock_columns, stock_names, update_text, update_is, update_terms, delete_text, delete_is, between_text, between_is}
+use Rattle.station_rows.proofs.Texts.{asks, by_column, insert_text, insert_is, stock_terms, pair_is, lies_between, stock_columns, stock_names, update_text, update_is, update_terms, delete_text, delete_is, between_text, between_is, all_text, all_is}
 use Rattle.station_rows.proofs.Stored.{edits_stock}
 
 -- ---- the key
@@ -131,6 +132,14 @@ lists_between old new prefix first last rows was h =
     rows_in_order stock_cmp stock_total stock_row old.now.schema old.now.trees 1 (tables_of old.now.trees).stock (stock_map old.now was) (Int prefix ∷ Int first ∷ Int last ∷ []) lies_between stock_columns (is_between prefix first last)
     (λ n e. then_term (at_ints false Eq e.0.0 prefix) (then_term (at_ints false Ge e.0.1 first) (last_term (at_ints false Le e.0.1 last)))) stock_row (λ _ _. refl) (by_column 2 ∷ []) (λ _ _. refl)
     (λ a b pa pb. last_key (value_cmp-Int a.0.1 b.0.1) ∙ ap (λ o. ordering_then o (int_cmp a.0.1 b.0.1)) (sym (int_both a.0.0 b.0.0 prefix (first_true _ _ pa) (first_true _ _ pb)))) rows read
+
+-- ORDER BY the key
+pub lists_all : (old new : State) (rows : List Row) → IsStation old.now → Shown all_text [] old new rows → rows ≡ map stock_row (entries (tables_of old.now.trees).stock)
+lists_all old new rows was h =
+    let read = reads_as all_text [] old new station_schema was.schema (Select (asks (one_table 1 [] stock_columns (by_column 1 ∷ by_column 2 ∷ []))) stock_names) all_is.0 all_is.1 all_is.2 rows h in
+    rows_in_order stock_cmp stock_total stock_row old.now.schema old.now.trees 1 (tables_of old.now.trees).stock (stock_map old.now was) [] [] stock_columns (λ _. true) (λ _ _. refl) stock_row (λ _ _. refl)
+    (by_column 1 ∷ by_column 2 ∷ []) (λ _ _. refl) (λ a b _ _. then_key (value_cmp-Int a.0.0 b.0.0) (last_key (value_cmp-Int a.0.1 b.0.1))) rows read
+    ∙ ap (map stock_row) (unfiltered (entries (tables_of old.now.trees).stock) refl)
 
 -- ---- from rows that were shown to the rows of the code
 

@@ -58,6 +58,9 @@ delete_text = codes "DELETE FROM stock WHERE prefix = ?1 AND low = ?2"
 abbrev pub between_text : List ℕ
 between_text = codes "SELECT prefix, low, high, holder, agent FROM stock WHERE prefix = ?1 AND low BETWEEN ?2 AND ?3 ORDER BY low"
 
+abbrev pub all_text : List ℕ
+all_text = codes "SELECT prefix, low, high, holder, agent FROM stock ORDER BY prefix, low"
+
 pub insert_is : (command_of (understood station_schema insert_text) ≡ Insert 1 (Values stock_terms 6)) × IsPlain (understood station_schema insert_text)
 unfolding understood everything
 insert_is = (refl, (refl, refl))
@@ -73,6 +76,10 @@ delete_is = (refl, (refl, refl))
 pub between_is : (command_of (understood station_schema between_text) ≡ Select (asks (one_table 1 lies_between stock_columns (by_column 2 ∷ []))) stock_names) × IsPlain (understood station_schema between_text) × (reads_listing station_schema between_text ≡ false)
 unfolding understood everything
 between_is = (refl, (refl, refl), refl)
+
+pub all_is : (command_of (understood station_schema all_text) ≡ Select (asks (one_table 1 [] stock_columns (by_column 1 ∷ by_column 2 ∷ []))) stock_names) × IsPlain (understood station_schema all_text) × (reads_listing station_schema all_text ≡ false)
+unfolding understood everything
+all_is = (refl, (refl, refl), refl)
 
 -- ---- transactions, under any schema
 

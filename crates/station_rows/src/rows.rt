@@ -104,6 +104,24 @@ impl<S: Alter> TableStore for Rows<S> {
         }
     }
 
+    fn all_stock(&mut self) -> Result<Vec<StockRow>, StoreFault> {
+        if self.failed {
+            return Err(StoreFault);
+        }
+        self.failed = true;
+        let inside = !self.conn.is_autocommit();
+        match stock::all_stock(&mut self.conn) {
+            Err(_) => {
+                self.failed = !goes_on(&mut self.conn, inside);
+                Err(StoreFault)
+            }
+            Ok(rows) => {
+                self.failed = false;
+                Ok(rows)
+            }
+        }
+    }
+
     fn insert_stock(&mut self, row: &StockRow) -> Result<(), StoreFault> {
         if !self.is_inside() {
             return Err(StoreFault);

@@ -69,6 +69,17 @@ fn shown_between<S: Alter>(
     )
 }
 
+fn shown_stock<S: Alter>(conn: &mut Connection<S>) -> Result<Vec<Row>, Error>
+    ensures read { HasCleanDisk (state S.Store conn.new) → IsStation (state S.Store conn.old).now → Reads (state S.Store conn.old) (state S.Store conn.new) result
+        (λ rows. rows.items ≡ map stock_row (entries (tables_of (state S.Store conn.old).now.trees).stock)) }
+    ensures survives { Survives (state S.Store conn.old) (state S.Store conn.new) (λ _. ¬ IsStation (state S.Store conn.old).now) }
+{
+    conn.query_all(
+        "SELECT prefix, low, high, holder, agent FROM stock ORDER BY prefix, low",
+        &[],
+    )
+}
+
 fn read_stock(row: &Row) -> Result<StockRow, Error>
     ensures { IfOk result (λ r. stock_meant r ≡ stock_read row.now) }
 {
@@ -104,4 +115,14 @@ pub(crate) fn stock_between<S: Alter>(
 {
     let rows = shown_between(conn, prefix, first, last)?;
     read_all_stock(*rows.allocator(), &rows)
+}
+
+/// All rows, by prefix and then by `low`.
+pub(crate) fn all_stock<S: Alter>(conn: &mut Connection<S>) -> Result<Vec<StockRow>, Error>
+    ensures read { HasCleanDisk (state S.Store conn.new) → IsStation (state S.Store conn.old).now → Reads (state S.Store conn.old) (state S.Store conn.new) result
+        (λ all. map stock_meant all.items ≡ entries (tables_of (state S.Store conn.old).now.trees).stock) }
+    ensures survives { Survives (state S.Store conn.old) (state S.Store conn.new) (λ _. ¬ IsStation (state S.Store conn.old).now) }
+{
+    let shown = shown_stock(conn)?;
+    read_all_stock(*shown.allocator(), &shown)
 }

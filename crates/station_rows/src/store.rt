@@ -61,6 +61,13 @@ pub trait TableStore {
         ensures rests { (view self.new).IsSound → Rests (view self.old) (view self.new) }
         ensures survives { Survives (view self.old) (view self.new) };
 
+    /// All rows of the stock, by prefix and then by `low`, inside a transaction or outside. A fault outside changes nothing while the store is open.
+    fn all_stock(&mut self) -> Result<Vec<StockRow>, StoreFault>
+        ensures rows { (view self.new).IsSound → IfOk result (λ rows. map stock_meant rows.items ≡ entries (view self.old).now.stock) }
+        ensures same { OnOk result ((view self.new).IsSound → IsUnchanged (view self.old) (view self.new)) }
+        ensures rests { (view self.new).IsSound → Rests (view self.old) (view self.new) }
+        ensures survives { Survives (view self.old) (view self.new) };
+
     /// Adds a row, in a transaction. Its key must be free. A fault: no transaction is open, the key is taken, or the database call failed.
     fn insert_stock(&mut self, row: &StockRow) -> Result<(), StoreFault>
         ensures ok { OnOk result ((view self.new).IsSound → Writes (view self.old) (view self.new) (with_stock (stock_meant row.now) (view self.old).now)) }

@@ -132,6 +132,63 @@ fn rows_of_a_range_come_in_order(rt: HostRuntime) -> Result<(), Fail> {
 }
 
 #[test]
+fn all_rows_come_in_the_order_of_their_keys(rt: HostRuntime) -> Result<(), Fail> {
+    let alloc = rt.alloc();
+    let mut rows = station(alloc)?;
+    assert!(rt; rows.all_stock()?.is_empty());
+    fill(
+        alloc,
+        &mut rows,
+        &[
+            (125, 700),
+            (20, 500),
+            (125, 300),
+            (20, 9999999),
+            (1000, -1),
+            (-1, 600),
+        ],
+    )?;
+    let mut keys = Vec::new(alloc);
+    for row in rows.all_stock()?.as_slice() {
+        keys.push((row.prefix, row.low))?;
+        assert_eq!(rt;
+            (row.high, row.holder, row.agent.as_str()),
+            (row.low, 1, "ACME")
+        );
+    }
+    assert_eq!(rt;
+        keys.as_slice(),
+        [
+            (-1i64, 600i64),
+            (20, 500),
+            (20, 9999999),
+            (125, 300),
+            (125, 700),
+            (1000, -1)
+        ]
+        .as_slice()
+    );
+    Ok(())
+}
+
+#[test]
+fn all_rows_are_those_of_the_transaction(rt: HostRuntime) -> Result<(), Fail> {
+    let alloc = rt.alloc();
+    let mut rows = station(alloc)?;
+    fill(alloc, &mut rows, &[(20, 500), (125, 300)])?;
+    rows.begin()?;
+    rows.delete_stock(20, 500)?;
+    let left = rows.all_stock()?;
+    assert_eq!(rt; left.len(), 1);
+    assert_eq!(rt; left[0].prefix, 125);
+    let again = row(alloc, 20, 400)?;
+    rows.insert_stock(&again)?;
+    rows.commit()?;
+    assert_eq!(rt; rows.all_stock()?.len(), 2);
+    Ok(())
+}
+
+#[test]
 fn a_row_comes_back_whole(rt: HostRuntime) -> Result<(), Fail> {
     let alloc = rt.alloc();
     let mut rows = station(alloc)?;
