@@ -1,5 +1,5 @@
 mod Again
-mod Ascii
+pub mod Ascii
 mod BodyLaws
 mod Cuts
 mod Days
@@ -12,4 +12,4 @@ mod Made
 mod Steps
 mod TextLaws
 mod Verbs
-mod Written
+pub mod Written

@@ -50,8 +50,8 @@ fn date_text(year: u16, month: u8, day: u8) -> [u8; 10]
     ]
 }
 
-/// A day as `2026-01-12`.
-pub(crate) fn day_text(day: LocalDay) -> [u8; 10]
+/// A day as `2026-01-12`, as texts of commands and of refusals have it.
+pub fn day_text(day: LocalDay) -> [u8; 10]
     ensures value { result ≡ day_line day }
     ensures ascii { IsAscii result }
 {

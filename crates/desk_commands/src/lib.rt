@@ -19,6 +19,7 @@ mod verb;
 
 pub use body::{BadBody, read_command};
 pub use command::Command;
+pub use day::day_text;
 pub use laws::command_text_law;
 pub use reading::read_command_text;
 pub use texts::command_text;

@@ -1,88 +1,279 @@
--- A morning at the desk, computed.
-use Rattle.std.proofs.Common.{◌≡◌, ℕ, None, Some, List, [], ◌∷◌, ◌++◌, refl}
+-- The worked rows of the whole station, computed.
+use Rattle.std.proofs.Common.{◌≡◌, ℕ, ◌+◌, ◌*◌, None, List, [], ◌∷◌, ◌++◌, length, refl}
 use Rattle.std.specs.Prelude.{codes, map}
 use Rattle.std.specs.Fmt.{digits}
-use Rattle.agent_stock.specs.declared.stock.Holder.TheVariants as holder
+use Rattle.std.specs.List.{flat_map}
+use Rattle.jiff_core.specs.Calendar.{days_of_years, days_of_months, day_count, days_from_civil}
+use Rattle.imp_fields.specs.Flight.{Designator}
+use Rattle.shipment_machine.specs.declared.flight.FlightDate.{FlightDate}
+use Rattle.imp_fields.specs.Date.{LocalMinute}
 use Rattle.agent_stock.specs.declared.stock.Run.{Run}
 use Rattle.agent_stock.specs.declared.stock.Order.{Order}
-use Rattle.agent_stock.specs.declared.stock.Order.TheVariants.{TakeIn, Issue, GiveBack, Void}
+use Rattle.agent_stock.specs.declared.stock.Order.TheVariants.{TakeIn, Issue, Void}
+use Rattle.shipment_machine.specs.declared.command.InboundLine.{InboundLine}
+use Rattle.shipment_machine.specs.declared.command.DeskCommand.{DeskCommand}
+use Rattle.shipment_machine.specs.declared.command.DeskCommand.TheVariants.{Notify, Book, Receive, Manifest, Offload, Depart, CheckIn, Deliver, Missing, Confirm}
+use Rattle.desk_commands.specs.declared.command.Command.TheVariants.{Stock, Cargo}
+use Rattle.desk_commands.specs.Command.{command_text}
+use Rattle.desk_commands.specs.Day.{day_line}
 use Rattle.station_core.specs.declared.answer.Answer.{Answer}
 use Rattle.station_core.specs.declared.answer.Answer.TheVariants.{Done, Refused}
-use Rattle.station_core.specs.declared.command.Command.TheVariants.{Stock}
-use Rattle.station_core.specs.declared.command.Input.{Input}
-use Rattle.station_core.specs.declared.command.Input.TheVariants.{Keyed}
-use Rattle.station_core.specs.Texts.{command_text, refusal_text, reply_text}
+use Rattle.telegrams.specs.declared.telegram.Content.TheVariants.{Fwb, Ffm, Fsu}
+use Rattle.station_core.specs.declared.input.Input.{Input}
+use Rattle.station_core.specs.declared.input.Input.TheVariants.{Keyed, Wire}
+use Rattle.station_core.specs.Texts.{refusal_text, reply_text}
 use Rattle.station_core.specs.Step.{State, opening, after_all, answers_of}
 
-abbrev run_from : ℕ → ℕ → Run
-run_from first count = record { first = first; count = count }
+-- Short forms.
 
-abbrev ask : List ℕ → Order → Input
-ask key order = Keyed key (Stock order)
+abbrev pub at_time : ℕ → ℕ → LocalMinute
+at_time hour minute = record { day = 20465; minute = hour * 60 + minute }
 
-abbrev printed : Answer → List ℕ
+abbrev pub noon : LocalMinute
+noon = at_time 12 0
+
+abbrev pub fra : List ℕ
+fra = codes "FRA"
+
+abbrev pub jfk : List ℕ
+jfk = codes "JFK"
+
+abbrev pub lh : ℕ → Designator
+lh number = record { carrier = codes "LH"; number = number; suffix = None }
+
+abbrev pub lh_on : ℕ → FlightDate
+lh_on number = record { flight = lh number; day = 20465 }
+
+-- the printed form of an answer
+abbrev pub printed : Answer → List ℕ
 printed (Done reply) = reply_text reply
 printed (Refused refusal) = refusal_text refusal
 
--- the printed answers to inputs on a new station
-abbrev told : List Input → List (List ℕ)
-told inputs = map printed (answers_of (opening (codes "FRA")) inputs)
+-- the printed answers to inputs, in order
+abbrev pub told : State → List (Input × LocalMinute) → List (List ℕ)
+told s inputs = map printed (answers_of s inputs)
 
-abbrev after : List Input → State
-after inputs = after_all (opening (codes "FRA")) inputs
+abbrev pub after : State → List (Input × LocalMinute) → State
+after s inputs = after_all s inputs
 
-abbrev k1 : Input
-k1 = ask (codes "k1") (TakeIn (run_from 201234567 10))
+-- lines, each with CRLF
+abbrev pub crlf : List (List ℕ) → List ℕ
+crlf lines = flat_map (λ line. line ++ 13 ∷ 10 ∷ []) lines
 
-abbrev k2 : Input
-k2 = ask (codes "k2") (Issue (run_from 201234570 3) (codes "ACME"))
+abbrev pub stock : List ℕ → Order → Input × LocalMinute
+stock key order = (Keyed key (Stock order), noon)
 
--- the key of the second with another count
-abbrev k2_other : Input
-k2_other = ask (codes "k2") (Issue (run_from 201234570 4) (codes "ACME"))
+abbrev pub run_from : ℕ → ℕ → Run
+run_from first count = record { first = first; count = count }
 
-abbrev k3 : Input
-k3 = ask (codes "k3") (Issue (run_from 201234572 2) (codes "BETA"))
+abbrev pub desk : List ℕ → DeskCommand → Input × LocalMinute
+desk key command = (Keyed key (Cargo command), noon)
 
-example_stock : told (k1 ∷ k2 ∷ []) ≡ codes "ok 10" ∷ codes "ok 3" ∷ []
-unfolding digits
+-- The stock: taken in, issued, repeated, and refused.
+
+abbrev pub k1 : Input × LocalMinute
+k1 = stock (codes "k1") (TakeIn (run_from 201234567 10))
+
+abbrev pub k2 : Input × LocalMinute
+k2 = stock (codes "k2") (Issue (run_from 201234570 3) (codes "ACME"))
+
+example_stock : told (opening fra) (k1 ∷ k2 ∷ []) ≡ codes "ok 10" ∷ codes "ok 3" ∷ []
+unfolding digits day_line
 example_stock = refl
 
-example_repeat : told (k1 ∷ k2 ∷ k2 ∷ k2_other ∷ []) ≡ codes "ok 10" ∷ codes "ok 3" ∷ codes "ok 3" ∷ codes "refused 501" ∷ []
-unfolding digits
-example_repeat = refl
+example_stock_again : told (opening fra) (k1 ∷ k2 ∷ k2 ∷ stock (codes "k2") (Issue (run_from 201234570 4) (codes "ACME")) ∷ []) ≡ codes "ok 10" ∷ codes "ok 3" ∷ codes "ok 3" ∷ codes "refused 501" ∷ []
+unfolding digits day_line
+example_stock_again = refl
 
-example_refused : told (k1 ∷ k2 ∷ k3 ∷ []) ≡ codes "ok 10" ∷ codes "ok 3" ∷ codes "refused 102 020-12345723" ∷ []
-unfolding digits
-example_refused = refl
+abbrev k3 : Input × LocalMinute
+k3 = stock (codes "k3") (Issue (run_from 201234572 2) (codes "BETA"))
 
--- a repeat, a key used again and a refusal leave the state as it was
-example_unchanged : after (k1 ∷ k2 ∷ k2 ∷ k2_other ∷ k3 ∷ []) ≡ after (k1 ∷ k2 ∷ [])
-unfolding digits
+example_issue_refused : told (opening fra) (k1 ∷ k2 ∷ k3 ∷ []) ≡ codes "ok 10" ∷ codes "ok 3" ∷ codes "refused 102 020-12345723" ∷ []
+unfolding digits day_line
+example_issue_refused = refl
+
+-- a repeat and a refusal leave the state as it was
+example_unchanged : after (opening fra) (k1 ∷ k2 ∷ k2 ∷ k3 ∷ []) ≡ after (opening fra) (k1 ∷ k2 ∷ [])
+unfolding digits day_line
 example_unchanged = refl
 
--- a number with the desk, one with the agent, and one that isn't in stock
-example_holders : map (after (k1 ∷ k2 ∷ [])).holders (201234567 ∷ 201234571 ∷ 201234577 ∷ []) ≡ Some holder.Desk ∷ Some (holder.Agent (codes "ACME")) ∷ None ∷ []
-unfolding digits
-example_holders = refl
+example_run_refused : told (opening fra) (k1 ∷ k2 ∷ stock (codes "k5") (TakeIn (run_from 209999990 11)) ∷ stock (codes "k5") (TakeIn (run_from 209999990 10)) ∷ [])
+    ≡ codes "ok 10" ∷ codes "ok 3" ∷ codes "refused 105" ∷ codes "ok 10" ∷ []
+unfolding digits day_line
+example_run_refused = refl
 
--- a key that was refused may be used again
-example_past_the_end : told (ask (codes "k5") (TakeIn (run_from 209999990 11)) ∷ ask (codes "k5") (TakeIn (run_from 209999990 10)) ∷ [])
-    ≡ codes "refused 105" ∷ codes "ok 10" ∷ []
-unfolding digits
-example_past_the_end = refl
-
-example_void : told (k1 ∷ k2 ∷ ask (codes "k7") (Void (run_from 201234567 1)) ∷ []) ≡ codes "ok 10" ∷ codes "ok 3" ∷ codes "ok 1" ∷ []
-unfolding digits
+example_void : told (opening fra) (k1 ∷ k2 ∷ stock (codes "k7") (Void (run_from 201234567 1)) ∷ []) ≡ codes "ok 10" ∷ codes "ok 3" ∷ codes "ok 1" ∷ []
+unfolding digits day_line
 example_void = refl
-
--- another agent's numbers can't be returned
-example_return : told (k1 ∷ k2 ∷ ask (codes "k4") (GiveBack (run_from 201234570 3) (codes "BETA")) ∷ ask (codes "k4") (GiveBack (run_from 201234570 3) (codes "ACME")) ∷ [])
-    ≡ codes "ok 10" ∷ codes "ok 3" ∷ codes "refused 103 020-12345701" ∷ codes "ok 3" ∷ []
-unfolding digits
-example_return = refl
 
 example_command_text : command_text (Stock (Issue (run_from 201234572 2) (codes "BETA")))
     ≡ codes "issue" ++ 10 ∷ codes "020" ++ 10 ∷ codes "1234572" ++ 10 ∷ codes "2" ++ 10 ∷ codes "BETA"
-unfolding digits
+unfolding digits day_line
 example_command_text = refl
+
+-- A waybill declared by a telegram: the number was an agent's, and is used up.
+
+abbrev k4 : Input × LocalMinute
+k4 = stock (codes "k4") (Issue (run_from 201234567 1) (codes "ACME"))
+
+abbrev fwb : Input × LocalMinute
+fwb = (Wire (record { text = codes "FWB/16"; content = Fwb (record { awb = 201234567; origin = fra; destination = jfk; pieces = 10; tenths = 1000; total = None; goods = [] }) }), noon)
+
+example_fwb : told (opening fra) (k1 ∷ k2 ∷ k4 ∷ fwb ∷ fwb ∷ []) ≡ codes "ok 10" ∷ codes "ok 3" ∷ codes "ok 1" ∷ codes "ok 10" ∷ codes "ok 10" ∷ []
+unfolding digits day_line
+example_fwb = refl
+
+example_fwb_at_desk : told (opening fra) (k1 ∷ fwb ∷ []) ≡ codes "ok 10" ∷ codes "refused 203 020-12345675" ∷ []
+unfolding digits day_line
+example_fwb_at_desk = refl
+
+example_foreign : told (opening fra) (fwb ∷ []) ≡ codes "ok 10" ∷ []
+unfolding digits day_line
+example_foreign = refl
+
+-- A waybill from its booking to its departure.
+
+abbrev booking : Input × LocalMinute
+booking = desk (codes "b") (Book 201234567 fra jfk 10 1000 (codes "CARGO"))
+
+abbrev receiving : Input × LocalMinute
+receiving = (Keyed (codes "r") (Cargo (Receive 201234567 10 1000 (codes "ACME"))), at_time 10 30)
+
+abbrev manifesting : Input × LocalMinute
+manifesting = desk (codes "m") (Manifest 201234567 (lh_on 400) jfk 4)
+
+abbrev departing : Input × LocalMinute
+departing = desk (codes "d") (Depart (lh_on 400))
+
+abbrev pub received : State
+received = after (opening fra) (booking ∷ receiving ∷ [])
+
+abbrev pub left : State
+left = after received (manifesting ∷ departing ∷ [])
+
+abbrev received_message : List ℕ
+received_message = crlf (codes "FSU/12" ∷ codes "020-12345675FRAJFK/T10K100.0" ∷ codes "RCS/12JAN1030/FRA/T10K100.0/ACME" ∷ [])
+
+example_received : told (opening fra) (booking ∷ receiving ∷ []) ≡ codes "ok 10" ∷ codes "ok 10" ∷ []
+unfolding digits day_line
+example_received = refl
+
+example_received_message : received.cargo.outbox ≡ received_message ∷ []
+unfolding digits day_line
+example_received_message = refl
+
+example_received_length : length received_message ≡ 72
+example_received_length = refl
+
+example_received_twice : told received (desk (codes "r2") (Receive 201234567 1 1 []) ∷ []) ≡ codes "refused 205 020-12345675" ∷ []
+unfolding digits day_line
+example_received_twice = refl
+
+abbrev ffm_message : List ℕ
+ffm_message = crlf (codes "FFM/8" ∷ codes "1/LH400/12JAN/FRA" ∷ codes "JFK" ∷ codes "020-12345675FRAJFK/P4K40.0T10/CARGO" ∷ codes "LAST" ∷ [])
+
+example_left : told received (manifesting ∷ departing ∷ desk (codes "m2") (Manifest 201234567 (lh_on 400) jfk 1) ∷ desk (codes "d2") (Depart (lh_on 401)) ∷ [])
+    ≡ codes "ok 4" ∷ codes "ok 4" ∷ codes "refused 208 LH400/2026-01-12" ∷ codes "refused 209 LH401/2026-01-12" ∷ []
+unfolding digits day_line
+example_left = refl
+
+abbrev status_message : List ℕ → List ℕ
+status_message line = crlf (codes "FSU/12" ∷ codes "020-12345675FRAJFK/T10K100.0" ∷ line ∷ [])
+
+example_messages : left.cargo.outbox ≡ received_message ∷ status_message (codes "MAN/LH400/12JAN/FRAJFK/P4K40.0") ∷ status_message (codes "DEP/LH400/12JAN/FRAJFK/P4K40.0") ∷ ffm_message ∷ []
+unfolding digits day_line
+example_messages = refl
+
+example_ffm_length : length ffm_message ≡ 74
+example_ffm_length = refl
+
+-- Confirming.
+
+abbrev confirm : List ℕ → ℕ → Input × LocalMinute
+confirm key upto = desk key (Confirm upto)
+
+example_confirm : told left (confirm (codes "c1") 3 ∷ confirm (codes "c2") 2 ∷ confirm (codes "c3") 5 ∷ confirm (codes "c4") 3 ∷ [])
+    ≡ codes "ok 3" ∷ codes "refused 401 3 4" ∷ codes "refused 401 3 4" ∷ codes "ok 0" ∷ []
+unfolding digits day_line
+example_confirm = refl
+
+-- A status message joins the trail of a known waybill.
+
+abbrev fsu : List ℕ → ℕ → Input × LocalMinute
+fsu text w = (Wire (record { text = text; content = Fsu (record { awb = w; lines = codes "ARR/LH400/12JAN/JFK" ∷ [] }) }), noon)
+
+example_fsu : told received (fsu (codes "FSU/12 a") 201234567 ∷ fsu (codes "FSU/12 b") 2201234567 ∷ []) ≡ codes "ok 1" ∷ codes "refused 201 220-12345675" ∷ []
+unfolding digits day_line
+example_fsu = refl
+
+-- A manifest, in parts, and a check-in.
+
+abbrev pub line : ℕ → ℕ → InboundLine
+line pieces tenths = record {
+  unload = jfk;
+  cargo = record { awb = 201234567; origin = fra; destination = jfk; pieces = pieces; tenths = tenths; total = None; goods = codes "CARGO" };
+}
+
+abbrev pub ffm : List ℕ → List InboundLine → Input
+ffm text lines = Wire (record { text = text; content = Ffm (record { sequence = 1; flight = lh 400; date = record { day = 12; month = 1 }; loaded = fra; lines = lines }) })
+
+abbrev pub announced : State
+announced = after (opening jfk) ((ffm (codes "FFM a") (line 10 1000 ∷ []), noon) ∷ [])
+
+example_ffm : told (opening jfk) ((ffm (codes "FFM a") (line 10 1000 ∷ []), noon) ∷ (ffm (codes "FFM a") (line 10 1000 ∷ []), at_time 13 0) ∷ (ffm (codes "FFM b") (line 9 900 ∷ []), noon) ∷ [])
+    ≡ codes "ok 1" ∷ codes "ok 1" ∷ codes "refused 213 LH400/2026-01-12/FRA/1" ∷ []
+unfolding digits day_line days_of_years days_of_months day_count days_from_civil
+example_ffm = refl
+
+abbrev pub counted : ℕ → List ℕ → Input × LocalMinute
+counted pieces key = (Keyed key (Cargo (CheckIn 201234567 (lh_on 400) pieces)), at_time 14 30)
+
+example_short : (after announced (counted 7 (codes "c") ∷ [])).cargo.outbox ≡ status_message (codes "RCF/LH400/12JAN1430/JFK/P7K70.0") ∷ status_message (codes "DIS/LH400/12JAN1430/JFK/MSCA/P3K30.0") ∷ []
+unfolding digits day_line days_of_years days_of_months day_count days_from_civil
+example_short = refl
+
+example_short_again : told announced (counted 7 (codes "c") ∷ counted 7 (codes "c2") ∷ []) ≡ codes "ok 7" ∷ codes "refused 212 020-12345675" ∷ []
+unfolding digits day_line days_of_years days_of_months day_count days_from_civil
+example_short_again = refl
+
+example_over : (after announced (counted 12 (codes "c") ∷ [])).cargo.outbox ≡ status_message (codes "RCF/LH400/12JAN1430/JFK/P12K120.0") ∷ status_message (codes "DIS/LH400/12JAN1430/JFK/FDCA/P2K20.0") ∷ []
+unfolding digits day_line days_of_years days_of_months day_count days_from_civil
+example_over = refl
+
+example_none : (after announced (counted 0 (codes "c") ∷ [])).cargo.outbox ≡ status_message (codes "DIS/LH400/12JAN1430/JFK/MSCA/T10K100.0") ∷ []
+unfolding digits day_line days_of_years days_of_months day_count days_from_civil
+example_none = refl
+
+example_bad_date : told (opening jfk) ((Wire (record { text = codes "FFM c"; content = Ffm (record { sequence = 1; flight = lh 400; date = record { day = 31; month = 12 }; loaded = fra; lines = line 10 1000 ∷ [] }) }), record { day = 10957; minute = 0 }) ∷ [])
+    ≡ codes "refused 301 2 date" ∷ []
+unfolding digits day_line days_of_years days_of_months day_count days_from_civil
+example_bad_date = refl
+
+example_other_refusals : told left (desk (codes "x1") (Manifest 201234567 (lh_on 402) fra 1) ∷ desk (codes "x2") (Manifest 201234567 (lh_on 402) jfk 7) ∷ desk (codes "x3") (Deliver 201234567 1 []) ∷ desk (codes "x4") (Missing 201234567 7 None) ∷ desk (codes "x5") (Offload 201234567 (lh_on 402) 1) ∷ [])
+    ≡ codes "refused 204 020-12345675" ∷ codes "refused 206 6" ∷ codes "refused 204 020-12345675" ∷ codes "refused 206 6" ∷ codes "refused 207 020-12345675" ∷ []
+unfolding digits day_line
+example_other_refusals = refl
+
+-- A waybill is declared anew only while it has no moves; a repeat of the telegram isn't a new one.
+example_anew : told (opening fra) (booking ∷ fwb ∷ []) ≡ codes "ok 10" ∷ codes "ok 10" ∷ []
+unfolding digits day_line
+example_anew = refl
+
+example_has_moves : told received (fwb ∷ []) ≡ codes "refused 202 020-12345675" ∷ []
+unfolding digits day_line
+example_has_moves = refl
+
+example_too_heavy : told (opening fra) (desk (codes "h") (Book 201234567 fra jfk 1 1000000 []) ∷ desk (codes "h") (Book 201234567 fra jfk 1 999999 []) ∷ []) ≡ codes "refused 217 020-12345675" ∷ codes "ok 1" ∷ []
+unfolding digits day_line
+example_too_heavy = refl
+
+-- a refusal keeps nothing: the same key acts once the reason is gone
+example_refused_then_accepted : told (opening fra) (receiving ∷ booking ∷ receiving ∷ receiving ∷ []) ≡ codes "refused 201 020-12345675" ∷ codes "ok 10" ∷ codes "ok 10" ∷ codes "ok 10" ∷ []
+unfolding digits day_line
+example_refused_then_accepted = refl
+
+-- nothing to notify, and not yet notified
+example_notify : told (opening jfk) (desk (codes "b") (Book 201234567 fra jfk 10 1000 []) ∷ desk (codes "n") (Notify 201234567 []) ∷ desk (codes "l") (Deliver 201234567 1 []) ∷ [])
+    ≡ codes "ok 10" ∷ codes "refused 206 0" ∷ codes "refused 210 020-12345675" ∷ []
+unfolding digits day_line
+example_notify = refl

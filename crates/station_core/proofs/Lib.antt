@@ -1,7 +1,8 @@
 mod Examples
-mod KeptReplies
 mod Keys
+mod Reading
+mod Refusals
+mod RetryLaw
 mod Runs
-mod TextLaws
+pub mod StepLaw
 mod Walks
-mod Written

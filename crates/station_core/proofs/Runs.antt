@@ -1,7 +1,8 @@
 -- Runs of inputs, one input longer.
 use Rattle.std.proofs.Common.{◌≡◌, Ok, Err, ℕ, ◌+◌, ◌<◌, List, [], ◌∷◌, ◌++◌, length, get_or, take, refl, sym, ◌∙◌, ap}
 use Rattle.std.proofs.lemmas.List.{take_more}
-use Rattle.station_core.specs.declared.command.Input.{Input}
+use Rattle.imp_fields.specs.Date.{LocalMinute}
+use Rattle.station_core.specs.declared.input.Input.{Input}
 use Rattle.station_core.specs.declared.answer.Answer.{Answer}
 use Rattle.station_core.specs.declared.answer.ActFault.{ActFault}
 use Rattle.station_core.specs.Step.{State, step, after_all, answers_of}
@@ -10,22 +11,22 @@ use Rattle.station_core.specs.Step.{State, step, after_all, answers_of}
 pub never_both : {a : Answer} {e : ActFault} → Ok a ≡ Err e → ⊥
 never_both h = cc
 
-after_one_more : (s : State) (inputs : List Input) (i : Input) → after_all s (inputs ++ i ∷ []) ≡ (step (after_all s inputs) i).state
+after_one_more : (s : State) (inputs : List (Input × LocalMinute)) (i : Input × LocalMinute) → after_all s (inputs ++ i ∷ []) ≡ (step (after_all s inputs) i.0 i.1).state
 after_one_more s [] i = refl
-after_one_more s (j ∷ inputs) i = after_one_more (step s j).state inputs i
+after_one_more s (j ∷ inputs) i = after_one_more (step s j.0 j.1).state inputs i
 
-answers_one_more : (s : State) (inputs : List Input) (i : Input) → answers_of s (inputs ++ i ∷ []) ≡ answers_of s inputs ++ (step (after_all s inputs) i).answer ∷ []
+answers_one_more : (s : State) (inputs : List (Input × LocalMinute)) (i : Input × LocalMinute) → answers_of s (inputs ++ i ∷ []) ≡ answers_of s inputs ++ (step (after_all s inputs) i.0 i.1).answer ∷ []
 answers_one_more s [] i = refl
-answers_one_more s (j ∷ inputs) i = ap (λ (l : List Answer). (step s j).answer ∷ l) (answers_one_more (step s j).state inputs i)
+answers_one_more s (j ∷ inputs) i = ap (λ (l : List Answer). (step s j.0 j.1).answer ∷ l) (answers_one_more (step s j.0 j.1).state inputs i)
 
-module _ (s : State) (inputs : List Input) (n : ℕ) (i : Input) (lt : n < length inputs) (is : i ≡ get_or inputs n i) where
+module _ (s : State) (inputs : List (Input × LocalMinute)) (n : ℕ) (i : Input × LocalMinute) (lt : n < length inputs) (is : i ≡ get_or inputs n i) where
   front : take (n + 1) inputs ≡ take n inputs ++ i ∷ []
-  front = take_more inputs n i lt ∙ ap (λ (x : Input). take n inputs ++ x ∷ []) (sym is)
+  front = take_more inputs n i lt ∙ ap (λ (x : Input × LocalMinute). take n inputs ++ x ∷ []) (sym is)
 
   -- the state goes on by one input
-  pub state_after : (step (after_all s (take n inputs)) i).state ≡ after_all s (take (n + 1) inputs)
+  pub state_after : (step (after_all s (take n inputs)) i.0 i.1).state ≡ after_all s (take (n + 1) inputs)
   state_after = sym (ap (after_all s) front ∙ after_one_more s (take n inputs) i)
 
   -- and so do the answers
-  pub answers_after : answers_of s (take n inputs) ++ (step (after_all s (take n inputs)) i).answer ∷ [] ≡ answers_of s (take (n + 1) inputs)
+  pub answers_after : answers_of s (take n inputs) ++ (step (after_all s (take n inputs)) i.0 i.1).answer ∷ [] ≡ answers_of s (take (n + 1) inputs)
   answers_after = sym (ap (answers_of s) front ∙ answers_one_more s (take n inputs) i)

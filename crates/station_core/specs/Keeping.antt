@@ -5,7 +5,8 @@ use Rattle.station_core.specs.declared.answer.Answer.{Answer}
 use Rattle.station_core.specs.declared.answer.Answer.TheVariants as answer
 use Rattle.station_core.specs.declared.answer.ActFault.{ActFault}
 use Rattle.station_core.specs.declared.answer.ActFault.TheVariants as fault
-use Rattle.station_core.specs.declared.command.Input.{Input}
+use Rattle.imp_fields.specs.Date.{LocalMinute}
+use Rattle.station_core.specs.declared.input.Input.{Input}
 use Rattle.station_core.specs.Step.{State, step, after_all}
 
 -- Whether it answers Reopen from then on: after Store, and then only.
@@ -17,30 +18,30 @@ Breaks (Err fault.Store) broken = broken ≡ true
 Breaks (Err fault.Reopen) broken = ⊥
 
 -- The answer is that of the step, and what is kept is the state after it, or the one before.
-abbrev pub Acts : State → Input → Result Reply ActFault → (State → Type 0) → Type 0
-Acts old i (Ok reply) keeps = ((step old i).answer ≡ answer.Done reply) × keeps (step old i).state
-Acts old i (Err (fault.Refused refusal)) keeps = ((step old i).answer ≡ answer.Refused refusal) × keeps old
-Acts old i (Err fault.Memory) keeps = keeps old
-Acts old i (Err fault.Store) keeps = Unit {0}
-Acts old i (Err fault.Reopen) keeps = ⊥
+abbrev pub Acts : State → Input → LocalMinute → Result Reply ActFault → (State → Type 0) → Type 0
+Acts old i at (Ok reply) keeps = ((step old i at).answer ≡ answer.Done reply) × keeps (step old i at).state
+Acts old i at (Err (fault.Refused refusal)) keeps = ((step old i at).answer ≡ answer.Refused refusal) × keeps old
+Acts old i at (Err fault.Memory) keeps = keeps old
+Acts old i at (Err fault.Store) keeps = Unit {0}
+Acts old i at (Err fault.Reopen) keeps = ⊥
 
 -- What a reopening may find: after Ok the state after, after Refused or Memory the one before, after Store one of the two.
-abbrev pub Leaves : State → Input → Result Reply ActFault → Option State → Type 0
-Leaves old i (Ok reply) found = found ≡ Some (step old i).state
-Leaves old i (Err (fault.Refused refusal)) found = found ≡ Some old
-Leaves old i (Err fault.Memory) found = found ≡ Some old
-Leaves old i (Err fault.Store) found = (found ≡ Some old) ⊎ (found ≡ Some (step old i).state)
-Leaves old i (Err fault.Reopen) found = ⊥
+abbrev pub Leaves : State → Input → LocalMinute → Result Reply ActFault → Option State → Type 0
+Leaves old i at (Ok reply) found = found ≡ Some (step old i at).state
+Leaves old i at (Err (fault.Refused refusal)) found = found ≡ Some old
+Leaves old i at (Err fault.Memory) found = found ≡ Some old
+Leaves old i at (Err fault.Store) found = (found ≡ Some old) ⊎ (found ≡ Some (step old i at).state)
+Leaves old i at (Err fault.Reopen) found = ⊥
 
 -- the same, where a refusal is an answer
-abbrev pub Answers : State → Input → Result Answer ActFault → (State → Type 0) → Type 0
-Answers old i (Ok given) keeps = ((step old i).answer ≡ given) × keeps (step old i).state
-Answers old i (Err fault.Memory) keeps = keeps old
-Answers old i (Err e) keeps = Unit {0}
+abbrev pub Answers : State → Input → LocalMinute → Result Answer ActFault → (State → Type 0) → Type 0
+Answers old i at (Ok given) keeps = ((step old i at).answer ≡ given) × keeps (step old i at).state
+Answers old i at (Err fault.Memory) keeps = keeps old
+Answers old i at (Err e) keeps = Unit {0}
 
-abbrev pub MayLeave : State → Input → Result Answer ActFault → Option State → Type 0
-MayLeave old i (Ok given) found = found ≡ Some (step old i).state
-MayLeave old i (Err e) found = (found ≡ Some old) ⊎ ((e ≡ fault.Store) × (found ≡ Some (step old i).state))
+abbrev pub MayLeave : State → Input → LocalMinute → Result Answer ActFault → Option State → Type 0
+MayLeave old i at (Ok given) found = found ≡ Some (step old i at).state
+MayLeave old i at (Err e) found = (found ≡ Some old) ⊎ ((e ≡ fault.Store) × (found ≡ Some (step old i at).state))
 
 -- on a station that isn't broken an input ends by Memory or Store, if it isn't answered
 abbrev pub IsMemoryOrStore : ActFault → Type 0
@@ -70,7 +71,14 @@ IsReadersFault fault.Store = Unit {0}
 IsReadersFault _ = ⊥
 
 -- The state after the inputs that were answered, or where they ended by Store, after one more.
-abbrev pub IsAfterAnswered : State → List Input → ℕ → Option ActFault → Option State → Type 0
+abbrev pub IsAfterAnswered : State → List (Input × LocalMinute) → ℕ → Option ActFault → Option State → Type 0
 IsAfterAnswered s inputs answered ended found =
     (found ≡ Some (after_all s (take answered inputs)))
     ⊎ ((ended ≡ Some fault.Store) × (answered < length inputs) × (found ≡ Some (after_all s (take (answered + 1) inputs))))
+
+-- A reader changes nothing: what is kept stays, a reopening finds what it found before, and no other call answers otherwise.
+pub record OnlyReads {K : Type 0} (keeps : K → State → Type 0) (is_sound : K → Type 0) (is_broken : K → Bool) (may_find : K → Option State → Type 0) (old new : K) : Type 0 where
+  pub breaks : is_broken new ≡ is_broken old
+  pub sound : is_sound new → is_sound old
+  pub same : (s : State) → keeps old s → is_sound new → keeps new s
+  pub leaves : is_sound new → (found : Option State) → may_find new found → may_find old found

@@ -3,9 +3,9 @@ pub mod Ends
 pub mod Given
 pub mod Keeping
 pub mod Key
-pub mod Plain
 pub mod Ranges
+pub mod Readers
+pub mod Retries
 pub mod Step
-pub mod Stock
 pub mod Tally
 pub mod Texts

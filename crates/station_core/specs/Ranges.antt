@@ -1,27 +1,36 @@
--- The values that the types of commands and inputs have.
-use Rattle.std.specs.Prelude.{◌<◌, ℕ, List, IsTrue}
+-- The values that inputs have by their types.
+use Rattle.std.specs.Prelude.{◌≤◌, IsTrue, IfSome}
+use Rattle.std.specs.List.{AllByRecursion}
 use Rattle.awb_number.specs.Number.{IsNumber}
-use Rattle.agent_stock.specs.Code.{is_agent_code}
-use Rattle.agent_stock.specs.declared.stock.Run.{Run}
-use Rattle.agent_stock.specs.declared.stock.Order.{Order}
-use Rattle.agent_stock.specs.declared.stock.Order.TheVariants.{TakeIn, Issue, GiveBack, Void}
-use Rattle.station_core.specs.declared.command.Command.{Command}
-use Rattle.station_core.specs.declared.command.Command.TheVariants.{Stock}
+use Rattle.imp_fields.specs.Amount.{IsPieces, IsTenths}
+use Rattle.imp_fields.specs.Airport.{is_airport}
+use Rattle.imp_fields.specs.Flight.{IsDesignator}
+use Rattle.imp_fields.specs.Date.{IsCalendarDay}
+use Rattle.imp_fields.specs.Name.{is_goods}
+use Rattle.shipment_machine.specs.declared.command.CargoLine.{CargoLine}
+use Rattle.shipment_machine.specs.declared.command.InboundLine.{InboundLine}
+use Rattle.telegrams.specs.declared.telegram.Content.{Content}
+use Rattle.telegrams.specs.declared.telegram.Content.TheVariants.{Fwb, Ffm, Fsu}
+use Rattle.desk_commands.specs.Ranges.{IsCommand}
+use Rattle.station_core.specs.Key.{is_key}
+use Rattle.station_core.specs.declared.input.Input.{Input}
+use Rattle.station_core.specs.declared.input.Input.TheVariants.{Keyed, Wire}
 
--- it has any count
-pub record IsAnyRun (run : Run) : Type 0 where
-  pub first : IsNumber run.first
-  pub count : run.count < 4_294_967_296
+abbrev pub IsCargoLine : CargoLine → Type 0
+IsCargoLine c =
+    IsNumber c.awb × IsTrue (is_airport c.origin) × IsTrue (is_airport c.destination) × IsPieces c.pieces × IsTenths c.tenths
+    × IfSome c.total IsPieces × IsTrue (is_goods c.goods)
 
-pub record IsAnyRunOf (run : Run) (agent : List ℕ) : Type 0 where
-  pub run_is : IsAnyRun run
-  pub agent_is : IsTrue (is_agent_code agent)
+abbrev pub IsInboundLine : InboundLine → Type 0
+IsInboundLine l = IsTrue (is_airport l.unload) × IsCargoLine l.cargo
 
-abbrev pub IsOrder : Order → Type 0
-IsOrder (TakeIn run) = IsAnyRun run
-IsOrder (Issue run agent) = IsAnyRunOf run agent
-IsOrder (GiveBack run agent) = IsAnyRunOf run agent
-IsOrder (Void run) = IsAnyRun run
+abbrev pub IsContent : Content → Type 0
+IsContent (Fwb c) = IsCargoLine c
+IsContent (Ffm p) =
+    (1 ≤ p.sequence) × (p.sequence ≤ 9999) × IsDesignator p.flight × IsCalendarDay p.date × IsTrue (is_airport p.loaded)
+    × AllByRecursion IsInboundLine p.lines
+IsContent (Fsu u) = IsNumber u.awb
 
-abbrev pub IsCommand : Command → Type 0
-IsCommand (Stock order) = IsOrder order
+abbrev pub IsInput : Input → Type 0
+IsInput (Keyed key command) = IsTrue (is_key key) × IsCommand command
+IsInput (Wire telegram) = IsContent telegram.content

@@ -1,33 +1,48 @@
 -- The state of a station, one step of it, and a run of many.
-use Rattle.std.specs.Prelude.{ℕ, if◌then◌else◌, Option, Some, None, Result, Ok, Err, List, [], ◌∷◌}
+use Rattle.std.specs.Prelude.{ℕ, Bool, ◌&&◌, nat_le, if◌then◌else◌, Option, Some, None, Result, Ok, Err, IsSome, IfSome, List, [], ◌∷◌, ◌++◌, map, length}
 use Rattle.std.specs.Str.{bytes_eq}
-use Rattle.agent_stock.specs.Stock.{Holders, run_of, order_refusal, after_order}
+use Rattle.imp_fields.specs.Date.{LocalMinute}
+use Rattle.agent_stock.specs.Stock.{run_of, order_refusal, after_order}
 use Rattle.agent_stock.specs.declared.stock.Order.{Order}
-use Rattle.station_core.specs.declared.answer.Refusal.{Refusal}
-use Rattle.station_core.specs.declared.answer.Detail.{Detail}
-use Rattle.station_core.specs.declared.answer.Detail.TheVariants as detail
+use Rattle.shipment_machine.specs.declared.moves.Part.{Part}
+use Rattle.shipment_machine.specs.declared.notice.Notice.{Notice}
+use Rattle.shipment_machine.specs.declared.command.ShipmentCommand.{ShipmentCommand}
+use Rattle.shipment_machine.specs.declared.command.ShipmentCommand.TheVariants as shipment
+use Rattle.shipment_machine.specs.declared.plans.Refusal.{Refusal}
+use Rattle.shipment_machine.specs.declared.plans.Detail.{Detail}
+use Rattle.shipment_machine.specs.declared.plans.Detail.TheVariants as detail
+use Rattle.shipment_machine.specs.Cargo.{Cargo, opening_cargo}
+use Rattle.shipment_machine.specs.Effect.{Outcome, effect, carried_out}
+use Rattle.shipment_machine.specs.Lawful.{IsLawful}
+use Rattle.telegrams.specs.declared.telegram.Content.{Content}
+use Rattle.telegrams.specs.declared.telegram.Content.TheVariants as content
+use Rattle.telegrams.specs.NoticeText.{notice_text}
+use Rattle.desk_commands.specs.Command.{command_text}
+use Rattle.desk_commands.specs.declared.command.Command.TheVariants as command
 use Rattle.station_core.specs.declared.answer.Answer.{Answer}
 use Rattle.station_core.specs.declared.answer.Answer.TheVariants.{Done, Refused}
-use Rattle.station_core.specs.declared.command.Command.{Command}
-use Rattle.station_core.specs.declared.command.Command.TheVariants.{Stock}
-use Rattle.station_core.specs.declared.command.Input.{Input}
-use Rattle.station_core.specs.declared.command.Input.TheVariants.{Keyed}
-use Rattle.station_core.specs.Texts.{command_text}
+use Rattle.station_core.specs.declared.input.Input.{Input}
+use Rattle.station_core.specs.declared.input.Input.TheVariants.{Keyed, Wire}
 
 -- what was accepted under a key: the command's text, and the count that was told
 pub record Kept : Type 0 where
   pub request : List ℕ
   pub count : ℕ
 
--- The state of a station: its airport, who holds each number, and what it accepted under each key.
+-- The state of a station: its cargo and its stock, and what it accepted under each key and of each telegram's text.
 pub record State : Type 0 where
-  pub here : List ℕ
-  pub holders : Holders
+  pub cargo : Cargo
   pub kept_keys : List ℕ → Option Kept
+  pub kept_texts : List ℕ → Option ℕ
 
 -- a station with nothing in it
 abbrev pub opening : List ℕ → State
-opening here = record { here = here; holders = λ _. None; kept_keys = λ _. None }
+opening here = record { cargo = opening_cargo here; kept_keys = λ _. None; kept_texts = λ _. None }
+
+-- A lawful state: its cargo is lawful, and the text of each noted part of a manifest is kept.
+pub record IsLawfulState (s : State) : Type 0 where
+  pub cargo : IsLawful s.cargo
+  pub parts : (part : Part) → IfSome (s.cargo.parts part) (λ text. IsSome (s.kept_texts text))
 
 -- What an input is answered.
 abbrev pub accepted : ℕ → Answer
@@ -36,25 +51,79 @@ accepted count = Done (record { count = count })
 abbrev pub refused : ℕ → Answer
 refused number = Refused (record { number = number; detail = detail.Nothing })
 
--- What a command does that isn't known yet.
+-- Repeats.
+
+-- a known key: the kept count for an equal command, 501 for another
+abbrev pub repeated_key : Kept → List ℕ → Answer
+repeated_key kept text = if bytes_eq kept.request text then accepted kept.count else refused 501
+
+abbrev pub key_answer : Option Kept → List ℕ → Option Answer
+key_answer None text = None
+key_answer (Some kept) text = Some (repeated_key kept text)
+
+-- a known telegram: the kept count
+abbrev pub text_answer : Option ℕ → Option Answer
+text_answer None = None
+text_answer (Some count) = Some (accepted count)
+
+-- the answer to an input whose key or text is known
+abbrev pub repeated : State → Input → Option Answer
+repeated s (Keyed key command) = key_answer (s.kept_keys key) (command_text command)
+repeated s (Wire telegram) = text_answer (s.kept_texts telegram.text)
+
+-- New inputs.
+
+-- what an input makes of the cargo and the stock, the messages that it sends, and its count
+pub record Acted : Type 0 where
+  pub cargo : Cargo
+  pub notices : List Notice
+  pub count : ℕ
+
 abbrev pub waybill_or_nothing : Option ℕ → Detail
 waybill_or_nothing None = detail.Nothing
 waybill_or_nothing (Some w) = detail.Waybill w
 
-abbrev pub ordered : Holders → Order → Option (ℕ × Option ℕ) → Result Holders Refusal
-ordered h order None = Ok (after_order h order)
-ordered h order (Some refusal) = Err (record { number = refusal.0; detail = waybill_or_nothing refusal.1 })
+abbrev pub stock_acted : Cargo → Order → Option (ℕ × Option ℕ) → Result Acted Refusal
+stock_acted s order None = Ok (record { cargo = record s { holders = after_order s.holders order }; notices = []; count = (run_of order).count })
+stock_acted s order (Some refusal) = Err (record { number = refusal.0; detail = waybill_or_nothing refusal.1 })
 
-abbrev pub effect : Holders → Command → Result Holders Refusal
-effect h (Stock order) = ordered h order (order_refusal h order)
+abbrev pub cargo_acted : List ℕ → Cargo → Result Outcome Refusal → Result Acted Refusal
+cargo_acted text s (Ok done) = Ok (record { cargo = carried_out text done s; notices = done.notices; count = done.count })
+cargo_acted text s (Err refusal) = Err refusal
 
--- what an accepted command counts
-abbrev pub count_of : Command → ℕ
-count_of (Stock order) = (run_of order).count
+-- the command that a telegram's content is
+abbrev pub shipment_of : Content → ShipmentCommand
+shipment_of (content.Fwb line) = shipment.Fwb line
+shipment_of (content.Ffm p) = shipment.Ffm (record { number = p.sequence; flight = p.flight; date = p.date; loaded = p.loaded; lines = p.lines })
+shipment_of (content.Fsu u) = shipment.Fsu (record { awb = u.awb; lines = u.lines })
 
--- the request and its count are kept for good
+-- what an input does that isn't known yet
+abbrev pub acted : Cargo → Input → LocalMinute → Result Acted Refusal
+acted s (Keyed key (command.Stock order)) at = stock_acted s order (order_refusal s.holders order)
+acted s (Keyed key (command.Cargo desk)) at = cargo_acted [] s (effect s (shipment.Desk desk) at)
+acted s (Wire telegram) at = cargo_acted telegram.text s (effect s (shipment_of telegram.content) at)
+
+-- messages stand behind the others in the outbox
+abbrev pub sent : List (List ℕ) → Cargo → Cargo
+sent texts s = record s { outbox = s.outbox ++ texts }
+
+abbrev pub with_notices : Acted → Cargo
+with_notices a = sent (map notice_text a.notices) a.cargo
+
+-- no list has more rows than may be numbered
+abbrev pub has_room : Cargo → Bool
+has_room s = nat_le (length s.book) 4_294_967_295 && nat_le (length s.trail) 4_294_967_295 && nat_le (length s.outbox) 4_294_967_295
+
+-- a request and its count are kept for good
 abbrev pub keeping : (List ℕ → Option Kept) → List ℕ → Kept → List ℕ → Option Kept
 keeping kept key one = λ k. if bytes_eq k key then Some one else kept k
+
+abbrev pub keeping_text : (List ℕ → Option ℕ) → List ℕ → ℕ → List ℕ → Option ℕ
+keeping_text kept text count = λ t. if bytes_eq t text then Some count else kept t
+
+abbrev pub kept_with : Input → ℕ → State → State
+kept_with (Keyed key command) count s = record s { kept_keys = keeping s.kept_keys key (record { request = command_text command; count = count }) }
+kept_with (Wire telegram) count s = record s { kept_texts = keeping_text s.kept_texts telegram.text count }
 
 -- One step.
 
@@ -66,33 +135,26 @@ pub record Stepped : Type 0 where
 abbrev pub stepped : Answer → State → Stepped
 stepped answer state = record { answer = answer; state = state }
 
--- under a new key: a refusal changes nothing
-abbrev pub first_time : State → List ℕ → Command → Result Holders Refusal → Stepped
-first_time s key command (Err refusal) = stepped (Refused refusal) s
-first_time s key command (Ok holders) =
-    stepped (accepted (count_of command)) (record {
-      here = s.here;
-      holders = holders;
-      kept_keys = keeping s.kept_keys key (record { request = command_text command; count = count_of command });
-    })
+-- a new input: a refusal changes nothing, and 402 follows all other refusals
+abbrev pub first_time : State → Input → Result Acted Refusal → Stepped
+first_time s input (Err refusal) = stepped (Refused refusal) s
+first_time s input (Ok a) =
+    if has_room (with_notices a) then stepped (accepted a.count) (kept_with input a.count (record s { cargo = with_notices a }))
+    else stepped (refused 402) s
 
--- under a known key: the kept count for an equal command, 501 for another
-abbrev pub repeated : Kept → List ℕ → Answer
-repeated kept text = if bytes_eq kept.request text then accepted kept.count else refused 501
+abbrev pub answered : State → Input → LocalMinute → Option Answer → Stepped
+answered s input at (Some answer) = stepped answer s
+answered s input at None = first_time s input (acted s.cargo input at)
 
-abbrev pub keyed : State → List ℕ → Command → Option Kept → Stepped
-keyed s key command (Some kept) = stepped (repeated kept (command_text command)) s
-keyed s key command None = first_time s key command (effect s.holders command)
-
--- A known key is answered by what was kept, and a new one acts.
-abbrev pub step : State → Input → Stepped
-step s (Keyed key command) = keyed s key command (s.kept_keys key)
+-- A known input is answered by what was kept, and a new one acts.
+abbrev pub step : State → Input → LocalMinute → Stepped
+step s input at = answered s input at (repeated s input)
 
 -- Many steps: the state after inputs in order, and their answers.
-abbrev pub after_all : State → List Input → State
+abbrev pub after_all : State → List (Input × LocalMinute) → State
 after_all s [] = s
-after_all s (input ∷ inputs) = after_all (step s input).state inputs
+after_all s (one ∷ more) = after_all (step s one.0 one.1).state more
 
-abbrev pub answers_of : State → List Input → List Answer
+abbrev pub answers_of : State → List (Input × LocalMinute) → List Answer
 answers_of s [] = []
-answers_of s (input ∷ inputs) = (step s input).answer ∷ answers_of (step s input).state inputs
+answers_of s (one ∷ more) = (step s one.0 one.1).answer ∷ answers_of (step s one.0 one.1).state more

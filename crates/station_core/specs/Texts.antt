@@ -1,47 +1,55 @@
--- Commands, replies and refusals as texts.
+-- Replies and refusals as texts.
 use Rattle.std.specs.Prelude.{ℕ, decimal, List, [], ◌∷◌, ◌++◌, codes}
-use Rattle.std.specs.List.{join_with_byte}
-use Rattle.awb_number.specs.Digits.{padded}
-use Rattle.awb_number.specs.Number.{number_text, prefix_of, serial_of}
-use Rattle.agent_stock.specs.declared.stock.Run.{Run}
-use Rattle.agent_stock.specs.declared.stock.Order.{Order}
-use Rattle.agent_stock.specs.declared.stock.Order.TheVariants.{TakeIn, Issue, GiveBack, Void}
+use Rattle.awb_number.specs.Number.{number_text}
+use Rattle.imp_fields.specs.Flight.{flight_text}
+use Rattle.imp_fields.specs.declared.fault.Why.{Why}
+use Rattle.imp_fields.specs.declared.fault.Why.TheVariants as why
+use Rattle.desk_commands.specs.Day.{day_line}
+use Rattle.shipment_machine.specs.declared.flight.FlightDate.{FlightDate}
+use Rattle.shipment_machine.specs.declared.plans.Detail.{Detail}
+use Rattle.shipment_machine.specs.declared.plans.Detail.TheVariants as detail
+use Rattle.shipment_machine.specs.declared.plans.Refusal.{Refusal}
 use Rattle.station_core.specs.declared.answer.Reply.{Reply}
-use Rattle.station_core.specs.declared.answer.Refusal.{Refusal}
-use Rattle.station_core.specs.declared.answer.Detail.{Detail}
-use Rattle.station_core.specs.declared.answer.Detail.TheVariants as detail
-use Rattle.station_core.specs.declared.command.Command.{Command}
-use Rattle.station_core.specs.declared.command.Command.TheVariants.{Stock}
 
--- prefix, serial and count, and the agent
-abbrev pub run_fields : Run → List (List ℕ)
-run_fields run = padded 3 (prefix_of run.first) ∷ padded 7 (serial_of run.first) ∷ decimal run.count ∷ []
+-- the word of a fault; want of memory is no fault of a text and has none
+abbrev pub why_word : Why → List ℕ
+why_word why.Size = codes "size"
+why_word why.Lines = codes "lines"
+why_word why.Byte = codes "byte"
+why_word why.Long = codes "long"
+why_word why.Kind = codes "kind"
+why_word why.Ending = codes "ending"
+why_word why.Head = codes "head"
+why_word why.Consignment = codes "consignment"
+why_word why.Number = codes "number"
+why_word why.Quantity = codes "quantity"
+why_word why.Weight = codes "weight"
+why_word why.Date = codes "date"
+why_word why.Flight = codes "flight"
+why_word why.Order = codes "order"
+why_word why.Memory = []
 
-abbrev pub agent_run_fields : Run → List ℕ → List (List ℕ)
-agent_run_fields run agent = padded 3 (prefix_of run.first) ∷ padded 7 (serial_of run.first) ∷ decimal run.count ∷ agent ∷ []
+-- a flight on a day, as LH400/2026-01-12
+abbrev pub flight_date_text : FlightDate → List ℕ
+flight_date_text f = flight_text f.flight ++ 47 ∷ day_line f.day
 
--- the verb and the fields of an order
-abbrev pub order_fields : Order → List (List ℕ)
-order_fields (TakeIn run) = codes "take-in" ∷ run_fields run
-order_fields (Issue run agent) = codes "issue" ∷ agent_run_fields run agent
-order_fields (GiveBack run agent) = codes "return" ∷ agent_run_fields run agent
-order_fields (Void run) = codes "void" ∷ run_fields run
-
-abbrev pub command_fields : Command → List (List ℕ)
-command_fields (Stock order) = order_fields order
-
--- the verb and the fields, one a line
-abbrev pub command_text : Command → List ℕ
-command_text command = join_with_byte 10 (command_fields command)
-
--- what a refusal is about, with a blank before it
+-- what a refusal is about
 abbrev pub detail_text : Detail → List ℕ
 detail_text detail.Nothing = []
-detail_text (detail.Waybill w) = 32 ∷ number_text w
+detail_text (detail.Waybill w) = number_text w
+detail_text (detail.Pieces pieces) = decimal pieces
+detail_text (detail.Flight flight) = flight_date_text flight
+detail_text (detail.Part part) = flight_date_text part.flight ++ 47 ∷ (part.airport ++ 47 ∷ decimal part.number)
+detail_text (detail.Line line word) = decimal line ++ 32 ∷ why_word word
+detail_text (detail.Messages confirmed last) = decimal confirmed ++ 32 ∷ decimal last
 
--- refused 102 020-12345723
+-- refused 102 020-12345723, or without a detail refused 501
+abbrev pub refused_with : ℕ → Detail → List ℕ
+refused_with number detail.Nothing = codes "refused " ++ decimal number
+refused_with number other = codes "refused " ++ decimal number ++ 32 ∷ detail_text other
+
 abbrev pub refusal_text : Refusal → List ℕ
-refusal_text refusal = codes "refused " ++ decimal refusal.number ++ detail_text refusal.detail
+refusal_text refusal = refused_with refusal.number refusal.detail
 
 -- ok 10
 abbrev pub reply_text : Reply → List ℕ

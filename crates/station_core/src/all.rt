@@ -1,24 +1,32 @@
-ghost use Rattle.std.specs.Prelude.{◌≡◌, ◌<◌, true, false, [], take, length, None, Some, Err, Option, IfErr, OnOk};
+ghost use Rattle.std.specs.Prelude.{◌≡◌, ◌<◌, true, false, [], take, length, None, Some, Err, Option, IfErr, OnOk, All};
+ghost use Rattle.imp_fields.specs.Date.{LocalMinute};
+ghost use Rattle.station_core.specs.declared.input.Input.{Input as AnyInput};
 ghost use Rattle.station_core.specs.declared.answer.ActFault.{ActFault};
 ghost use Rattle.station_core.specs.Step.{State, after_all, answers_of};
 ghost use Rattle.station_core.specs.Keeping.{Answers, MayLeave, IsMemoryOrStore, IsMemoryOrReopen, IsBrokenAfter, IsBrokenAtEnd, IsAfterAnswered};
 
 use crate::answer::{ActFault, AllAnswers, Answer};
-use crate::command::Input;
+use crate::input::Input;
 use crate::keeper::Keeper;
+use imp_fields::Moment;
 use std::alloc::Global;
 
 /// One input, where a refusal is an answer.
-pub fn answer_one<K: Keeper>(keeper: &mut K, input: &Input) -> Result<Answer, ActFault>
+pub fn answer_one<K: Keeper>(
+    keeper: &mut K,
+    input: &Input<'_>,
+    at: Moment,
+) -> Result<Answer, ActFault>
+    requires { K.takes input.now }
     ensures sound { K.is_sound keeper.new → K.is_sound keeper.old }
     ensures works { K.is_broken keeper.old ≡ false → OnOk result (K.is_broken keeper.new ≡ false) }
     ensures reopen { K.is_broken keeper.old ≡ true → (result ≡ Err ActFault.Reopen) × (keeper.new ≡ keeper.old) }
     ensures fault { K.is_broken keeper.old ≡ false → IfErr result IsMemoryOrStore }
     ensures breaks { K.is_broken keeper.old ≡ false → IfErr result (λ e. IsBrokenAfter e (K.is_broken keeper.new)) }
-    ensures answers { (s : State) → K.keeps keeper.old s → K.is_broken keeper.old ≡ false → K.is_sound keeper.new → Answers s input.now result (K.keeps keeper.new) }
-    ensures leaves { (s : State) → K.keeps keeper.old s → K.is_broken keeper.old ≡ false → K.is_sound keeper.new → (found : Option State) → K.may_find keeper.new found → MayLeave s input.now result found }
+    ensures answers { (s : State) → K.keeps keeper.old s → K.is_broken keeper.old ≡ false → K.is_sound keeper.new → Answers s input.now at result (K.keeps keeper.new) }
+    ensures leaves { (s : State) → K.keeps keeper.old s → K.is_broken keeper.old ≡ false → K.is_sound keeper.new → (found : Option State) → K.may_find keeper.new found → MayLeave s input.now at result found }
 {
-    match keeper.act(input) {
+    match keeper.act(input, at) {
         Ok(reply) => Ok(Answer::Done(reply)),
         Err(ActFault::Refused(refusal)) => Ok(Answer::Refused(refusal)),
         Err(ActFault::Memory) => Err(ActFault::Memory),
@@ -27,9 +35,14 @@ pub fn answer_one<K: Keeper>(keeper: &mut K, input: &Input) -> Result<Answer, Ac
     }
 }
 
-/// Gives inputs to a keeper in order, up to the first fault that is no refusal. It makes room for each answer
+/// Gives inputs, each at its moment, to a keeper in order, up to the first fault that is no refusal. It makes room for each answer
 /// before it acts.
-pub fn act_all<K: Keeper>(alloc: Global, keeper: &mut K, inputs: &[Input]) -> AllAnswers
+pub fn act_all<K: Keeper>(
+    alloc: Global,
+    keeper: &mut K,
+    inputs: &[(Input<'_>, Moment)],
+) -> AllAnswers
+    requires { All (λ (one : AnyInput × LocalMinute). K.takes one.0) inputs.now }
     ensures answers { (s : State) → K.keeps keeper.old s → K.is_broken keeper.old ≡ false → K.is_sound keeper.new
         → result.answers.items ≡ answers_of s (take (length result.answers.items) inputs.now) }
     ensures all { result.fault ≡ None → length result.answers.items ≡ length inputs.now }
@@ -55,7 +68,7 @@ pub fn act_all<K: Keeper>(alloc: Global, keeper: &mut K, inputs: &[Input]) -> Al
                 fault: Some(ActFault::Memory),
             };
         }
-        let answer = match answer_one(keeper, input) {
+        let answer = match answer_one(keeper, &input.0, input.1) {
             Ok(answer) => answer,
             Err(fault) => {
                 return AllAnswers {

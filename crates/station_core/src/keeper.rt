@@ -1,14 +1,27 @@
-ghost use Rattle.std.specs.Prelude.{◌≡◌, Bool, true, false, Option, Some, Err, IfOk, IfErr};
+ghost use Rattle.std.specs.Prelude.{◌≡◌, ℕ, Bool, true, false, List, take, Option, Some, Err, IfOk, IfErr, OnOk, OnErr};
 
 use crate::answer::{ActFault, Reply};
-use crate::command::Input;
-use agent_stock::Holder;
+use crate::input::Input;
+use crate::rows::{BookRow, IrregularRow, Message, TrailRow, Waybill};
+use crate::sink::Sink;
+use agent_stock::{Holder, StockRun};
 use awb_number::Awb;
+use imp_fields::Moment;
 
 /// What keeps the state of a station.
+///
+/// Its readers change nothing. Those that hand rows to a sink hand out all of them in order, or a beginning: where the sink
+/// wants no more, or after a fault.
 pub trait Keeper {
+    ghost use Rattle.agent_stock.specs.Runs.{AreStockRuns};
+    ghost use Rattle.agent_stock.specs.declared.runs.StockRun.{StockRun};
+    ghost use Rattle.agent_stock.specs.declared.stock.Order.{Order};
+    ghost use Rattle.desk_commands.specs.declared.command.Command.TheVariants.{Stock};
     ghost use Rattle.station_core.specs.Step.{State};
-    ghost use Rattle.station_core.specs.Keeping.{Breaks, Acts, Leaves, IsReadersFault};
+    ghost use Rattle.station_core.specs.Keeping.{Breaks, Acts, Leaves, IsReadersFault, OnlyReads};
+    ghost use Rattle.station_core.specs.Readers.{HandedOut, waybill_of, irregular_rows, book_rows, pending_messages, trail_rows};
+    ghost use Rattle.station_core.specs.declared.input.Input.{Input};
+    ghost use Rattle.station_core.specs.declared.input.Input.TheVariants.{Keyed};
 
     /// It keeps this state: what it answers is answered by it.
     ghost keeps: { Self → State → Type 0 };
@@ -22,26 +35,76 @@ pub trait Keeper {
     /// What a reopening after a crash at this moment may find: a state, or what means none.
     ghost may_find: { Self → Option State → Type 0 };
 
-    /// One input.
-    fn act(&mut self, input: &Input) -> Result<Reply, ActFault>
+    /// The inputs that it takes. Orders on the stock are among them.
+    ghost takes: { Input → Type 0 };
+
+    ghost takes_orders: { (key : List ℕ) (order : Order) → takes (Keyed key (Stock order)) };
+
+    /// One input, at a moment.
+    fn act(&mut self, input: &Input<'_>, at: Moment) -> Result<Reply, ActFault>
+        requires { takes input.now }
         // After a failure of the store nothing happens until the station is opened again.
         ensures reopen { is_broken self.old ≡ true → (result ≡ Err ActFault.Reopen) × (self.new ≡ self.old) }
         ensures breaks { is_broken self.old ≡ false → Breaks result (is_broken self.new) }
         ensures sound { is_sound self.new → is_sound self.old }
 
         // The answer and the state are those of the step.
-        ensures acts { (s : State) → keeps self.old s → is_broken self.old ≡ false → is_sound self.new → Acts s input.now result (keeps self.new) }
-        ensures leaves { (s : State) → keeps self.old s → is_broken self.old ≡ false → is_sound self.new → (found : Option State) → may_find self.new found → Leaves s input.now result found };
+        ensures acts { (s : State) → keeps self.old s → is_broken self.old ≡ false → is_sound self.new → Acts s input.now at result (keeps self.new) }
+        ensures leaves { (s : State) → keeps self.old s → is_broken self.old ≡ false → is_sound self.new → (found : Option State) → may_find self.new found → Leaves s input.now at result found };
 
-    /// Who holds a number. It changes nothing, also where it fails.
+    /// Who holds a number.
     fn holder(&mut self, number: &Awb) -> Result<Option<Holder>, ActFault>
         ensures reopen { is_broken self.old ≡ true → (result ≡ Err ActFault.Reopen) × (self.new ≡ self.old) }
         ensures fault { is_broken self.old ≡ false → IfErr result IsReadersFault }
-        ensures breaks { is_broken self.new ≡ is_broken self.old }
-        ensures sound { is_sound self.new → is_sound self.old }
-        ensures holder { (s : State) → keeps self.old s → is_sound self.new → IfOk result (λ holder. holder ≡ s.holders number.now) }
-        ensures same { (s : State) → keeps self.old s → is_sound self.new → keeps self.new s }
-        ensures leaves { is_sound self.new → (found : Option State) → may_find self.new found → may_find self.old found };
+        ensures reads { OnlyReads keeps is_sound is_broken may_find self.old self.new }
+        ensures holder { (s : State) → keeps self.old s → is_sound self.new → IfOk result (λ holder. holder ≡ s.cargo.holders number.now) };
+
+    /// What is known of a waybill.
+    fn waybill(&mut self, number: &Awb) -> Result<Option<Waybill>, ActFault>
+        ensures reopen { is_broken self.old ≡ true → (result ≡ Err ActFault.Reopen) × (self.new ≡ self.old) }
+        ensures fault { is_broken self.old ≡ false → IfErr result IsReadersFault }
+        ensures reads { OnlyReads keeps is_sound is_broken may_find self.old self.new }
+        ensures waybill { (s : State) → keeps self.old s → is_sound self.new → IfOk result (λ waybill. waybill ≡ waybill_of s.cargo number.now) };
+
+    /// The stock, as its maximal runs of one holder, rising.
+    fn stock<S: Sink<StockRun>>(&mut self, sink: &mut S) -> Result<(), ActFault>
+        ensures reopen { is_broken self.old ≡ true → (result ≡ Err ActFault.Reopen) × (self.new ≡ self.old) × (sink.new ≡ sink.old) }
+        ensures fault { is_broken self.old ≡ false → IfErr result IsReadersFault }
+        ensures reads { OnlyReads keeps is_sound is_broken may_find self.old self.new }
+        ensures rows { (s : State) → keeps self.old s → is_sound self.new → OnOk result ((rows : List StockRun) × AreStockRuns s.cargo.holders rows × HandedOut S.takes rows sink.old sink.new) }
+        ensures beginning { (s : State) → keeps self.old s → is_sound self.new → OnErr result ((rows : List StockRun) → AreStockRuns s.cargo.holders rows → (n : ℕ) × HandedOut S.takes (take n rows) sink.old sink.new) };
+
+    /// The waybills of which pieces are missing or were found, rising.
+    fn irregular<S: Sink<IrregularRow>>(&mut self, sink: &mut S) -> Result<(), ActFault>
+        ensures reopen { is_broken self.old ≡ true → (result ≡ Err ActFault.Reopen) × (self.new ≡ self.old) × (sink.new ≡ sink.old) }
+        ensures fault { is_broken self.old ≡ false → IfErr result IsReadersFault }
+        ensures reads { OnlyReads keeps is_sound is_broken may_find self.old self.new }
+        ensures rows { (s : State) → keeps self.old s → is_sound self.new → OnOk result (HandedOut S.takes (irregular_rows s.cargo) sink.old sink.new) }
+        ensures beginning { (s : State) → keeps self.old s → is_sound self.new → OnErr result ((n : ℕ) × HandedOut S.takes (take n (irregular_rows s.cargo)) sink.old sink.new) };
+
+    /// The movement book, in order.
+    fn book<S: Sink<BookRow>>(&mut self, sink: &mut S) -> Result<(), ActFault>
+        ensures reopen { is_broken self.old ≡ true → (result ≡ Err ActFault.Reopen) × (self.new ≡ self.old) × (sink.new ≡ sink.old) }
+        ensures fault { is_broken self.old ≡ false → IfErr result IsReadersFault }
+        ensures reads { OnlyReads keeps is_sound is_broken may_find self.old self.new }
+        ensures rows { (s : State) → keeps self.old s → is_sound self.new → OnOk result (HandedOut S.takes (book_rows s.cargo) sink.old sink.new) }
+        ensures beginning { (s : State) → keeps self.old s → is_sound self.new → OnErr result ((n : ℕ) × HandedOut S.takes (take n (book_rows s.cargo)) sink.old sink.new) };
+
+    /// The messages that weren't confirmed yet, in order.
+    fn pending<S: Sink<Message>>(&mut self, sink: &mut S) -> Result<(), ActFault>
+        ensures reopen { is_broken self.old ≡ true → (result ≡ Err ActFault.Reopen) × (self.new ≡ self.old) × (sink.new ≡ sink.old) }
+        ensures fault { is_broken self.old ≡ false → IfErr result IsReadersFault }
+        ensures reads { OnlyReads keeps is_sound is_broken may_find self.old self.new }
+        ensures rows { (s : State) → keeps self.old s → is_sound self.new → OnOk result (HandedOut S.takes (pending_messages s.cargo) sink.old sink.new) }
+        ensures beginning { (s : State) → keeps self.old s → is_sound self.new → OnErr result ((n : ℕ) × HandedOut S.takes (take n (pending_messages s.cargo)) sink.old sink.new) };
+
+    /// The trail, in order.
+    fn trail<S: Sink<TrailRow>>(&mut self, sink: &mut S) -> Result<(), ActFault>
+        ensures reopen { is_broken self.old ≡ true → (result ≡ Err ActFault.Reopen) × (self.new ≡ self.old) × (sink.new ≡ sink.old) }
+        ensures fault { is_broken self.old ≡ false → IfErr result IsReadersFault }
+        ensures reads { OnlyReads keeps is_sound is_broken may_find self.old self.new }
+        ensures rows { (s : State) → keeps self.old s → is_sound self.new → OnOk result (HandedOut S.takes (trail_rows s.cargo) sink.old sink.new) }
+        ensures beginning { (s : State) → keeps self.old s → is_sound self.new → OnErr result ((n : ℕ) × HandedOut S.takes (take n (trail_rows s.cargo)) sink.old sink.new) };
 
     /// A reopening finds the state that it keeps.
     ghost settled: { (k : Self) (s : State) → keeps k s → is_sound k → (found : Option State) → may_find k found → found ≡ Some s };

@@ -3,26 +3,27 @@
 
 mod all;
 mod answer;
-mod command;
 mod ends;
+mod input;
 mod keeper;
 mod key;
-mod laws;
-mod plain;
+pub mod laws;
+mod rows;
+mod sink;
 mod stock;
 mod tally;
 mod texts;
 
 pub use all::{act_all, answer_one};
-pub use answer::{ActFault, AllAnswers, Answer, Detail, Refusal, Reply};
-pub use command::{Command, Input};
+pub use answer::{ActFault, AllAnswers, Answer, Reply};
 pub use ends::{ByteIn, ByteOut, Counted, ReadFault, WriteFault, send};
+pub use input::Input;
 pub use keeper::Keeper;
 pub use key::Key;
-pub use laws::command_text_law;
-pub use plain::PlainStation;
-pub use stock::change_stock;
-pub use texts::{command_text, refusal_text, reply_text};
+pub use rows::{BookRow, IrregularRow, Message, RowText, TrailRow, Waybill};
+pub use sink::{Sink, hand_out};
+pub use stock::{count_of_order, refusal_of_order};
+pub use texts::{detail_text, refusal_text, reply_text};
 
 #[cfg(test)]
 mod tests;

@@ -1,53 +1,11 @@
 use super::*;
-use agent_stock::{AgentCode, Holder, Order, Run};
+use agent_stock::{Order, Run};
 use awb_number::Awb;
-use imp_fields::Airport;
+use imp_fields::{Airport, Flight, LocalDay, PartNumber, Why};
+use shipment_machine::{Detail, FlightDate, Part, Refusal};
 use std::io;
 use std::io::Read;
-use std::process::Abort;
 use std::test::*;
-
-fn run(serial: u32, count: u32) -> Result<Run, Fail> {
-    let first = Awb::new(20, serial).ok_or("a number")?;
-    Ok(Run { first, count })
-}
-
-fn agent(code: &str) -> Result<AgentCode, Fail> {
-    Ok(AgentCode::read(code.as_bytes()).ok_or("a code")?)
-}
-
-#[test]
-fn commands_as_texts(rt: HostRuntime) -> Result<(), Fail> {
-    let alloc = rt.alloc();
-    for (order, want) in [
-        (
-            Order::TakeIn(run(1234567, 10)?),
-            "take-in\n020\n1234567\n10",
-        ),
-        (
-            Order::Issue(run(1234570, 3)?, agent("ACME")?),
-            "issue\n020\n1234570\n3\nACME",
-        ),
-        (
-            Order::GiveBack(run(1234570, 3)?, agent("ACME")?),
-            "return\n020\n1234570\n3\nACME",
-        ),
-        (Order::Void(run(7, 1)?), "void\n020\n0000007\n1"),
-    ] {
-        let text = command_text(alloc, &Command::Stock(order))?;
-        assert_eq!(rt; text.as_str(), want);
-    }
-    Ok(())
-}
-
-#[test]
-fn commands_count_the_numbers_of_their_run(rt: HostRuntime) -> Result<(), Fail> {
-    let ten = Command::Stock(Order::TakeIn(run(1234567, 10)?));
-    let three = Command::Stock(Order::GiveBack(run(1234570, 3)?, agent("ACME")?));
-    assert_eq!(rt; ten.count(), 10);
-    assert_eq!(rt; three.count(), 3);
-    Ok(())
-}
 
 #[test]
 fn replies_as_texts(rt: HostRuntime) -> Result<(), Fail> {
@@ -59,18 +17,103 @@ fn replies_as_texts(rt: HostRuntime) -> Result<(), Fail> {
     Ok(())
 }
 
+fn lh400() -> Option<FlightDate> {
+    Some(FlightDate {
+        flight: Flight::read(b"LH400")?,
+        day: LocalDay::new(20465)?,
+    })
+}
+
+fn part() -> Option<Part> {
+    Some(Part {
+        flight: lh400()?,
+        airport: Airport::read(b"FRA")?,
+        number: PartNumber::new(1)?,
+    })
+}
+
 #[test]
 fn refusals_as_texts(rt: HostRuntime) -> Result<(), Fail> {
     let alloc = rt.alloc();
     let third = Detail::Waybill(Awb::read(b"020-12345723")?);
+    let flight = Detail::Flight(lh400().ok_or("a flight")?);
+    let part = Detail::Part(part().ok_or("a part")?);
+    let ending = Detail::Line {
+        line: 4,
+        why: Why::Ending,
+    };
+    let marks = Detail::Messages {
+        confirmed: 3,
+        last: 4,
+    };
     for (number, detail, want) in [
         (102, third, "refused 102 020-12345723"),
+        (206, Detail::Pieces(0), "refused 206 0"),
+        (208, flight, "refused 208 LH400/2026-01-12"),
+        (213, part, "refused 213 LH400/2026-01-12/FRA/1"),
+        (301, ending, "refused 301 4 ending"),
+        (401, marks, "refused 401 3 4"),
         (105, Detail::Nothing, "refused 105"),
         (501, Detail::Nothing, "refused 501"),
     ] {
         let text = refusal_text(alloc, &Refusal { number, detail })?;
         assert_eq!(rt; text.as_str(), want);
     }
+    Ok(())
+}
+
+#[test]
+fn details_as_texts(rt: HostRuntime) -> Result<(), Fail> {
+    let alloc = rt.alloc();
+    let number = detail_text(alloc, &Detail::Waybill(Awb::read(b"020-12345723")?))?;
+    assert_eq!(rt; number.as_str(), "020-12345723");
+    let nothing = detail_text(alloc, &Detail::Nothing)?;
+    assert_eq!(rt; nothing.as_str(), "");
+    Ok(())
+}
+
+#[test]
+fn words_of_faults(rt: HostRuntime) -> Result<(), Fail> {
+    let alloc = rt.alloc();
+    for (why, want) in [
+        (Why::Size, "0 size"),
+        (Why::Lines, "0 lines"),
+        (Why::Byte, "0 byte"),
+        (Why::Long, "0 long"),
+        (Why::Kind, "0 kind"),
+        (Why::Ending, "0 ending"),
+        (Why::Head, "0 head"),
+        (Why::Consignment, "0 consignment"),
+        (Why::Number, "0 number"),
+        (Why::Quantity, "0 quantity"),
+        (Why::Weight, "0 weight"),
+        (Why::Date, "0 date"),
+        (Why::Flight, "0 flight"),
+        (Why::Order, "0 order"),
+    ] {
+        let text = detail_text(alloc, &Detail::Line { line: 0, why })?;
+        assert_eq!(rt; text.as_str(), want);
+    }
+    Ok(())
+}
+
+#[test]
+fn orders_count_the_numbers_of_their_run(rt: HostRuntime) -> Result<(), Fail> {
+    let first = Awb::new(20, 1234567).ok_or("a number")?;
+    let ten = Order::TakeIn(Run { first, count: 10 });
+    let three = Order::Void(Run { first, count: 3 });
+    assert_eq!(rt; count_of_order(&ten), 10);
+    assert_eq!(rt; count_of_order(&three), 3);
+    Ok(())
+}
+
+#[test]
+fn the_refusal_of_an_order_names_its_number(rt: HostRuntime) -> Result<(), Fail> {
+    let third = Awb::read(b"020-12345723")?;
+    let refusal = refusal_of_order(102, Some(third));
+    assert_eq!(rt; refusal.number, 102);
+    assert_eq!(rt; refusal.detail, Detail::Waybill(third));
+    assert_eq!(rt; refusal_of_order(105, None).detail, Detail::Nothing);
     Ok(())
 }
 
@@ -151,111 +194,10 @@ fn a_read_tells_an_interruption_from_a_failure(rt: HostRuntime) {
     assert_eq!(rt; buf, *b"ok 10\n--");
 }
 
-fn station(rt: &HostRuntime) -> Result<PlainStation, Fail> {
-    let here = Airport::read(b"FRA").ok_or("an airport")?;
-    Ok(PlainStation::new(rt.alloc(), here))
-}
-
-fn asked(key: &str, order: Order) -> Result<Input, Fail> {
-    let key = Key::read(key.as_bytes()).ok_or("a key")?;
-    Ok(Input::Keyed(key, Command::Stock(order)))
-}
-
-fn take_in(key: &str, serial: u32, count: u32) -> Result<Input, Fail> {
-    asked(key, Order::TakeIn(run(serial, count)?))
-}
-
-fn issue(key: &str, serial: u32, count: u32, code: &str) -> Result<Input, Fail> {
-    asked(key, Order::Issue(run(serial, count)?, agent(code)?))
-}
-
-fn give_back(key: &str, serial: u32, count: u32, code: &str) -> Result<Input, Fail> {
-    asked(key, Order::GiveBack(run(serial, count)?, agent(code)?))
-}
-
-fn done(count: u32) -> Answer {
-    Answer::Done(Reply { count })
-}
-
-fn refused(number: u16) -> Answer {
-    Answer::Refused(Refusal::of_order(number, None))
-}
-
-fn refused_for(number: u16, lowest: &[u8; 12]) -> Result<Answer, Fail> {
-    let lowest = Awb::read(lowest)?;
-    Ok(Answer::Refused(Refusal::of_order(number, Some(lowest))))
-}
-
-/// A morning's inputs: ten numbers come, three go to an agent and come back; a repeat, and refusals.
-fn morning() -> Result<[Input; 11], Fail> {
-    Ok([
-        take_in("k1", 1234567, 10)?,
-        issue("k2", 1234570, 3, "ACME")?,
-        issue("k2", 1234570, 3, "ACME")?,
-        issue("k2", 1234570, 4, "ACME")?,
-        issue("k3", 1234572, 2, "BETA")?,
-        asked("k7", Order::Void(run(1234567, 1)?))?,
-        give_back("k4", 1234570, 3, "BETA")?,
-        give_back("k4", 1234570, 3, "ACME")?,
-        take_in("k5", 9999990, 11)?,
-        take_in("k5", 9999990, 10)?,
-        take_in("k8", 1234576, 2)?,
-    ])
-}
-
-/// What they are answered.
-fn morning_answers() -> Result<[Answer; 11], Fail> {
-    Ok([
-        done(10),
-        done(3),
-        done(3),
-        refused(501),
-        refused_for(102, b"020-12345723")?,
-        done(1),
-        refused_for(103, b"020-12345701")?,
-        done(3),
-        refused(105),
-        done(10),
-        refused_for(101, b"020-12345760")?,
-    ])
-}
-
-fn holders(rt: &impl Abort, station: &mut PlainStation) -> Result<(), Fail> {
-    for (serial, want) in [
-        (1234566, None),
-        (1234567, Some(Holder::Void)),
-        (1234568, Some(Holder::Desk)),
-        (1234570, Some(Holder::Desk)),
-        (1234576, Some(Holder::Desk)),
-        (1234577, None),
-        (9999989, None),
-        (9999990, Some(Holder::Desk)),
-        (9999999, Some(Holder::Desk)),
-    ] {
-        let number = Awb::new(20, serial).ok_or("a number")?;
-        assert_eq!(rt; station.holder(&number), Ok(want), "{serial}");
-    }
+#[test]
+fn a_row_text_has_its_bytes(rt: HostRuntime) -> Result<(), Fail> {
+    let mut bytes = Vec::new(rt.alloc());
+    bytes.extend_from_slice(b"LAST")?;
+    assert_eq!(rt; RowText::new(bytes).as_bytes(), b"LAST".as_slice());
     Ok(())
-}
-
-#[test]
-fn a_morning_on_a_plain_station(rt: HostRuntime) -> Result<(), Fail> {
-    let mut station = station(&rt)?;
-    let inputs = morning()?;
-    let answers = morning_answers()?;
-    for (input, want) in inputs.iter().zip(answers.iter()) {
-        assert_eq!(rt; answer_one(&mut station, input), Ok(*want));
-    }
-    holders(&rt, &mut station)
-}
-
-#[test]
-fn a_morning_at_once(rt: HostRuntime) -> Result<(), Fail> {
-    let mut station = station(&rt)?;
-    let inputs = morning()?;
-    let answers = morning_answers()?;
-    let told = act_all(rt.alloc(), &mut station, inputs.as_slice());
-    assert_eq!(rt; told.fault, None);
-    assert_eq!(rt; told.answers.as_slice(), answers.as_slice());
-    holders(&rt, &mut station)
 }

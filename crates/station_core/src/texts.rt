@@ -1,50 +1,14 @@
-ghost use Rattle.std.specs.Prelude.{◌≡◌, ◌∷◌, IfOk, string_bytes};
-ghost use Rattle.std.specs.List.{join_with_byte};
-ghost use Rattle.station_core.specs.Texts.{run_fields, agent_run_fields, command_text, reply_text, refusal_text};
+//! Replies and refusals as texts.
+ghost use Rattle.std.specs.Prelude.{◌≡◌, IfOk, Some, string_bytes};
+ghost use Rattle.imp_fields.specs.Flight.{flight_text};
+ghost use Rattle.station_core.specs.Texts.{why_word, flight_date_text, detail_text, refusal_text, reply_text};
 
-use crate::answer::{Detail, Refusal, Reply};
-use crate::command::Command;
-use agent_stock::{AgentCode, Order, Run};
+use crate::answer::Reply;
 use awb_number::ascii_text;
+use desk_commands::day_text;
+use imp_fields::Why;
+use shipment_machine::{Detail, FlightDate, Part, Refusal};
 use std::alloc::{AllocError, Global};
-use std::fmt;
-
-/// A verb, the prefix, the serial without its check digit, and the count, one a line.
-fn run_text(alloc: Global, verb: &str, run: &Run) -> Result<String, AllocError>
-    ensures { IfOk result (λ text. string_bytes text ≡ join_with_byte 10 (verb.now ∷ run_fields run.now)) }
-{
-    let number = run.first.write();
-    let prefix = ascii_text(&number[..3]);
-    let serial = ascii_text(&number[4..11]);
-    let count = run.count;
-    format!(in alloc; "{verb}\n{prefix}\n{serial}\n{count}")
-}
-
-/// The same, and the agent.
-fn agent_run_text(
-    alloc: Global,
-    verb: &str,
-    run: &Run,
-    agent: &AgentCode,
-) -> Result<String, AllocError>
-    ensures { IfOk result (λ text. string_bytes text ≡ join_with_byte 10 (verb.now ∷ agent_run_fields run.now agent.now)) }
-{
-    let text = run_text(alloc, verb, run)?;
-    format!(in alloc; "{text}\n{agent}")
-}
-
-/// A command as a text: the verb and the fields, one a line, numbers without leading zeros but for prefix and
-/// serial. Equal texts mean equal commands.
-pub fn command_text(alloc: Global, command: &Command) -> Result<String, AllocError>
-    ensures { IfOk result (λ text. string_bytes text ≡ command_text command.now) }
-{
-    match command {
-        Command::Stock(Order::TakeIn(run)) => run_text(alloc, "take-in", run),
-        Command::Stock(Order::Issue(run, agent)) => agent_run_text(alloc, "issue", run, agent),
-        Command::Stock(Order::GiveBack(run, agent)) => agent_run_text(alloc, "return", run, agent),
-        Command::Stock(Order::Void(run)) => run_text(alloc, "void", run),
-    }
-}
 
 /// `ok 10`.
 pub fn reply_text(alloc: Global, reply: &Reply) -> Result<String, AllocError>
@@ -54,18 +18,68 @@ pub fn reply_text(alloc: Global, reply: &Reply) -> Result<String, AllocError>
     format!(in alloc; "ok {count}")
 }
 
-/// What a refusal is about, with a blank before it.
-impl fmt::Display for Detail {
-    ghost use Rattle.std.specs.Prelude.{Some};
-    ghost use Rattle.station_core.specs.Texts.{detail_text};
+/// The word of a fault, as `ending`. Want of memory has none: it is no fault of a text.
+fn why_word(why: Why) -> &'static str
+    ensures { result.now ≡ why_word why }
+{
+    match why {
+        Why::Size => "size",
+        Why::Lines => "lines",
+        Why::Byte => "byte",
+        Why::Long => "long",
+        Why::Kind => "kind",
+        Why::Ending => "ending",
+        Why::Head => "head",
+        Why::Consignment => "consignment",
+        Why::Number => "number",
+        Why::Quantity => "quantity",
+        Why::Weight => "weight",
+        Why::Date => "date",
+        Why::Flight => "flight",
+        Why::Order => "order",
+        Why::Memory => "",
+    }
+}
 
-    ghost output = { λ detail. Some (detail_text detail) };
+/// `LH400/2026-01-12`.
+fn flight_date_text(alloc: Global, flight: &FlightDate) -> Result<String, AllocError>
+    ensures { IfOk result (λ text. string_bytes text ≡ flight_date_text flight.now) }
+{
+    let mut bytes = [0; 7];
+    let len = flight.flight.write(&mut bytes);
+    let name = ascii_text(&bytes[..len]);
+    let day = day_text(flight.day);
+    let day = ascii_text(&day);
+    format!(in alloc; "{name}/{day}")
+}
 
-    fn fmt<W: fmt::Write>(&self, f: &mut fmt::Formatter<W>) -> fmt::Result {
-        match self {
-            Detail::Nothing => Ok(()),
-            Detail::Waybill(number) => write!(f, " {number}"),
+/// `LH400/2026-01-12/FRA/1`.
+fn part_text(alloc: Global, part: &Part) -> Result<String, AllocError>
+    ensures { IfOk result (λ text. string_bytes text ≡ detail_text (Detail.Part part.now)) }
+{
+    let flight = flight_date_text(alloc, &part.flight)?;
+    let airport = part.airport.letters();
+    let airport = ascii_text(&airport);
+    let number = part.number.number();
+    format!(in alloc; "{flight}/{airport}/{number}")
+}
+
+/// What a refusal is about: `020-12345723`, the free pieces, `LH400/2026-01-12`, `LH400/2026-01-12/FRA/1`, a line and a word
+/// as `4 ending`, the mark and the last message as `3 4`, or nothing.
+pub fn detail_text(alloc: Global, detail: &Detail) -> Result<String, AllocError>
+    ensures { IfOk result (λ text. string_bytes text ≡ detail_text detail.now) }
+{
+    match detail {
+        Detail::Nothing => Ok(String::new(alloc)),
+        Detail::Waybill(number) => format!(in alloc; "{number}"),
+        Detail::Pieces(pieces) => format!(in alloc; "{pieces}"),
+        Detail::Flight(flight) => flight_date_text(alloc, flight),
+        Detail::Part(part) => part_text(alloc, part),
+        Detail::Line { line, why } => {
+            let word = why_word(*why);
+            format!(in alloc; "{line} {word}")
         }
+        Detail::Messages { confirmed, last } => format!(in alloc; "{confirmed} {last}"),
     }
 }
 
@@ -74,6 +88,11 @@ pub fn refusal_text(alloc: Global, refusal: &Refusal) -> Result<String, AllocErr
     ensures { IfOk result (λ text. string_bytes text ≡ refusal_text refusal.now) }
 {
     let number = refusal.number;
-    let detail = refusal.detail;
-    format!(in alloc; "refused {number}{detail}")
+    match &refusal.detail {
+        Detail::Nothing => format!(in alloc; "refused {number}"),
+        detail => {
+            let detail = detail_text(alloc, detail)?;
+            format!(in alloc; "refused {number} {detail}")
+        }
+    }
 }

@@ -1,0 +1,51 @@
+-- What the readers tell in the worked rows, computed.
+use Rattle.std.proofs.Common.{◌≡◌, ℕ, Option, Some, None, List, [], ◌∷◌, length, refl}
+use Rattle.std.specs.Prelude.{codes, map}
+use Rattle.std.specs.Fmt.{digits}
+use Rattle.jiff_core.specs.Calendar.{days_of_years, days_of_months, day_count, days_from_civil}
+use Rattle.shipment_machine.specs.Amount.{amount}
+use Rattle.shipment_machine.specs.declared.amount.Amount.{Amount}
+use Rattle.shipment_machine.specs.declared.moves.Place.TheVariants.{Hand, Free}
+use Rattle.shipment_machine.specs.declared.command.DeskCommand.TheVariants.{Confirm}
+use Rattle.station_core.specs.declared.rows.Message.{Message}
+use Rattle.station_core.specs.declared.rows.Waybill.{Waybill}
+use Rattle.desk_commands.specs.Day.{day_line}
+use Rattle.station_core.specs.Step.{opening}
+use Rattle.station_core.specs.Readers.{irregular_rows, book_rows, pending_messages, waybill_of}
+use Rattle.station_core.proofs.Examples.{fra, jfk, received, left, after, announced, counted, desk, at_time}
+
+-- three pieces are missing
+example_irregular : irregular_rows (after announced (counted 7 (codes "c") ∷ [])).cargo
+    ≡ record { awb = 201234567; origin = fra; destination = jfk; missing = amount 3 300; found = amount 0 0 } ∷ []
+unfolding digits day_line days_of_years days_of_months day_count days_from_civil
+example_irregular = refl
+
+-- the first line of the movement book
+example_book : book_rows received.cargo ≡ record { number = 1; movement = record { awb = 201234567; from = Hand; to = Free; pieces = 10; tenths = 1000; flight = None; at = at_time 10 30 } } ∷ []
+unfolding digits day_line
+example_book = refl
+
+-- after three messages are confirmed the fourth is pending, of 74 bytes
+abbrev length_of : Message → ℕ × ℕ
+length_of message = (message.number, length message.text)
+
+example_pending : map length_of (pending_messages (after left (desk (codes "c1") (Confirm 3) ∷ [])).cargo) ≡ (4, 74) ∷ []
+unfolding digits day_line
+example_pending = refl
+
+-- what is told of the waybill after the flight left
+abbrev amounts : Option Waybill → List Amount
+amounts None = []
+amounts (Some w) = w.taken ∷ w.found ∷ w.store ∷ w.departed ∷ w.delivered ∷ w.missing ∷ []
+
+example_waybill : amounts (waybill_of left.cargo 201234567) ≡ amount 10 1000 ∷ amount 0 0 ∷ amount 6 600 ∷ amount 4 400 ∷ amount 0 0 ∷ amount 0 0 ∷ []
+unfolding digits day_line
+example_waybill = refl
+
+example_no_waybill : waybill_of left.cargo 201234568 ≡ None
+unfolding digits day_line
+example_no_waybill = refl
+
+-- a fresh station has nothing to tell
+example_nothing : irregular_rows (opening fra).cargo ≡ []
+example_nothing = refl

@@ -1,0 +1,92 @@
+-- A caller that repeats its inputs, and a station that power may cut at any moment.
+use Rattle.std.specs.Prelude.{◌≡◌, ℕ, Bool, true, false, ◌&&◌, IsTrue, is_none, if◌then◌else◌, ◌⊎◌, List, [], ◌∷◌, ◌++◌}
+use Rattle.std.specs.List.{AllByRecursion, list_any}
+use Rattle.std.specs.Str.{bytes_eq}
+use Rattle.imp_fields.specs.Date.{LocalMinute}
+use Rattle.station_core.specs.declared.answer.Reply.{Reply}
+use Rattle.station_core.specs.declared.input.Input.{Input}
+use Rattle.station_core.specs.declared.input.Input.TheVariants.{Keyed, Wire}
+use Rattle.desk_commands.specs.Command.{command_text}
+use Rattle.station_core.specs.declared.answer.Answer.{Answer}
+use Rattle.station_core.specs.declared.answer.Answer.TheVariants.{Done, Refused}
+use Rattle.station_core.specs.Step.{State, opening, repeated, step, after_all, answers_of}
+
+-- an input is sent and answered; it is cut off before or after its commit; the station is opened again
+pub data RetryEvent : Type 0 where
+  sent : Input → LocalMinute → RetryEvent
+  cut_before : Input → LocalMinute → RetryEvent
+  cut_after : Input → LocalMinute → RetryEvent
+  reopened : RetryEvent
+
+-- the state, whether the station runs, and what callers were told
+pub record World : Type 0 where
+  pub state : State
+  pub is_up : Bool
+  pub told : List (Input × Answer)
+
+-- the world after an event; one that needs a running station does nothing while it is down
+abbrev pub world_after : World → RetryEvent → World
+world_after world (sent i m) = if world.is_up then record { state = (step world.state i m).state; is_up = true; told = world.told ++ (i, (step world.state i m).answer) ∷ [] } else world
+world_after world (cut_before i m) = record world { is_up = false }
+world_after world (cut_after i m) = if world.is_up then record { state = (step world.state i m).state; is_up = false; told = world.told } else world
+world_after world reopened = record world { is_up = true }
+
+abbrev pub after_events : World → List RetryEvent → World
+after_events world [] = world
+after_events world (event ∷ events) = after_events (world_after world event) events
+
+abbrev pub is_done : Answer → Bool
+is_done (Done reply) = true
+is_done (Refused refusal) = false
+
+-- whether an input commits: it is new, and accepted
+abbrev pub commits : State → Input → LocalMinute → Bool
+commits s i m = is_none (repeated s i) && is_done (step s i m).answer
+
+-- the inputs that an event commits, with its moment
+abbrev pub committed_by : World → RetryEvent → List (Input × LocalMinute)
+committed_by world (sent i m) = if world.is_up && commits world.state i m then (i, m) ∷ [] else []
+committed_by world (cut_before i m) = []
+committed_by world (cut_after i m) = if world.is_up && commits world.state i m then (i, m) ∷ [] else []
+committed_by world reopened = []
+
+-- the inputs in the order of their first commits
+abbrev pub committed : World → List RetryEvent → List (Input × LocalMinute)
+committed world [] = []
+committed world (event ∷ events) = committed_by world event ++ committed (world_after world event) events
+
+-- whether two inputs have one identity: a key, or a telegram's text
+abbrev pub same_identity : Input → Input → Bool
+same_identity (Keyed key command) (Keyed other again) = bytes_eq key other
+same_identity (Wire telegram) (Wire other) = bytes_eq telegram.text other.text
+same_identity _ _ = false
+
+-- whether two inputs are one request: one identity, and equal commands
+abbrev pub same_request : Input → Input → Bool
+same_request (Keyed key command) (Keyed other again) = bytes_eq key other && bytes_eq (command_text command) (command_text again)
+same_request (Wire telegram) (Wire other) = bytes_eq telegram.text other.text
+same_request _ _ = false
+
+-- no identity stands twice
+abbrev pub EachOnce : List (Input × LocalMinute) → Type 0
+EachOnce [] = Unit {0}
+EachOnce (i ∷ is) = (list_any (λ (j : Input × LocalMinute). same_identity i.0 j.0) is ≡ false) × EachOnce is
+
+-- a request stands among the inputs of a run, with this reply as its answer
+abbrev pub StandsIn : List (Input × LocalMinute) → List Answer → Input → Reply → Type 0
+StandsIn (j ∷ js) (answer ∷ answers) i reply = (IsTrue (same_request i j.0) × (answer ≡ Done reply)) ⊎ StandsIn js answers i reply
+StandsIn _ _ i reply = ⊥
+
+abbrev pub IfDone : Answer → (Reply → Type 0) → Type 0
+IfDone (Done reply) P = P reply
+IfDone (Refused refusal) P = Unit {0}
+
+-- a station that was just made
+abbrev pub started : List ℕ → World
+started here = record { state = opening here; is_up = true; told = [] }
+
+-- Whatever is sent, cut off and repeated: the state is that of the committed inputs, each once, in their order; and each reply that was told is the run's.
+pub record ActsOnce (here : List ℕ) (events : List RetryEvent) : Type 0 where
+  pub state : (after_events (started here) events).state ≡ after_all (opening here) (committed (started here) events)
+  pub once : EachOnce (committed (started here) events)
+  pub told : AllByRecursion (λ (t : Input × Answer). IfDone t.1 (λ reply. StandsIn (committed (started here) events) (answers_of (opening here) (committed (started here) events)) t.0 reply)) (after_events (started here) events).told

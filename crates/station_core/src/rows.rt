@@ -1,0 +1,84 @@
+//! The rows that a station's readers hand out.
+ghost use Rattle.std.specs.Prelude.{◌≡◌};
+
+use awb_number::Awb;
+use imp_fields::Airport;
+use shipment_machine::{Amount, Declared, Move};
+use std::marker::Model;
+
+/// A text that is handed out.
+#[derive(Drop)]
+pub struct RowText {
+    bytes: Vec<u8>,
+}
+
+impl Model for RowText {
+    ghost use Rattle.std.specs.Prelude.{List, ℕ};
+
+    ghost Value = { List ℕ };
+
+    ghost view = { λ a. a.bytes.items };
+}
+
+impl RowText {
+    pub fn new(bytes: Vec<u8>) -> RowText
+        ensures { result ≡ bytes.items }
+    {
+        RowText { bytes }
+    }
+
+    /// The bytes of the text.
+    pub fn as_bytes(&self) -> &[u8]
+        ensures { result.now ≡ self.now }
+    {
+        self.bytes.as_slice()
+    }
+}
+
+/// What is known of a waybill: what was declared, and its balances.
+#[derive(Clone, Copy, Debug, PartialEq, Eq)]
+pub struct Waybill {
+    pub declared: Declared,
+    /// What was taken over from a shipper, an agent or an airline.
+    pub taken: Amount,
+    /// What no one had announced.
+    pub found: Amount,
+    /// What is in the store, built for flights or not.
+    pub store: Amount,
+    pub departed: Amount,
+    pub delivered: Amount,
+    pub missing: Amount,
+}
+
+/// A waybill of which pieces are missing or were found.
+#[derive(Clone, Copy, Debug, PartialEq, Eq)]
+pub struct IrregularRow {
+    pub awb: Awb,
+    pub origin: Airport,
+    pub destination: Airport,
+    pub missing: Amount,
+    pub found: Amount,
+}
+
+/// A line of the movement book.
+#[derive(Clone, Copy, Debug, PartialEq, Eq)]
+pub struct BookRow {
+    /// Its place in the book, from 1.
+    pub number: u32,
+    pub movement: Move,
+}
+
+/// A message that wasn't confirmed yet.
+#[derive(Drop)]
+pub struct Message {
+    /// Its place in the outbox, from 1.
+    pub number: u32,
+    pub text: RowText,
+}
+
+/// A line of a status message that arrived.
+#[derive(Drop)]
+pub struct TrailRow {
+    pub awb: Awb,
+    pub line: RowText,
+}
