@@ -1,5 +1,5 @@
 -- Rows that are written one after another.
-use Rattle.std.proofs.Common.{◌≡◌, ℕ, List, [], ◌∷◌, refl}
+use Rattle.std.proofs.Common.{◌≡◌, ℕ, List, [], ◌∷◌, ◌++◌, refl, sym, ap, ◌∙◌}
 use Rattle.shipment_machine.specs.declared.moves.Move.{Move}
 use Rattle.shipment_machine.specs.declared.plans.Change.{Change}
 use Rattle.shipment_machine.specs.declared.plans.Change.TheVariants.{Declare, UseUp, NoteFlight, Expect, NotePart, Trail, Confirm}
@@ -15,3 +15,12 @@ booked text (Expect flight w expected ∷ changes) s book = booked text changes 
 booked text (NotePart part ∷ changes) s book = booked text changes (written text (NotePart part) s) book
 booked text (Trail w line ∷ changes) s book = booked text changes (written text (Trail w line) s) book
 booked text (Confirm upto ∷ changes) s book = booked text changes (written text (Confirm upto) s) book
+
+-- the rows after some were written, with moves behind the others, are what a plan makes of the cargo
+pub taken_over : (text : List ℕ) (changes ch : List Change) (moves m : List Move) (s t : Cargo) → t ≡ written_all text ch s → ch ≡ changes → m ≡ moves
+    → record t { book = s.book ++ m } ≡ written_all text changes (record s { book = s.book ++ moves })
+taken_over text changes ch moves m s t rows same_changes same_moves =
+    ap (λ (c : Cargo). record c { book = s.book ++ m }) rows
+    ∙ ap (λ l. record (written_all text l s) { book = s.book ++ m }) same_changes
+    ∙ ap (λ l. record (written_all text changes s) { book = s.book ++ l }) same_moves
+    ∙ sym (booked text changes s (s.book ++ moves))

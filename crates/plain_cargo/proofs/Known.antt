@@ -35,3 +35,10 @@ filtered P p (x ∷ xs) h = elim (p x) as (λ b. All P (if b then x ∷ filter p
 
 pub known_on : (s : Cargo) (flight : FlightDate) → IsLawful s → All (λ w. IsSome (s.declared w)) (waybills_on s.book flight)
 known_on s flight law = filtered (λ w. IsSome (s.declared w)) (λ w. nat_lt 0 (built s.book w flight).pieces) (waybills_of s.book) (of_moves s s.book law.moves)
+
+listed : (P : ℕ → Type 0) (xs : List ℕ) → AllByRecursion P xs → All P xs
+listed P [] h = none_at_all P
+listed P (x ∷ xs) h = All-cons P x xs h.0 (listed P xs h.1)
+
+pub known_all : (s : Cargo) → IsLawful s → All (λ w. IsSome (s.declared w)) (waybills_of s.book)
+known_all s law = listed (λ w. IsSome (s.declared w)) (waybills_of s.book) (of_moves s s.book law.moves)

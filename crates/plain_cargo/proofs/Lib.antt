@@ -1,8 +1,10 @@
-mod Within
-mod Placing
-mod Known
-mod Walks
-mod Meant
-mod FrontRows
 mod Carried
-mod SentOn
+mod FrontRows
+mod Known
+mod Meant
+mod Numbers
+mod Placing
+mod Refusing
+mod StillOk
+pub mod Walks
+mod Within

@@ -1,5 +1,6 @@
 pub mod Aboard
 pub mod Bounds
 pub mod Next
+pub mod Orders
 pub mod Plain
-pub mod Sent
+pub mod Spots

@@ -1,9 +1,10 @@
 //! What the movement book says of a waybill.
 ghost use Rattle.std.specs.Prelude.{◌≡◌, ◌≤◌, ◌-◌, length};
 ghost use Rattle.plain_cargo.specs.Bounds.{IsWithin};
+ghost use Rattle.plain_cargo.specs.Spots.{is_in};
 ghost use Rattle.imp_fields.specs.Flight.{same_flight};
 ghost use Rattle.shipment_machine.specs.Flights.{same_flight_date};
-ghost use Rattle.shipment_machine.specs.Book.{same_place, pieces_of, tenths_of, moved_in, moved_out, held, drawn, has_moves};
+ghost use Rattle.shipment_machine.specs.Book.{same_place, in_store, pieces_of, tenths_of, moved_in, moved_out, held, store, drawn, has_moves};
 
 use awb_number::Awb;
 use imp_fields::Flight;
@@ -43,6 +44,13 @@ fn is_place(a: &Place, b: &Place) -> bool
     }
 }
 
+/// Whether a place is in the store.
+fn is_stored(place: &Place) -> bool
+    ensures { result ≡ in_store place.now }
+{
+    matches!(place, Place::Free | Place::Built(_))
+}
+
 /// Pieces and tenths, as a sum over the book has them.
 #[derive(Clone, Copy)]
 struct Total {
@@ -69,15 +77,34 @@ impl Total {
     }
 }
 
-/// What moved to a place.
-fn total_in(book: &[Move], awb: &Awb, place: &Place) -> Total
+/// Where pieces are counted: a place, or the store with all that is free or built.
+#[derive(Clone, Copy)]
+enum Spot {
+    At(Place),
+    Store,
+}
+
+impl Spot {
+    /// Whether a place is of it.
+    fn has(&self, place: &Place) -> bool
+        ensures { result ≡ is_in self.now place.now }
+    {
+        match self {
+            Spot::At(at) => is_place(at, place),
+            Spot::Store => is_stored(place),
+        }
+    }
+}
+
+/// What moved there.
+fn total_in(book: &[Move], awb: &Awb, spot: &Spot) -> Total
     requires { length book.now ≤ 4_294_967_295 }
-    ensures pieces { result.pieces ≡ moved_in pieces_of book.now awb.now (same_place place.now) }
-    ensures tenths { result.tenths ≡ moved_in tenths_of book.now awb.now (same_place place.now) }
+    ensures pieces { result.pieces ≡ moved_in pieces_of book.now awb.now (is_in spot.now) }
+    ensures tenths { result.tenths ≡ moved_in tenths_of book.now awb.now (is_in spot.now) }
 {
     let mut total = NOTHING;
     for m in book {
-        if m.awb == *awb && is_place(place, &m.to) {
+        if m.awb == *awb && spot.has(&m.to) {
             total.pieces += u64::from(m.pieces.number());
             total.tenths += u64::from(m.tenths.number());
         }
@@ -85,15 +112,15 @@ fn total_in(book: &[Move], awb: &Awb, place: &Place) -> Total
     total
 }
 
-/// What moved from a place.
-fn total_out(book: &[Move], awb: &Awb, place: &Place) -> Total
+/// What moved from there.
+fn total_out(book: &[Move], awb: &Awb, spot: &Spot) -> Total
     requires { length book.now ≤ 4_294_967_295 }
-    ensures pieces { result.pieces ≡ moved_out pieces_of book.now awb.now (same_place place.now) }
-    ensures tenths { result.tenths ≡ moved_out tenths_of book.now awb.now (same_place place.now) }
+    ensures pieces { result.pieces ≡ moved_out pieces_of book.now awb.now (is_in spot.now) }
+    ensures tenths { result.tenths ≡ moved_out tenths_of book.now awb.now (is_in spot.now) }
 {
     let mut total = NOTHING;
     for m in book {
-        if m.awb == *awb && is_place(place, &m.from) {
+        if m.awb == *awb && spot.has(&m.from) {
             total.pieces += u64::from(m.pieces.number());
             total.tenths += u64::from(m.tenths.number());
         }
@@ -107,7 +134,18 @@ pub(crate) fn held(book: &[Move], awb: &Awb, place: &Place) -> Amount
     requires within { IsWithin (held book.now awb.now (same_place place.now)) }
     ensures { result ≡ held book.now awb.now (same_place place.now) }
 {
-    total_in(book, awb, place).less(&total_out(book, awb, place))
+    let spot = Spot::At(*place);
+    total_in(book, awb, &spot).less(&total_out(book, awb, &spot))
+}
+
+/// What is in the store.
+pub(crate) fn stored(book: &[Move], awb: &Awb) -> Amount
+    requires few { length book.now ≤ 4_294_967_295 }
+    requires within { IsWithin (store book.now awb.now) }
+    ensures { result ≡ store book.now awb.now }
+{
+    let spot = Spot::Store;
+    total_in(book, awb, &spot).less(&total_out(book, awb, &spot))
 }
 
 /// What came from a place.
@@ -116,7 +154,8 @@ pub(crate) fn drawn(book: &[Move], awb: &Awb, place: &Place) -> Amount
     requires within { IsWithin (drawn book.now awb.now (same_place place.now)) }
     ensures { result ≡ drawn book.now awb.now (same_place place.now) }
 {
-    total_out(book, awb, place).less(&total_in(book, awb, place))
+    let spot = Spot::At(*place);
+    total_out(book, awb, &spot).less(&total_in(book, awb, &spot))
 }
 
 /// Whether the book has a move of a waybill.

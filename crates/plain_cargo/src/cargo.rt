@@ -3,7 +3,7 @@ ghost use Rattle.std.specs.Option.{option_copied};
 ghost use Rattle.shipment_machine.specs.Cargo.{opening_cargo};
 ghost use Rattle.shipment_machine.specs.Lawful.{IsLawful};
 ghost use Rattle.shipment_machine.specs.Sheets.{sheet_of};
-ghost use Rattle.plain_cargo.specs.Bounds.{has_room};
+ghost use Rattle.station_core.specs.Step.{has_room};
 ghost use Rattle.plain_cargo.specs.Plain.{cargo_of, declared_in, flights_in, expected_in, parts_in};
 
 use crate::balances::{drawn, held, is_flight, is_moved};

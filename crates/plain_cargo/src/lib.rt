@@ -3,12 +3,17 @@
 
 mod balances;
 mod cargo;
+mod orders;
 mod planning;
 mod rows;
+mod telling;
 mod viewing;
 mod writing;
 
 pub use cargo::PlainCargo;
+pub use writing::CarryFault;
 
+#[cfg(test)]
+mod telling_tests;
 #[cfg(test)]
 mod tests;

@@ -5,7 +5,7 @@ ghost use Rattle.shipment_machine.specs.Cargo.{Cargo};
 ghost use Rattle.shipment_machine.specs.Effect.{effect, carried_out};
 ghost use Rattle.shipment_machine.specs.Lawful.{IsLawful};
 ghost use Rattle.plain_cargo.specs.Plain.{cargo_of};
-ghost use Rattle.plain_cargo.specs.Sent.{sent};
+ghost use Rattle.station_core.specs.Step.{sent};
 
 use crate::cargo::PlainCargo;
 use imp_fields::Moment;

@@ -19,9 +19,9 @@ use std::test::*;
 
 /// What a plan says: a refusal's number, or the count, its first two moves and how many messages it sends.
 #[derive(Clone, Copy, Debug, PartialEq, Eq)]
-struct Seen {
-    refused: u16,
-    count: u32,
+pub(crate) struct Seen {
+    pub(crate) refused: u16,
+    pub(crate) count: u32,
     moves: [Option<(Place, Place, u32, u32)>; 2],
     notices: usize,
 }
@@ -52,12 +52,12 @@ fn move_at(plan: &Plan<'_>, number: usize) -> Option<(Place, Place, u32, u32)> {
     Some((m.from, m.to, m.pieces.number(), m.tenths.number()))
 }
 
-/// Does a command, and tells what came of it.
-fn done(
-    alloc: Global,
+/// Does a command, sends these messages, and tells what came of it.
+pub(crate) fn done(
     cargo: &mut PlainCargo,
     command: &ShipmentCommand<'_>,
     at: Moment,
+    messages: Vec<Vec<u8>>,
 ) -> Option<Seen>
     requires { IsLawful (cargo_of cargo.old) }
     ensures { IsLawful (cargo_of cargo.new) }
@@ -78,38 +78,43 @@ fn done(
         moves: [move_at(&plan, 0), move_at(&plan, 1)],
         notices: plan.notices.len(),
     };
-    cargo.carry_out(b"", &plan, Vec::new(alloc)).ok()?;
+    cargo.carry_out(b"", &plan, messages).ok()?;
     Some(seen)
 }
 
-/// The same for a command of the desk.
-fn ordered(alloc: Global, cargo: &mut PlainCargo, command: &DeskCommand, at: Moment) -> Option<Seen>
+/// The same for a command of the desk, with no message.
+pub(crate) fn ordered(
+    alloc: Global,
+    cargo: &mut PlainCargo,
+    command: &DeskCommand,
+    at: Moment,
+) -> Option<Seen>
     requires { IsLawful (cargo_of cargo.old) }
     ensures { IsLawful (cargo_of cargo.new) }
 {
     done(
-        alloc,
         cargo,
         &ShipmentCommand::Desk(DeskRef::new(command)),
         at,
+        Vec::new(alloc),
     )
 }
 
 /// What the commands name.
 #[derive(Clone, Copy)]
-struct Names {
-    awb: Awb,
-    fra: Airport,
-    jfk: Airport,
-    lh400: FlightDate,
-    lh401: FlightDate,
-    goods: Goods,
-    name: Name,
+pub(crate) struct Names {
+    pub(crate) awb: Awb,
+    pub(crate) fra: Airport,
+    pub(crate) jfk: Airport,
+    pub(crate) lh400: FlightDate,
+    pub(crate) lh401: FlightDate,
+    pub(crate) goods: Goods,
+    pub(crate) name: Name,
     /// 2026-01-12 at 14:30.
-    at: Moment,
+    pub(crate) at: Moment,
 }
 
-fn all_names() -> Option<Names> {
+pub(crate) fn all_names() -> Option<Names> {
     let day = LocalDay::new(20465)?;
     Some(Names {
         awb: Awb::read(b"020-12345675").ok()?,
@@ -130,7 +135,7 @@ fn all_names() -> Option<Names> {
 }
 
 /// A new station, of which a waybill from FRA to JFK with ten pieces of 100 kilograms is declared.
-fn declared(alloc: Global, names: &Names, here: Airport) -> Option<PlainCargo>
+pub(crate) fn declared(alloc: Global, names: &Names, here: Airport) -> Option<PlainCargo>
     ensures { IfSome result (λ cargo. IsLawful (cargo_of cargo)) }
 {
     opening_law();
@@ -149,7 +154,7 @@ fn declared(alloc: Global, names: &Names, here: Airport) -> Option<PlainCargo>
     Some(cargo)
 }
 
-fn receive(names: &Names, pieces: u32, tenths: u32) -> Option<DeskCommand> {
+pub(crate) fn receive(names: &Names, pieces: u32, tenths: u32) -> Option<DeskCommand> {
     Some(DeskCommand::Receive {
         awb: names.awb,
         pieces: Pieces::new(pieces)?,
@@ -158,7 +163,7 @@ fn receive(names: &Names, pieces: u32, tenths: u32) -> Option<DeskCommand> {
     })
 }
 
-fn manifest(names: &Names, pieces: u32) -> Option<DeskCommand> {
+pub(crate) fn manifest(names: &Names, pieces: u32) -> Option<DeskCommand> {
     Some(DeskCommand::Manifest {
         awb: names.awb,
         flight: names.lh400,
@@ -207,7 +212,7 @@ fn a_shipment_leaves_with_its_flight(rt: HostRuntime) {
 }
 
 /// What a manifest says of the waybill: ten pieces of 100 kilograms for JFK.
-fn announced(names: &Names) -> Option<InboundLine> {
+pub(crate) fn announced(names: &Names) -> Option<InboundLine> {
     Some(InboundLine {
         unload: names.jfk,
         cargo: CargoLine {
@@ -223,7 +228,10 @@ fn announced(names: &Names) -> Option<InboundLine> {
 }
 
 /// The first part of a manifest of LH400 from FRA.
-fn first_part<'a>(names: &Names, lines: &'a [InboundLine]) -> Option<ShipmentCommand<'a>> {
+pub(crate) fn first_part<'a>(
+    names: &Names,
+    lines: &'a [InboundLine],
+) -> Option<ShipmentCommand<'a>> {
     let number = PartNumber::new(1)?;
     let date = DayMonth::read(b"12JAN")?;
     let lines = InboundLines::new(lines)?;
@@ -248,7 +256,7 @@ fn inbound(alloc: Global, counted: u32) -> Option<[Seen; 3]> {
         flight: names.lh400,
         counted: PieceCount::new(counted)?,
     };
-    let taken = done(alloc, &mut cargo, &part, names.at)?;
+    let taken = done(&mut cargo, &part, names.at, Vec::new(alloc))?;
     let checked = ordered(alloc, &mut cargo, &check_in, names.at)?;
     let again = ordered(alloc, &mut cargo, &check_in, names.at)?;
     Some([taken, checked, again])

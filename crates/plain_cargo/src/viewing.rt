@@ -48,7 +48,7 @@ fn put_rising(numbers: &mut Vec<Awb>, number: Awb) -> Result<(), AllocError>
 }
 
 /// The waybills of a book, rising, each once.
-fn waybills_of(alloc: Global, book: &[Move]) -> Result<Vec<Awb>, AllocError>
+pub(crate) fn waybills_of(alloc: Global, book: &[Move]) -> Result<Vec<Awb>, AllocError>
     ensures { IfOk result (λ numbers. numbers.items ≡ waybills_of book.now) }
 {
     let mut numbers: Vec<Awb> = Vec::new(alloc);

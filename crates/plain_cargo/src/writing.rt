@@ -1,11 +1,12 @@
 //! What an accepted command changes.
-ghost use Rattle.std.specs.Prelude.{◌≡◌, ◌==◌, if◌then◌else◌, ℕ, Some, ◌++◌, IfOk, OnOk, OnErr};
+ghost use Rattle.std.specs.Prelude.{◌≡◌, ◌==◌, ◌+◌, if◌then◌else◌, true, false, nat_le, ℕ, Some, Err, ◌++◌, IfOk, OnOk, OnErr};
 ghost use Rattle.agent_stock.specs.Plain.{holders_of};
 ghost use Rattle.agent_stock.specs.declared.stock.Holder.TheVariants.{Used};
 ghost use Rattle.shipment_machine.specs.Cargo.{written, written_all};
 ghost use Rattle.plain_cargo.specs.Plain.{cargo_of, texts_in};
 ghost use Rattle.plain_cargo.specs.Next.{cargo_with};
-ghost use Rattle.plain_cargo.specs.Sent.{sent};
+ghost use Rattle.station_core.specs.Step.{sent, has_room};
+ghost use Rattle.plain_cargo.specs.declared.writing.CarryFault.{CarryFault};
 ghost use Rattle.shipment_machine.specs.Agreement.{outcome_of};
 ghost use Rattle.shipment_machine.specs.Effect.{carried_out};
 ghost use Rattle.plain_cargo.specs.declared.cargo.PlainCargo.{PlainCargo};
@@ -50,7 +51,7 @@ fn use_up(stock: &mut PlainRows, awb: &Awb) -> Result<(), AllocError>
 }
 
 /// The same bytes once more.
-fn bytes_of(alloc: Global, bytes: &[u8]) -> Result<Vec<u8>, AllocError>
+pub(crate) fn bytes_of(alloc: Global, bytes: &[u8]) -> Result<Vec<u8>, AllocError>
     ensures { IfOk result (λ copy. copy.items ≡ bytes.now) }
 {
     let mut copy = Vec::new(alloc);
@@ -152,7 +153,43 @@ impl Next {
     }
 }
 
+/// Why a plan wasn't carried out. Nothing changed.
+#[derive(Clone, Copy, Debug, PartialEq, Eq)]
+pub enum CarryFault {
+    /// The moves, the trail or the messages would be more than can be numbered: 4,294,967,295 each.
+    NoRoom,
+    Memory,
+}
+
+impl From<AllocError> for CarryFault {
+    ghost use Rattle.std.specs.Prelude.{◌≡◌};
+    ghost use Rattle.plain_cargo.specs.declared.writing.CarryFault.TheVariants.{Memory};
+
+    ghost from_gives = { λ _ fault. fault ≡ Memory };
+
+    fn from(_: AllocError) -> CarryFault {
+        CarryFault::Memory
+    }
+}
+
+/// Whether rows and some more are no more than can be numbered.
+fn can_be_numbered(rows: usize, more: usize) -> bool
+    ensures { result ≡ nat_le (rows + more) 4_294_967_295 }
+{
+    let most = u32::MAX as usize;
+    rows <= most && more <= most - rows
+}
+
 impl PlainCargo {
+    /// Whether the moves, the trail and the messages can be numbered once rows are taken over.
+    fn has_room_for(&self, next: &Next, moves: &[Move], messages: &Vec<Vec<u8>>) -> bool
+        ensures { result ≡ has_room (sent (texts_in messages.now.items) (record (cargo_with self.now next.now) { book = self.now.book.items ++ moves.now })) }
+    {
+        can_be_numbered(self.book.len(), moves.len())
+            && can_be_numbered(self.trail.len(), next.trail.len())
+            && can_be_numbered(self.outbox.len(), messages.len())
+    }
+
     /// Takes rows over, with moves and messages behind the others.
     fn take_over(
         &mut self,
@@ -186,17 +223,24 @@ impl PlainCargo {
     }
 
     /// Does what a plan says, where the telegram in work has this text: its rows are written, and its moves and these
-    /// messages stand behind the others. For want of memory nothing changes.
+    /// messages stand behind the others. A fault changes nothing: there is none of room where all rows can be numbered
+    /// afterwards.
     pub fn carry_out(
         &mut self,
         text: &[u8],
         plan: &Plan<'_>,
         messages: Vec<Vec<u8>>,
-    ) -> Result<(), AllocError>
+    ) -> Result<(), CarryFault>
         ensures ok { OnOk result (cargo_of self.new ≡ sent (texts_in messages.items) (carried_out text.now (outcome_of plan.now) (cargo_of self.old))) }
+        ensures room { OnOk result (has_room (sent (texts_in messages.items) (carried_out text.now (outcome_of plan.now) (cargo_of self.old))) ≡ true) }
+        ensures no_room { result ≡ Err CarryFault.NoRoom → has_room (sent (texts_in messages.items) (carried_out text.now (outcome_of plan.now) (cargo_of self.old))) ≡ false }
         ensures err { OnErr result (cargo_of self.new ≡ cargo_of self.old) }
     {
         let next = Next::after(self, text, &plan.changes)?;
-        self.take_over(next, &plan.moves, messages)
+        if !self.has_room_for(&next, &plan.moves, &messages) {
+            return Err(CarryFault::NoRoom);
+        }
+        self.take_over(next, &plan.moves, messages)?;
+        Ok(())
     }
 }

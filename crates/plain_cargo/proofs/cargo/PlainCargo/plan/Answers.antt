@@ -3,8 +3,9 @@ use Rattle.shipment_machine.specs.Agreement.{outcome_of}
 use Rattle.shipment_machine.specs.Effect.{carried_out}
 use Rattle.shipment_machine.specs.Lawful.{IsLawful}
 use Rattle.plain_cargo.specs.Plain.{cargo_of}
-use Rattle.plain_cargo.specs.Sent.{sent}
-use Rattle.plain_cargo.proofs.SentOn.{sent_lawful, still_ok}
+use Rattle.station_core.specs.Step.{sent}
+use Rattle.station_core.proofs.StepLaw.{sent_lawful}
+use Rattle.plain_cargo.proofs.StillOk.{still_ok}
 use Rattle.plain_cargo.proofs.cargo.PlainCargo.plan.Goals as goal
 
 pub returns-clause-stays_lawful : goal.returns-clause-stays_lawful

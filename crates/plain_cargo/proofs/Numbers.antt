@@ -1,0 +1,33 @@
+-- Rows with their numbers, one more at a time.
+use Rattle.std.proofs.Common.{◌≡◌, ℕ, ◌+◌, ◌-◌, ◌<◌, ◌≤◌, List, [], ◌∷◌, ◌++◌, length, take, drop, sym, ap, ◌∙◌, get_or, arith}
+use Rattle.std.proofs.lemmas.List.{take_more, length-take-le, length-drop, get_or-drop, get_or_default}
+use Rattle.station_core.specs.declared.rows.Message.{Message}
+use Rattle.station_core.specs.Readers.{numbered, message}
+
+one_behind : {X Row : Type 0} (f : ℕ → X → Row) (n : ℕ) (xs : List X) (x : X) → numbered f n (xs ++ x ∷ []) ≡ numbered f n xs ++ f (n + length xs) x ∷ []
+one_behind f n [] x = let e : n ≡ n + 0 = omega arith in ap (λ k. f k x ∷ []) e
+one_behind f n (y ∷ ys) x =
+    let e : (n + 1) + length ys ≡ n + length (y ∷ ys) = omega arith in
+    ap (λ l. f n y ∷ l) (one_behind f (n + 1) ys x ∙ ap (λ k. numbered f (n + 1) ys ++ f k x ∷ []) e)
+
+pub told_next : {X Row : Type 0} (f : ℕ → X → Row) (n : ℕ) (xs : List X) (ys zs : List Row) (i k : ℕ) (x : X) → i < length xs → x ≡ get_or xs i x → k ≡ n + i → ys ≡ numbered f n (take i xs) → zs ≡ ys ++ f k x ∷ [] → zs ≡ numbered f n (take (i + 1) xs)
+told_next f n xs ys zs i k x lt read number before after =
+    let long : length (take i xs) ≡ i = length-take-le i xs (omega (arith, lt)) in
+    let e : k ≡ n + length (take i xs) = omega (arith, number, long) in
+    after ∙ ap (λ l. l ++ f k x ∷ []) before
+    ∙ ap (λ j. numbered f n (take i xs) ++ f j x ∷ []) e
+    ∙ sym (one_behind f n (take i xs) x)
+    ∙ ap (λ y. numbered f n (take i xs ++ y ∷ [])) read
+    ∙ sym (ap (numbered f n) (take_more xs i x lt))
+
+-- a message behind the mark
+pub pending_next : (texts : List (List ℕ)) (mark at : ℕ) (ys zs : List Message) (row : Message) → mark ≤ at → at < length texts → ys ≡ numbered message (mark + 1) (take (at - mark) (drop mark texts)) → row ≡ message (at + 1) (get_or texts at []) → zs ≡ ys ++ row ∷ [] → zs ≡ numbered message (mark + 1) (take ((at + 1) - mark) (drop mark texts))
+pending_next texts mark at ys zs row le lt before is after =
+    let i = at - mark in
+    let far : length (drop mark texts) ≡ length texts - mark = length-drop mark texts in
+    let place : mark + i ≡ at = omega (arith, le) in
+    let x = get_or texts at [] in
+    let read : x ≡ get_or (drop mark texts) i x = sym (get_or_default (drop mark texts) i x [] (omega (arith, le, lt, far)) ∙ get_or-drop mark texts i [] ∙ ap (λ k. get_or texts k []) place) in
+    let more : i + 1 ≡ (at + 1) - mark = omega (arith, le) in
+    told_next message (mark + 1) (drop mark texts) ys zs i (at + 1) x (omega (arith, le, lt, far)) read (omega (arith, le)) before (after ∙ ap (λ r. ys ++ r ∷ []) is)
+    ∙ ap (λ k. numbered message (mark + 1) (take k (drop mark texts))) more

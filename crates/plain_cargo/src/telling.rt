@@ -1,0 +1,216 @@
+//! What is told of the cargo.
+ghost use Rattle.std.specs.Prelude.{◌≡◌, List, ◌≤◌, ◌<◌, ℕ, ◌+◌, ◌++◌, [], ◌∷◌, if◌then◌else◌, length, get_or, take, IsSome, IfOk, OnOk, OnErr};
+ghost use Rattle.agent_stock.specs.Runs.{AreStockRuns};
+ghost use Rattle.agent_stock.specs.declared.runs.StockRun.{StockRun};
+ghost use Rattle.shipment_machine.specs.Lawful.{IsLawful};
+ghost use Rattle.station_core.specs.Readers.{HandedOut, told_of, waybill_of, is_irregular, irregular_row, irregular_rows, book_rows, message, pending_messages, trail_row, trail_rows};
+ghost use Rattle.plain_cargo.specs.Plain.{cargo_of, trail_row as kept_line, texts_in};
+
+use crate::balances::{drawn, held, stored};
+use crate::cargo::PlainCargo;
+use crate::rows;
+use crate::viewing::waybills_of;
+use crate::writing::bytes_of;
+use agent_stock::{Holder, StockRun};
+use awb_number::Awb;
+use shipment_machine::{Declared, Place};
+use station_core::{BookRow, IrregularRow, Message, RowText, Sink, TrailRow, Waybill, hand_out};
+use std::alloc::AllocError;
+
+impl PlainCargo {
+    /// Who holds a number.
+    pub fn holder(&self, number: &Awb) -> Option<Holder>
+        ensures { result ≡ (cargo_of self.now).holders number.now }
+    {
+        self.stock.get(number)
+    }
+
+    /// Hands out the stock as its maximal runs of one holder, rising, until the sink wants no more. For want of memory it
+    /// hands out none.
+    pub fn stock<S: Sink<StockRun>>(&self, sink: &mut S) -> Result<(), AllocError>
+        ensures rows { OnOk result ((rows : List StockRun) × AreStockRuns (cargo_of self.now).holders rows × HandedOut S.takes rows sink.old sink.new) }
+        ensures beginning { OnErr result ((rows : List StockRun) → AreStockRuns (cargo_of self.now).holders rows → (n : ℕ) × HandedOut S.takes (take n rows) sink.old sink.new) }
+    {
+        hand_out(sink, self.stock.runs(self.alloc)?);
+        Ok(())
+    }
+
+    /// What is told of a waybill, where this is declared of it.
+    fn told(&self, number: &Awb, declared: &Declared) -> Waybill
+        requires lawful { IsLawful (cargo_of self.now) }
+        requires few { length self.now.book.items ≤ 4_294_967_295 }
+        ensures { result ≡ told_of (cargo_of self.now) number.now declared.now }
+    {
+        let book = self.book.as_slice();
+        Waybill {
+            declared: *declared,
+            taken: drawn(book, number, &Place::Hand),
+            found: drawn(book, number, &Place::Surplus),
+            store: stored(book, number),
+            departed: held(book, number, &Place::Departed),
+            delivered: held(book, number, &Place::Delivered),
+            missing: held(book, number, &Place::Missing),
+        }
+    }
+
+    /// What is known of a waybill, if it was declared.
+    pub fn waybill(&self, number: &Awb) -> Option<Waybill>
+        requires lawful { IsLawful (cargo_of self.now) }
+        requires few { length self.now.book.items ≤ 4_294_967_295 }
+        ensures { result ≡ waybill_of (cargo_of self.now) number.now }
+    {
+        let declared = self.declared_of(number)?;
+        Some(self.told(number, &declared))
+    }
+
+    /// A waybill with its pieces missing and found.
+    fn irregular_row(&self, number: &Awb) -> IrregularRow
+        requires lawful { IsLawful (cargo_of self.now) }
+        requires few { length self.now.book.items ≤ 4_294_967_295 }
+        requires declared { IsSome ((cargo_of self.now).declared number.now) }
+        ensures { result ≡ irregular_row (cargo_of self.now) number.now }
+    {
+        let book = self.book.as_slice();
+        let declared = self.declared_of(number).unwrap();
+        let missing = held(book, number, &Place::Missing);
+        let found = drawn(book, number, &Place::Surplus);
+        IrregularRow {
+            awb: *number,
+            origin: declared.origin,
+            destination: declared.destination,
+            missing,
+            found,
+        }
+    }
+
+    /// Puts a waybill behind the others, if pieces are missing or were found.
+    fn put_irregular(&self, rows: &mut Vec<IrregularRow>, number: &Awb) -> Result<(), AllocError>
+        requires lawful { IsLawful (cargo_of self.now) }
+        requires few { length self.now.book.items ≤ 4_294_967_295 }
+        requires declared { IsSome ((cargo_of self.now).declared number.now) }
+        ensures { OnOk result (rows.new.items ≡ rows.old.items ++ (if is_irregular (cargo_of self.now) number.now then irregular_row (cargo_of self.now) number.now ∷ [] else [])) }
+    {
+        let row = self.irregular_row(number);
+        if row.missing.pieces > 0 || row.found.pieces > 0 {
+            rows.push(row)?;
+        }
+        Ok(())
+    }
+
+    /// The waybills of which pieces are missing or were found, rising.
+    fn irregular_rows(&self) -> Result<Vec<IrregularRow>, AllocError>
+        requires lawful { IsLawful (cargo_of self.now) }
+        requires few { length self.now.book.items ≤ 4_294_967_295 }
+        ensures { IfOk result (λ rows. rows.items ≡ irregular_rows (cargo_of self.now)) }
+    {
+        let mut rows = Vec::new(self.alloc);
+        for number in &waybills_of(self.alloc, self.book.as_slice())? {
+            self.put_irregular(&mut rows, number)?;
+        }
+        Ok(rows)
+    }
+
+    /// Hands out the waybills of which pieces are missing or were found, rising, until the sink wants no more. For want of
+    /// memory it hands out none.
+    pub fn irregular<S: Sink<IrregularRow>>(&self, sink: &mut S) -> Result<(), AllocError>
+        requires lawful { IsLawful (cargo_of self.now) }
+        requires few { length self.now.book.items ≤ 4_294_967_295 }
+        ensures rows { OnOk result (HandedOut S.takes (irregular_rows (cargo_of self.now)) sink.old sink.new) }
+        ensures beginning { OnErr result ((n : ℕ) × HandedOut S.takes (take n (irregular_rows (cargo_of self.now))) sink.old sink.new) }
+    {
+        hand_out(sink, self.irregular_rows()?);
+        Ok(())
+    }
+}
+
+impl PlainCargo {
+    /// The movement book, numbered from 1.
+    fn book_rows(&self) -> Result<Vec<BookRow>, AllocError>
+        requires few { length self.now.book.items ≤ 4_294_967_295 }
+        ensures { IfOk result (λ rows. rows.items ≡ book_rows (cargo_of self.now)) }
+    {
+        let mut rows = Vec::new(self.alloc);
+        for (i, movement) in self.book.iter().enumerate() {
+            rows.push(BookRow {
+                number: i as u32 + 1,
+                movement: *movement,
+            })?;
+        }
+        Ok(rows)
+    }
+
+    /// Hands out the movement book, numbered from 1, until the sink wants no more. For want of memory it hands out nothing.
+    pub fn book<S: Sink<BookRow>>(&self, sink: &mut S) -> Result<(), AllocError>
+        requires few { length self.now.book.items ≤ 4_294_967_295 }
+        ensures rows { OnOk result (HandedOut S.takes (book_rows (cargo_of self.now)) sink.old sink.new) }
+        ensures beginning { OnErr result ((n : ℕ) × HandedOut S.takes (take n (book_rows (cargo_of self.now))) sink.old sink.new) }
+    {
+        hand_out(sink, self.book_rows()?);
+        Ok(())
+    }
+
+    /// The message at a place of the outbox, numbered from 1.
+    fn message_at(&self, at: usize) -> Result<Message, AllocError>
+        requires few { length self.now.outbox.items ≤ 4_294_967_295 }
+        requires within { at < length self.now.outbox.items }
+        ensures { IfOk result (λ row. row ≡ message (at + 1) (get_or (texts_in self.now.outbox.items) at [])) }
+    {
+        Ok(Message {
+            number: at as u32 + 1,
+            text: RowText::new(bytes_of(self.alloc, &self.outbox[at])?),
+        })
+    }
+
+    /// The messages that weren't confirmed yet.
+    fn pending_rows(&self) -> Result<Vec<Message>, AllocError>
+        requires sent { length self.now.outbox.items ≤ 4_294_967_295 }
+        ensures { IfOk result (λ rows. rows.items ≡ pending_messages (cargo_of self.now)) }
+    {
+        let mut rows = Vec::new(self.alloc);
+        for at in self.confirmed as usize..self.outbox.len() {
+            rows.push(self.message_at(at)?)?;
+        }
+        Ok(rows)
+    }
+
+    /// Hands out the messages that weren't confirmed yet, with their places in the outbox from 1, until the sink wants no
+    /// more. For want of memory it hands out none.
+    pub fn pending<S: Sink<Message>>(&self, sink: &mut S) -> Result<(), AllocError>
+        requires sent { length self.now.outbox.items ≤ 4_294_967_295 }
+        ensures rows { OnOk result (HandedOut S.takes (pending_messages (cargo_of self.now)) sink.old sink.new) }
+        ensures beginning { OnErr result ((n : ℕ) × HandedOut S.takes (take n (pending_messages (cargo_of self.now))) sink.old sink.new) }
+    {
+        hand_out(sink, self.pending_rows()?);
+        Ok(())
+    }
+
+    /// A line of the trail.
+    fn line_of(&self, row: &rows::TrailRow) -> Result<TrailRow, AllocError>
+        ensures { IfOk result (λ line. line ≡ trail_row (kept_line row.now)) }
+    {
+        Ok(TrailRow {
+            awb: row.awb,
+            line: RowText::new(bytes_of(self.alloc, &row.line)?),
+        })
+    }
+
+    /// The trail.
+    fn trail_lines(&self) -> Result<Vec<TrailRow>, AllocError>
+        ensures { IfOk result (λ rows. rows.items ≡ trail_rows (cargo_of self.now)) }
+    {
+        let mut rows = Vec::new(self.alloc);
+        for row in &self.trail {
+            rows.push(self.line_of(row)?)?;
+        }
+        Ok(rows)
+    }
+
+    /// Hands out the trail, in order, until the sink wants no more. For want of memory it hands out nothing.
+    pub fn trail<S: Sink<TrailRow>>(&self, sink: &mut S) -> Result<(), AllocError>
+        ensures rows { OnOk result (HandedOut S.takes (trail_rows (cargo_of self.now)) sink.old sink.new) }
+        ensures beginning { OnErr result ((n : ℕ) × HandedOut S.takes (take n (trail_rows (cargo_of self.now))) sink.old sink.new) }
+    {
+        hand_out(sink, self.trail_lines()?);
+        Ok(())
+    }
+}

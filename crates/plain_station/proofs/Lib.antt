@@ -1,0 +1,5 @@
+mod Acting
+mod Handed
+mod Keeping
+mod Lookups
+mod Ordering

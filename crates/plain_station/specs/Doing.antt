@@ -1,0 +1,27 @@
+-- What is done with an input that isn't known yet.
+use Rattle.std.specs.Prelude.{◌≡◌, ℕ, true, false, Result, Ok, Err}
+use Rattle.shipment_machine.specs.Cargo.{Cargo}
+use Rattle.shipment_machine.specs.Lawful.{IsLawful}
+use Rattle.shipment_machine.specs.declared.plans.Refusal.{Refusal}
+use Rattle.shipment_machine.specs.declared.plans.Detail.TheVariants as detail
+use Rattle.station_core.specs.declared.answer.ActFault.{ActFault}
+use Rattle.station_core.specs.declared.answer.ActFault.TheVariants as fault
+use Rattle.station_core.specs.Step.{Acted, with_notices, has_room}
+
+-- a lawful cargo whose rows can all be numbered
+pub record IsSteady (s : Cargo) : Type 0 where
+  pub lawful : IsLawful s
+  pub room : has_room s ≡ true
+
+-- an input is refused for its own reason, or where the rows afterwards couldn't all be numbered
+abbrev pub RefusedFor : Result Acted Refusal → Refusal → Type 0
+RefusedFor (Err due) told = due ≡ told
+RefusedFor (Ok a) told = (has_room (with_notices a) ≡ false) × (told ≡ record { number = 402; detail = detail.Nothing })
+
+-- what was done: all that the input does, or nothing
+abbrev pub Does : Result Acted Refusal → Cargo → Result ℕ ActFault → Cargo → Type 0
+Does acted old (Ok count) new = (a : Acted) × (acted ≡ Ok a) × (has_room (with_notices a) ≡ true) × (count ≡ a.count) × (new ≡ with_notices a)
+Does acted old (Err (fault.Refused refusal)) new = RefusedFor acted refusal × (new ≡ old)
+Does acted old (Err fault.Memory) new = new ≡ old
+Does acted old (Err fault.Store) new = ⊥
+Does acted old (Err fault.Reopen) new = ⊥

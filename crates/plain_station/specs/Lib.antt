@@ -1,0 +1,4 @@
+pub mod Doing
+pub mod Kept
+pub mod Props
+pub mod State

@@ -1,0 +1,22 @@
+-- A cargo is lawful in one way at most.
+use Rattle.std.specs.Prelude.{List, [], ◌∷◌}
+use Rattle.std.proofs.Props.{props}
+use Rattle.shipment_machine.specs.declared.flight.FlightDate.{FlightDate}
+use Rattle.shipment_machine.specs.declared.moves.Move.{Move}
+use Rattle.shipment_machine.specs.declared.moves.Place.{Place}
+use Rattle.shipment_machine.specs.declared.moves.Place.TheVariants.{Hand, Surplus, Free, Built, Departed, Delivered, Missing}
+use Rattle.shipment_machine.specs.Cargo.{Cargo}
+use Rattle.shipment_machine.specs.Lawful.{IsNoted, StaysDeparted}
+
+pub noted_prop : (s : Cargo) (p : Place) → IsProp (IsNoted s p)
+noted_prop s Hand = Prim.hlevel (props)
+noted_prop s Surplus = Prim.hlevel (props)
+noted_prop s Free = Prim.hlevel (props)
+noted_prop s (Built flight) = Prim.hlevel (props)
+noted_prop s Departed = Prim.hlevel (props)
+noted_prop s Delivered = Prim.hlevel (props)
+noted_prop s Missing = Prim.hlevel (props)
+
+pub departed_prop : (flight : FlightDate) (book : List Move) → IsProp (StaysDeparted flight book)
+departed_prop flight [] = Prim.hlevel (props)
+departed_prop flight (m ∷ later) = Prim.hlevel (props, departed_prop flight later)

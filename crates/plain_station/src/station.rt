@@ -1,0 +1,200 @@
+ghost use Rattle.std.specs.Prelude.{◌≡◌, false, None, Ok, IfOk, string_bytes};
+ghost use Rattle.desk_commands.specs.Command.{command_text};
+ghost use Rattle.plain_station.specs.State.{state_of};
+ghost use Rattle.station_core.specs.Keeping.{Acts, Breaks};
+ghost use Rattle.station_core.specs.Readers.{waybill_of};
+ghost use Rattle.station_core.specs.Step.{opening};
+ghost use Rattle.station_core.specs.declared.input.Input.TheVariants.{Keyed, Wire};
+
+use crate::kept::{KeptReply, KeptText, answer_under, count_of};
+use crate::steady::SteadyCargo;
+use agent_stock::{Holder, StockRun};
+use awb_number::Awb;
+use desk_commands::{Command, command_text};
+use imp_fields::{Airport, Moment};
+use station_core::{
+    ActFault, Answer, BookRow, Input, IrregularRow, Keeper, Key, Message, Reply, Sink, TrailRow,
+    Waybill,
+};
+use std::alloc::{AllocError, Global};
+use telegrams::Telegram;
+
+/// The same bytes once more.
+fn bytes_of(alloc: Global, bytes: &[u8]) -> Result<Vec<u8>, AllocError>
+    ensures { IfOk result (λ copy. copy.items ≡ bytes.now) }
+{
+    let mut copy = Vec::new(alloc);
+    copy.extend_from_slice(bytes)?;
+    Ok(copy)
+}
+
+/// A station in memory alone. Its faults are `Refused` and `Memory`, and after both it is as before.
+#[derive(Drop)]
+pub struct PlainStation {
+    alloc: Global,
+    cargo: SteadyCargo,
+    // In the order in which they were accepted, each key and each text once.
+    kept_keys: Vec<KeptReply>,
+    kept_texts: Vec<KeptText>,
+}
+
+impl PlainStation {
+    /// A station at an airport with nothing in it.
+    pub fn new(alloc: Global, here: Airport) -> PlainStation
+        ensures { state_of result ≡ opening here }
+    {
+        PlainStation {
+            alloc,
+            cargo: SteadyCargo::new(alloc, here),
+            kept_keys: Vec::new(alloc),
+            kept_texts: Vec::new(alloc),
+        }
+    }
+
+    /// Does a command under a new key.
+    fn act_keyed(
+        &mut self,
+        key: &Key,
+        command: &Command,
+        request: String,
+        at: Moment,
+    ) -> Result<Reply, ActFault>
+        requires new_key { (state_of self.old).kept_keys key.now ≡ None }
+        requires request { string_bytes request ≡ command_text command.now }
+        ensures acts { Acts (state_of self.old) (Keyed key.now command.now) at result (λ s. state_of self.new ≡ s) }
+        ensures works { Breaks result false }
+    {
+        if self.kept_keys.try_reserve(1).is_err() {
+            return Err(ActFault::Memory);
+        }
+        let count = match self.cargo.do_command(self.alloc, command, at) {
+            Ok(count) => count,
+            Err(fault) => return Err(fault),
+        };
+        let Ok(()) = self.kept_keys.push(KeptReply {
+            key: *key,
+            request,
+            count,
+        })
+        else {
+            unreachable!();
+        };
+        Ok(Reply { count })
+    }
+
+    /// Does what a new telegram says.
+    fn act_wire<'a>(&mut self, telegram: &'a Telegram<'a>, at: Moment) -> Result<Reply, ActFault>
+        requires new_text { (state_of self.old).kept_texts telegram.now.text ≡ None }
+        ensures acts { Acts (state_of self.old) (Wire telegram.now) at result (λ s. state_of self.new ≡ s) }
+        ensures works { Breaks result false }
+    {
+        let Ok(text) = bytes_of(self.alloc, telegram.text().as_bytes()) else {
+            return Err(ActFault::Memory);
+        };
+        if self.kept_texts.try_reserve(1).is_err() {
+            return Err(ActFault::Memory);
+        }
+        let count = match self.cargo.do_telegram(self.alloc, telegram, at) {
+            Ok(count) => count,
+            Err(fault) => return Err(fault),
+        };
+        let Ok(()) = self.kept_texts.push(KeptText { text, count }) else {
+            unreachable!();
+        };
+        Ok(Reply { count })
+    }
+
+    /// A command of a caller: a known key is answered by what was kept.
+    fn act_on_command(
+        &mut self,
+        key: &Key,
+        command: &Command,
+        at: Moment,
+    ) -> Result<Reply, ActFault>
+        ensures acts { Acts (state_of self.old) (Keyed key.now command.now) at result (λ s. state_of self.new ≡ s) }
+        ensures works { Breaks result false }
+    {
+        let Ok(request) = command_text(self.alloc, command) else {
+            return Err(ActFault::Memory);
+        };
+        match answer_under(&self.kept_keys, key, &request) {
+            Some(Answer::Done(reply)) => Ok(reply),
+            Some(Answer::Refused(refusal)) => Err(ActFault::Refused(refusal)),
+            None => self.act_keyed(key, command, request, at),
+        }
+    }
+
+    /// A telegram: a known text is answered by the count that was told.
+    fn act_on_telegram<'a>(
+        &mut self,
+        telegram: &'a Telegram<'a>,
+        at: Moment,
+    ) -> Result<Reply, ActFault>
+        ensures acts { Acts (state_of self.old) (Wire telegram.now) at result (λ s. state_of self.new ≡ s) }
+        ensures works { Breaks result false }
+    {
+        match count_of(&self.kept_texts, telegram.text().as_bytes()) {
+            Some(count) => Ok(Reply { count }),
+            None => self.act_wire(telegram, at),
+        }
+    }
+}
+
+impl Keeper for PlainStation {
+    ghost keeps = { λ k s. state_of k ≡ s };
+
+    ghost is_sound = { λ k. Unit {0} };
+
+    ghost is_broken = { λ k. false };
+
+    ghost may_find = { λ k found. ⊥ };
+
+    ghost takes = { λ input. Unit {0} };
+
+    ghost takes_orders = { λ key order. tt };
+
+    ghost settled = { λ k s keeps sound found finds. absurd finds };
+
+    fn act(&mut self, input: &Input<'_>, at: Moment) -> Result<Reply, ActFault> {
+        match input {
+            Input::Keyed(key, command) => self.act_on_command(key, command, at),
+            Input::Wire(telegram) => self.act_on_telegram(telegram, at),
+        }
+    }
+
+    // It takes no memory, and always answers.
+    fn holder(&mut self, number: &Awb) -> Result<Option<Holder>, ActFault>
+        ensures answer { result ≡ Ok ((state_of self.old).cargo.holders number.now) }
+        ensures as_before { self.new ≡ self.old }
+    {
+        Ok(self.cargo.cargo.holder(number))
+    }
+
+    // It takes no memory, and always answers.
+    fn waybill(&mut self, number: &Awb) -> Result<Option<Waybill>, ActFault>
+        ensures answer { result ≡ Ok (waybill_of (state_of self.old).cargo number.now) }
+        ensures as_before { self.new ≡ self.old }
+    {
+        Ok(self.cargo.waybill(number))
+    }
+
+    fn stock<S: Sink<StockRun>>(&mut self, sink: &mut S) -> Result<(), ActFault> {
+        self.cargo.stock(sink)
+    }
+
+    fn irregular<S: Sink<IrregularRow>>(&mut self, sink: &mut S) -> Result<(), ActFault> {
+        self.cargo.irregular(sink)
+    }
+
+    fn book<S: Sink<BookRow>>(&mut self, sink: &mut S) -> Result<(), ActFault> {
+        self.cargo.book(sink)
+    }
+
+    fn pending<S: Sink<Message>>(&mut self, sink: &mut S) -> Result<(), ActFault> {
+        self.cargo.pending(sink)
+    }
+
+    fn trail<S: Sink<TrailRow>>(&mut self, sink: &mut S) -> Result<(), ActFault> {
+        self.cargo.trail(sink)
+    }
+}
