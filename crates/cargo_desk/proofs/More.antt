@@ -1,5 +1,6 @@
 -- One row more.
 use Rattle.std.proofs.Common.{arith, ℕ, ◌+◌, ◌≡◌, ◌∙◌, sym, refl, ap, Bool, true, false, ◌&&◌, List, [], ◌∷◌, ◌++◌, append_assoc, length, Option, Some, None, IfSome, option_map, inl, inr}
+use Rattle.imp_fields.specs.Date.{LocalMinute}
 use Rattle.station_core.specs.Step.{State}
 use Rattle.csv.specs.declared.error.ErrorKind.{ErrorKind}
 use Rattle.csv.specs.declared.error.ErrorKind.TheVariants as kind
@@ -12,9 +13,9 @@ use Rattle.cargo_desk.specs.Lines.{Row, row_line, row_good, row_after, lines_fro
 use Rattle.cargo_desk.specs.Ended.{IsAnswered, IsStopped, HasRun, HasStopped, AreFirst, IsReadersFault, reader_fault}
 use Rattle.cargo_desk.proofs.Records.{all_records, first_records}
 
-after_more : (s : State) (rows : List Row) (row : Row) → rows_after s (rows ++ row ∷ []) ≡ row_after (rows_after s rows) row
-after_more s [] row = refl
-after_more s (r ∷ rows) row = after_more (row_after s r) rows row
+after_more : (s : State) (rows : List Row) (row : Row) (at : LocalMinute) → rows_after s (rows ++ row ∷ []) at ≡ row_after (rows_after s rows at) row at
+after_more s [] row at = refl
+after_more s (r ∷ rows) row at = after_more (row_after s r at) rows row at
 
 and_assoc : (a b c : Bool) → (a && (b && c)) ≡ ((a && b) && c)
 and_assoc true b c = refl
@@ -24,9 +25,10 @@ and_true : (a : Bool) → (a && true) ≡ a
 and_true true = refl
 and_true false = refl
 
-good_more : (s : State) (rows : List Row) (row : Row) → rows_good s (rows ++ row ∷ []) ≡ (rows_good s rows && row_good (rows_after s rows) row)
-good_more s [] row = and_true (row_good s row)
-good_more s (r ∷ rows) row = ap (λ b. row_good s r && b) (good_more (row_after s r) rows row) ∙ and_assoc (row_good s r) (rows_good (row_after s r) rows) (row_good (rows_after (row_after s r) rows) row)
+good_more : (s : State) (rows : List Row) (row : Row) (at : LocalMinute) → rows_good s (rows ++ row ∷ []) at ≡ (rows_good s rows at && row_good (rows_after s rows at) row at)
+good_more s [] row at = and_true (row_good s row at)
+good_more s (r ∷ rows) row at =
+    ap (λ b. row_good s r at && b) (good_more (row_after s r at) rows row at) ∙ and_assoc (row_good s r at) (rows_good (row_after s r at) rows at) (row_good (rows_after (row_after s r at) rows at) row at)
 
 pub append_nil : (xs : List ℕ) → xs ++ [] ≡ xs
 append_nil [] = refl
@@ -38,12 +40,13 @@ next_number n row rows = omega arith
 same_number : (n : ℕ) → n ≡ n + 0
 same_number n = omega arith
 
-lines_more : (n : ℕ) (s : State) (rows : List Row) (row : Row) → lines_from n s (rows ++ row ∷ []) ≡ lines_from n s rows ++ row_line (n + length rows) (rows_after s rows) row
-lines_more n s [] row = append_nil (row_line n s row) ∙ ap (λ m. row_line m s row) (same_number n)
-lines_more n s (r ∷ rows) row =
-    let after : State = rows_after (row_after s r) rows in
-    ap (λ more. row_line n s r ++ more) (lines_more (n + 1) (row_after s r) rows row ∙ ap (λ m. lines_from (n + 1) (row_after s r) rows ++ row_line m after row) (next_number n r rows))
-    ∙ sym (append_assoc (row_line n s r) (lines_from (n + 1) (row_after s r) rows) (row_line (n + length (r ∷ rows)) after row))
+lines_more : (n : ℕ) (s : State) (rows : List Row) (row : Row) (at : LocalMinute) → lines_from n s (rows ++ row ∷ []) at ≡ lines_from n s rows at ++ row_line (n + length rows) (rows_after s rows at) row at
+lines_more n s [] row at = append_nil (row_line n s row at) ∙ ap (λ m. row_line m s row at) (same_number n)
+lines_more n s (r ∷ rows) row at =
+    let after : State = rows_after (row_after s r at) rows at in
+    ap (λ more. row_line n s r at ++ more)
+    (lines_more (n + 1) (row_after s r at) rows row at ∙ ap (λ m. lines_from (n + 1) (row_after s r at) rows at ++ row_line m after row at) (next_number n r rows))
+    ∙ sym (append_assoc (row_line n s r at) (lines_from (n + 1) (row_after s r at) rows at) (row_line (n + length (r ∷ rows)) after row at))
 
 first_number : (k : ℕ) → k + 1 ≡ 1 + k
 first_number k = omega arith
@@ -55,16 +58,16 @@ length_more (r ∷ rows) row = let more = length_more rows row in omega (arith, 
 pub counted_more : (number : ℕ) (rows : List Row) (row : Row) → number ≡ length rows → number + 1 ≡ length (rows ++ row ∷ [])
 counted_more number rows row counted = ap (λ k. k + 1) counted ∙ length_more rows row
 
-pub run_more : (s : State) (rows : List Row) (row : Row) (number : ℕ) (good accepted : Bool) (before between after : List ℕ) (kept keeps : State → Type 0) → number ≡ length rows
-    → HasRun s rows good before between kept → IsAnswered (number + 1) (rows_after s rows) row accepted between after keeps → HasRun s (rows ++ row ∷ []) (good && accepted) before after keeps
-run_more s rows row number good accepted before between after kept keeps counted run answered =
-    let here : State = rows_after s rows in
+pub run_more : (s : State) (rows : List Row) (row : Row) (at : LocalMinute) (number : ℕ) (good accepted : Bool) (before between after : List ℕ) (kept keeps : State → Type 0) → number ≡ length rows
+    → HasRun s rows at good before between kept → IsAnswered (number + 1) (rows_after s rows at) row at accepted between after keeps → HasRun s (rows ++ row ∷ []) at (good && accepted) before after keeps
+run_more s rows row at number good accepted before between after kept keeps counted run answered =
+    let here : State = rows_after s rows at in
     let number_is : number + 1 ≡ 1 + length rows = ap (λ k. k + 1) counted ∙ first_number (length rows) in
     record {
-      lines = answered.line ∙ ap (λ b. b ++ row_line (number + 1) here row) run.lines ∙ append_assoc before (lines_from 1 s rows) (row_line (number + 1) here row)
-          ∙ ap (λ m. before ++ (lines_from 1 s rows ++ row_line m here row)) number_is ∙ ap (λ l. before ++ l) (sym (lines_more 1 s rows row));
-      good_is = (λ i. run.good_is i && answered.good_is i) ∙ sym (good_more s rows row);
-      state = rw (after_more s rows row) answered.state;
+      lines = answered.line ∙ ap (λ b. b ++ row_line (number + 1) here row at) run.lines ∙ append_assoc before (lines_from 1 s rows at) (row_line (number + 1) here row at)
+          ∙ ap (λ m. before ++ (lines_from 1 s rows at ++ row_line m here row at)) number_is ∙ ap (λ l. before ++ l) (sym (lines_more 1 s rows row at));
+      good_is = (λ i. run.good_is i && answered.good_is i) ∙ sym (good_more s rows row at);
+      state = rw (after_more s rows row at) answered.state;
     }
 
 -- what the reader has left of a text, after these rows
@@ -102,8 +105,8 @@ readers_fault (kind.Deserialize pos err) = inr refl
 readers_fault kind.OutOfMemory = inr refl
 
 -- the row after those that were answered stops the run
-pub stops_more : (s : State) (rows : List Row) (row : Row) (number : ℕ) (good : Bool) (e : RunFault) (before between after : List ℕ) (kept keeps : State → Type 0) (may_find : Option State → Type 0)
-    → number ≡ length rows → HasRun s rows good before between kept → IsStopped (number + 1) (rows_after s rows) row e between after keeps may_find
-    → HasStopped s rows (Some row) e before after keeps may_find
-stops_more s rows row number good e before between after kept keeps may_find counted run stopped =
+pub stops_more : (s : State) (rows : List Row) (row : Row) (at : LocalMinute) (number : ℕ) (good : Bool) (e : RunFault) (before between after : List ℕ) (kept keeps : State → Type 0) (may_find : Option State → Type 0)
+    → number ≡ length rows → HasRun s rows at good before between kept → IsStopped (number + 1) (rows_after s rows at) row at e between after keeps may_find
+    → HasStopped s rows (Some row) at e before after keeps may_find
+stops_more s rows row at number good e before between after kept keeps may_find counted run stopped =
     rw (← counted, ← run.lines) stopped

@@ -1,33 +1,33 @@
 -- A row that the keeper didn't answer.
 use Rattle.std.specs.Result.{IsErrAnd}
 use Rattle.std.proofs.Common.{◌≡◌, ℕ, List, Option, Some, Result, Ok, Err, IfErr, subst, sym, ◌∙◌, ap, ◌⊎◌, inl, inr, ⊎_elim}
+use Rattle.imp_fields.specs.Date.{LocalMinute}
+use Rattle.agent_stock.specs.declared.stock.Order.{Order}
 use Rattle.station_core.specs.declared.answer.ActFault.{ActFault}
 use Rattle.station_core.specs.declared.answer.ActFault.TheVariants as act
-use Rattle.station_core.specs.declared.command.Input.{Input}
+use Rattle.station_core.specs.declared.input.Input.{Input}
 use Rattle.station_core.specs.Step.{State, step}
 use Rattle.station_core.specs.Keeping.{Answers, MayLeave}
 use Rattle.cargo_desk.specs.declared.stock.RunFault.TheVariants as fault
-use Rattle.station_core.specs.declared.command.Command.{Command}
-use Rattle.station_core.specs.declared.command.Input.TheVariants.{Keyed}
 use Rattle.cargo_desk.specs.Row.{row_asks}
-use Rattle.cargo_desk.specs.Lines.{Row, asked_after, row_after}
+use Rattle.cargo_desk.specs.Lines.{Row, input_of, asked_after, row_after}
 use Rattle.cargo_desk.specs.Ended.{run_fault}
 
-pub still_kept : (s : State) (i : Input) (e : ActFault) (keeps : State → Type 0) → Answers s i (Err e) keeps → run_fault e ≡ fault.Memory → keeps s
-still_kept s i act.Memory keeps answers is = answers
-still_kept s i (act.Refused refusal) keeps answers is = cc
-still_kept s i act.Store keeps answers is = cc
-still_kept s i act.Reopen keeps answers is = cc
+pub still_kept : (s : State) (i : Input) (at : LocalMinute) (e : ActFault) (keeps : State → Type 0) → Answers s i at (Err e) keeps → run_fault e ≡ fault.Memory → keeps s
+still_kept s i at act.Memory keeps answers is = answers
+still_kept s i at (act.Refused refusal) keeps answers is = cc
+still_kept s i at act.Store keeps answers is = cc
+still_kept s i at act.Reopen keeps answers is = cc
 
-pub found_then : (s : State) (i : Input) (e : ActFault) (found : Option State) → MayLeave s i (Err e) found → (found ≡ Some s) ⊎ ((run_fault e ≡ fault.Store) × (found ≡ Some (step s i).state))
-found_then s i e found left = ⊎_elim (λ before. inl before) (λ store. inr (ap run_fault store.0, store.1)) left
+pub found_then : (s : State) (i : Input) (at : LocalMinute) (e : ActFault) (found : Option State) → MayLeave s i at (Err e) found → (found ≡ Some s) ⊎ ((run_fault e ≡ fault.Store) × (found ≡ Some (step s i at).state))
+found_then s i at e found left = ⊎_elim (λ before. inl before) (λ store. inr (ap run_fault store.0, store.1)) left
 
 -- of a row that asks this
-pub found_row : (s : State) (row : Row) (asked : List ℕ × Command) (e : ActFault) (found : Option State) → row_asks row ≡ Some asked → MayLeave s (Keyed asked.0 asked.1) (Err e) found
-    → (found ≡ Some s) ⊎ ((run_fault e ≡ fault.Store) × (found ≡ Some (row_after s row)))
-found_row s row asked e found asks left =
-    let after : asked_after s (Some asked) ≡ row_after s row = ap (asked_after s) (sym asks) in
-    ⊎_elim (λ before. inl before) (λ store. inr (store.0, store.1 ∙ ap Some after)) (found_then s (Keyed asked.0 asked.1) e found left)
+pub found_row : (s : State) (row : Row) (at : LocalMinute) (asked : List ℕ × Order) (e : ActFault) (found : Option State) → row_asks row ≡ Some asked → MayLeave s (input_of asked) at (Err e) found
+    → (found ≡ Some s) ⊎ ((run_fault e ≡ fault.Store) × (found ≡ Some (row_after s row at)))
+found_row s row at asked e found asks left =
+    let after : asked_after s (Some asked) at ≡ row_after s row at = ap (λ request. asked_after s request at) (sym asks) in
+    ⊎_elim (λ before. inl before) (λ store. inr (store.0, store.1 ∙ ap Some after)) (found_then s (input_of asked) at e found left)
 
 -- an error that is passed on
 pub passed_on : {T E : Type 0} (r : Result T E) (e : E) (P : E → Type 0) → IsErrAnd r (λ x. x ≡ e) → P e → IfErr r P

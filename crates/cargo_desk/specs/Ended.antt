@@ -2,6 +2,7 @@
 use Rattle.std.specs.Prelude.{◌≡◌, ◌⊎◌, ℕ, ◌+◌, Bool, Option, Some, None, List, [], ◌∷◌, ◌++◌, length, take}
 use Rattle.csv.specs.declared.error.ErrorKind.{ErrorKind}
 use Rattle.csv.specs.declared.error.ErrorKind.TheVariants as kind
+use Rattle.imp_fields.specs.Date.{LocalMinute}
 use Rattle.station_core.specs.declared.answer.ActFault.{ActFault}
 use Rattle.station_core.specs.declared.answer.ActFault.TheVariants as act
 use Rattle.station_core.specs.Step.{State}
@@ -14,25 +15,25 @@ abbrev pub run_fault : ActFault → RunFault
 run_fault act.Memory = fault.Memory
 run_fault _ = fault.Store
 
--- its line was written, and the state is the one after it
-pub record IsAnswered (number : ℕ) (s : State) (row : Row) (good : Bool) (before after : List ℕ) (keeps : State → Type 0) : Type 0 where
-  pub line : after ≡ before ++ row_line number s row
-  pub good_is : good ≡ row_good s row
-  pub state : keeps (row_after s row)
+-- its line was written, and the state is the one after it, at this moment
+pub record IsAnswered (number : ℕ) (s : State) (row : Row) (at : LocalMinute) (good : Bool) (before after : List ℕ) (keeps : State → Type 0) : Type 0 where
+  pub line : after ≡ before ++ row_line number s row at
+  pub good_is : good ≡ row_good s row at
+  pub state : keeps (row_after s row at)
 
 -- The row has acted, and a beginning of its line was written; or not, or nobody knows, and nothing was written.
-pub record HasActed (number : ℕ) (s : State) (row : Row) (before after : List ℕ) (keeps : State → Type 0) : Type 0 where
+pub record HasActed (number : ℕ) (s : State) (row : Row) (at : LocalMinute) (before after : List ℕ) (keeps : State → Type 0) : Type 0 where
   pub sent : ℕ
-  pub line : after ≡ before ++ take sent (row_line number s row)
-  pub state : keeps (row_after s row)
+  pub line : after ≡ before ++ take sent (row_line number s row at)
+  pub state : keeps (row_after s row at)
 
-pub record HasNotActed (s : State) (row : Row) (e : RunFault) (before after : List ℕ) (keeps : State → Type 0) (may_find : Option State → Type 0) : Type 0 where
+pub record HasNotActed (s : State) (row : Row) (at : LocalMinute) (e : RunFault) (before after : List ℕ) (keeps : State → Type 0) (may_find : Option State → Type 0) : Type 0 where
   pub nothing : after ≡ before
   pub memory : e ≡ fault.Memory → keeps s
-  pub states : (found : Option State) → may_find found → (found ≡ Some s) ⊎ ((e ≡ fault.Store) × (found ≡ Some (row_after s row)))
+  pub states : (found : Option State) → may_find found → (found ≡ Some s) ⊎ ((e ≡ fault.Store) × (found ≡ Some (row_after s row at)))
 
-abbrev pub IsStopped : ℕ → State → Row → RunFault → List ℕ → List ℕ → (State → Type 0) → (Option State → Type 0) → Type 0
-IsStopped number s row e before after keeps may_find = HasActed number s row before after keeps ⊎ HasNotActed s row e before after keeps may_find
+abbrev pub IsStopped : ℕ → State → Row → LocalMinute → RunFault → List ℕ → List ℕ → (State → Type 0) → (Option State → Type 0) → Type 0
+IsStopped number s row at e before after keeps may_find = HasActed number s row at before after keeps ⊎ HasNotActed s row at e before after keeps may_find
 
 -- why a run ends where the reader fails, or memory for a row is wanting
 abbrev pub reader_fault : ErrorKind → RunFault
@@ -43,15 +44,15 @@ abbrev pub IsReadersFault : RunFault → Type 0
 IsReadersFault e = (e ≡ fault.Read) ⊎ (e ≡ fault.Memory)
 
 -- every row has its line, and the state is the one after them all
-pub record HasRun (s : State) (rows : List Row) (good : Bool) (before after : List ℕ) (keeps : State → Type 0) : Type 0 where
-  pub lines : after ≡ before ++ lines_from 1 s rows
-  pub good_is : good ≡ rows_good s rows
-  pub state : keeps (rows_after s rows)
+pub record HasRun (s : State) (rows : List Row) (at : LocalMinute) (good : Bool) (before after : List ℕ) (keeps : State → Type 0) : Type 0 where
+  pub lines : after ≡ before ++ lines_from 1 s rows at
+  pub good_is : good ≡ rows_good s rows at
+  pub state : keeps (rows_after s rows at)
 
 -- The run ended by a fault after these rows: no row came after them, or the next one stopped it.
-abbrev pub HasStopped : State → List Row → Option Row → RunFault → List ℕ → List ℕ → (State → Type 0) → (Option State → Type 0) → Type 0
-HasStopped s rows None e before after keeps may_find = IsReadersFault e × (after ≡ before ++ lines_from 1 s rows) × keeps (rows_after s rows)
-HasStopped s rows (Some row) e before after keeps may_find = IsStopped (length rows + 1) (rows_after s rows) row e (before ++ lines_from 1 s rows) after keeps may_find
+abbrev pub HasStopped : State → List Row → Option Row → LocalMinute → RunFault → List ℕ → List ℕ → (State → Type 0) → (Option State → Type 0) → Type 0
+HasStopped s rows None at e before after keeps may_find = IsReadersFault e × (after ≡ before ++ lines_from 1 s rows at) × keeps (rows_after s rows at)
+HasStopped s rows (Some row) at e before after keeps may_find = IsStopped (length rows + 1) (rows_after s rows at) row at e (before ++ lines_from 1 s rows at) after keeps may_find
 
 -- the rows that were read
 abbrev pub rows_read : List Row → Option Row → List Row

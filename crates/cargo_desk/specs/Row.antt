@@ -9,8 +9,6 @@ use Rattle.agent_stock.specs.Code.{is_agent_code}
 use Rattle.agent_stock.specs.declared.stock.Run.{Run}
 use Rattle.agent_stock.specs.declared.stock.Order.{Order}
 use Rattle.agent_stock.specs.declared.stock.Order.TheVariants.{TakeIn, Issue, GiveBack, Void}
-use Rattle.station_core.specs.declared.command.Command.TheVariants.{Stock}
-use Rattle.station_core.specs.declared.command.Command.{Command}
 use Rattle.station_core.specs.Key.{is_key}
 
 -- the number that digits write, from so many to so many of them
@@ -37,11 +35,11 @@ order_of verb run agent =
     else if bytes_eq verb (codes "return") then with_agent agent (GiveBack run agent)
     else None
 
-abbrev pub asked_by : List ℕ → List ℕ → List ℕ → List ℕ → List ℕ → List ℕ → Option (List ℕ × Command)
+abbrev pub asked_by : List ℕ → List ℕ → List ℕ → List ℕ → List ℕ → List ℕ → Option (List ℕ × Order)
 asked_by key verb prefix serial count agent =
-    if is_key key then option_and_then (λ run. option_map (λ order. (key, Stock order)) (order_of verb run agent)) (run_of prefix serial count) else None
+    if is_key key then option_and_then (λ run. option_map (λ order. (key, order)) (order_of verb run agent)) (run_of prefix serial count) else None
 
--- the key and the command of a row, where it has the shape of one
-abbrev pub row_asks : List (List ℕ) → Option (List ℕ × Command)
+-- the key and the order of a row, where it has the shape of one
+abbrev pub row_asks : List (List ℕ) → Option (List ℕ × Order)
 row_asks (key ∷ verb ∷ prefix ∷ serial ∷ count ∷ agent ∷ []) = asked_by key verb prefix serial count agent
 row_asks _ = None

@@ -8,6 +8,7 @@ mod row;
 mod run;
 mod stock;
 
+use imp_fields::Moment;
 use run::run_stock;
 use station_core::Counted;
 use station_rows::open_memory;
@@ -41,6 +42,17 @@ fn asks_for_stock(words: &[String]) -> bool
     }
 }
 
+/// The moment of every row: 2000-01-01 00:00, the first that there is. The program doesn't read the clock yet. What an order on
+/// the stock does is the same at every moment.
+fn moment_of_rows() -> Moment
+    ensures { result ≡ record { day = 10957; minute = 0 } }
+{
+    match Moment::new(10957, 0) {
+        Some(moment) => moment,
+        None => unreachable!(),
+    }
+}
+
 /// Answers the stock list at standard input over a station in memory.
 fn answer_list(rt: &HostRuntime) -> Result<bool, RunFault> {
     let alloc = rt.alloc();
@@ -51,7 +63,13 @@ fn answer_list(rt: &HostRuntime) -> Result<bool, RunFault> {
         return Err(RunFault::Store);
     };
     let mut output = Counted::new(rt.stdout());
-    run_stock(alloc, &mut station, rt.stdin(), &mut output)
+    run_stock(
+        alloc,
+        &mut station,
+        rt.stdin(),
+        &mut output,
+        moment_of_rows(),
+    )
 }
 
 /// Status 0: every row was accepted; 1: one wasn't; 2: other words; 3: the run stopped before its end.

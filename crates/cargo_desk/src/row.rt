@@ -5,7 +5,7 @@ ghost use Rattle.cargo_desk.specs.Row.{digits_of, run_of, order_of, asked_by, ro
 use agent_stock::{AgentCode, Order, Run};
 use awb_number::{Awb, decimal};
 use csv::ByteRecord;
-use station_core::{Command, Key};
+use station_core::Key;
 
 /// The number that so many digits write.
 fn digits(text: &[u8], least: usize, most: usize) -> Option<u32>
@@ -69,13 +69,13 @@ fn asked(
     serial: &[u8],
     count: &[u8],
     agent: &[u8],
-) -> Option<(Key, Command)>
+) -> Option<(Key, Order)>
     ensures { result ≡ asked_by key.now verb.now prefix.now serial.now count.now agent.now }
 {
     let key = Key::read(key)?;
     let run = run(prefix, serial, count)?;
     let order = order(verb, run, agent)?;
-    Some((key, Command::Stock(order)))
+    Some((key, order))
 }
 
 /// A field of a row that has it.
@@ -89,8 +89,8 @@ fn field(row: &ByteRecord, place: usize) -> &[u8]
     }
 }
 
-/// The key and the command of a row of a stock list, where it has the shape of one.
-pub fn read_row(row: &ByteRecord) -> Option<(Key, Command)>
+/// The key and the order of a row of a stock list, where it has the shape of one.
+pub fn read_row(row: &ByteRecord) -> Option<(Key, Order)>
     ensures { result ≡ row_asks (fields_of row.now) }
 {
     if row.len() != 6 {

@@ -6,6 +6,7 @@ ghost use Rattle.cargo_desk.specs.Lines.{Row, stock_rows};
 
 use crate::stock::{RunFault, answer_row};
 use csv::{Error, ErrorKind, ReaderBuilder};
+use imp_fields::Moment;
 use station_core::{ByteOut, Keeper};
 use std::alloc::Global;
 use std::io::Read;
@@ -20,12 +21,13 @@ fn reader_fault(e: Error) -> RunFault
     }
 }
 
-/// Answers the rows of a stock list, each after what it asks was done. `Ok` tells whether all were accepted.
+/// Answers the rows of a stock list, each after what it asks was done, all at one moment. `Ok` tells whether all were accepted.
 pub fn run_stock<K: Keeper, R: Read + Drop, W: ByteOut>(
     alloc: Global,
     keeper: &mut K,
     reader: R,
     writer: &mut W,
+    at: Moment,
 ) -> Result<bool, RunFault>
     ensures sound { K.is_sound keeper.new → K.is_sound keeper.old }
     ensures works { K.is_broken keeper.old ≡ false → OnOk result (K.is_broken keeper.new ≡ false) }
@@ -34,13 +36,13 @@ pub fn run_stock<K: Keeper, R: Read + Drop, W: ByteOut>(
     // order, and the state is the one after them all.
     ensures ran { (s : State) → K.keeps keeper.old s → K.is_broken keeper.old ≡ false → K.is_sound keeper.new
         → IfOk result (λ good. (rows : List Row) × IfSome (R.remaining reader) (λ bytes. rows ≡ stock_rows bytes)
-        × HasRun s rows good (W.taken writer.old).bytes (W.taken writer.new).bytes (K.keeps keeper.new)) }
+        × HasRun s rows at good (W.taken writer.old).bytes (W.taken writer.new).bytes (K.keeps keeper.new)) }
 
     // At a fault each row before the last that was read has its line. The last one acted, and a beginning of its line
     // was written, or it did not, or the store failed within it, and nothing of its line was written.
     ensures stopped { (s : State) → K.keeps keeper.old s → K.is_broken keeper.old ≡ false → K.is_sound keeper.new
         → IfErr result (λ e. (rows : List Row) × ((next : Option Row) × (IfSome (R.remaining reader) (AreFirst (rows_read rows next))
-        × HasStopped s rows next e (W.taken writer.old).bytes (W.taken writer.new).bytes (K.keeps keeper.new) (K.may_find keeper.new)))) }
+        × HasStopped s rows next at e (W.taken writer.old).bytes (W.taken writer.new).bytes (K.keeps keeper.new) (K.may_find keeper.new)))) }
 {
     let rdr = ReaderBuilder::new()
         .has_headers(false)
@@ -52,7 +54,7 @@ pub fn run_stock<K: Keeper, R: Read + Drop, W: ByteOut>(
         number += 1;
         match row {
             Ok(row) => {
-                let accepted = answer_row(alloc, keeper, writer, number, &row)?;
+                let accepted = answer_row(alloc, keeper, writer, number, &row, at)?;
                 good &= accepted;
             }
             Err(e) => return Err(reader_fault(e)),

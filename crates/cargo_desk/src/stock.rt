@@ -6,6 +6,8 @@ ghost use Rattle.cargo_desk.specs.Lines.{answer_text, answer_line, bad_line};
 
 use crate::row::read_row;
 use csv::ByteRecord;
+use desk_commands::Command;
+use imp_fields::Moment;
 use station_core::{
     ActFault, Answer, ByteOut, Input, Keeper, Key, answer_one, refusal_text, reply_text, send,
 };
@@ -70,20 +72,21 @@ fn keeper_fault(fault: ActFault) -> RunFault
     }
 }
 
-/// Answers a row, after what it asks was done. `Ok` tells whether it was accepted.
+/// Answers a row, after what it asks was done, at a moment. `Ok` tells whether it was accepted.
 pub fn answer_row<K: Keeper, W: ByteOut>(
     alloc: Global,
     keeper: &mut K,
     writer: &mut W,
     number: u64,
     row: &ByteRecord,
+    at: Moment,
 ) -> Result<bool, RunFault>
     ensures sound { K.is_sound keeper.new → K.is_sound keeper.old }
     ensures works { K.is_broken keeper.old ≡ false → OnOk result (K.is_broken keeper.new ≡ false) }
     ensures answered { (s : State) → K.keeps keeper.old s → K.is_broken keeper.old ≡ false → K.is_sound keeper.new
-        → IfOk result (λ good. IsAnswered number s (fields_of row.now) good (W.taken writer.old).bytes (W.taken writer.new).bytes (K.keeps keeper.new)) }
+        → IfOk result (λ good. IsAnswered number s (fields_of row.now) at good (W.taken writer.old).bytes (W.taken writer.new).bytes (K.keeps keeper.new)) }
     ensures stopped { (s : State) → K.keeps keeper.old s → K.is_broken keeper.old ≡ false → K.is_sound keeper.new
-        → IfErr result (λ e. IsStopped number s (fields_of row.now) e (W.taken writer.old).bytes (W.taken writer.new).bytes (K.keeps keeper.new) (K.may_find keeper.new)) }
+        → IfErr result (λ e. IsStopped number s (fields_of row.now) at e (W.taken writer.old).bytes (W.taken writer.new).bytes (K.keeps keeper.new) (K.may_find keeper.new)) }
 {
     let Some(asked) = read_row(row) else {
         let Ok(line) = bad_line(alloc, number) else {
@@ -92,7 +95,8 @@ pub fn answer_row<K: Keeper, W: ByteOut>(
         send_line(writer, &line)?;
         return Ok(false);
     };
-    let answer = match answer_one(keeper, &Input::Keyed(asked.0, asked.1)) {
+    let input = Input::Keyed(asked.0, Command::Stock(asked.1));
+    let answer = match answer_one(keeper, &input, at) {
         Ok(answer) => answer,
         Err(fault) => return Err(keeper_fault(fault)),
     };

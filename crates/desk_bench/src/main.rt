@@ -1,9 +1,10 @@
 //! How fast the desk is: with the word `run` it prints a line for each kind of work.
 #![tactic(auto)]
 
+mod messages;
+mod mixed;
 mod planning;
 mod stock;
-mod telegrams;
 
 use std::process::ExitCode;
 use std::time::{Duration, Instant};
@@ -38,23 +39,36 @@ fn orders(rt: &HostRuntime, what: &str, work: stock::Work) -> Result<(), io::Err
     }
 }
 
+/// A session of many kinds of inputs on a station in memory alone.
+fn session(rt: &HostRuntime, what: &str) -> Result<(), io::Error> {
+    let alloc = rt.alloc();
+    let Some(mut station) = mixed::station(alloc) else {
+        return gave_up(rt, what);
+    };
+    let start = Instant::now(rt)?;
+    match mixed::run(alloc, &mut station) {
+        Some(count) => report(rt, what, count, start.elapsed(rt)?),
+        None => gave_up(rt, what),
+    }
+}
+
 /// A message that is read again and again.
 fn read(rt: &HostRuntime, what: &str, text: &[u8]) -> Result<(), io::Error> {
     let start = Instant::now(rt)?;
-    let count = telegrams::read_often(rt.alloc(), text);
+    let count = messages::read_often(rt.alloc(), text);
     report(rt, what, count, start.elapsed(rt)?)
 }
 
 /// The lines and the consignment line of a message.
 fn scan(rt: &HostRuntime, what: &str, text: &[u8]) -> Result<(), io::Error> {
     let start = Instant::now(rt)?;
-    let count = telegrams::scan_often(rt.alloc(), text);
+    let count = messages::scan_often(rt.alloc(), text);
     report(rt, what, count, start.elapsed(rt)?)
 }
 
 fn manifests(rt: &HostRuntime, what: &str) -> Result<(), io::Error> {
     let start = Instant::now(rt)?;
-    match telegrams::write_manifests(rt.alloc()) {
+    match messages::write_manifests(rt.alloc()) {
         Some(count) => report(rt, what, count, start.elapsed(rt)?),
         None => gave_up(rt, what),
     }
@@ -62,7 +76,7 @@ fn manifests(rt: &HostRuntime, what: &str) -> Result<(), io::Error> {
 
 fn updates(rt: &HostRuntime, what: &str) -> Result<(), io::Error> {
     let start = Instant::now(rt)?;
-    match telegrams::write_updates(rt.alloc()) {
+    match messages::write_updates(rt.alloc()) {
         Some(count) => report(rt, what, count, start.elapsed(rt)?),
         None => gave_up(rt, what),
     }
@@ -96,14 +110,11 @@ fn measure(rt: &HostRuntime) -> Result<(), io::Error> {
     orders(rt, "order that is repeated", stock::Work::Repeats)?;
     orders(rt, "take-in 10,000", stock::Work::Runs)?;
     orders(rt, "issue of one number of 10,000", stock::Work::Singles)?;
-    scan(
-        rt,
-        "lines and consignment line of 400 bytes",
-        telegrams::FWB,
-    )?;
-    read(rt, "FWB of 400 bytes read", telegrams::FWB)?;
-    read(rt, "FFM of 400 bytes read", telegrams::FFM)?;
-    read(rt, "FSU of 400 bytes read", telegrams::FSU)?;
+    session(rt, "input of 10,000 on a plain station")?;
+    scan(rt, "lines and consignment line of 400 bytes", messages::FWB)?;
+    read(rt, "FWB of 400 bytes read", messages::FWB)?;
+    read(rt, "FFM of 400 bytes read", messages::FFM)?;
+    read(rt, "FSU of 400 bytes read", messages::FSU)?;
     manifests(rt, "FFM of one waybill written")?;
     updates(rt, "FSU written")?;
     departures(rt, "departure of 500 waybills planned")?;

@@ -1,8 +1,10 @@
 //! Orders of the stock desk over tables in memory.
 use agent_stock::{AgentCode, Order, Run};
 use awb_number::Awb;
+use desk_commands::Command;
+use imp_fields::Moment;
 use sqlite::MemStore;
-use station_core::{Command, Input, Keeper, Key};
+use station_core::{Input, Keeper, Key};
 use station_rows::{Rows, open_memory};
 use station_tables::{Station, create};
 use std::alloc::Global;
@@ -32,17 +34,34 @@ pub fn station(alloc: Global) -> Option<Station<Rows<MemStore>>> {
     }
 }
 
-/// An order under a key of a letter and a number.
-fn ask(alloc: Global, keeper: &mut impl Keeper, letter: char, n: u32, order: Order) -> Option<()> {
+/// A key of a letter and a number.
+pub fn key_of(alloc: Global, letter: char, n: u32) -> Option<Key> {
     let text = format!(in alloc; "{letter}{n}").ok()?;
-    let key = Key::read(text.as_bytes())?;
-    match keeper.act(&Input::Keyed(key, Command::Stock(order))) {
+    Key::read(text.as_bytes())
+}
+
+/// The moment of all that is done: 2026-01-12 at noon.
+pub fn noon() -> Option<Moment> {
+    Moment::new(20465, 720)
+}
+
+/// An order under a key of a letter and a number.
+pub fn ask(
+    alloc: Global,
+    keeper: &mut impl Keeper,
+    letter: char,
+    n: u32,
+    order: Order,
+) -> Option<()> {
+    let input = Input::Keyed(key_of(alloc, letter, n)?, Command::Stock(order));
+    match keeper.act(&input, noon()?) {
         Ok(_) => Some(()),
         Err(_) => None,
     }
 }
 
-fn run_of(serial: u32, count: u32) -> Option<Run> {
+/// Numbers of the prefix 020.
+pub fn run_of(serial: u32, count: u32) -> Option<Run> {
     let first = Awb::new(20, serial)?;
     Some(Run { first, count })
 }

@@ -1,7 +1,10 @@
 mod Assigning
 mod MapLaws
 mod Reading
+mod Readers
+mod Refusing
 mod Rows
 mod Serving
 mod Walk
 mod Writing
+mod Listing

@@ -1,16 +1,22 @@
 -- What a transaction leaves that changes the stock and keeps a reply.
-use Rattle.std.proofs.Common.{◌≡◌, ℕ, ◌<◌, pos, true, false, Bool, cond, ◌&&◌, List, Option, Some, None, Ok, refl, sym, ◌∙◌, ap, subst, ◌⊎◌, inl, inr, ⊎_elim, arith}
+use Rattle.std.proofs.Common.{◌≡◌, ℕ, ◌<◌, pos, true, false, Bool, cond, ◌&&◌, List, Option, Some, None, refl, sym, ◌∙◌, ap, subst, ◌⊎◌, inl, inr, ⊎_elim, arith}
 use Rattle.std.specs.Prelude.{int_le, option_map}
 use Rattle.std.specs.Str.{bytes_eq}
 use Rattle.std.specs.Ordering.{eq_by_cmp}
 use Rattle.std.specs.FinMap.{get, get-insert}
 use Rattle.std.proofs.lemmas.Int.{ints}
 use Rattle.std.proofs.lemmas.Map.Text.{is_eq-slice_cmp}
-use Rattle.station_core.specs.declared.command.Command.{Command}
-use Rattle.station_core.specs.declared.command.Input.TheVariants.{Keyed}
+use Rattle.imp_fields.specs.Date.{LocalMinute}
+use Rattle.agent_stock.specs.Stock.{run_of, order_refusal, after_order}
+use Rattle.agent_stock.specs.declared.stock.Order.{Order}
+use Rattle.shipment_machine.specs.Cargo.{opening_cargo}
+use Rattle.desk_commands.specs.Command.{command_text}
+use Rattle.desk_commands.specs.declared.command.Command.TheVariants.{Stock}
+use Rattle.station_core.specs.declared.input.Input.{Input}
+use Rattle.station_core.specs.declared.input.Input.TheVariants.{Keyed}
 use Rattle.station_core.specs.Key.{is_key}
-use Rattle.station_core.specs.Texts.{command_text}
-use Rattle.station_core.specs.Step.{step, keyed, first_time, effect, count_of, keeping, accepted}
+use Rattle.station_core.specs.Step.{State, step, answered, key_answer, stock_acted, waybill_or_nothing, first_time, keeping, accepted, stepped}
+use Rattle.station_core.specs.declared.answer.Answer.TheVariants.{Refused}
 use Rattle.station_rows.proofs.Keys.{kept_total, kept_same}
 use Rattle.station_rows.specs.Meant.{with_kept}
 use Rattle.station_rows.specs.Store.{View, Survives}
@@ -34,12 +40,32 @@ regroup false b c p q = p
 kept_fits : (key text : List ℕ) (count : ℕ) → is_key key ≡ true → count < 4_294_967_296 → is_kept_row (key, record { command = text; count = pos count }) ≡ true
 kept_fits key text count is_a below = regroup (is_key key) (int_le (pos 0) (pos count)) (int_le (pos count) (pos 4_294_967_295)) is_a (counted count below)
 
-module _ (before : Tables) (mid : Tables) (key : List ℕ) (command : Command) (text : List ℕ) (count : ℕ)
-    (none : get before.kept key ≡ None) (effect_is : effect (holders_in before.stock) command ≡ Ok (holders_in mid.stock))
+-- a refused order changes nothing
+pub refused_is : (before : Tables) (key : List ℕ) (order : Order) → get before.kept key ≡ None → (number : ℕ) (lowest : Option ℕ) → order_refusal (holders_in before.stock) order ≡ Some (number, lowest)
+    → (at : LocalMinute) → step (meaning_of before) (Keyed key (Stock order)) at ≡ stepped (Refused (record { number = number; detail = waybill_or_nothing lowest })) (meaning_of before)
+refused_is before key order none number lowest refusal at =
+    ap (λ (o : Option table.Kept). answered (meaning_of before) (Keyed key (Stock order)) at (key_answer (option_map keeping_in o) (command_text (Stock order)))) none
+    ∙ ap (λ o. first_time (meaning_of before) (Keyed key (Stock order)) (stock_acted (meaning_of before).cargo order o)) refusal
+
+module _ (before : Tables) (mid : Tables) (key : List ℕ) (order : Order) (text : List ℕ) (count : ℕ)
+    (none : get before.kept key ≡ None) (unrefused : order_refusal (holders_in before.stock) order ≡ None) (given : holders_in mid.stock ≡ after_order (holders_in before.stock) order)
     (stations : mid.stations ≡ before.stations) (kept : mid.kept ≡ before.kept)
-    (is_text : text ≡ command_text command) (is_count : count ≡ count_of command) where
-  step_is : step (meaning_of before) (Keyed key command) ≡ first_time (meaning_of before) key command (Ok (holders_in mid.stock))
-  step_is = ap (λ (o : Option table.Kept). keyed (meaning_of before) key command (option_map keeping_in o)) none ∙ ap (first_time (meaning_of before) key command) effect_is
+    (is_text : text ≡ command_text (Stock order)) (is_count : count ≡ (run_of order).count) where
+  abbrev input : Input
+  input = Keyed key (Stock order)
+
+  -- the state after the order
+  abbrev then : State
+  then = record {
+    cargo = record (meaning_of before).cargo { holders = after_order (holders_in before.stock) order };
+    kept_keys = keeping (meaning_of before).kept_keys key (record { request = command_text (Stock order); count = (run_of order).count });
+    kept_texts = λ _. None;
+  }
+
+  step_is : (at : LocalMinute) → step (meaning_of before) input at ≡ record { answer = accepted (run_of order).count; state = then }
+  step_is at =
+      ap (λ (o : Option table.Kept). answered (meaning_of before) input at (key_answer (option_map keeping_in o) (command_text (Stock order)))) none
+      ∙ ap (λ o. first_time (meaning_of before) input (stock_acted (meaning_of before).cargo order o)) unrefused
 
   -- the tables at the commit
   abbrev pub after : Tables
@@ -49,19 +75,19 @@ module _ (before : Tables) (mid : Tables) (key : List ℕ) (command : Command) (
   chosen true x o = refl
   chosen false x o = refl
 
-  kept_then : (q : List ℕ) → option_map keeping_in (get after.kept q) ≡ keeping (λ k. option_map keeping_in (get before.kept k)) key (record { request = command_text command; count = count_of command }) q
+  kept_then : (q : List ℕ) → option_map keeping_in (get after.kept q) ≡ keeping (λ k. option_map keeping_in (get before.kept k)) key (record { request = command_text (Stock order); count = (run_of order).count }) q
   kept_then q =
       ap (option_map keeping_in) (get-insert kept_total mid.kept key (record { command = text; count = pos count }) q)
       ∙ chosen (eq_by_cmp kept_cmp q key) (record { command = text; count = pos count }) (get mid.kept q)
       ∙ (λ i. cond (same_text q key i) (Some (record { request = is_text i; count = is_count i })) (option_map keeping_in (get (kept i) q)))
 
-  pub after_is : meaning_of after ≡ (step (meaning_of before) (Keyed key command)).state
-  after_is =
-      (λ i. record { here = airport_in (stations i); holders = holders_in mid.stock; kept_keys = λ q. kept_then q i })
-      ∙ ap (λ s. s.state) (sym step_is)
+  pub after_is : (at : LocalMinute) → meaning_of after ≡ (step (meaning_of before) (Keyed key (Stock order)) at).state
+  after_is at =
+      (λ i. record { cargo = record (opening_cargo (airport_in (stations i))) { holders = given i }; kept_keys = λ q. kept_then q i; kept_texts = λ _. None })
+      ∙ ap (λ s. s.state) (sym (step_is at))
 
-  pub answer_is : (step (meaning_of before) (Keyed key command)).answer ≡ accepted count
-  answer_is = ap (λ s. s.answer) step_is ∙ ap accepted (sym is_count)
+  pub answer_is : (at : LocalMinute) → (step (meaning_of before) (Keyed key (Stock order)) at).answer ≡ accepted count
+  answer_is at = ap (λ s. s.answer) (step_is at) ∙ ap accepted (sym is_count)
 
   pub after_lawful : is_key key ≡ true → count < 4_294_967_296 → IsLawful mid → IsLawful after
   after_lawful is_a below lawful = lawful_of after (lawful_stations mid lawful) (lawful_stock mid lawful)
@@ -69,8 +95,8 @@ module _ (before : Tables) (mid : Tables) (key : List ℕ) (command : Command) (
 
   -- whether the commit was made or not
   pub either : (old now new : View) → Survives old now → MayEndBy now new after → is_key key ≡ true → count < 4_294_967_296 → IsLawful mid
-      → new.IsSound → (t : Tables) → new.may_leave t → old.may_leave t ⊎ IsAfter (meaning_of before) (Keyed key command) t
+      → new.IsSound → (t : Tables) → new.may_leave t → old.may_leave t ⊎ IsAfter (meaning_of before) (Keyed key (Stock order)) t
   either old now new survives ends is_a below lawful sound t left = ⊎_elim
       (λ was. inl (survives.crash (ends.sound sound) t was))
-      (λ e. inr (record { lawful = subst IsLawful (sym e) (after_lawful is_a below lawful); state = ap meaning_of e ∙ after_is }))
+      (λ e. inr (record { lawful = subst IsLawful (sym e) (after_lawful is_a below lawful); state = λ at. ap meaning_of e ∙ after_is at }))
       (ends.crash sound t left)

@@ -1,6 +1,8 @@
 pub mod Ahead
+pub mod Listed
 pub mod Code
 pub mod Meaning
+pub mod Orders
 pub mod Steady
 pub mod Found
 pub mod Laws

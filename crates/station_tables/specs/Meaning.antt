@@ -1,4 +1,4 @@
--- What the tables of a station mean.
+-- What the tables of a station mean: who holds each number, and what was accepted under each key.
 use Rattle.std.specs.Prelude.{◌≡◌, ℕ, ℤ, pos, negsuc, int_le, ◌==◌, Bool, true, false, ◌&&◌, if◌then◌else◌, is_some, Option, Some, None, List, [], ◌∷◌, length}
 use Rattle.std.specs.Option.{option_map, option_and_then}
 use Rattle.std.specs.Ordering.{int_eq}
@@ -11,6 +11,7 @@ use Rattle.agent_stock.specs.Stock.{Holders}
 use Rattle.agent_stock.specs.declared.stock.Holder.{Holder}
 use Rattle.agent_stock.specs.declared.stock.Holder.TheVariants as holder
 use Rattle.station_core.specs.Key.{is_key}
+use Rattle.shipment_machine.specs.Cargo.{opening_cargo}
 use Rattle.station_core.specs.Step.{Kept as Keeping, State}
 use Rattle.station_rows.specs.Tables.{Tables, Station, Stock, StockKey, stock_cmp, Kept}
 
@@ -44,9 +45,9 @@ airport_in (row ∷ rows) = row.airport
 
 abbrev pub meaning_of : Tables → State
 meaning_of t = record {
-  here = airport_in t.stations;
-  holders = holders_in t.stock;
+  cargo = record (opening_cargo (airport_in t.stations)) { holders = holders_in t.stock };
   kept_keys = λ key. option_map keeping_in (get t.kept key);
+  kept_texts = λ _. None;
 }
 
 -- Lawful tables.

@@ -1,9 +1,10 @@
 -- The tables of a new station mean a station with nothing in it.
-use Rattle.std.proofs.Common.{◌≡◌, ℕ, List, [], ◌∷◌, length, Some, refl, sym, ◌∙◌, ap, subst, arith}
+use Rattle.std.proofs.Common.{◌≡◌, ℕ, List, [], ◌∷◌, length, Some, None, refl, sym, ◌∙◌, ap, subst, arith}
 use Rattle.std.specs.Prelude.{codes}
 use Rattle.std.specs.List.{find}
 use Rattle.std.specs.Option.{option_map, option_and_then}
 use Rattle.std.specs.FinMap.{empty, entries, get-empty, len-empty, len-entries}
+use Rattle.shipment_machine.specs.Cargo.{opening_cargo}
 use Rattle.station_core.specs.Step.{State}
 use Rattle.station_core.specs.Step as step
 use Rattle.station_rows.specs.Connection.{opening, IsOpening}
@@ -28,9 +29,9 @@ no_kept = none_of (entries (empty {X = Kept} {R = kept_cmp})) (sym (len-entries 
 
 pub meaning-opening : meaning_of (opening here) ≡ step.opening here
 meaning-opening = λ i. record {
-  here = here;
-  holders = λ n. option_and_then (λ (row : StockKey × Stock). holder_in row.1) (find (stands_for n) (no_stock i));
+  cargo = record (opening_cargo here) { holders = λ n. option_and_then (λ (row : StockKey × Stock). holder_in row.1) (find (stands_for n) (no_stock i)) };
   kept_keys = λ key. option_map keeping_in (get-empty {X = Kept} kept_cmp key i);
+  kept_texts = λ _. None;
 }
 
 pub opening-lawful : IsLawful (opening here)

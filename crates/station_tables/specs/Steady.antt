@@ -1,7 +1,8 @@
 -- A station's store between two calls, and what a call does to it.
 use Rattle.std.specs.Prelude.{◌≡◌, ◌⊎◌, true}
 use Rattle.station_core.specs.declared.answer.Answer.{Answer}
-use Rattle.station_core.specs.declared.command.Input.{Input}
+use Rattle.imp_fields.specs.Date.{LocalMinute}
+use Rattle.station_core.specs.declared.input.Input.{Input}
 use Rattle.station_core.specs.Step.{State, step}
 use Rattle.station_rows.specs.Tables.{Tables}
 use Rattle.station_rows.specs.Store.{View, IsAtRest}
@@ -33,15 +34,15 @@ pub record IsBeside (old new : View) : Type 0 where
   pub kept : new.now.kept ≡ old.now.kept
   pub lawful : IsLawful old.now → IsLawful new.now
 
--- the answer is that of the step, and the state the one after it
+-- at any moment the answer is that of the step, and the state the one after it
 pub record Serves (old : State) (input : Input) (given : Answer) (new : State) : Type 0 where
-  pub answer : (step old input).answer ≡ given
-  pub state : new ≡ (step old input).state
+  pub answer : (at : LocalMinute) → (step old input at).answer ≡ given
+  pub state : (at : LocalMinute) → new ≡ (step old input at).state
 
--- the tables mean the state after the step
+-- the tables mean the state after the step at any moment
 pub record IsAfter (before : State) (input : Input) (t : Tables) : Type 0 where
   pub lawful : IsLawful t
-  pub state : meaning_of t ≡ (step before input).state
+  pub state : (at : LocalMinute) → meaning_of t ≡ (step before input at).state
 
 -- nothing was committed but these tables, if they were
 pub record MayEndBy (old new : View) (after : Tables) : Type 0 where

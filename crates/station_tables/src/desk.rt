@@ -28,7 +28,7 @@ pub struct Desk<S: TableStore> {
 }
 
 /// The holder in a row, if it names one.
-fn holder_of(row: &StockRow) -> Option<Holder>
+pub(crate) fn holder_of(row: &StockRow) -> Option<Holder>
     ensures { result ≡ holder_in (stock_meant row.now).1 }
 {
     if row.holder == 1 {
@@ -122,6 +122,16 @@ impl<S: TableStore> Desk<S> {
         })?;
         let (holder, _more) = take_row(&rows, i64::from(number.serial()));
         Ok(holder)
+    }
+
+    /// Reads a row, whatever it says: it fails where the store can't be read.
+    pub(crate) fn ask(&mut self) -> Result<(), StoreFault>
+        ensures same { OnOk result ((S.view self.new.store).IsSound → IsUnchanged (S.view self.old.store) (S.view self.new.store)) }
+        ensures rests { (S.view self.new.store).IsSound → Rests (S.view self.old.store) (S.view self.new.store) }
+        ensures survives { Survives (S.view self.old.store) (S.view self.new.store) }
+    {
+        self.store.kept_row("")?;
+        Ok(())
     }
 
     /// Writes a row over the one with its key, or anew.

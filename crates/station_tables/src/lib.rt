@@ -2,6 +2,7 @@
 #![tactic(auto)]
 
 mod desk;
+mod numbers;
 mod opening;
 mod serve;
 mod station;

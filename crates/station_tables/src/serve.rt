@@ -1,9 +1,10 @@
 ghost use Rattle.std.specs.Prelude.{◌≡◌, ◌⊎◌, pos, true, IsTrue, Some, None, IfOk, IfErr, OnOk};
 ghost use Rattle.std.specs.FinMap.{get};
 ghost use Rattle.station_core.specs.Key.{is_key};
-ghost use Rattle.station_core.specs.Step.{repeated};
-ghost use Rattle.station_core.specs.Texts.{command_text};
-ghost use Rattle.station_core.specs.declared.command.Input.TheVariants.{Keyed};
+ghost use Rattle.desk_commands.specs.Command.{command_text};
+ghost use Rattle.desk_commands.specs.declared.command.Command.TheVariants.{Stock};
+ghost use Rattle.station_core.specs.Step.{repeated_key};
+ghost use Rattle.station_core.specs.declared.input.Input.TheVariants.{Keyed};
 ghost use Rattle.station_rows.specs.Meant.{kept_meant, with_kept};
 ghost use Rattle.station_rows.specs.Store.{IsAtRest};
 ghost use Rattle.station_rows.specs.Tables.{Tables};
@@ -11,13 +12,14 @@ ghost use Rattle.station_tables.specs.Meaning.{meaning_of, keeping_in};
 ghost use Rattle.station_tables.specs.Steady.{IsSteady, Serves, IsAfter, MayEndBy};
 
 use crate::desk::Desk;
-use agent_stock::StockFault;
-use station_core::{Answer, Command, Detail, Key, Refusal, Reply, change_stock};
+use agent_stock::{Order, StockFault, carry_out};
+use shipment_machine::{Detail, Refusal};
+use station_core::{Answer, Key, Reply, count_of_order, refusal_of_order};
 use station_rows::{KeptRow, StoreFault, TableStore};
 
 /// The answer to a key that is known.
 fn repeat(kept: &KeptRow, text: &str) -> Result<Answer, StoreFault>
-    ensures { IfOk result (λ given. given ≡ repeated (keeping_in (kept_meant kept.now)) text.now) }
+    ensures { IfOk result (λ given. given ≡ repeated_key (keeping_in (kept_meant kept.now)) text.now) }
 {
     if kept.command.as_str() != text {
         return Ok(Answer::Refused(Refusal {
@@ -50,52 +52,52 @@ fn keep<S: TableStore>(
     Ok(())
 }
 
-/// Serves a command under a new key: one transaction, or none where it is refused.
+/// Serves an order under a new key: one transaction, or none where it is refused.
 fn act_anew<S: TableStore>(
     desk: &mut Desk<S>,
     key: &Key,
-    command: &Command,
+    order: &Order,
     text: &str,
 ) -> Result<Answer, StoreFault>
     requires steady { (S.view desk.old.store).IsSound → IsSteady (S.view desk.old.store) }
     requires new_key { (S.view desk.old.store).IsSound → get (S.view desk.old.store).now.kept key.now ≡ None }
-    requires text { text.now ≡ command_text command.now }
-    ensures serves { (S.view desk.new.store).IsSound → IfOk result (λ given. Serves (meaning_of (S.view desk.old.store).now) (Keyed key.now command.now) given (meaning_of (S.view desk.new.store).now)) }
+    requires text { text.now ≡ command_text (Stock order.now) }
+    ensures serves { (S.view desk.new.store).IsSound → IfOk result (λ given. Serves (meaning_of (S.view desk.old.store).now) (Keyed key.now (Stock order.now)) given (meaning_of (S.view desk.new.store).now)) }
     ensures steady { OnOk result ((S.view desk.new.store).IsSound → IsSteady (S.view desk.new.store)) }
     ensures sound { (S.view desk.new.store).IsSound → (S.view desk.old.store).IsSound }
-    ensures leaves { (S.view desk.new.store).IsSound → (t : Tables) → (S.view desk.new.store).may_leave t → (S.view desk.old.store).may_leave t ⊎ IsAfter (meaning_of (S.view desk.old.store).now) (Keyed key.now command.now) t }
+    ensures leaves { (S.view desk.new.store).IsSound → (t : Tables) → (S.view desk.new.store).may_leave t → (S.view desk.old.store).may_leave t ⊎ IsAfter (meaning_of (S.view desk.old.store).now) (Keyed key.now (Stock order.now)) t }
 {
-    match change_stock(desk, command) {
+    match carry_out(desk, order) {
         Ok(()) => {
-            let count = command.count();
+            let count = count_of_order(order);
             keep(desk, key, text, count)?;
             Ok(Answer::Done(Reply { count }))
         }
         Err(StockFault::Refused(number, lowest)) => {
-            Ok(Answer::Refused(Refusal::of_order(number, lowest)))
+            Ok(Answer::Refused(refusal_of_order(number, lowest)))
         },
         Err(StockFault::Rows(fault)) => Err(fault),
     }
 }
 
-/// Serves a command: a known key is answered by what was kept, and a new one acts.
+/// Serves an order: a known key is answered by what was kept, and a new one acts.
 pub(crate) fn serve<S: TableStore>(
     desk: &mut Desk<S>,
     key: &Key,
-    command: &Command,
+    order: &Order,
     text: &str,
 ) -> Result<Answer, StoreFault>
     requires steady { (S.view desk.old.store).IsSound → (S.view desk.old.store).is_open ≡ true → IsSteady (S.view desk.old.store) }
-    requires text { text.now ≡ command_text command.now }
-    ensures serves { (S.view desk.new.store).IsSound → IfOk result (λ given. Serves (meaning_of (S.view desk.old.store).now) (Keyed key.now command.now) given (meaning_of (S.view desk.new.store).now)) }
+    requires text { text.now ≡ command_text (Stock order.now) }
+    ensures serves { (S.view desk.new.store).IsSound → IfOk result (λ given. Serves (meaning_of (S.view desk.old.store).now) (Keyed key.now (Stock order.now)) given (meaning_of (S.view desk.new.store).now)) }
     ensures steady { OnOk result ((S.view desk.new.store).IsSound → IsSteady (S.view desk.new.store)) }
     ensures sound { (S.view desk.new.store).IsSound → (S.view desk.old.store).IsSound }
     ensures opened { OnOk result ((S.view desk.new.store).IsSound → (S.view desk.old.store).is_open ≡ true) }
     ensures leaves { (S.view desk.new.store).IsSound → (t : Tables) → (S.view desk.new.store).may_leave t
-        → (S.view desk.old.store).may_leave t ⊎ (((S.view desk.old.store).is_open ≡ true) × IsAfter (meaning_of (S.view desk.old.store).now) (Keyed key.now command.now) t) }
+        → (S.view desk.old.store).may_leave t ⊎ (((S.view desk.old.store).is_open ≡ true) × IsAfter (meaning_of (S.view desk.old.store).now) (Keyed key.now (Stock order.now)) t) }
 {
     match desk.store.kept_row(key.as_str())? {
         Some(kept) => repeat(&kept, text),
-        None => act_anew(desk, key, command, text),
+        None => act_anew(desk, key, order, text),
     }
 }

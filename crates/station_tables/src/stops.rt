@@ -2,9 +2,11 @@
 use super::*;
 use agent_stock::{Order, Run};
 use awb_number::Awb;
+use desk_commands::Command;
+use imp_fields::Moment;
 use sqlite::{Connection, FileStore, Files, Options};
 use sqlite_disk::{Crash, Fuse, Memory};
-use station_core::{Command, Input, Keeper, Key};
+use station_core::{Input, Keeper, Key};
 use std::alloc::Global;
 use std::process::Abort;
 use std::test::*;
@@ -38,14 +40,24 @@ fn crashed(mut files: Files<Fused>) -> Files<Fused> {
     files
 }
 
-fn ten_numbers() -> Result<Input, Fail> {
+/// An order to take in ten numbers, with its key and its moment.
+#[derive(Clone, Copy)]
+struct TenNumbers {
+    key: Key,
+    order: Order,
+    at: Moment,
+}
+
+fn ten_numbers() -> Result<TenNumbers, Fail> {
     let key = Key::read(b"k1").ok_or("a key")?;
     let first = Awb::new(20, 1234567).ok_or("a number")?;
-    Ok(Input::Keyed(key, Command::Stock(Order::TakeIn(Run { first, count: 10 }))))
+    let at = Moment::new(20465, 720).ok_or("a moment")?;
+    let order = Order::TakeIn(Run { first, count: 10 });
+    Ok(TenNumbers { key, order, at })
 }
 
 /// Makes a station and takes in ten numbers, on files that fail after so many calls.
-fn run(alloc: Global, log_calls: u64, db_calls: u64, input: &Input) -> (Stage, Files<Fused>) {
+fn run(alloc: Global, log_calls: u64, db_calls: u64, ten: &TenNumbers) -> (Stage, Files<Fused>) {
     let fresh = files(alloc, log_calls, db_calls);
     if !fresh.may_be_used() {
         return (Stage::Nothing, fresh);
@@ -58,7 +70,8 @@ fn run(alloc: Global, log_calls: u64, db_calls: u64, input: &Input) -> (Stage, F
         Ok(station) => station,
         Err((conn, _)) => return (Stage::Opened, conn.into_store().close()),
     };
-    let stage = match station.act(input) {
+    let input = Input::Keyed(ten.key, Command::Stock(ten.order));
+    let stage = match station.act(&input, ten.at) {
         Ok(_) => Stage::TakenIn,
         Err(_) => Stage::Created,
     };
@@ -96,12 +109,12 @@ fn is_before_or_after(stage: Stage, found: Option<(i64, i64)>) -> bool {
 
 /// One stop after another, up to the first run that isn't stopped.
 fn stops(rt: &impl Abort, alloc: Global, in_log: bool) -> Result<(), Fail> {
-    let input = ten_numbers()?;
+    let ten = ten_numbers()?;
     for calls in 0..1000 {
         let (stage, left) = if in_log {
-            run(alloc, calls, u64::MAX, &input)
+            run(alloc, calls, u64::MAX, &ten)
         } else {
-            run(alloc, u64::MAX, calls, &input)
+            run(alloc, u64::MAX, calls, &ten)
         };
         let found = found(alloc, crashed(left))?;
         assert!(rt;

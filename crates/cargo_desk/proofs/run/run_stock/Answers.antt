@@ -60,8 +60,8 @@ loop-row-preserved g c =
         known_more g.R.Read.remaining c.loop-row.row-iterator.rdr c.next.new.self.rdr f rows (g.R.Read.remaining c.args.reader) inv.config step.0 inv.rows.2,
         λ s keeps works sound.
             let run = inv.rows.3 s keeps works (c.answer_row.ensures.sound sound) in
-            run_more s rows f c.loop-row.number c.loop-row.good c.in_ok-accepted-in-Ok.accepted _ _ _ _ _ inv.rows.1 run
-            (c.in_ok-accepted-in-Ok.ensures.answered (rows_after s rows) run.state (inv.works works) sound),
+            run_more s rows f c.args.at c.loop-row.number c.loop-row.good c.in_ok-accepted-in-Ok.accepted _ _ _ _ _ inv.rows.1 run
+            (c.in_ok-accepted-in-Ok.ensures.answered (rows_after s rows c.args.at) run.state (inv.works works) sound),
       );
     }
 
@@ -103,14 +103,14 @@ returns-in_err-accepted-in-Ok-clause-stopped g c = λ s keeps works sound.
     let step = rw (c.in-Some.is, c.in-Ok.is) at ((c.next.ensures.steps inv.left inv.trim).0 inv.ready) in
     let run = inv.rows.3 s keeps works (c.answer_row.ensures.sound sound) in
     let known = known_more g.R.Read.remaining c.loop-row.row-iterator.rdr c.next.new.self.rdr f rows (g.R.Read.remaining c.args.reader) inv.config step.0 inv.rows.2 in
-    let stopped = c.in_err-accepted-in-Ok.ensures.stopped (rows_after s rows) run.state (inv.works works) sound in
+    let stopped = c.in_err-accepted-in-Ok.ensures.stopped (rows_after s rows c.args.at) run.state (inv.works works) sound in
     passed_on c.from_residual.result c.in_err-accepted-in-Ok.field-0.0 _ c.from_residual.ensures.1 (
       rows,
       (
         Some f,
         (
           known_first g.R.Read.remaining c.next.new.self.rdr (rows ++ f ∷ []) (g.R.Read.remaining c.args.reader) known,
-          stops_more s rows f c.loop-row.number c.loop-row.good _ _ _ _ _ _ _ inv.rows.1 run stopped,
+          stops_more s rows f c.args.at c.loop-row.number c.loop-row.good _ _ _ _ _ _ _ inv.rows.1 run stopped,
         ),
       ),
     )

@@ -20,5 +20,5 @@ invariant-loop-row g l =
       works : g.K.Keeper.is_broken l.fn.keeper ≡ false → g.K.Keeper.is_broken l.keeper ≡ false;
       rows : (rows : List Row) × (l.number ≡ length rows) × IfSome (g.R.Read.remaining l.fn.reader) (Known g.R.Read.remaining l.row-iterator.rdr rows)
           × ((s : State) → g.K.Keeper.keeps l.fn.keeper s → g.K.Keeper.is_broken l.fn.keeper ≡ false → g.K.Keeper.is_sound l.keeper
-          → HasRun s rows l.good (g.W.ByteOut.taken l.fn.writer).bytes (g.W.ByteOut.taken l.writer).bytes (g.K.Keeper.keeps l.keeper));
+          → HasRun s rows l.fn.at l.good (g.W.ByteOut.taken l.fn.writer).bytes (g.W.ByteOut.taken l.writer).bytes (g.K.Keeper.keeps l.keeper));
     }

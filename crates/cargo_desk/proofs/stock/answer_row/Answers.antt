@@ -1,15 +1,15 @@
 use Rattle.std.proofs.Common.{refl, sym, ◌∙◌, inl, inr, ⊎_elim}
-use Rattle.station_core.specs.declared.command.Input.TheVariants.{Keyed}
 use Rattle.csv.specs.Records.{fields_of}
+use Rattle.cargo_desk.specs.Lines.{input_of}
 use Rattle.cargo_desk.proofs.Unanswered.{still_kept, found_row}
 use Rattle.cargo_desk.proofs.stock.answer_row.Goals as goal
 
 pub returns-in-Err-clause-stopped : goal.returns-in-Err-clause-stopped
 returns-in-Err-clause-stopped g c = λ s keeps works sound.
-    let input = Keyed c.in-Some.asked.0 c.in-Some.asked.1 in
+    let input = input_of c.in-Some.asked in
     inr (record {
       nothing = refl;
-      memory = λ is. still_kept s input c.in-Err.fault (g.K.Keeper.keeps c.answer_one.new.keeper) (c.in-Err.ensures.answers s keeps works sound) (sym c.keeper_fault.ensures ∙ is);
+      memory = λ is. still_kept s input c.args.at c.in-Err.fault (g.K.Keeper.keeps c.answer_one.new.keeper) (c.in-Err.ensures.answers s keeps works sound) (sym c.keeper_fault.ensures ∙ is);
       states = λ found left. ⊎_elim (λ before. inl before) (λ store. inr (c.keeper_fault.ensures ∙ store.0, store.1))
-          (found_row s (fields_of c.args.row.now) c.in-Some.asked c.in-Err.fault found (sym c.read_row.ensures ∙ c.in-Some.is) (c.in-Err.ensures.leaves s keeps works sound found left));
+          (found_row s (fields_of c.args.row.now) c.args.at c.in-Some.asked c.in-Err.fault found (sym c.read_row.ensures ∙ c.in-Some.is) (c.in-Err.ensures.leaves s keeps works sound found left));
     })

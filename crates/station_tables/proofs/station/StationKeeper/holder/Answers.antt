@@ -1,7 +1,10 @@
+use Rattle.std.proofs.Common.{refl}
+use Rattle.station_tables.specs.declared.station.Station.{Station}
+use Rattle.station_tables.proofs.Readers.{reads_only}
 use Rattle.station_tables.proofs.station.StationKeeper.holder.Goals as goal
 
-pub returns-in-Err-clause-leaves : goal.returns-in-Err-clause-leaves
-returns-in-Err-clause-leaves g c = λ sound found finds. (finds.0, c.find.ensures.survives.crash sound finds.0 finds.1, finds.2)
+pub returns-in-Err-clause-reads : goal.returns-in-Err-clause-reads
+returns-in-Err-clause-reads g c = reads_only (λ (k : Station g.row.S.Denot g.S.TableStore). g.S.TableStore.view k.desk.store) (λ k. k.broken) c.args.self.now _ refl (c.args.self.now.steady c.if-self.false) c.find.ensures.rests c.find.ensures.survives
 
-pub returns-in-Ok-clause-leaves : goal.returns-in-Ok-clause-leaves
-returns-in-Ok-clause-leaves g c = λ sound found finds. (finds.0, c.find.ensures.survives.crash sound finds.0 finds.1, finds.2)
+pub returns-in-Ok-clause-reads : goal.returns-in-Ok-clause-reads
+returns-in-Ok-clause-reads g c = reads_only (λ (k : Station g.row.S.Denot g.S.TableStore). g.S.TableStore.view k.desk.store) (λ k. k.broken) c.args.self.now _ refl (c.args.self.now.steady c.if-self.false) c.find.ensures.rests c.find.ensures.survives

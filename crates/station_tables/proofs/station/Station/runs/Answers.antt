@@ -1,0 +1,13 @@
+use Rattle.std.proofs.Common.{refl}
+use Rattle.station_tables.specs.declared.station.Station.{Station}
+use Rattle.station_tables.proofs.Readers.{reads_only}
+use Rattle.station_tables.proofs.station.Station.runs.Goals as goal
+
+pub returns-in-Err-clause-reads : goal.returns-in-Err-clause-reads
+returns-in-Err-clause-reads g c = reads_only (λ (k : Station g.row.S.Denot g.S.TableStore). g.S.TableStore.view k.desk.store) (λ k. k.broken) c.args.self.now _ refl (c.args.self.now.steady c.if-self.false) c.numbers.ensures.rests c.numbers.ensures.survives
+
+pub returns-in-Err-runs_of-clause-reads : goal.returns-in-Err-runs_of-clause-reads
+returns-in-Err-runs_of-clause-reads g c = reads_only (λ (k : Station g.row.S.Denot g.S.TableStore). g.S.TableStore.view k.desk.store) (λ k. k.broken) c.args.self.now _ refl (c.args.self.now.steady c.if-self.false) c.numbers.ensures.rests c.numbers.ensures.survives
+
+pub returns-clause-reads : goal.returns-clause-reads
+returns-clause-reads g c = reads_only (λ (k : Station g.row.S.Denot g.S.TableStore). g.S.TableStore.view k.desk.store) (λ k. k.broken) c.args.self.now _ refl (c.args.self.now.steady c.if-self.false) c.numbers.ensures.rests c.numbers.ensures.survives
