@@ -1,4 +1,4 @@
-//! How fast the desk is: with the word `run` it prints a line for each kind of work.
+//! How fast the desk is: with the word `run` it prints a table with a line for each kind of work.
 #![tactic(auto)]
 
 mod messages;
@@ -6,16 +6,36 @@ mod mixed;
 mod planning;
 mod stock;
 
+use messages::Texts;
 use std::process::ExitCode;
 use std::time::{Duration, Instant};
 use std::{env, io};
 
+/// How many there are in a second.
+fn in_a_second(count: u64, nanos: u64) -> u64 {
+    count.saturating_mul(1_000_000_000) / nanos.max(1)
+}
+
 /// Prints how many were done in a second, and how long one took.
 fn report(rt: &HostRuntime, what: &str, count: u64, spent: Duration) -> Result<(), io::Error> {
     let nanos = u64::try_from(spent.as_nanos()).unwrap_or(u64::MAX);
-    let rate = count.saturating_mul(1_000_000_000) / nanos.max(1);
+    let rate = in_a_second(count, nanos);
     let each = nanos / count.max(1);
-    println!(rt; "{rate:>10} a second {each:>10} ns each  {what}")
+    println!(rt; "{rate:>10} {each:>10} {:>8}  {what}", "-")
+}
+
+/// Prints the same of texts, and how many million bytes of them there were in a second.
+fn report_texts(
+    rt: &HostRuntime,
+    what: &str,
+    texts: &Texts,
+    spent: Duration,
+) -> Result<(), io::Error> {
+    let nanos = u64::try_from(spent.as_nanos()).unwrap_or(u64::MAX);
+    let rate = in_a_second(texts.count, nanos);
+    let each = nanos / texts.count.max(1);
+    let megabytes = in_a_second(texts.bytes, nanos) / 1_000_000;
+    println!(rt; "{rate:>10} {each:>10} {megabytes:>8}  {what}")
 }
 
 /// Prints that work of a kind couldn't be done.
@@ -55,29 +75,31 @@ fn session(rt: &HostRuntime, what: &str) -> Result<(), io::Error> {
 /// A message that is read again and again.
 fn read(rt: &HostRuntime, what: &str, text: &[u8]) -> Result<(), io::Error> {
     let start = Instant::now(rt)?;
-    let count = messages::read_often(rt.alloc(), text);
-    report(rt, what, count, start.elapsed(rt)?)
+    let texts = messages::read_often(rt.alloc(), text);
+    report_texts(rt, what, &texts, start.elapsed(rt)?)
 }
 
 /// The lines and the consignment line of a message.
 fn scan(rt: &HostRuntime, what: &str, text: &[u8]) -> Result<(), io::Error> {
     let start = Instant::now(rt)?;
-    let count = messages::scan_often(rt.alloc(), text);
-    report(rt, what, count, start.elapsed(rt)?)
+    let texts = messages::scan_often(rt.alloc(), text);
+    report_texts(rt, what, &texts, start.elapsed(rt)?)
 }
 
+/// A manifest that is written again and again.
 fn manifests(rt: &HostRuntime, what: &str) -> Result<(), io::Error> {
     let start = Instant::now(rt)?;
     match messages::write_manifests(rt.alloc()) {
-        Some(count) => report(rt, what, count, start.elapsed(rt)?),
+        Some(texts) => report_texts(rt, what, &texts, start.elapsed(rt)?),
         None => gave_up(rt, what),
     }
 }
 
+/// A status update that is written again and again.
 fn updates(rt: &HostRuntime, what: &str) -> Result<(), io::Error> {
     let start = Instant::now(rt)?;
     match messages::write_updates(rt.alloc()) {
-        Some(count) => report(rt, what, count, start.elapsed(rt)?),
+        Some(texts) => report_texts(rt, what, &texts, start.elapsed(rt)?),
         None => gave_up(rt, what),
     }
 }
@@ -102,6 +124,7 @@ fn parts(rt: &HostRuntime, what: &str) -> Result<(), io::Error> {
 
 /// Each kind of work, one after another.
 fn measure(rt: &HostRuntime) -> Result<(), io::Error> {
+    println!(rt; "  a second    ns each     MB/s  work")?;
     orders(
         rt,
         "order: take-in 10, issue 3, return 3",

@@ -47,26 +47,41 @@ fn has_consignment(alloc: Global, text: &[u8]) -> bool {
     }
 }
 
-/// How often a message was read.
-pub fn read_often(alloc: Global, text: &[u8]) -> u64 {
+/// How many texts were read or written, and their bytes together.
+pub struct Texts {
+    pub count: u64,
+    pub bytes: u64,
+}
+
+/// A text, so many times.
+fn texts(count: u64, text: &[u8]) -> Texts {
+    let length = u64::try_from(text.len()).unwrap_or(u64::MAX);
+    Texts {
+        count,
+        bytes: count.saturating_mul(length),
+    }
+}
+
+/// Reads a message again and again.
+pub fn read_often(alloc: Global, text: &[u8]) -> Texts {
     let mut count: u64 = 0;
     for _ in 0..TIMES {
         if is_read(alloc, text) {
             count = count.saturating_add(1);
         }
     }
-    count
+    texts(count, text)
 }
 
-/// How often the lines of a text were found, and its consignment line was read.
-pub fn scan_often(alloc: Global, text: &[u8]) -> u64 {
+/// Finds the lines of a text, and reads its consignment line, again and again.
+pub fn scan_often(alloc: Global, text: &[u8]) -> Texts {
     let mut count: u64 = 0;
     for _ in 0..TIMES {
         if has_consignment(alloc, text) {
             count = count.saturating_add(1);
         }
     }
-    count
+    texts(count, text)
 }
 
 /// A load of a manifest.
@@ -82,8 +97,8 @@ fn load(serial: u32) -> Option<Load> {
     })
 }
 
-/// How often a manifest of one waybill was written.
-pub fn write_manifests(alloc: Global) -> Option<u64> {
+/// Writes a manifest of one waybill again and again.
+pub fn write_manifests(alloc: Global) -> Option<Texts> {
     let flight = Flight::read(b"LH400")?;
     let date = DayMonth::read(b"12JAN")?;
     let here = Airport::read(b"FRA")?;
@@ -96,11 +111,11 @@ pub fn write_manifests(alloc: Global) -> Option<u64> {
             return None;
         }
     }
-    Some(TIMES)
+    Some(texts(TIMES, out.as_slice()))
 }
 
-/// How often a status update was written.
-pub fn write_updates(alloc: Global) -> Option<u64> {
+/// Writes a status update again and again.
+pub fn write_updates(alloc: Global) -> Option<Texts> {
     let at = DayTime::read(b"12JAN1030")?;
     let update = Update {
         of: Consigned {
@@ -126,5 +141,5 @@ pub fn write_updates(alloc: Global) -> Option<u64> {
             return None;
         }
     }
-    Some(TIMES)
+    Some(texts(TIMES, out.as_slice()))
 }

@@ -1,8 +1,10 @@
-ghost use Rattle.std.specs.Prelude.{◌≡◌, false, None, Ok, IfOk, string_bytes};
+ghost use Rattle.std.specs.Prelude.{◌≡◌, ℕ, List, take, false, None, Ok, IfOk, IfErr, OnOk, OnErr, string_bytes};
+ghost use Rattle.agent_stock.specs.Runs.{AreStockRuns};
+ghost use Rattle.agent_stock.specs.declared.runs.StockRun.{StockRun as AnyRun};
 ghost use Rattle.desk_commands.specs.Command.{command_text};
 ghost use Rattle.plain_station.specs.State.{state_of};
 ghost use Rattle.station_core.specs.Keeping.{Acts, Breaks};
-ghost use Rattle.station_core.specs.Readers.{waybill_of};
+ghost use Rattle.station_core.specs.Readers.{HandedOut, waybill_of, irregular_rows, book_rows, pending_messages, trail_rows};
 ghost use Rattle.station_core.specs.Step.{opening};
 ghost use Rattle.station_core.specs.declared.input.Input.TheVariants.{Keyed, Wire};
 
@@ -16,17 +18,8 @@ use station_core::{
     ActFault, Answer, BookRow, Input, IrregularRow, Keeper, Key, Message, Reply, Sink, TrailRow,
     Waybill,
 };
-use std::alloc::{AllocError, Global};
+use std::alloc::Global;
 use telegrams::Telegram;
-
-/// The same bytes once more.
-fn bytes_of(alloc: Global, bytes: &[u8]) -> Result<Vec<u8>, AllocError>
-    ensures { IfOk result (λ copy. copy.items ≡ bytes.now) }
-{
-    let mut copy = Vec::new(alloc);
-    copy.extend_from_slice(bytes)?;
-    Ok(copy)
-}
 
 /// A station in memory alone. Its faults are `Refused` and `Memory`, and after both it is as before.
 #[derive(Drop)]
@@ -88,7 +81,7 @@ impl PlainStation {
         ensures acts { Acts (state_of self.old) (Wire telegram.now) at result (λ s. state_of self.new ≡ s) }
         ensures works { Breaks result false }
     {
-        let Ok(text) = bytes_of(self.alloc, telegram.text().as_bytes()) else {
+        let Ok(text) = telegram.text().as_bytes().to_vec(self.alloc) else {
             return Err(ActFault::Memory);
         };
         if self.kept_texts.try_reserve(1).is_err() {
@@ -178,23 +171,48 @@ impl Keeper for PlainStation {
         Ok(self.cargo.waybill(number))
     }
 
-    fn stock<S: Sink<StockRun>>(&mut self, sink: &mut S) -> Result<(), ActFault> {
+    fn stock<S: Sink<StockRun>>(&mut self, sink: &mut S) -> Result<(), ActFault>
+        ensures rows { OnOk result ((rows : List AnyRun) × AreStockRuns (state_of self.old).cargo.holders rows × HandedOut S.takes rows sink.old sink.new) }
+        ensures beginning { OnErr result ((rows : List AnyRun) → AreStockRuns (state_of self.old).cargo.holders rows → (n : ℕ) × HandedOut S.takes (take n rows) sink.old sink.new) }
+        ensures memory { IfErr result (λ fault. fault ≡ ActFault.Memory) }
+        ensures as_before { self.new ≡ self.old }
+    {
         self.cargo.stock(sink)
     }
 
-    fn irregular<S: Sink<IrregularRow>>(&mut self, sink: &mut S) -> Result<(), ActFault> {
+    fn irregular<S: Sink<IrregularRow>>(&mut self, sink: &mut S) -> Result<(), ActFault>
+        ensures rows { OnOk result (HandedOut S.takes (irregular_rows (state_of self.old).cargo) sink.old sink.new) }
+        ensures beginning { OnErr result ((n : ℕ) × HandedOut S.takes (take n (irregular_rows (state_of self.old).cargo)) sink.old sink.new) }
+        ensures memory { IfErr result (λ fault. fault ≡ ActFault.Memory) }
+        ensures as_before { self.new ≡ self.old }
+    {
         self.cargo.irregular(sink)
     }
 
-    fn book<S: Sink<BookRow>>(&mut self, sink: &mut S) -> Result<(), ActFault> {
+    fn book<S: Sink<BookRow>>(&mut self, sink: &mut S) -> Result<(), ActFault>
+        ensures rows { OnOk result (HandedOut S.takes (book_rows (state_of self.old).cargo) sink.old sink.new) }
+        ensures beginning { OnErr result ((n : ℕ) × HandedOut S.takes (take n (book_rows (state_of self.old).cargo)) sink.old sink.new) }
+        ensures memory { IfErr result (λ fault. fault ≡ ActFault.Memory) }
+        ensures as_before { self.new ≡ self.old }
+    {
         self.cargo.book(sink)
     }
 
-    fn pending<S: Sink<Message>>(&mut self, sink: &mut S) -> Result<(), ActFault> {
+    fn pending<S: Sink<Message>>(&mut self, sink: &mut S) -> Result<(), ActFault>
+        ensures rows { OnOk result (HandedOut S.takes (pending_messages (state_of self.old).cargo) sink.old sink.new) }
+        ensures beginning { OnErr result ((n : ℕ) × HandedOut S.takes (take n (pending_messages (state_of self.old).cargo)) sink.old sink.new) }
+        ensures memory { IfErr result (λ fault. fault ≡ ActFault.Memory) }
+        ensures as_before { self.new ≡ self.old }
+    {
         self.cargo.pending(sink)
     }
 
-    fn trail<S: Sink<TrailRow>>(&mut self, sink: &mut S) -> Result<(), ActFault> {
+    fn trail<S: Sink<TrailRow>>(&mut self, sink: &mut S) -> Result<(), ActFault>
+        ensures rows { OnOk result (HandedOut S.takes (trail_rows (state_of self.old).cargo) sink.old sink.new) }
+        ensures beginning { OnErr result ((n : ℕ) × HandedOut S.takes (take n (trail_rows (state_of self.old).cargo)) sink.old sink.new) }
+        ensures memory { IfErr result (λ fault. fault ≡ ActFault.Memory) }
+        ensures as_before { self.new ≡ self.old }
+    {
         self.cargo.trail(sink)
     }
 }

@@ -2,7 +2,6 @@
 ghost use Rattle.std.specs.Prelude.{◌≡◌, ℕ, List, take, OnOk, OnErr, IfErr};
 ghost use Rattle.agent_stock.specs.Runs.{AreStockRuns};
 ghost use Rattle.agent_stock.specs.declared.runs.StockRun.{StockRun as AnyRun};
-ghost use Rattle.station_core.specs.Keeping.{IsReadersFault};
 ghost use Rattle.station_core.specs.Readers.{HandedOut, waybill_of, irregular_rows, book_rows, pending_messages, trail_rows};
 ghost use Rattle.std.proofs.Props.{props};
 ghost use Rattle.shipment_machine.specs.Cargo.{opening_cargo};
@@ -75,7 +74,7 @@ impl SteadyCargo {
     pub(crate) fn irregular<S: Sink<IrregularRow>>(&self, sink: &mut S) -> Result<(), ActFault>
         ensures rows { OnOk result (HandedOut S.takes (irregular_rows (cargo_of self.now.cargo)) sink.old sink.new) }
         ensures beginning { OnErr result ((n : ℕ) × HandedOut S.takes (take n (irregular_rows (cargo_of self.now.cargo))) sink.old sink.new) }
-        ensures fault { IfErr result IsReadersFault }
+        ensures memory { IfErr result (λ fault. fault ≡ ActFault.Memory) }
     {
         match self.cargo.irregular(sink) {
             Ok(()) => Ok(()),
@@ -86,7 +85,7 @@ impl SteadyCargo {
     pub(crate) fn book<S: Sink<BookRow>>(&self, sink: &mut S) -> Result<(), ActFault>
         ensures rows { OnOk result (HandedOut S.takes (book_rows (cargo_of self.now.cargo)) sink.old sink.new) }
         ensures beginning { OnErr result ((n : ℕ) × HandedOut S.takes (take n (book_rows (cargo_of self.now.cargo))) sink.old sink.new) }
-        ensures fault { IfErr result IsReadersFault }
+        ensures memory { IfErr result (λ fault. fault ≡ ActFault.Memory) }
     {
         match self.cargo.book(sink) {
             Ok(()) => Ok(()),
@@ -97,7 +96,7 @@ impl SteadyCargo {
     pub(crate) fn pending<S: Sink<Message>>(&self, sink: &mut S) -> Result<(), ActFault>
         ensures rows { OnOk result (HandedOut S.takes (pending_messages (cargo_of self.now.cargo)) sink.old sink.new) }
         ensures beginning { OnErr result ((n : ℕ) × HandedOut S.takes (take n (pending_messages (cargo_of self.now.cargo))) sink.old sink.new) }
-        ensures fault { IfErr result IsReadersFault }
+        ensures memory { IfErr result (λ fault. fault ≡ ActFault.Memory) }
     {
         match self.cargo.pending(sink) {
             Ok(()) => Ok(()),
@@ -108,7 +107,7 @@ impl SteadyCargo {
     pub(crate) fn trail<S: Sink<TrailRow>>(&self, sink: &mut S) -> Result<(), ActFault>
         ensures rows { OnOk result (HandedOut S.takes (trail_rows (cargo_of self.now.cargo)) sink.old sink.new) }
         ensures beginning { OnErr result ((n : ℕ) × HandedOut S.takes (take n (trail_rows (cargo_of self.now.cargo))) sink.old sink.new) }
-        ensures fault { IfErr result IsReadersFault }
+        ensures memory { IfErr result (λ fault. fault ≡ ActFault.Memory) }
     {
         match self.cargo.trail(sink) {
             Ok(()) => Ok(()),
@@ -119,7 +118,7 @@ impl SteadyCargo {
     pub(crate) fn stock<S: Sink<StockRun>>(&self, sink: &mut S) -> Result<(), ActFault>
         ensures rows { OnOk result ((rows : List AnyRun) × AreStockRuns (cargo_of self.now.cargo).holders rows × HandedOut S.takes rows sink.old sink.new) }
         ensures beginning { OnErr result ((rows : List AnyRun) → AreStockRuns (cargo_of self.now.cargo).holders rows → (n : ℕ) × HandedOut S.takes (take n rows) sink.old sink.new) }
-        ensures fault { IfErr result IsReadersFault }
+        ensures memory { IfErr result (λ fault. fault ≡ ActFault.Memory) }
     {
         match self.cargo.stock(sink) {
             Ok(()) => Ok(()),

@@ -28,4 +28,4 @@ returns-clause-acts c =
     acts_ok (state_of self) (Wire c.args.telegram.now) c.args.at _ (cargo_of c.do_telegram.new.self.cargo) c.in-Ok-do_telegram.count
     (ap text_answer c.requires.new_text) c.in-Ok-do_telegram.ensures
     (ap (λ l. record { cargo = cargo_of c.do_telegram.new.self.cargo; kept_keys = kept_under self.kept_keys.items; kept_texts = kept_of l }) items
-    ∙ texts_more (cargo_of c.do_telegram.new.self.cargo) (kept_under self.kept_keys.items) self.kept_texts.items one c.args.telegram.now.text c.requires.new_text (c.in-Ok.ensures ∙ c.as_bytes.ensures.value ∙ c.text.ensures.value))
+    ∙ texts_more (cargo_of c.do_telegram.new.self.cargo) (kept_under self.kept_keys.items) self.kept_texts.items one c.args.telegram.now.text c.requires.new_text (c.in-Ok.ensures.items_if_clones_equal (λ x y e. e) ∙ c.as_bytes.ensures.value ∙ c.text.ensures.value))
