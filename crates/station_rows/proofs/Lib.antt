@@ -1,5 +1,4 @@
 pub mod Shared
-pub mod Many
 pub mod Keyed
 pub mod Maps
 pub mod Columns
