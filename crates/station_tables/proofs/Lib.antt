@@ -1,5 +1,6 @@
 mod Assigning
 mod MapLaws
+mod NewStation
 mod Reading
 mod Readers
 mod Refusing

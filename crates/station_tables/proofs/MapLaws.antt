@@ -1,10 +1,10 @@
 -- What holds of each entry of a map holds at each key, and the other way round.
-use Rattle.std.proofs.Common.{◌≡◌, List, [], ◌∷◌, filter, Bool, true, false, cond, Some, None, is_eq, refl, sym, ap, ap₂, subst, ◌∙◌, Ordering, Less, Equal, Greater}
-use Rattle.std.specs.Prelude.{◌||◌, ◌&&◌, is_some}
-use Rattle.std.specs.List.{AllByRecursion, list_all, list_any}
+use Rattle.std.proofs.Common.{◌≡◌, List, [], ◌∷◌, Bool, true, false, cond, Some, is_eq, refl, sym, ap, ap₂, subst, ◌∙◌, Ordering, Less, Equal, Greater}
+use Rattle.std.specs.Prelude.{◌&&◌}
+use Rattle.std.specs.List.{AllByRecursion, list_all}
 use Rattle.std.specs.Cmp.{IsTotalOrder, eq_by_cmp_equiv, tied_itself}
 use Rattle.std.specs.Ordering.{eq_by_cmp}
-use Rattle.std.specs.FinMap.{FinMap, IsAntisymmetric, find, entries, get, insert, remove, get-insert, get-remove, get-entries}
+use Rattle.std.specs.FinMap.{FinMap, IsAntisymmetric, find, entries, get, insert, get-insert, get-entries}
 use Rattle.sqlite.specs.Tree.{IsAscending}
 use Rattle.sqlite_keyed.proofs.ListLemmas.{all_weaker, all_both}
 use Rattle.station_rows.proofs.Maps.{entries_rise}
@@ -66,36 +66,3 @@ module _ {K V : Type 0} (R : K → K → Ordering) (total : IsTotalOrder R) (sam
       go : (q : K) (w : V) (b : Bool) → eq_by_cmp R q k ≡ b → cond b (Some v) (get m q) ≡ Some w → p (q, w) ≡ true
       go q w true tied has = let value : v ≡ w = cc in ap₂ (λ a b. p (a, b)) (key_is R same q k tied) (sym value) ∙ new
       go q w false tied has = at_key (λ e. p e ≡ true) m (each_passes p (entries m) all) q w has
-
-  pub all-remove : (p : K × V → Bool) (m : FinMap R V) (k : K) → list_all p (entries m) ≡ true → list_all p (entries (remove m k)) ≡ true
-  all-remove p m k all = all_pass p (entries (remove m k)) (each_entry (λ e. p e ≡ true) (remove m k) (λ q w has. go q w (eq_by_cmp R q k) (sym (get-remove total m k q) ∙ has)))
-    where
-      go : (q : K) (w : V) (b : Bool) → cond b None (get m q) ≡ Some w → p (q, w) ≡ true
-      go q w true has = cc
-      go q w false has = at_key (λ e. p e ≡ true) m (each_passes p (entries m) all) q w has
-
-  -- whether a key is among the entries that pass a test which those of the key pass
-  any_kept : (p : K × V → Bool) (q : K) (es : List (K × V)) → ((v : V) → p (q, v) ≡ true) → list_any (λ e. eq_by_cmp R q e.0) (filter p es) ≡ is_some (find R q es)
-  any_kept p q [] passes = refl
-  any_kept p q (e ∷ es) passes = go (p e) refl (eq_by_cmp R q e.0) refl (any_kept p q es passes)
-    where
-      go : (b : Bool) → p e ≡ b → (t : Bool) → eq_by_cmp R q e.0 ≡ t → list_any (λ d. eq_by_cmp R q d.0) (filter p es) ≡ is_some (find R q es)
-          → list_any (λ d. eq_by_cmp R q d.0) (cond b (e ∷ filter p es) (filter p es)) ≡ is_some (cond t (Some e.1) (find R q es))
-      go true is true tied more = ap (λ t. t || list_any (λ d. eq_by_cmp R q d.0) (filter p es)) tied
-      go true is false tied more = ap (λ t. t || list_any (λ d. eq_by_cmp R q d.0) (filter p es)) tied ∙ more
-      go false is true tied more = let it : p e ≡ true = ap (λ k. p (k, e.1)) (sym (key_is R same q e.0 tied)) ∙ passes e.1 in cc
-      go false is false tied more = more
-
-  pub any_among : (p : K × V → Bool) (q : K) (m : FinMap R V) → ((v : V) → p (q, v) ≡ true) → list_any (λ e. eq_by_cmp R q e.0) (filter p (entries m)) ≡ is_some (get m q)
-  any_among p q m passes = any_kept p q (entries m) passes ∙ ap is_some (sym (get-entries m q))
-
-  -- a key that fails the test is not among them
-  pub none_among : (p : K × V → Bool) (q : K) (es : List (K × V)) → ((v : V) → p (q, v) ≡ false) → list_any (λ e. eq_by_cmp R q e.0) (filter p es) ≡ false
-  none_among p q [] fails = refl
-  none_among p q (e ∷ es) fails = go (p e) refl (eq_by_cmp R q e.0) refl (none_among p q es fails)
-    where
-      go : (b : Bool) → p e ≡ b → (t : Bool) → eq_by_cmp R q e.0 ≡ t → list_any (λ d. eq_by_cmp R q d.0) (filter p es) ≡ false
-          → list_any (λ d. eq_by_cmp R q d.0) (cond b (e ∷ filter p es) (filter p es)) ≡ false
-      go true is true tied more = let it : p e ≡ false = ap (λ k. p (k, e.1)) (sym (key_is R same q e.0 tied)) ∙ fails e.1 in cc
-      go true is false tied more = ap (λ t. t || list_any (λ d. eq_by_cmp R q d.0) (filter p es)) tied ∙ more
-      go false is t tied more = more

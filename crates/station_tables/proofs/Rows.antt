@@ -23,9 +23,6 @@ is_single row h = same row.1.high row.0.1 (second _ _ (first _ (is_some (holder_
     same : (a b : ℤ) → int_eq a b ≡ true → a ≡ b
     same a b e = grind (arith, ints)
 
-pub has_holder : (row : StockKey × Stock) → is_stock_row row ≡ true → is_some (holder_in row.1) ≡ true
-has_holder row h = second _ (is_some (holder_in row.1)) h
-
 within : (p s prefix low high : ℤ) → high ≡ low → (int_eq prefix p && (int_le low s && int_le s high)) ≡ (int_eq p prefix && int_eq s low)
 within p s prefix low high e = grind (arith, ints)
 

@@ -15,8 +15,7 @@ use Rattle.desk_commands.specs.declared.command.Command.TheVariants.{Stock}
 use Rattle.station_core.specs.declared.input.Input.{Input}
 use Rattle.station_core.specs.declared.input.Input.TheVariants.{Keyed}
 use Rattle.station_core.specs.Key.{is_key}
-use Rattle.station_core.specs.Step.{State, step, answered, key_answer, stock_acted, waybill_or_nothing, first_time, keeping, accepted, stepped}
-use Rattle.station_core.specs.declared.answer.Answer.TheVariants.{Refused}
+use Rattle.station_core.specs.Step.{State, step, answered, key_answer, stock_acted, first_time, keeping, accepted}
 use Rattle.station_rows.proofs.Keys.{kept_total, kept_same}
 use Rattle.station_rows.specs.Meant.{with_kept}
 use Rattle.station_rows.specs.Store.{View, Survives}
@@ -39,13 +38,6 @@ regroup false b c p q = p
 
 kept_fits : (key text : List ℕ) (count : ℕ) → is_key key ≡ true → count < 4_294_967_296 → is_kept_row (key, record { command = text; count = pos count }) ≡ true
 kept_fits key text count is_a below = regroup (is_key key) (int_le (pos 0) (pos count)) (int_le (pos count) (pos 4_294_967_295)) is_a (counted count below)
-
--- a refused order changes nothing
-pub refused_is : (before : Tables) (key : List ℕ) (order : Order) → get before.kept key ≡ None → (number : ℕ) (lowest : Option ℕ) → order_refusal (holders_in before.stock) order ≡ Some (number, lowest)
-    → (at : LocalMinute) → step (meaning_of before) (Keyed key (Stock order)) at ≡ stepped (Refused (record { number = number; detail = waybill_or_nothing lowest })) (meaning_of before)
-refused_is before key order none number lowest refusal at =
-    ap (λ (o : Option table.Kept). answered (meaning_of before) (Keyed key (Stock order)) at (key_answer (option_map keeping_in o) (command_text (Stock order)))) none
-    ∙ ap (λ o. first_time (meaning_of before) (Keyed key (Stock order)) (stock_acted (meaning_of before).cargo order o)) refusal
 
 module _ (before : Tables) (mid : Tables) (key : List ℕ) (order : Order) (text : List ℕ) (count : ℕ)
     (none : get before.kept key ≡ None) (unrefused : order_refusal (holders_in before.stock) order ≡ None) (given : holders_in mid.stock ≡ after_order (holders_in before.stock) order)

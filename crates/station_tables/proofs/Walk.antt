@@ -66,12 +66,6 @@ module _ (serial : ℕ) (rows rest : List (StockKey × Stock)) (remains : Remain
     ahead = record { rises = remains.ahead.rises; above = behind };
   }
 
-pub behind_none : (serial : ℕ) → AllByRecursion (λ (r : StockKey × Stock). pos (serial + 1) ≤ℤ r.0.1) []
-behind_none serial = tt
-
-pub behind_other : (serial : ℕ) (rest : List (StockKey × Stock)) (row : StockKey × Stock) → AreAhead serial (row ∷ rest) → int_eq row.0.1 (pos serial) ≡ false → AllByRecursion (λ (r : StockKey × Stock). pos (serial + 1) ≤ℤ r.0.1) (row ∷ rest)
-behind_other = all_behind
-
 -- a slice that isn't empty
 pub shape : {X : Type 0} (rest : List X) (row : X) → 1 ≤ length rest → row ≡ slice_index_or rest 0 row → rest ≡ row ∷ take (length rest - 1) (drop 1 rest)
 shape [] row len is = absurd (omega arith)
@@ -93,7 +87,7 @@ module _ (rest : List StockRow) (row : StockRow) (len : 1 ≤ length rest) (is :
 
   pub left : int_eq row.low (pos k) ≡ false → (row_with k rows ≡ None) × Remains (k + 1) rows (map stock_meant rest)
   left differs =
-      let behind = behind_other k (map stock_meant more) (stock_meant row) remains_shaped.ahead differs in
+      let behind = all_behind k (map stock_meant more) (stock_meant row) remains_shaped.ahead differs in
       let all = subst (λ (l : List StockRow). AllByRecursion (λ (r : StockKey × Stock). pos (k + 1) ≤ℤ r.0.1) (map stock_meant l)) (sym (shape rest row len is)) behind in
       (none_here k rows (map stock_meant rest) remains all, remains_further k rows (map stock_meant rest) remains all)
 

@@ -1,25 +1,23 @@
 -- What the writes of a run's rows make of the stock.
-use Rattle.std.proofs.Common.{◌≡◌, ℕ, ◌+◌, ◌<◌, ◌≤◌, pos, List, [], ◌∷◌, ◌++◌, map, take, length, slice_index_or, Bool, true, false, cond, Option, Some, None, refl, sym, ap, ap₂, subst, ◌∙◌, arith}
-use Rattle.std.specs.Prelude.{◌&&◌, ◌||◌, int_le, nat_le, nat_lt, nat_eq, is_some}
-use Rattle.std.specs.List.{list_all, list_any}
+use Rattle.std.proofs.Common.{◌≡◌, ℕ, ◌+◌, ◌<◌, ◌≤◌, pos, List, Bool, true, false, cond, Option, Some, refl, sym, ap, ap₂, subst, ◌∙◌, arith}
+use Rattle.std.specs.Prelude.{◌&&◌, int_le, nat_le, nat_lt, nat_eq, is_some}
+use Rattle.std.specs.List.{list_all}
 use Rattle.std.specs.Option.{option_and_then}
-use Rattle.std.specs.Ordering.{int_eq, eq_by_cmp}
-use Rattle.std.specs.FinMap.{FinMap, entries, get, get-insert, get-remove}
+use Rattle.std.specs.Ordering.{int_eq}
+use Rattle.std.specs.FinMap.{entries, get, get-insert}
 use Rattle.std.proofs.lemmas.Int.{ints}
 use Rattle.std.proofs.lemmas.Bool.Decides.{nat_tests}
-use Rattle.std.proofs.lemmas.List.{take_more, map-append}
-use Rattle.std.proofs.lemmas.List.Folds.{list_any-append}
 use Rattle.awb_number.specs.Number.{IsNumber, prefix_of, serial_of}
 use Rattle.agent_stock.specs.declared.stock.Holder.{Holder}
 use Rattle.station_rows.proofs.Keys.{stock_total, stock_same}
 use Rattle.station_rows.specs.declared.store.StockRow.{StockRow}
-use Rattle.station_rows.specs.Meant.{stock_meant, with_stock, without_stock}
-use Rattle.station_rows.specs.Store.{View, Writes, Shows}
+use Rattle.station_rows.specs.Meant.{stock_meant, with_stock}
+use Rattle.station_rows.specs.Store.{View, Writes}
 use Rattle.station_rows.specs.Tables.{Stock, StockKey, stock_cmp, Tables}
 use Rattle.station_tables.specs.Meaning.{holder_in, is_stock_row, is_station, is_kept_row, IsLawful}
 use Rattle.station_tables.specs.Ahead.{key_of}
 use Rattle.station_tables.specs.Steady.{IsBeside}
-use Rattle.station_tables.proofs.MapLaws.{first, second, all-insert, all-remove}
+use Rattle.station_tables.proofs.MapLaws.{first, second, all-insert}
 use Rattle.station_tables.proofs.Rows.{same_key}
 
 and_from : (a b : Bool) → a ≡ true → b ≡ true → (a && b) ≡ true
@@ -53,15 +51,6 @@ beside_then a b c h k = record {
 pub beside_itself : (a : View) → IsBeside a a
 beside_itself a = record { is_open = λ was. was; committed = refl; stations = refl; kept = refl; lawful = λ lawful. lawful }
 
-pub begun_beside : (a b : View) → Shows a b a.now a.committed true → IsBeside a b
-begun_beside a b h = record {
-  is_open = λ was. h.is_open;
-  committed = h.committed_is;
-  stations = ap (λ t. t.stations) h.now_is;
-  kept = ap (λ t. t.kept) h.now_is;
-  lawful = λ lawful. subst IsLawful (sym h.now_is) lawful;
-}
-
 pub inserted_beside : (a b : View) (k : StockKey) (v : Stock) → is_stock_row (k, v) ≡ true → Writes a b (with_stock (k, v) a.now) → IsBeside a b
 inserted_beside a b k v fits h = record {
   is_open = λ was. h.is_open;
@@ -71,36 +60,6 @@ inserted_beside a b k v fits h = record {
   lawful = λ lawful. subst IsLawful (sym h.now_is) (lawful_of (with_stock (k, v) a.now) (lawful_stations a.now lawful)
       (all-insert stock_cmp stock_total stock_same is_stock_row a.now.stock k v (lawful_stock a.now lawful) fits) (lawful_kept a.now lawful));
 }
-
-pub removed_beside : (a b : View) (k : StockKey) → Writes a b (without_stock k a.now) → IsBeside a b
-removed_beside a b k h = record {
-  is_open = λ was. h.is_open;
-  committed = h.committed_is;
-  stations = ap (λ t. t.stations) h.now_is;
-  kept = ap (λ t. t.kept) h.now_is;
-  lawful = λ lawful. subst IsLawful (sym h.now_is) (lawful_of (without_stock k a.now) (lawful_stations a.now lawful)
-      (all-remove stock_cmp stock_total stock_same is_stock_row a.now.stock k (lawful_stock a.now lawful)) (lawful_kept a.now lawful));
-}
-
--- one row more is removed
-merged : (t u : Bool) (x : Option Stock) → cond t None (cond u None x) ≡ cond (u || (t || false)) None x
-merged true true x = refl
-merged true false x = refl
-merged false true x = refl
-merged false false x = refl
-
-pub removed_more : (rows : List StockRow) (i : ℕ) (row : StockRow) → i < length rows → row ≡ slice_index_or rows i row → (a b : View) (old : FinMap stock_cmp Stock) (k : StockKey)
-    → Writes a b (without_stock (row.prefix, row.low) a.now)
-    → get a.now.stock k ≡ cond (list_any (λ (r : StockKey × Stock). eq_by_cmp stock_cmp k r.0) (map stock_meant (take i rows))) None (get old k)
-    → get b.now.stock k ≡ cond (list_any (λ (r : StockKey × Stock). eq_by_cmp stock_cmp k r.0) (map stock_meant (take (i + 1) rows))) None (get old k)
-removed_more rows i row within is a b old k h so_far =
-    let tied : StockKey × Stock → Bool = λ (r : StockKey × Stock). eq_by_cmp stock_cmp k r.0 in
-    ap (λ (t : Tables). get t.stock k) h.now_is ∙ get-remove stock_total a.now.stock (row.prefix, row.low) k
-    ∙ ap (cond (eq_by_cmp stock_cmp k (row.prefix, row.low)) None) so_far
-    ∙ merged (eq_by_cmp stock_cmp k (row.prefix, row.low)) (list_any tied (map stock_meant (take i rows))) (get old k)
-    ∙ ap (λ b. cond b None (get old k)) (sym (list_any-append tied (map stock_meant (take i rows)) (stock_meant row ∷ [])))
-    ∙ ap (λ (l : List (StockKey × Stock)). cond (list_any tied l) None (get old k)) (sym (map-append stock_meant (take i rows) (row ∷ [])))
-    ∙ ap (λ (l : List StockRow). cond (list_any tied (map stock_meant l)) None (get old k)) (ap (λ (r : StockRow). take i rows ++ r ∷ []) is ∙ sym (take_more rows i row within))
 
 -- one number more has a row
 pub entry_is : (row : StockRow) (n : ℕ) (agent : List ℕ) → row.prefix ≡ pos (prefix_of n) → row.low ≡ pos (serial_of n) → row.high ≡ pos (serial_of n)

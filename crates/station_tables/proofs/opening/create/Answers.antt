@@ -4,7 +4,7 @@ use Rattle.station_rows.specs.declared.rows.Rows.{Rows}
 use Rattle.station_rows.specs.Connection.{connection_view}
 use Rattle.station_tables.specs.Found.{Keeps}
 use Rattle.station_tables.specs.Meaning.{meaning_of, state_of}
-use Rattle.station_tables.specs.Opening.{opening-steady, meaning-opening, state-opening}
+use Rattle.station_tables.proofs.NewStation.{opening-steady, meaning-opening, state-opening}
 use Rattle.station_tables.proofs.opening.create.Goals as goal
 
 pub over-requires : goal.over-requires
