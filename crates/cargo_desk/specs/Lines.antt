@@ -8,6 +8,7 @@ use Rattle.station_core.specs.declared.answer.Answer.{Answer}
 use Rattle.station_core.specs.declared.answer.Answer.TheVariants.{Done, Refused}
 use Rattle.station_core.specs.declared.input.Input.{Input}
 use Rattle.station_core.specs.declared.input.Input.TheVariants.{Keyed}
+use Rattle.station_core.specs.Retries.{is_done}
 use Rattle.station_core.specs.Step.{State, step}
 use Rattle.station_core.specs.Texts.{reply_text, refusal_text}
 use Rattle.cargo_desk.specs.Row.{row_asks}
@@ -18,10 +19,6 @@ Row = List (List ℕ)
 abbrev pub answer_text : Answer → List ℕ
 answer_text (Done reply) = reply_text reply
 answer_text (Refused refusal) = refusal_text refusal
-
-abbrev pub is_done : Answer → Bool
-is_done (Done reply) = true
-is_done (Refused refusal) = false
 
 -- the key, a blank, the answer, and the line's end
 abbrev pub answer_line : List ℕ → Answer → List ℕ
@@ -73,7 +70,3 @@ rows_after s (row ∷ rows) at = rows_after (row_after s row at) rows at
 -- the records of a text, as the crate `csv` defines them
 abbrev pub stock_rows : List ℕ → List Row
 stock_rows bytes = records default_config (strip_bom bytes)
-
--- the output of `stock` for a text
-abbrev pub stock_lines : List ℕ → State → LocalMinute → List ℕ
-stock_lines bytes s at = lines_from 1 s (stock_rows bytes) at
