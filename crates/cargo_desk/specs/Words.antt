@@ -1,5 +1,5 @@
--- The words of the command line, and of a fault.
-use Rattle.std.specs.Prelude.{ℕ, Bool, false, List, [], ◌∷◌, codes, string_bytes}
+-- The words of the command line and of a fault, and the exit status.
+use Rattle.std.specs.Prelude.{ℕ, Bool, true, false, List, [], ◌∷◌, codes, string_bytes, Result, Ok, Err}
 use Rattle.std.specs.declared.string.String.{String}
 use Rattle.std.specs.Str.{bytes_eq}
 use Rattle.cargo_desk.specs.declared.stock.RunFault.{RunFault}
@@ -16,3 +16,9 @@ fault_text fault.Store = codes "store"
 abbrev pub asks_for_stock : {A : Type 0} → List (String A) → Bool
 asks_for_stock (program ∷ verb ∷ []) = bytes_eq (string_bytes verb) (codes "stock")
 asks_for_stock _ = false
+
+-- the exit status of a run: every row was accepted, one wasn't, or the run stopped before its end
+abbrev pub status_of : Result Bool RunFault → ℕ
+status_of (Ok true) = 0
+status_of (Ok false) = 1
+status_of (Err e) = 3

@@ -2,7 +2,7 @@
 #![tactic(auto)]
 
 ghost use Rattle.std.specs.Prelude.{◌≡◌};
-ghost use Rattle.cargo_desk.specs.Words.{fault_text, asks_for_stock};
+ghost use Rattle.cargo_desk.specs.Words.{fault_text, asks_for_stock, status_of};
 
 mod row;
 mod run;
@@ -42,6 +42,17 @@ fn asks_for_stock(words: &[String]) -> bool
     }
 }
 
+/// The exit status of a run. 0: every row was accepted; 1: one wasn't; 3: the run stopped before its end.
+fn status_of(ran: &Result<bool, RunFault>) -> u8
+    ensures { result ≡ status_of ran.now }
+{
+    match ran {
+        Ok(true) => 0,
+        Ok(false) => 1,
+        Err(_) => 3,
+    }
+}
+
 /// The moment of every row: 2000-01-01 00:00, the first that there is. The program doesn't read the clock yet. What an order on
 /// the stock does is the same at every moment.
 fn moment_of_rows() -> Moment
@@ -72,20 +83,17 @@ fn answer_list(rt: &HostRuntime) -> Result<bool, RunFault> {
     )
 }
 
-/// Status 0: every row was accepted; 1: one wasn't; 2: other words; 3: the run stopped before its end.
+/// The status is that of the run, or 2 for other words.
 fn main(rt: HostRuntime) -> Result<ExitCode, io::Error> {
     let words: Vec<String> = env::args(&rt)?.collect(rt.alloc())?;
     if !asks_for_stock(&words) {
         eprintln!(rt; "{USAGE}")?;
         return Ok(ExitCode::from(2));
     }
-    match answer_list(&rt) {
-        Ok(true) => Ok(ExitCode::from(0)),
-        Ok(false) => Ok(ExitCode::from(1)),
-        Err(fault) => {
-            let name = fault_name(fault);
-            eprintln!(rt; "fault {name}")?;
-            Ok(ExitCode::from(3))
-        }
+    let ran = answer_list(&rt);
+    if let Err(fault) = ran {
+        let name = fault_name(fault);
+        eprintln!(rt; "fault {name}")?;
     }
+    Ok(ExitCode::from(status_of(&ran)))
 }
