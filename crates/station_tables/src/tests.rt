@@ -8,7 +8,7 @@ use shipment_machine::{Detail, Refusal};
 use sqlite::{Connection, MemStore};
 use station_core::{
     ActFault, Answer, BookRow, Input, IrregularRow, Keeper, Key, Message, Reply, Sink, TrailRow,
-    answer_one, refusal_text, reply_text,
+    act_all, answer_one, refusal_text, reply_text,
 };
 use station_rows::{Rows, StockRow, StoreFault, TableStore, open_memory};
 use std::alloc::Global;
@@ -291,6 +291,37 @@ fn answers_come_one_by_one(rt: HostRuntime) -> Result<(), Fail> {
     assert_eq!(rt; holder(&mut station, 1234567)?, Some(Holder::Void));
     assert_eq!(rt; holder(&mut station, 1234570)?, Some(Holder::Desk));
     Ok(())
+}
+
+#[test]
+fn a_list_of_orders_is_answered_in_order(rt: HostRuntime) -> Result<(), Fail> {
+    let mut station = station(rt.alloc())?;
+    let ten = take_in("k1", 1234567, 10)?;
+    let three = issue("k2", 1234570, 3, "ACME")?;
+    let four = issue("k2", 1234570, 4, "ACME")?;
+    let two = issue("k3", 1234572, 2, "BETA")?;
+    let at = noon()?;
+    let inputs = [
+        (Input::Keyed(ten.0, Command::Stock(ten.1)), at),
+        (Input::Keyed(three.0, Command::Stock(three.1)), at),
+        (Input::Keyed(three.0, Command::Stock(three.1)), at),
+        (Input::Keyed(four.0, Command::Stock(four.1)), at),
+        (Input::Keyed(two.0, Command::Stock(two.1)), at),
+    ];
+    let all = act_all(rt.alloc(), &mut station, inputs.as_slice());
+    assert_eq!(rt; all.fault, None);
+    assert_eq!(rt;
+        all.answers.as_slice(),
+        [
+            done(10),
+            done(3),
+            done(3),
+            Answer::Refused(refused(501)),
+            Answer::Refused(refused_for(102, b"020-12345723")?),
+        ]
+        .as_slice()
+    );
+    is_morning(&rt, &mut station)
 }
 
 /// A sink that wants so many rows at most.
