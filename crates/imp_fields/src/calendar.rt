@@ -7,6 +7,7 @@ ghost use Rattle.jiff_core.specs.Calendar.{days_from_civil};
 ghost use Rattle.imp_fields.specs.Date.{IsMomentDay, date_on, year_of, day_in_year, distance, nearer, resolved, when_at};
 
 use crate::date::{DayMonth, DayTime, Moment};
+use crate::local_day::LocalDay;
 use jiff::civil::Date;
 use jiff_core::civil;
 
@@ -102,12 +103,11 @@ pub fn resolve(date: DayMonth, receipt: u32) -> Option<u32>
 }
 
 impl DayMonth {
-    /// The date of a day from 2000-01-01 to 2099-12-31, in days since 1970-01-01.
-    pub fn on(day: u32) -> DayMonth
-        requires { IsMomentDay day }
+    /// The date of a day, without its year.
+    pub fn on(day: LocalDay) -> DayMonth
         ensures { result ≡ date_on day }
     {
-        day_month(day)
+        day_month(day.number())
     }
 }
 

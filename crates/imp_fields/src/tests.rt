@@ -120,9 +120,10 @@ fn flights_are_written_with_three_digits(rt: HostRuntime) -> Result<(), Fail> {
 
 #[test]
 fn days_are_written_as_dates(rt: HostRuntime) -> Result<(), Fail> {
-    assert_eq!(rt; DayMonth::on(20465).write(), *b"12JAN");
-    assert_eq!(rt; DayMonth::on(19782).write(), *b"29FEB");
-    assert_eq!(rt; DayMonth::on(47481).write(), *b"31DEC");
+    for (number, date) in [(20465, *b"12JAN"), (19782, *b"29FEB"), (47481, *b"31DEC")] {
+        let day = LocalDay::new(number).ok_or("a local day")?;
+        assert_eq!(rt; DayMonth::on(day).write(), date, "{number}");
+    }
     let moment = Moment::new(20465, 630).ok_or("a moment")?;
     assert_eq!(rt; DayTime::at(moment).write(), *b"12JAN1030");
     Ok(())

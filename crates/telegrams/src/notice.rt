@@ -1,25 +1,41 @@
 //! The texts of notices.
 
-ghost use Rattle.std.specs.Prelude.{◌≡◌, ◌++◌, ◌∷◌, [], Ok, IfOk, OnOk, map};
-ghost use Rattle.imp_fields.specs.Date.{date_on};
+ghost use Rattle.std.specs.Prelude.{◌≡◌, Ok, IfOk, map};
+ghost use Rattle.imp_fields.specs.Date.{date_on, when_at};
 ghost use Rattle.imp_fields.specs.Message.{sent_text};
 ghost use Rattle.imp_fields.specs.NormalText.{normal_lines};
 ghost use Rattle.fsu_text.specs.Fsu.{fsu_lines};
+ghost use Rattle.fsu_text.specs.declared.sent.SentStatus.TheVariants as sent;
 ghost use Rattle.telegrams.specs.NoticeText.{status_of_event, sent_update, sent_load, manifest_lines, notice_lines, notice_text, IsUpdateAgain, IsReadAgain};
 
 use crate::known::manifest_known;
 use ffm_text::{Load, write_ffm};
 use fsu_text::{Handling, SentCarriage, SentStatus, Update, write_fsu};
-use imp_fields::{Airport, DayMonth, DayTime, LocalDay};
+use imp_fields::{Airport, DayMonth, DayTime, Moment, Name};
 use shipment_machine::{Event, FlightDate, ManifestLine, ManifestLines, Notice};
 use std::alloc::{AllocError, Global};
-use std::slice;
 
-/// The date of a flight's day, without its year.
-pub(crate) fn date_of(day: LocalDay) -> DayMonth
-    ensures { result ≡ date_on day }
+/// RCS, NFD or DLV, told by its moment.
+fn handled(event: Handling, name: Name, at: Moment) -> SentStatus
+    ensures { result ≡ sent.Handled event (when_at at) name }
 {
-    DayMonth::on(day.number())
+    SentStatus::Handled {
+        event,
+        at: DayTime::at(at),
+        name,
+    }
+}
+
+/// MAN or DEP, told by the flight's date.
+fn carried(event: SentCarriage, flight: &FlightDate, unload: Airport) -> SentStatus
+    ensures { result ≡ sent.Carried event flight.now.flight (date_on flight.now.day) unload }
+{
+    SentStatus::Carried {
+        event,
+        flight: flight.flight,
+        date: DayMonth::on(flight.day),
+        to: unload,
+    }
 }
 
 /// What happened, as a status message tells it: a flight that leaves by its date, all else by its moment.
@@ -27,37 +43,17 @@ fn status_of(event: &Event) -> SentStatus
     ensures { result ≡ status_of_event event.now }
 {
     match event {
-        Event::ReceivedFromShipper { name, at } => SentStatus::Handled {
-            event: Handling::ReceivedFromShipper,
-            at: DayTime::at(*at),
-            name: *name,
-        },
-        Event::Manifested { flight, unload } => SentStatus::Carried {
-            event: SentCarriage::Manifested,
-            flight: flight.flight,
-            date: date_of(flight.day),
-            to: *unload,
-        },
-        Event::Departed { flight, unload } => SentStatus::Carried {
-            event: SentCarriage::Departed,
-            flight: flight.flight,
-            date: date_of(flight.day),
-            to: *unload,
-        },
+        Event::ReceivedFromShipper { name, at } => {
+            handled(Handling::ReceivedFromShipper, *name, *at)
+        }
+        Event::Manifested { flight, unload } => carried(SentCarriage::Manifested, flight, *unload),
+        Event::Departed { flight, unload } => carried(SentCarriage::Departed, flight, *unload),
         Event::ReceivedFromFlight { flight, at } => SentStatus::ReceivedFromFlight {
             flight: flight.flight,
             at: DayTime::at(*at),
         },
-        Event::Notified { name, at } => SentStatus::Handled {
-            event: Handling::Notified,
-            at: DayTime::at(*at),
-            name: *name,
-        },
-        Event::Delivered { name, at } => SentStatus::Handled {
-            event: Handling::Delivered,
-            at: DayTime::at(*at),
-            name: *name,
-        },
+        Event::Notified { name, at } => handled(Handling::Notified, *name, *at),
+        Event::Delivered { name, at } => handled(Handling::Delivered, *name, *at),
         Event::Differs {
             flight,
             at: seen,
@@ -85,21 +81,13 @@ pub(crate) fn load_of(line: &ManifestLine) -> Load
     }
 }
 
-/// Appends a waybill on a manifest.
-fn put_load(loads: &mut Vec<Load>, line: &ManifestLine) -> Result<(), AllocError>
-    ensures { OnOk result (loads.new.items ≡ loads.old.items ++ sent_load line.now ∷ []) }
-{
-    let load = load_of(line);
-    loads.extend_from_slice(slice::from_ref(&load))
-}
-
 /// The waybills on a manifest.
 fn loads_of(alloc: Global, lines: &[ManifestLine]) -> Result<Vec<Load>, AllocError>
     ensures { IfOk result (λ loads. loads.items ≡ map sent_load lines.now) }
 {
     let mut loads = Vec::new(alloc);
     for line in lines {
-        put_load(&mut loads, line)?;
+        loads.push(load_of(line))?;
     }
     Ok(loads)
 }
@@ -130,7 +118,7 @@ fn manifest_text(
     write_ffm(
         &mut text,
         flight.flight,
-        date_of(flight.day),
+        DayMonth::on(flight.day),
         here,
         unload,
         loads.as_slice(),

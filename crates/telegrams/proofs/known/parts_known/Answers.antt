@@ -1,15 +1,16 @@
-use Rattle.std.proofs.Common.{arith}
+use Rattle.std.proofs.Common.{arith, subst}
 use Rattle.std.proofs.lemmas.List.{length-map}
+use Rattle.imp_fields.specs.Date.{IsCalendarDay}
 use Rattle.telegrams.specs.NoticeText.{sent_load}
-use Rattle.telegrams.proofs.KnownLines.{are_loads}
+use Rattle.telegrams.proofs.KnownLines.{are_loads, IsAirport}
 use Rattle.telegrams.proofs.known.parts_known.Goals as goal
 
 pub returns : goal.returns
 returns c = record {
-  designator = c.flight_known.ensures;
-  calendar_day = c.day_known.ensures;
-  from = c.airport_known.ensures;
-  to = c.airport_known-2.ensures;
+  designator = c.write-flight.ensures.designator;
+  calendar_day = subst IsCalendarDay c.on.ensures c.write-date.ensures.in_range;
+  from = subst IsAirport c.letters-here.ensures.value c.letters-here.ensures.letters;
+  to = subst IsAirport c.letters-unload.ensures.value c.letters-unload.ensures.letters;
   each = are_loads c.args.lines.now c.lines_known.ensures;
   few = omega (arith, length-map c.args.lines.now sent_load, c.requires.few);
 }
