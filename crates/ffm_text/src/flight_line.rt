@@ -1,13 +1,10 @@
 //! The flight line of a manifest: `1/LH400/12JAN/FRA`.
 
-ghost use Rattle.std.specs.Prelude.{◌≡◌, Ok, Err, IfOk, IfErr, option_copied, option_and_then};
-ghost use Rattle.imp_fields.specs.Amount.{count_of};
-ghost use Rattle.imp_fields.specs.Flight.{flight_of};
+ghost use Rattle.std.specs.Prelude.{◌≡◌, Ok, Err, Some, None, IfOk, IfErr, IfSome, option_copied, option_and_then};
 ghost use Rattle.imp_fields.specs.Airport.{airport_of};
 ghost use Rattle.ffm_text.specs.Ffm.{field, date_in, flight_line_of, part_of};
 
-use awb_number::decimal;
-use imp_fields::{Airport, DayMonth, DayTime, Flight, PartNumber, Why, cut_at_slash};
+use imp_fields::{Airport, DayMonth, DayTime, Flight, PartNumber, Why, cut_at_slash, first_field};
 
 /// What a flight line says.
 #[derive(Clone, Copy, Debug)]
@@ -18,51 +15,49 @@ pub(crate) struct Part {
     pub(crate) loaded: Airport,
 }
 
-/// One of the fields that slashes part; the first is field 0.
-fn field(line: &[u8], number: usize) -> Option<&[u8]>
-    ensures { option_copied result ≡ field line.now number }
+/// The fields of a flight line: the first three, and the fourth where there is one.
+#[derive(Clone, Copy)]
+struct LineFields<'a> {
+    sequence: &'a [u8],
+    flight: &'a [u8],
+    day: &'a [u8],
+    loaded: Option<&'a [u8]>,
+}
+
+/// The fields of a line that has at least three.
+fn fields(line: &[u8]) -> Option<LineFields<'_>>
+    ensures sequence { IfSome result (λ f. field line.now 0 ≡ Some f.sequence.now) }
+    ensures flight { IfSome result (λ f. field line.now 1 ≡ Some f.flight.now) }
+    ensures day { IfSome result (λ f. field line.now 2 ≡ Some f.day.now) }
+    ensures loaded { IfSome result (λ f. field line.now 3 ≡ option_copied f.loaded) }
+    ensures none { result ≡ None → field line.now 2 ≡ None }
 {
-    match cut_at_slash(line) {
-        Some((first, rest)) => {
-            if number == 0 {
-                Some(first)
-            } else {
-                field(rest, number - 1)
-            }
+    let (sequence, rest) = cut_at_slash(line)?;
+    let (flight, rest) = cut_at_slash(rest)?;
+    match cut_at_slash(rest) {
+        Some((day, rest)) => {
+            let (loaded, _) = first_field(rest);
+            Some(LineFields {
+                sequence,
+                flight,
+                day,
+                loaded: Some(loaded),
+            })
         }
-        None => { if number == 0 { Some(line) } else { None } }
+        None => Some(LineFields {
+            sequence,
+            flight,
+            day: rest,
+            loaded: None,
+        }),
     }
 }
 
-/// The number that one to four digits write, where it is at least 1.
-fn part_number(digits: &[u8]) -> Option<PartNumber>
-    ensures { result ≡ count_of digits.now }
+/// The airport that the fourth field names.
+fn loaded(field: Option<&[u8]>) -> Option<Airport>
+    ensures { result ≡ option_and_then airport_of (option_copied field.entry) }
 {
-    if digits.is_empty() || digits.len() > 4 {
-        return None;
-    }
-    PartNumber::new(decimal(digits)?)
-}
-
-/// The number of the part, in the first field.
-fn sequence(line: &[u8]) -> Option<PartNumber>
-    ensures { result ≡ option_and_then count_of (field line.now 0) }
-{
-    part_number(field(line, 0)?)
-}
-
-/// The flight, in the second field.
-fn flight(line: &[u8]) -> Option<Flight>
-    ensures { result ≡ option_and_then flight_of (field line.now 1) }
-{
-    Flight::read(field(line, 1)?)
-}
-
-/// The airport, in the fourth field.
-fn loaded(line: &[u8]) -> Option<Airport>
-    ensures { result ≡ option_and_then airport_of (field line.now 3) }
-{
-    Airport::read(field(line, 3)?)
+    Airport::read(field?)
 }
 
 /// The date of a field such as `12JAN` or `12JAN1030`, whose time is tested and not kept.
@@ -85,19 +80,19 @@ pub(crate) fn flight_line(line: &[u8]) -> Result<Part, Why>
     ensures read { IfOk result (λ p. flight_line_of line.now ≡ Ok (part_of p)) }
     ensures fault { IfErr result (λ why. flight_line_of line.now ≡ Err why) }
 {
-    let Some(sequence) = sequence(line) else {
+    let Some(fields) = fields(line) else {
         return Err(Why::Flight);
     };
-    let Some(flight) = flight(line) else {
+    let Some(sequence) = PartNumber::read(fields.sequence) else {
         return Err(Why::Flight);
     };
-    let Some(day) = field(line, 2) else {
+    let Some(flight) = Flight::read(fields.flight) else {
         return Err(Why::Flight);
     };
-    let Some(date) = date(day) else {
+    let Some(date) = date(fields.day) else {
         return Err(Why::Date);
     };
-    let Some(loaded) = loaded(line) else {
+    let Some(loaded) = loaded(fields.loaded) else {
         return Err(Why::Flight);
     };
     Ok(Part {

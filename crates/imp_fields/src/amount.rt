@@ -1,6 +1,7 @@
 ghost use Rattle.std.specs.Prelude.{◌≡◌, ℕ, ◌+◌, ◌-◌, ◌*◌, ◌/◌, ◌<◌, ◌≤◌, ◌^◌, ◌↔◌, max, IsSome, IfSome};
-ghost use Rattle.imp_fields.specs.Amount.{IsPieces, IsPartNumber, IsTenths, IsBookTenths, share_of};
+ghost use Rattle.imp_fields.specs.Amount.{IsPieces, IsPartNumber, IsTenths, IsBookTenths, count_of, share_of};
 
+use crate::run;
 use std::marker::Model;
 
 /// A count of pieces, 1 to 9999.
@@ -30,6 +31,13 @@ impl Pieces {
         } else {
             None
         }
+    }
+
+    /// The count that one to four digits write, where it is at least 1.
+    pub fn read(digits: &[u8]) -> Option<Pieces>
+        ensures { result ≡ count_of digits.now }
+    {
+        Pieces::new(run::count(digits)?)
     }
 
     /// The number.
@@ -68,6 +76,13 @@ impl PartNumber {
         } else {
             None
         }
+    }
+
+    /// The number that one to four digits write, where it is at least 1.
+    pub fn read(digits: &[u8]) -> Option<PartNumber>
+        ensures { result ≡ count_of digits.now }
+    {
+        PartNumber::new(run::count(digits)?)
     }
 
     /// The number.

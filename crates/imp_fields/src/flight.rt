@@ -24,6 +24,7 @@ impl Model for Flight {
     ghost inverse = { λ f. record { carrier = f.carrier; number = f.number; suffix = f.suffix } };
 }
 
+/// Whether two characters are a carrier: letters or digits, at least one a letter.
 fn is_carrier(carrier: [u8; 2]) -> bool
     ensures { result ≡ is_carrier carrier }
 {

@@ -5,7 +5,7 @@ ghost use Rattle.std.specs.List.{list_all, position_or_len};
 ghost use Rattle.awb_number.specs.Digits.{is_digit, decimal_value};
 ghost use Rattle.imp_fields.specs.Steps.{where_true};
 ghost use Rattle.imp_fields.specs.Characters.{is_point};
-ghost use Rattle.imp_fields.specs.Amount.{IsTenths, count_of, is_digit_or_point, is_weight_numeral, rounded_tenths, numerator_of, denominator_of, tenths_of};
+ghost use Rattle.imp_fields.specs.Amount.{IsTenths, is_digit_or_point, is_weight_numeral, rounded_tenths, numerator_of, denominator_of, tenths_of};
 ghost use Rattle.imp_fields.specs.Quantity.{code_letter, code_of, weight_text, total_text, quantity_text, unit_of, weight_of, weight_at_front, left_of_weight, total_at_end, is_unread, quantity_of};
 
 use crate::amount::{BookTenths, Pieces, Quantity, ShipmentCode, Tenths, WeightUnit};
@@ -121,13 +121,6 @@ fn code(letter: u8) -> Option<ShipmentCode>
     }
 }
 
-/// The pieces that one to four digits tell.
-fn pieces(digits: &[u8]) -> Option<Pieces>
-    ensures { result ≡ count_of digits.now }
-{
-    Pieces::new(run::count(digits)?)
-}
-
 /// The weight in front of what follows the pieces, where a K or an L stands there, and what is left behind it.
 fn weight_and_left(text: &[u8]) -> Option<(Option<Tenths>, &[u8])>
     ensures weight { IfSome result (λ r. weight_at_front text.now ≡ Some r.0) }
@@ -158,7 +151,7 @@ fn total_at_end(left: &[u8]) -> Option<Pieces>
 {
     let (before, digits) = left.split_at(left.len() - run::digits_at_end(left));
     if before.last() == Some(&b'T') {
-        pieces(digits)
+        Pieces::read(digits)
     } else {
         None
     }
@@ -181,7 +174,7 @@ pub fn read_quantity(text: &[u8]) -> Option<Quantity>
     let (letter, text) = text.split_first()?;
     let code = code(*letter)?;
     let (digits, rest) = text.split_at(run::digits_in_front(text));
-    let pieces = pieces(digits)?;
+    let pieces = Pieces::read(digits)?;
     let Some((weight, left)) = weight_and_left(rest) else {
         return None;
     };
