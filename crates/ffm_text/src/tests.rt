@@ -66,31 +66,28 @@ fn is_written(out: &mut Vec<u8>, flight: &[u8], loads: &[Load]) -> Option<bool> 
 fn manifests_are_read_among_lines_that_are_not(rt: HostRuntime) -> Result<(), Fail> {
     let text =
         b"FFM/8\n12/LH400/12JAN/FRA/X\nJFK/13JAN1430\nULD/AKE12345LH\n020-12345675FRAJFK/S4K40.0T10/CARGO\nDIM/K1\n\nMUC/NIL\nCONT";
-    let lines = match normal_text(rt.alloc(), text) {
-        Ok(lines) => lines,
-        Err(_) => return Err(Fail::from("a telegram")),
+    let Ok(lines) = normal_text(rt.alloc(), text) else {
+        return Err(Fail::from("a telegram"));
     };
-    match read(rt.alloc(), &lines) {
-        Ok(part) => {
-            assert_eq!(rt; part.sequence.number(), 12);
-            assert_eq!(rt; Some(part.flight), Flight::read(b"LH400"));
-            assert_eq!(rt; Some(part.date), DayMonth::read(b"12JAN"));
-            assert_eq!(rt; part.loaded.letters(), *b"FRA");
-            assert_eq!(rt; part.cargo.len(), 1);
-            let expected = (
-                *b"JFK",
-                *b"020-12345675",
-                4,
-                Some(400),
-                Some(10),
-                b"CARGO".as_slice(),
-            );
-            assert_eq!(rt; told(&part.cargo[0]), expected);
-            let goods = part.cargo[0].consignment.goods;
-            assert_eq!(rt; (goods.start, goods.end), (30, 35));
-        }
-        Err(fault) => assert_eq!(rt; Some(fault), None),
-    }
+    let Ok(part) = read(rt.alloc(), &lines) else {
+        return Err(Fail::from("a manifest"));
+    };
+    assert_eq!(rt; part.sequence.number(), 12);
+    assert_eq!(rt; Some(part.flight), Flight::read(b"LH400"));
+    assert_eq!(rt; Some(part.date), DayMonth::read(b"12JAN"));
+    assert_eq!(rt; part.loaded.letters(), *b"FRA");
+    assert_eq!(rt; part.cargo.len(), 1);
+    let expected = (
+        *b"JFK",
+        *b"020-12345675",
+        4,
+        Some(400),
+        Some(10),
+        b"CARGO".as_slice(),
+    );
+    assert_eq!(rt; told(&part.cargo[0]), expected);
+    let goods = part.cargo[0].consignment.goods;
+    assert_eq!(rt; (goods.start, goods.end), (30, 35));
     Ok(())
 }
 
@@ -98,24 +95,21 @@ fn manifests_are_read_among_lines_that_are_not(rt: HostRuntime) -> Result<(), Fa
 fn goods_are_unloaded_at_the_last_point_above(rt: HostRuntime) -> Result<(), Fail> {
     let text =
         b"FFM/8\n0002/4U1/31FEB2359/FRA\nMUC\n020-12345675FRAJFK/T1\nLAST\nJFK\nULD\nDIM/12JAN\nJFK/NILX\n020-12345686FRAJFK/T2\nNIL/99JAN\n020-12345675FRAJFK/T3\nLAST";
-    let lines = match normal_text(rt.alloc(), text) {
-        Ok(lines) => lines,
-        Err(_) => return Err(Fail::from("a telegram")),
+    let Ok(lines) = normal_text(rt.alloc(), text) else {
+        return Err(Fail::from("a telegram"));
     };
-    match read(rt.alloc(), &lines) {
-        Ok(part) => {
-            assert_eq!(rt; part.sequence.number(), 2);
-            assert_eq!(rt; (part.date.day, part.date.month), (31, 2));
-            assert_eq!(rt; part.cargo.len(), 3);
-            for (place, (unload, pieces)) in [(*b"MUC", 1), (*b"ULD", 2), (*b"NIL", 3)]
-                .into_iter()
-                .enumerate()
-            {
-                let line = told(&part.cargo[place]);
-                assert_eq!(rt; (line.0, line.2), (unload, pieces));
-            }
-        }
-        Err(fault) => assert_eq!(rt; Some(fault), None),
+    let Ok(part) = read(rt.alloc(), &lines) else {
+        return Err(Fail::from("a manifest"));
+    };
+    assert_eq!(rt; part.sequence.number(), 2);
+    assert_eq!(rt; (part.date.day, part.date.month), (31, 2));
+    assert_eq!(rt; part.cargo.len(), 3);
+    for (place, (unload, pieces)) in [(*b"MUC", 1), (*b"ULD", 2), (*b"NIL", 3)]
+        .into_iter()
+        .enumerate()
+    {
+        let line = told(&part.cargo[place]);
+        assert_eq!(rt; (line.0, line.2), (unload, pieces));
     }
     Ok(())
 }
@@ -195,6 +189,28 @@ fn flight_lines_are_tested_from_the_left(rt: HostRuntime) -> Result<(), Fail> {
     Ok(())
 }
 
+#[test]
+fn remarks_are_no_points_of_unloading(rt: HostRuntime) -> Result<(), Fail> {
+    for line in [
+        b"ULD/12JAN",
+        b"DIM/12JAN",
+        b"OSI/12JAN",
+        b"SCI/12JAN",
+        b"OCI/12JAN",
+        b"COR/12JAN",
+    ] {
+        let mut text = b"FFM/8\n1/LH400/12JAN/FRA\n".to_vec(rt.alloc())?;
+        text.extend_from_slice(line)?;
+        text.extend_from_slice(b"\n020-12345675FRAJFK/T1\nLAST")?;
+        assert_eq!(rt;
+            fault_of(rt.alloc(), &text),
+            fault(4, Why::Order),
+            "{line:?}"
+        );
+    }
+    Ok(())
+}
+
 /// What is told of the first bytes of a manifest: that it is of no kind, that it is faulty, or nothing.
 fn is_told(fault: Option<TextFault>, len: usize) -> bool {
     match fault {
@@ -220,29 +236,26 @@ fn manifests_are_written_and_read_back(rt: HostRuntime) -> Result<(), Fail> {
     assert_eq!(rt; is_written(&mut text, b"LH0400", &loads), Some(true));
     assert_eq!(rt; text.as_slice(), SENT);
     assert_eq!(rt; text.len(), 74);
-    let lines = match normal_text(rt.alloc(), &text) {
-        Ok(lines) => lines,
-        Err(_) => return Err(Fail::from("a telegram")),
+    let Ok(lines) = normal_text(rt.alloc(), &text) else {
+        return Err(Fail::from("a telegram"));
     };
-    match read(rt.alloc(), &lines) {
-        Ok(part) => {
-            assert_eq!(rt; part.sequence.number(), 1);
-            assert_eq!(rt; Some(part.flight), Flight::read(b"LH400"));
-            assert_eq!(rt; (part.date.day, part.date.month), (12, 1));
-            assert_eq!(rt; part.loaded.letters(), *b"FRA");
-            assert_eq!(rt; part.cargo.len(), 1);
-            let expected = (
-                *b"JFK",
-                *b"020-12345675",
-                4,
-                Some(400),
-                Some(10),
-                b"CARGO".as_slice(),
-            );
-            assert_eq!(rt; told(&part.cargo[0]), expected);
-        }
-        Err(fault) => assert_eq!(rt; Some(fault), None),
-    }
+    let Ok(part) = read(rt.alloc(), &lines) else {
+        return Err(Fail::from("a manifest"));
+    };
+    assert_eq!(rt; part.sequence.number(), 1);
+    assert_eq!(rt; Some(part.flight), Flight::read(b"LH400"));
+    assert_eq!(rt; (part.date.day, part.date.month), (12, 1));
+    assert_eq!(rt; part.loaded.letters(), *b"FRA");
+    assert_eq!(rt; part.cargo.len(), 1);
+    let expected = (
+        *b"JFK",
+        *b"020-12345675",
+        4,
+        Some(400),
+        Some(10),
+        b"CARGO".as_slice(),
+    );
+    assert_eq!(rt; told(&part.cargo[0]), expected);
     Ok(())
 }
 

@@ -37,6 +37,14 @@ fn told(line: &CargoLine) -> ([u8; 12], [u8; 3], [u8; 3], u32, u32, Option<u32>)
     )
 }
 
+/// The part of a manifest that a telegram is.
+fn part_of<'a>(telegram: &'a Telegram<'_>) -> Option<&'a PartContent> {
+    match telegram.content() {
+        Content::Ffm(part) => Some(part),
+        _ => None,
+    }
+}
+
 fn fault_of(alloc: Global, text: &[u8]) -> Option<TelegramFault> {
     let read = read_telegram(alloc, text);
     match &read {
@@ -85,9 +93,7 @@ fn manifests_are_read(rt: HostRuntime) -> Result<(), Fail> {
     let Ok(telegram) = read_telegram(rt.alloc(), MANIFEST) else {
         return Err(Fail::from("a telegram"));
     };
-    let Content::Ffm(part) = telegram.content() else {
-        return Err(Fail::from("a manifest"));
-    };
+    let part = part_of(&telegram).ok_or("a manifest")?;
     assert_eq!(rt; part.sequence.number(), 1);
     assert_eq!(rt; Some(part.flight), Flight::read(b"LH400"));
     assert_eq!(rt; (part.date.day, part.date.month), (12, 1));
@@ -108,9 +114,7 @@ fn long_goods_are_cut_and_a_missing_weight_is_none(rt: HostRuntime) -> Result<()
     let Ok(telegram) = read_telegram(rt.alloc(), text) else {
         return Err(Fail::from("a telegram"));
     };
-    let Content::Ffm(part) = telegram.content() else {
-        return Err(Fail::from("a manifest"));
-    };
+    let part = part_of(&telegram).ok_or("a manifest")?;
     let lines = part.lines.as_slice();
     assert_eq!(rt; lines.len(), 1);
     let expected = (*b"020-12345675", *b"FRA", *b"JFK", 4, 0, Some(10));
@@ -330,13 +334,9 @@ fn update(alloc: Global, line: &[u8]) -> Option<Vec<u8>> {
 fn a_receipt_is_told_to_the_byte(rt: HostRuntime) -> Result<(), Fail> {
     let expected =
         b"FSU/12\r\n020-12345675FRAJFK/T10K100.0\r\nRCS/12JAN1030/FRA/T10K100.0/ACME\r\n";
-    match status(rt.alloc(), b"FRA", received(b"ACME"), 10, 1000) {
-        Some(text) => {
-            assert_eq!(rt; text.len(), 72);
-            assert_eq!(rt; text.as_slice(), expected.as_slice());
-        }
-        None => return Err(Fail::from("a text")),
-    }
+    let text = status(rt.alloc(), b"FRA", received(b"ACME"), 10, 1000).ok_or("a text")?;
+    assert_eq!(rt; text.len(), 72);
+    assert_eq!(rt; text.as_slice(), expected.as_slice());
     Ok(())
 }
 
@@ -429,15 +429,9 @@ fn each_event_has_its_status_line(rt: HostRuntime) -> Result<(), Fail> {
             b"DLV/12JAN2359/JFK/P1K3.3/A/B",
         ),
     ] {
-        let expected = update(alloc, line);
-        if expected.is_none() {
-            return Err(Fail::from("a text"));
-        }
-        assert_eq!(rt;
-            status(alloc, here, event, pieces, tenths),
-            expected,
-            "{line:?}"
-        );
+        let expected = update(alloc, line).ok_or("a text")?;
+        let told = status(alloc, here, event, pieces, tenths);
+        assert_eq!(rt; told, Some(expected), "{line:?}");
     }
     Ok(())
 }
@@ -465,30 +459,43 @@ fn manifest(alloc: Global) -> Option<Vec<u8>> {
 fn a_manifest_is_told_to_the_byte(rt: HostRuntime) -> Result<(), Fail> {
     let expected =
         b"FFM/8\r\n1/LH400/12JAN/FRA\r\nJFK\r\n020-12345675FRAJFK/P4K40.0T10/CARGO\r\nLAST\r\n";
-    match manifest(rt.alloc()) {
-        Some(text) => {
-            assert_eq!(rt; text.len(), 74);
-            assert_eq!(rt; text.as_slice(), expected.as_slice());
-        }
-        None => return Err(Fail::from("a text")),
-    }
+    let text = manifest(rt.alloc()).ok_or("a text")?;
+    assert_eq!(rt; text.len(), 74);
+    assert_eq!(rt; text.as_slice(), expected.as_slice());
     Ok(())
 }
 
 #[test]
 fn what_is_sent_is_read(rt: HostRuntime) -> Result<(), Fail> {
-    let Some(sent) = manifest(rt.alloc()) else {
-        return Err(Fail::from("a text"));
-    };
+    let sent = manifest(rt.alloc()).ok_or("a text")?;
     let Ok(telegram) = read_telegram(rt.alloc(), &sent) else {
         return Err(Fail::from("a telegram"));
     };
-    let Content::Ffm(part) = telegram.content() else {
-        return Err(Fail::from("a manifest"));
-    };
+    let part = part_of(&telegram).ok_or("a manifest")?;
     let lines = part.lines.as_slice();
     assert_eq!(rt; lines.len(), 1);
     let expected = (*b"020-12345675", *b"FRA", *b"JFK", 4, 400, Some(10));
     assert_eq!(rt; told(&lines[0].cargo), expected);
+    Ok(())
+}
+
+// Run with each allocation failing in turn: want of memory is told.
+#[test]
+fn want_of_memory_is_told(rt: HostRuntime) -> Result<(), Fail> {
+    for (text, sent) in [
+        (FROM_HAMBURG, manifest(rt.alloc())),
+        (
+            MANIFEST,
+            status(rt.alloc(), b"FRA", received(b"ACME"), 10, 1000),
+        ),
+    ] {
+        match fault_of(rt.alloc(), text) {
+            None => {}
+            Some(told) => assert_eq!(rt; told, TelegramFault::Memory),
+        }
+        if let Some(sent) = sent {
+            assert_eq!(rt; sent.len() > 70, true);
+        }
+    }
     Ok(())
 }
