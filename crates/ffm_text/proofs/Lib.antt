@@ -1,4 +1,4 @@
-pub mod FieldsOf
+pub mod LastLine
 pub mod Examples
 pub mod Laws
 pub mod Appended

@@ -1,6 +1,6 @@
 use Rattle.std.proofs.Common.{sym, ap, ◌∙◌}
 use Rattle.std.specs.Prelude.{option_copied}
-use Rattle.ffm_text.proofs.FieldsOf.{last_token, ends_so, ends_or}
+use Rattle.ffm_text.proofs.LastLine.{last_token, ends_so, ends_or}
 use Rattle.ffm_text.proofs.reading.has_last_line.Goals as goal
 
 pub returns-then-eq : goal.returns-then-eq

@@ -1,4 +1,4 @@
--- The fields of a line, one behind the other, and the last of some lines.
+-- The last of some lines, and whether it ends a manifest.
 use Rattle.std.proofs.Common.{◌≡◌, ℕ, ◌+◌, ◌-◌, Bool, true, false, List, [], ◌∷◌, length, Some, refl, sym, ap, ◌∙◌, add-one, arith}
 use Rattle.std.specs.Str.{bytes_eq}
 use Rattle.std.specs.Prelude.{codes, ◌||◌, slice_get, option_map}
