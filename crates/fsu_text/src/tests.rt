@@ -2,7 +2,7 @@ use super::*;
 use awb_number::Awb;
 use imp_fields::{
     Airport, BookTenths, Consigned, DayMonth, DayTime, Discrepancy, Flight, Lines, Name, Pieces,
-    Quantity, TextFault, Why, normal_text, read_quantity,
+    TextFault, Why, normal_text, read_quantity,
 };
 use std::alloc::Global;
 use std::test::*;
@@ -167,76 +167,95 @@ fn a_receipt_has_72_bytes(rt: HostRuntime) -> Result<(), Fail> {
     Ok(())
 }
 
-/// One line of each layout that is read into fields.
-fn known() -> Option<[(&'static [u8], Option<Status>); 6]> {
-    let (fra, jfk) = (Airport::read(b"FRA")?, Airport::read(b"JFK")?);
-    let (flight, date) = (Flight::read(b"LH400")?, DayMonth::read(b"12JAN")?);
-    let (ten, three): (Quantity, Quantity) = (read_quantity(b"T10K100.0")?, read_quantity(b"P3")?);
-    let at = DayTime::read(b"12JAN1030")?;
-    let day = FlightDay { date, minute: None };
-    let timed = FlightDay {
-        date,
-        minute: Some(630),
-    };
-    let rcs = Status::Handled {
-        event: Handling::ReceivedFromShipper,
-        at,
-        airport: fra,
-        quantity: ten,
-        name: Name::read(b"ACME")?,
-    };
-    let dlv = Status::Handled {
-        event: Handling::Delivered,
-        at,
-        airport: jfk,
-        quantity: three,
-        name: Name::read(b"")?,
-    };
-    let rcf = Status::ReceivedFromFlight {
-        flight,
-        at,
-        airport: jfk,
-        quantity: three,
-    };
-    let bkd = Status::Carried {
-        event: Carriage::Booked,
-        flight,
-        day,
-        from: fra,
-        to: jfk,
-        quantity: three,
-    };
-    let dep = Status::Carried {
-        event: Carriage::Departed,
-        flight,
-        day: timed,
-        from: fra,
-        to: jfk,
-        quantity: ten,
-    };
-    let dis = Status::Differs {
-        flight,
-        day,
-        airport: jfk,
-        discrepancy: Discrepancy::Found,
-        quantity: three,
-    };
-    Some([
-        (b"RCS/12JAN1030/FRA/T10K100.0/ACME", Some(rcs)),
-        (b"DLV/12JAN1030/JFK/P3", Some(dlv)),
-        (b"RCF/LH0400/12JAN1030/JFK/P3", Some(rcf)),
-        (b"BKD/LH400/12JAN/FRAJFK/P3", Some(bkd)),
-        (b"DEP/LH400/12JAN1030/FRAJFK/T10K100.0/X/Y", Some(dep)),
-        (b"DIS/LH400/12JAN/JFK/FDCA/P3", Some(dis)),
-    ])
+fn handled_read(event: Handling, here: &[u8], quantity: &[u8], name: &[u8]) -> Option<Status> {
+    Some(Status::Handled {
+        event,
+        at: DayTime::read(b"12JAN1030")?,
+        airport: Airport::read(here)?,
+        quantity: read_quantity(quantity)?,
+        name: Name::read(name)?,
+    })
+}
+
+fn received_read() -> Option<Status> {
+    Some(Status::ReceivedFromFlight {
+        flight: Flight::read(b"LH400")?,
+        at: DayTime::read(b"12JAN1030")?,
+        airport: Airport::read(b"JFK")?,
+        quantity: read_quantity(b"P3")?,
+    })
+}
+
+/// 12 January, perhaps at 10:30.
+fn flight_day(is_timed: bool) -> Option<FlightDay> {
+    let date = DayMonth::read(b"12JAN")?;
+    let minute = if is_timed { Some(630) } else { None };
+    Some(FlightDay { date, minute })
+}
+
+fn carried_read(event: Carriage, is_timed: bool, quantity: &[u8]) -> Option<Status> {
+    Some(Status::Carried {
+        event,
+        flight: Flight::read(b"LH400")?,
+        day: flight_day(is_timed)?,
+        from: Airport::read(b"FRA")?,
+        to: Airport::read(b"JFK")?,
+        quantity: read_quantity(quantity)?,
+    })
+}
+
+fn differs_read(discrepancy: Discrepancy, is_timed: bool) -> Option<Status> {
+    Some(Status::Differs {
+        flight: Flight::read(b"LH400")?,
+        day: flight_day(is_timed)?,
+        airport: Airport::read(b"JFK")?,
+        discrepancy,
+        quantity: read_quantity(b"P3")?,
+    })
 }
 
 #[test]
 fn each_layout_is_read(rt: HostRuntime) -> Result<(), Fail> {
-    let Some(known) = known() else {
-        return Err(Fail::from("known layouts"));
-    };
-    for (line, expected) in known {
+    for (line, expected) in [
+        (
+            b"RCS/12JAN1030/FRA/T10K100.0/ACME".as_slice(),
+            handled_read(Handling::ReceivedFromShipper, b"FRA", b"T10K100.0", b"ACME"),
+        ),
+        (
+            b"NFD/12JAN1030/JFK/P3/A/B",
+            handled_read(Handling::Notified, b"JFK", b"P3", b"A/B"),
+        ),
+        (
+            b"DLV/12JAN1030/JFK/P3",
+            handled_read(Handling::Delivered, b"JFK", b"P3", b""),
+        ),
+        (b"RCF/LH0400/12JAN1030/JFK/P3", received_read()),
+        (
+            b"BKD/LH400/12JAN/FRAJFK/P3",
+            carried_read(Carriage::Booked, false, b"P3"),
+        ),
+        (
+            b"MAN/LH400/12JAN1030/FRAJFK/P3/",
+            carried_read(Carriage::Manifested, true, b"P3"),
+        ),
+        (
+            b"DEP/LH400/12JAN1030/FRAJFK/T10K100.0/X/Y",
+            carried_read(Carriage::Departed, true, b"T10K100.0"),
+        ),
+        (
+            b"DIS/LH400/12JAN/JFK/FDCA/P3",
+            differs_read(Discrepancy::Found, false),
+        ),
+        (
+            b"DIS/LH400/12JAN1030/JFK/OFLD/P3",
+            differs_read(Discrepancy::Offloaded, true),
+        ),
+        (
+            b"DIS/LH400/12JAN/JFK/MSCA/P3",
+            differs_read(Discrepancy::Missing, false),
+        ),
+    ] {
+        assert_eq!(rt; expected.is_some(), true, "{line:?}");
         assert_eq!(rt; status_of(rt.alloc(), line), Some(expected), "{line:?}");
     }
     Ok(())
@@ -314,6 +333,30 @@ fn messages_tell_their_first_fault(rt: HostRuntime) -> Result<(), Fail> {
         ),
     ] {
         assert_eq!(rt; fault_of(rt.alloc(), text), expected, "{text:?}");
+    }
+    Ok(())
+}
+
+// Run with each allocation failing in turn: want of memory is told, and leaves the buffer as it was.
+#[test]
+fn want_of_memory_is_told(rt: HostRuntime) -> Result<(), Fail> {
+    let receipt = handled(Handling::ReceivedFromShipper, b"12JAN1030", b"ACME");
+    let update = update(receipt, b"FRA", 10, 1000).ok_or("an update")?;
+    let mut text = Vec::new(rt.alloc());
+    if write_fsu(&mut text, &update).is_err() {
+        assert_eq!(rt; text.len(), 0);
+        return Ok(());
+    }
+    let lines = match normal_text(rt.alloc(), &text) {
+        Ok(lines) => lines,
+        Err(told) => {
+            assert_eq!(rt; Some(told), fault(0, Why::Memory));
+            return Ok(());
+        }
+    };
+    match read(rt.alloc(), &lines) {
+        Ok(message) => assert_eq!(rt; message.trail.len(), 1),
+        Err(told) => assert_eq!(rt; Some(told), fault(0, Why::Memory)),
     }
     Ok(())
 }
