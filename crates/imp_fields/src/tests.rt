@@ -222,7 +222,8 @@ fn weights_are_rounded_once(rt: HostRuntime) -> Result<(), Fail> {
 #[test]
 fn quantities_are_read(rt: HostRuntime) -> Result<(), Fail> {
     for (text, expected) in [
-        (b"T1K0.25".as_slice(), Some((1, Some(3), None))),
+        (b"T10K100MC0.5".as_slice(), Some((10, Some(1000), None))),
+        (b"T1K0.25", Some((1, Some(3), None))),
         (b"T1L100", Some((1, Some(454), None))),
         (b"T4K0.1", Some((4, Some(1), None))),
         (b"P4K40.0MC0.5T10", Some((4, Some(400), Some(10)))),
@@ -269,6 +270,7 @@ fn dates_mean_the_nearest_day(rt: HostRuntime) -> Result<(), Fail> {
         // on 2026-03-01: none; on 2025-03-01: 2024-02-29
         (b"29FEB".as_slice(), 20513, None),
         (b"29FEB", 20148, Some(19782)),
+        (b"31FEB", 20148, None),
         // on 2026-01-01: 2025-12-31; on 2000-01-01: 1999-12-31
         (b"31DEC", 20454, Some(20453)),
         (b"31DEC", 10957, Some(10956)),
@@ -309,6 +311,7 @@ fn consignment_lines_are_read_with_their_spans(rt: HostRuntime) -> Result<(), Fa
 fn consignment_lines_tell_their_first_fault(rt: HostRuntime) -> Result<(), Fail> {
     for (line, why) in [
         (b"020-12345675FRAJFK/T10".as_slice(), None),
+        (b"020-12345675FRAJFK/T10K100MC0.5/CARGO", None),
         (b"020-12345675FRAJFK", Some(Why::Consignment)),
         (b"020 12345675FRAJFK/T10", Some(Why::Consignment)),
         (b"020-12345675FRAJF1/T10", Some(Why::Consignment)),
@@ -407,6 +410,7 @@ fn texts_tell_their_first_fault(rt: HostRuntime) -> Result<(), Fail> {
         (b"FWB/16\nX\r ", fault(2, Why::Byte)),
         (b"FWB/16\nX \r", None),
         (b"A\tB", fault(1, Why::Byte)),
+        (b"A\tB\nFWB/16", fault(1, Why::Byte)),
     ] {
         assert_eq!(rt; fault_of(rt.alloc(), text), expected, "{text:?}");
     }
@@ -424,6 +428,12 @@ fn texts_have_their_limits(rt: HostRuntime) -> Result<(), Fail> {
     assert_eq!(rt; fault_of(rt.alloc(), &text), None);
     text.extend_from_slice(b"\x7f")?;
     assert_eq!(rt; fault_of(rt.alloc(), &text), fault(0, Why::Lines));
+
+    let mut text = b"FWB/16\n".to_vec(rt.alloc())?;
+    let blanks = vec![in rt.alloc(); b' '; 300]?;
+    text.extend_from_slice(&blanks)?;
+    text.extend_from_slice(b"\nX")?;
+    assert_eq!(rt; fault_of(rt.alloc(), &text), None);
 
     let letters = vec![in rt.alloc(); b'A'; 65_537]?;
     assert_eq!(rt; fault_of(rt.alloc(), &letters), fault(0, Why::Size));
