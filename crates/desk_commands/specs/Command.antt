@@ -91,6 +91,10 @@ abbrev pub values_of : Command → List Given
 values_of (Stock order) = order_values order
 values_of (Cargo command) = desk_values command
 
+-- fields, one a line
+abbrev pub fields_text : List Given → List ℕ
+fields_text values = join_with_byte 10 (map written values)
+
 -- the verb and the fields, one a line
 abbrev pub text_of : Verb → List Given → List ℕ
 text_of verb values = join_with_byte 10 (word verb ∷ map written values)

@@ -1,14 +1,14 @@
 //! Commands as texts.
 
-ghost use Rattle.std.specs.Prelude.{◌≡◌, IfOk, Some, string_bytes};
-ghost use Rattle.imp_fields.specs.Flight.{flight_text};
-ghost use Rattle.desk_commands.specs.Command.{command_text, order_text, desk_text};
+ghost use Rattle.std.specs.Prelude.{◌≡◌, ◌∷◌, [], IfOk, string_bytes};
+ghost use Rattle.desk_commands.specs.Command.{command_text, order_text, desk_text, fields_text, prefix_text, serial_text, flight as flight_field, day as day_field, flight_if_any, day_if_any};
+ghost use Rattle.desk_commands.specs.declared.given.Given.TheVariants as Given;
 
 use crate::command::Command;
 use crate::day::day_text;
 use agent_stock::{AgentCode, Order, Run};
 use awb_number::{Awb, ascii_text};
-use imp_fields::{Airport, Flight, Goods, Name, Pieces, Tenths};
+use imp_fields::{Airport, Goods, Name, Pieces, Tenths};
 use shipment_machine::{DeskCommand, FlightDate, PieceCount};
 use std::alloc::{AllocError, Global};
 
@@ -98,54 +98,65 @@ fn goods_str(goods: &Goods) -> &str
     ascii_text(goods.as_bytes())
 }
 
-/// A flight in its written form.
-fn flight_string(alloc: Global, flight: &Flight) -> Result<String, AllocError>
-    ensures { IfOk result (λ text. string_bytes text ≡ flight_text flight.now) }
+/// A flight in its written form and its day, one a line.
+fn flight_lines(alloc: Global, flight: &FlightDate) -> Result<String, AllocError>
+    ensures { IfOk result (λ text. string_bytes text ≡ fields_text (flight_field flight.now ∷ day_field flight.now ∷ [])) }
 {
     let mut bytes = [0; 7];
-    let len = flight.write(&mut bytes);
-    let text = ascii_text(&bytes[..len]);
-    format!(in alloc; "{text}")
+    let len = flight.flight.write(&mut bytes);
+    let name = ascii_text(&bytes[..len]);
+    let day = day_text(flight.day);
+    let day = ascii_text(&day);
+    format!(in alloc; "{name}\n{day}")
+}
+
+/// The same, or two empty lines where no flight is named.
+fn lines_if_any(alloc: Global, flight: &Option<FlightDate>) -> Result<String, AllocError>
+    ensures { IfOk result (λ text. string_bytes text ≡ fields_text (flight_if_any flight.now ∷ day_if_any flight.now ∷ [])) }
+{
+    match flight {
+        Some(flight) => flight_lines(alloc, flight),
+        None => format!(in alloc; "\n"),
+    }
+}
+
+/// The first number of a run and how many there are, one a line.
+fn run_lines(alloc: Global, run: &Run) -> Result<String, AllocError>
+    ensures { IfOk result (λ text. string_bytes text ≡ fields_text (prefix_text run.now ∷ serial_text run.now ∷ Given.Number run.now.count ∷ [])) }
+{
+    let number = run.first.write();
+    let prefix = ascii_text(&number[..3]);
+    let serial = ascii_text(&number[4..11]);
+    let count = run.count;
+    format!(in alloc; "{prefix}\n{serial}\n{count}")
 }
 
 fn take_in_text(alloc: Global, run: &Run) -> Result<String, AllocError>
     ensures { IfOk result (λ text. string_bytes text ≡ order_text (Order.TakeIn run.now)) }
 {
-    let number = run.first.write();
-    let prefix = ascii_text(&number[..3]);
-    let serial = ascii_text(&number[4..11]);
-    let count = run.count;
-    format!(in alloc; "take-in\n{prefix}\n{serial}\n{count}")
+    let run = run_lines(alloc, run)?;
+    format!(in alloc; "take-in\n{run}")
 }
 
 fn issue_text(alloc: Global, run: &Run, agent: &AgentCode) -> Result<String, AllocError>
     ensures { IfOk result (λ text. string_bytes text ≡ order_text (Order.Issue run.now agent.now)) }
 {
-    let number = run.first.write();
-    let prefix = ascii_text(&number[..3]);
-    let serial = ascii_text(&number[4..11]);
-    let count = run.count;
-    format!(in alloc; "issue\n{prefix}\n{serial}\n{count}\n{agent}")
+    let run = run_lines(alloc, run)?;
+    format!(in alloc; "issue\n{run}\n{agent}")
 }
 
 fn return_text(alloc: Global, run: &Run, agent: &AgentCode) -> Result<String, AllocError>
     ensures { IfOk result (λ text. string_bytes text ≡ order_text (Order.GiveBack run.now agent.now)) }
 {
-    let number = run.first.write();
-    let prefix = ascii_text(&number[..3]);
-    let serial = ascii_text(&number[4..11]);
-    let count = run.count;
-    format!(in alloc; "return\n{prefix}\n{serial}\n{count}\n{agent}")
+    let run = run_lines(alloc, run)?;
+    format!(in alloc; "return\n{run}\n{agent}")
 }
 
 fn void_text(alloc: Global, run: &Run) -> Result<String, AllocError>
     ensures { IfOk result (λ text. string_bytes text ≡ order_text (Order.Void run.now)) }
 {
-    let number = run.first.write();
-    let prefix = ascii_text(&number[..3]);
-    let serial = ascii_text(&number[4..11]);
-    let count = run.count;
-    format!(in alloc; "void\n{prefix}\n{serial}\n{count}")
+    let run = run_lines(alloc, run)?;
+    format!(in alloc; "void\n{run}")
 }
 
 fn book_text(
@@ -189,13 +200,11 @@ fn manifest_text(
 ) -> Result<String, AllocError>
     ensures { IfOk result (λ text. string_bytes text ≡ desk_text (DeskCommand.Manifest awb.now flight.now unload.now pieces)) }
 {
-    let day = day_text(flight.day);
-    let day = ascii_text(&day);
-    let flight = flight_string(alloc, &flight.flight)?;
+    let flight = flight_lines(alloc, flight)?;
     let unload = unload.letters();
     let unload = ascii_text(&unload);
     let pieces = pieces.number();
-    format!(in alloc; "manifest\n{awb}\n{flight}\n{day}\n{unload}\n{pieces}")
+    format!(in alloc; "manifest\n{awb}\n{flight}\n{unload}\n{pieces}")
 }
 
 fn offload_text(
@@ -206,20 +215,16 @@ fn offload_text(
 ) -> Result<String, AllocError>
     ensures { IfOk result (λ text. string_bytes text ≡ desk_text (DeskCommand.Offload awb.now flight.now pieces)) }
 {
-    let day = day_text(flight.day);
-    let day = ascii_text(&day);
-    let flight = flight_string(alloc, &flight.flight)?;
+    let flight = flight_lines(alloc, flight)?;
     let pieces = pieces.number();
-    format!(in alloc; "offload\n{awb}\n{flight}\n{day}\n{pieces}")
+    format!(in alloc; "offload\n{awb}\n{flight}\n{pieces}")
 }
 
 fn depart_text(alloc: Global, flight: &FlightDate) -> Result<String, AllocError>
     ensures { IfOk result (λ text. string_bytes text ≡ desk_text (DeskCommand.Depart flight.now)) }
 {
-    let day = day_text(flight.day);
-    let day = ascii_text(&day);
-    let flight = flight_string(alloc, &flight.flight)?;
-    format!(in alloc; "depart\n{flight}\n{day}")
+    let flight = flight_lines(alloc, flight)?;
+    format!(in alloc; "depart\n{flight}")
 }
 
 fn check_in_text(
@@ -230,11 +235,9 @@ fn check_in_text(
 ) -> Result<String, AllocError>
     ensures { IfOk result (λ text. string_bytes text ≡ desk_text (DeskCommand.CheckIn awb.now flight.now counted)) }
 {
-    let day = day_text(flight.day);
-    let day = ascii_text(&day);
-    let flight = flight_string(alloc, &flight.flight)?;
+    let flight = flight_lines(alloc, flight)?;
     let counted = counted.number();
-    format!(in alloc; "check-in\n{awb}\n{flight}\n{day}\n{counted}")
+    format!(in alloc; "check-in\n{awb}\n{flight}\n{counted}")
 }
 
 fn notify_text(alloc: Global, awb: &Awb, name: &Name) -> Result<String, AllocError>
@@ -260,28 +263,9 @@ fn missing_text(
 ) -> Result<String, AllocError>
     ensures { IfOk result (λ text. string_bytes text ≡ desk_text (DeskCommand.Missing awb.now pieces flight.now)) }
 {
-    match flight {
-        Some(flight) => missing_from_text(alloc, awb, pieces, flight),
-        None => {
-            let pieces = pieces.number();
-            format!(in alloc; "missing\n{awb}\n{pieces}\n\n")
-        }
-    }
-}
-
-fn missing_from_text(
-    alloc: Global,
-    awb: &Awb,
-    pieces: Pieces,
-    flight: &FlightDate,
-) -> Result<String, AllocError>
-    ensures { IfOk result (λ text. string_bytes text ≡ desk_text (DeskCommand.Missing awb.now pieces (Some flight.now))) }
-{
     let pieces = pieces.number();
-    let day = day_text(flight.day);
-    let day = ascii_text(&day);
-    let flight = flight_string(alloc, &flight.flight)?;
-    format!(in alloc; "missing\n{awb}\n{pieces}\n{flight}\n{day}")
+    let flight = lines_if_any(alloc, flight)?;
+    format!(in alloc; "missing\n{awb}\n{pieces}\n{flight}")
 }
 
 fn found_text(
@@ -293,29 +277,9 @@ fn found_text(
 ) -> Result<String, AllocError>
     ensures { IfOk result (λ text. string_bytes text ≡ desk_text (DeskCommand.Found awb.now pieces tenths flight.now)) }
 {
-    match flight {
-        Some(flight) => found_from_text(alloc, awb, pieces, tenths, flight),
-        None => {
-            let (pieces, tenths) = (pieces.number(), tenths.number());
-            format!(in alloc; "found\n{awb}\n{pieces}\n{tenths}\n\n")
-        }
-    }
-}
-
-fn found_from_text(
-    alloc: Global,
-    awb: &Awb,
-    pieces: Pieces,
-    tenths: Tenths,
-    flight: &FlightDate,
-) -> Result<String, AllocError>
-    ensures { IfOk result (λ text. string_bytes text ≡ desk_text (DeskCommand.Found awb.now pieces tenths (Some flight.now))) }
-{
     let (pieces, tenths) = (pieces.number(), tenths.number());
-    let day = day_text(flight.day);
-    let day = ascii_text(&day);
-    let flight = flight_string(alloc, &flight.flight)?;
-    format!(in alloc; "found\n{awb}\n{pieces}\n{tenths}\n{flight}\n{day}")
+    let flight = lines_if_any(alloc, flight)?;
+    format!(in alloc; "found\n{awb}\n{pieces}\n{tenths}\n{flight}")
 }
 
 fn confirm_text(alloc: Global, upto: u32) -> Result<String, AllocError>

@@ -3,8 +3,5 @@ use Rattle.std.specs.Prelude.{string_bytes}
 use Rattle.desk_commands.proofs.Written.{told}
 use Rattle.desk_commands.proofs.texts.found_text.Goals as goal
 
-pub returns-in-Some : goal.returns-in-Some
-returns-in-Some c = rw (c.in-Some.is) c.found_from_text.ensures
-
-pub returns-in-None : goal.returns-in-None
-returns-in-None c = told string_bytes c.format.result _ _ (rw (c.in-None.is, c.number-pieces.ensures.value, c.number-tenths.ensures.value) refl) c.format.ensures.ok
+pub returns : goal.returns
+returns c = told string_bytes c.format.result _ _ (rw (c.in_ok-flight.ensures, c.number-pieces.ensures.value, c.number-tenths.ensures.value) refl) c.format.ensures.ok

@@ -1,7 +1,11 @@
-use Rattle.std.proofs.Common.{refl}
-use Rattle.std.specs.Prelude.{string_bytes}
-use Rattle.desk_commands.proofs.Written.{told}
+use Rattle.std.specs.Prelude.{codes, decimal, string_bytes, ◌++◌, ◌∷◌}
+use Rattle.awb_number.specs.Number.{number_text}
+use Rattle.imp_fields.specs.Flight.{flight_text}
+use Rattle.desk_commands.specs.Day.{day_line}
+use Rattle.desk_commands.proofs.Written.{told, behind_flight}
 use Rattle.desk_commands.proofs.texts.manifest_text.Goals as goal
 
 pub returns : goal.returns
-returns c = told string_bytes c.format.result _ _ (rw (c.ascii_text-day.ensures, c.day_text-day.ensures.value, c.in_ok-flight.ensures, c.ascii_text-unload.ensures, c.letters-unload.ensures.value, c.number-pieces.ensures.value) refl) c.format.ensures.ok
+returns c =
+    let f = c.args.flight.now in
+    told string_bytes c.format.result _ _ (rw (c.in_ok-flight.ensures, c.ascii_text-unload.ensures, c.letters-unload.ensures.value, c.number-pieces.ensures.value) (behind_flight (codes "manifest") (number_text c.args.awb.now) (flight_text f.flight) (day_line f.day) (c.args.unload.now ++ 10 ∷ decimal c.args.pieces))) c.format.ensures.ok

@@ -1,7 +1,0 @@
-use Rattle.std.proofs.Common.{refl}
-use Rattle.std.specs.Prelude.{string_bytes}
-use Rattle.desk_commands.proofs.Written.{told}
-use Rattle.desk_commands.proofs.texts.found_from_text.Goals as goal
-
-pub returns : goal.returns
-returns c = told string_bytes c.format.result _ _ (rw (c.ascii_text-day.ensures, c.day_text-day.ensures.value, c.in_ok-flight.ensures, c.number-pieces.ensures.value, c.number-tenths.ensures.value) refl) c.format.ensures.ok
