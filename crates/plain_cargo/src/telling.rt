@@ -10,7 +10,6 @@ use crate::balances::{drawn, held, stored};
 use crate::cargo::PlainCargo;
 use crate::rows;
 use crate::viewing::waybills_of;
-use crate::writing::bytes_of;
 use agent_stock::{Holder, StockRun};
 use awb_number::Awb;
 use shipment_machine::{Declared, Place};
@@ -157,7 +156,7 @@ impl PlainCargo {
     {
         Ok(Message {
             number: at as u32 + 1,
-            text: RowText::new(bytes_of(self.alloc, &self.outbox[at])?),
+            text: RowText::new(Vec::from_slice(self.alloc, &self.outbox[at])?),
         })
     }
 
@@ -190,7 +189,7 @@ impl PlainCargo {
     {
         Ok(TrailRow {
             awb: row.awb,
-            line: RowText::new(bytes_of(self.alloc, &row.line)?),
+            line: RowText::new(Vec::from_slice(self.alloc, &row.line)?),
         })
     }
 

@@ -18,27 +18,6 @@ use awb_number::Awb;
 use shipment_machine::{Change, Move, Plan};
 use std::alloc::{AllocError, Global};
 
-/// The same declarations once more.
-fn same_declared(rows: &Vec<DeclaredRow>) -> Result<Vec<DeclaredRow>, AllocError>
-    ensures { IfOk result (λ copy. copy.items ≡ rows.now.items) }
-{
-    rows.clone()
-}
-
-/// The same flights once more.
-fn same_flights(rows: &Vec<FlightRow>) -> Result<Vec<FlightRow>, AllocError>
-    ensures { IfOk result (λ copy. copy.items ≡ rows.now.items) }
-{
-    rows.clone()
-}
-
-/// The same expectations once more.
-fn same_expected(rows: &Vec<ExpectedRow>) -> Result<Vec<ExpectedRow>, AllocError>
-    ensures { IfOk result (λ copy. copy.items ≡ rows.now.items) }
-{
-    rows.clone()
-}
-
 /// An agent's number is used up.
 fn use_up(stock: &mut PlainRows, awb: &Awb) -> Result<(), AllocError>
     ensures { OnOk result ((q : ℕ) → holders_of stock.new q ≡ (if q == awb.now then Some Used else holders_of stock.old q)) }
@@ -48,15 +27,6 @@ fn use_up(stock: &mut PlainRows, awb: &Awb) -> Result<(), AllocError>
         count: 1,
     };
     stock.assign(&run, &Holder::Used)
-}
-
-/// The same bytes once more.
-pub(crate) fn bytes_of(alloc: Global, bytes: &[u8]) -> Result<Vec<u8>, AllocError>
-    ensures { IfOk result (λ copy. copy.items ≡ bytes.now) }
-{
-    let mut copy = Vec::new(alloc);
-    copy.extend_from_slice(bytes)?;
-    Ok(copy)
 }
 
 /// The rows that a command changes, made beside those that are kept.
@@ -81,9 +51,9 @@ impl Next {
         Ok(Next {
             alloc: cargo.alloc,
             stock: cargo.stock.try_clone()?,
-            declared: same_declared(&cargo.declared)?,
-            flights: same_flights(&cargo.flights)?,
-            expected: same_expected(&cargo.expected)?,
+            declared: Vec::from_slice(cargo.alloc, &cargo.declared)?,
+            flights: Vec::from_slice(cargo.alloc, &cargo.flights)?,
+            expected: Vec::from_slice(cargo.alloc, &cargo.expected)?,
             parts: Vec::new(cargo.alloc),
             trail: Vec::new(cargo.alloc),
             confirmed: cargo.confirmed,
@@ -125,14 +95,14 @@ impl Next {
             Change::NotePart { part } => {
                 let row = PartRow {
                     part: *part,
-                    text: bytes_of(self.alloc, text)?,
+                    text: Vec::from_slice(self.alloc, text)?,
                 };
                 self.parts.insert(0, row)?;
             }
             Change::Trail { awb, line } => {
                 let row = TrailRow {
                     awb: *awb,
-                    line: bytes_of(self.alloc, line.as_bytes())?,
+                    line: Vec::from_slice(self.alloc, line.as_bytes())?,
                 };
                 self.trail.push(row)?;
             }
