@@ -29,6 +29,7 @@ impl PlainCargo {
     pub fn stock<S: Sink<StockRun>>(&self, sink: &mut S) -> Result<(), AllocError>
         ensures rows { OnOk result ((rows : List StockRun) × AreStockRuns (cargo_of self.now).holders rows × HandedOut S.takes rows sink.old sink.new) }
         ensures beginning { OnErr result ((rows : List StockRun) → AreStockRuns (cargo_of self.now).holders rows → (n : ℕ) × HandedOut S.takes (take n rows) sink.old sink.new) }
+        ensures none { OnErr result (sink.new ≡ sink.old) }
     {
         hand_out(sink, self.stock.runs(self.alloc)?);
         Ok(())
@@ -116,6 +117,7 @@ impl PlainCargo {
         requires few { length self.now.book.items ≤ 4_294_967_295 }
         ensures rows { OnOk result (HandedOut S.takes (irregular_rows (cargo_of self.now)) sink.old sink.new) }
         ensures beginning { OnErr result ((n : ℕ) × HandedOut S.takes (take n (irregular_rows (cargo_of self.now))) sink.old sink.new) }
+        ensures none { OnErr result (sink.new ≡ sink.old) }
     {
         hand_out(sink, self.irregular_rows()?);
         Ok(())
@@ -143,6 +145,7 @@ impl PlainCargo {
         requires few { length self.now.book.items ≤ 4_294_967_295 }
         ensures rows { OnOk result (HandedOut S.takes (book_rows (cargo_of self.now)) sink.old sink.new) }
         ensures beginning { OnErr result ((n : ℕ) × HandedOut S.takes (take n (book_rows (cargo_of self.now))) sink.old sink.new) }
+        ensures none { OnErr result (sink.new ≡ sink.old) }
     {
         hand_out(sink, self.book_rows()?);
         Ok(())
@@ -178,6 +181,7 @@ impl PlainCargo {
         requires sent { length self.now.outbox.items ≤ 4_294_967_295 }
         ensures rows { OnOk result (HandedOut S.takes (pending_messages (cargo_of self.now)) sink.old sink.new) }
         ensures beginning { OnErr result ((n : ℕ) × HandedOut S.takes (take n (pending_messages (cargo_of self.now))) sink.old sink.new) }
+        ensures none { OnErr result (sink.new ≡ sink.old) }
     {
         hand_out(sink, self.pending_rows()?);
         Ok(())
@@ -208,6 +212,7 @@ impl PlainCargo {
     pub fn trail<S: Sink<TrailRow>>(&self, sink: &mut S) -> Result<(), AllocError>
         ensures rows { OnOk result (HandedOut S.takes (trail_rows (cargo_of self.now)) sink.old sink.new) }
         ensures beginning { OnErr result ((n : ℕ) × HandedOut S.takes (take n (trail_rows (cargo_of self.now))) sink.old sink.new) }
+        ensures none { OnErr result (sink.new ≡ sink.old) }
     {
         hand_out(sink, self.trail_lines()?);
         Ok(())
