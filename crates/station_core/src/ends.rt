@@ -1,5 +1,7 @@
 //! Readers and writers whose contracts tell what they have done.
 ghost use Rattle.std.specs.Prelude.{◌≡◌, ℕ, ◌<◌, length, OnOk, IfErr};
+ghost use Rattle.std.specs.Io.KnownBytes.{ReadConsumes, WriteAppends};
+ghost use Rattle.station_core.specs.Counted.{given_of, inner_of};
 ghost use Rattle.station_core.specs.Given.{Given, nothing_given};
 ghost use Rattle.station_core.specs.Ends.{ReadStep, WriteStep, Sent, HasCause};
 
@@ -45,8 +47,6 @@ pub struct Counted<T> {
 }
 
 impl<T> Counted<T> {
-    ghost use Rattle.station_core.specs.Counted.{given_of, inner_of};
-
     /// Nothing was moved yet.
     pub fn new(inner: T) -> Counted<T>
         ensures inner { inner_of result ≡ inner }
@@ -70,7 +70,11 @@ impl<T> Counted<T> {
 impl<T: Read> ByteIn for Counted<T> {
     ghost given = { λ c. c.tally.given };
 
-    fn read(&mut self, buf: &mut [u8]) -> Result<usize, ReadFault> {
+    fn read(&mut self, buf: &mut [u8]) -> Result<usize, ReadFault>
+        ensures step { ReadStep (given_of self.old) (given_of self.new) result buf.new }
+        // Where it is known what the reader has left, these bytes are gone from it, and no others.
+        ensures inner { ReadConsumes (T.remaining (inner_of self.old)) (T.remaining (inner_of self.new)) result buf.new }
+    {
         let room = buf.len();
         match self.inner.read(buf) {
             Ok(n) => {
@@ -92,7 +96,11 @@ impl<T: Read> ByteIn for Counted<T> {
 impl<T: Write> ByteOut for Counted<T> {
     ghost taken = { λ c. c.tally.given };
 
-    fn write(&mut self, buf: &[u8]) -> Result<usize, WriteFault> {
+    fn write(&mut self, buf: &[u8]) -> Result<usize, WriteFault>
+        ensures step { WriteStep (given_of self.old) (given_of self.new) result buf.now }
+        // Where it is known what the writer holds, it grew by these bytes, once.
+        ensures inner { WriteAppends (T.contents (inner_of self.old)) (T.contents (inner_of self.new)) result buf.now }
+    {
         match self.inner.write(buf) {
             Ok(n) => {
                 self.tally = self.tally.then(&Call::Moved(&buf[..n], buf.len()));
@@ -110,6 +118,7 @@ impl<T: Write> ByteOut for Counted<T> {
 pub fn send<W: ByteOut>(writer: &mut W, bytes: &[u8]) -> Result<(), usize>
     ensures all { OnOk result (Sent (W.taken writer.old) (W.taken writer.new) bytes.now (length bytes.now)) }
     ensures no_failure { OnOk result ((W.taken writer.new).failures ≡ (W.taken writer.old).failures) }
+    ensures no_idle { OnOk result ((W.taken writer.new).idle ≡ (W.taken writer.old).idle) }
     ensures part { IfErr result (Sent (W.taken writer.old) (W.taken writer.new) bytes.now) }
     ensures cause { IfErr result (λ _. HasCause (W.taken writer.old) (W.taken writer.new)) }
 {

@@ -4,7 +4,7 @@ use awb_number::Awb;
 use imp_fields::{Airport, Flight, LocalDay, PartNumber, Why};
 use shipment_machine::{Detail, FlightDate, Part, Refusal};
 use std::io;
-use std::io::Read;
+use std::io::{Read, Write};
 use std::test::*;
 
 #[test]
@@ -200,4 +200,25 @@ fn a_row_text_has_its_bytes(rt: HostRuntime) -> Result<(), Fail> {
     bytes.extend_from_slice(b"LAST")?;
     assert_eq!(rt; RowText::new(bytes).as_bytes(), b"LAST".as_slice());
     Ok(())
+}
+
+/// A writer that fails.
+#[derive(Drop)]
+struct Failing;
+
+impl Write for Failing {
+    fn write(&mut self, _: &[u8]) -> io::Result<usize> {
+        Err(io::Error::from(io::ErrorKind::Other))
+    }
+
+    fn flush(&mut self) -> io::Result<()> {
+        Ok(())
+    }
+}
+
+#[test]
+fn a_failed_write_is_told(rt: HostRuntime) {
+    let mut writer = Counted::new(Failing);
+    assert_eq!(rt; ByteOut::write(&mut writer, b"ok 10\n"), Err(WriteFault));
+    assert_eq!(rt; send(&mut writer, b"ok 10\n"), Err(0));
 }

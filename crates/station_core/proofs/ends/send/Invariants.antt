@@ -7,7 +7,7 @@ invariant-loop-sent g l = record {
   within : l.sent ≤ length l.bytes;
   bytes : (g.W.ByteOut.taken l.writer).bytes ≡ (g.W.ByteOut.taken l.fn.writer).bytes ++ take l.sent l.bytes;
   failures : (g.W.ByteOut.taken l.writer).failures ≡ (g.W.ByteOut.taken l.fn.writer).failures;
-  idle : (g.W.ByteOut.taken l.fn.writer).idle ≤ (g.W.ByteOut.taken l.writer).idle;
+  idle : (g.W.ByteOut.taken l.writer).idle ≡ (g.W.ByteOut.taken l.fn.writer).idle;
 }
 
 abbrev pub decreases-loop-sent : goal.decreases-loop-sent
