@@ -14,6 +14,4 @@ pub use cargo::PlainCargo;
 pub use writing::CarryFault;
 
 #[cfg(test)]
-mod telling_tests;
-#[cfg(test)]
 mod tests;
