@@ -28,7 +28,7 @@ fn report(rt: &HostRuntime, what: &str, count: u64, spent: Duration) -> Result<(
 fn report_texts(
     rt: &HostRuntime,
     what: &str,
-    texts: &Texts,
+    texts: Texts,
     spent: Duration,
 ) -> Result<(), io::Error> {
     let nanos = u64::try_from(spent.as_nanos()).unwrap_or(u64::MAX);
@@ -76,21 +76,21 @@ fn session(rt: &HostRuntime, what: &str) -> Result<(), io::Error> {
 fn read(rt: &HostRuntime, what: &str, text: &[u8]) -> Result<(), io::Error> {
     let start = Instant::now(rt)?;
     let texts = messages::read_often(rt.alloc(), text);
-    report_texts(rt, what, &texts, start.elapsed(rt)?)
+    report_texts(rt, what, texts, start.elapsed(rt)?)
 }
 
 /// The lines and the consignment line of a message.
 fn scan(rt: &HostRuntime, what: &str, text: &[u8]) -> Result<(), io::Error> {
     let start = Instant::now(rt)?;
     let texts = messages::scan_often(rt.alloc(), text);
-    report_texts(rt, what, &texts, start.elapsed(rt)?)
+    report_texts(rt, what, texts, start.elapsed(rt)?)
 }
 
 /// A manifest that is written again and again.
 fn manifests(rt: &HostRuntime, what: &str) -> Result<(), io::Error> {
     let start = Instant::now(rt)?;
     match messages::write_manifests(rt.alloc()) {
-        Some(texts) => report_texts(rt, what, &texts, start.elapsed(rt)?),
+        Some(texts) => report_texts(rt, what, texts, start.elapsed(rt)?),
         None => gave_up(rt, what),
     }
 }
@@ -99,7 +99,7 @@ fn manifests(rt: &HostRuntime, what: &str) -> Result<(), io::Error> {
 fn updates(rt: &HostRuntime, what: &str) -> Result<(), io::Error> {
     let start = Instant::now(rt)?;
     match messages::write_updates(rt.alloc()) {
-        Some(texts) => report_texts(rt, what, &texts, start.elapsed(rt)?),
+        Some(texts) => report_texts(rt, what, texts, start.elapsed(rt)?),
         None => gave_up(rt, what),
     }
 }

@@ -48,13 +48,14 @@ fn has_consignment(alloc: Global, text: &[u8]) -> bool {
 }
 
 /// How many texts were read or written, and their bytes together.
+#[derive(Clone, Copy)]
 pub struct Texts {
     pub count: u64,
     pub bytes: u64,
 }
 
 /// A text, so many times.
-fn texts(count: u64, text: &[u8]) -> Texts {
+fn moved(count: u64, text: &[u8]) -> Texts {
     let length = u64::try_from(text.len()).unwrap_or(u64::MAX);
     Texts {
         count,
@@ -70,7 +71,7 @@ pub fn read_often(alloc: Global, text: &[u8]) -> Texts {
             count = count.saturating_add(1);
         }
     }
-    texts(count, text)
+    moved(count, text)
 }
 
 /// Finds the lines of a text, and reads its consignment line, again and again.
@@ -81,7 +82,7 @@ pub fn scan_often(alloc: Global, text: &[u8]) -> Texts {
             count = count.saturating_add(1);
         }
     }
-    texts(count, text)
+    moved(count, text)
 }
 
 /// A load of a manifest.
@@ -111,7 +112,7 @@ pub fn write_manifests(alloc: Global) -> Option<Texts> {
             return None;
         }
     }
-    Some(texts(TIMES, out.as_slice()))
+    Some(moved(TIMES, out.as_slice()))
 }
 
 /// Writes a status update again and again.
@@ -141,5 +142,5 @@ pub fn write_updates(alloc: Global) -> Option<Texts> {
             return None;
         }
     }
-    Some(texts(TIMES, out.as_slice()))
+    Some(moved(TIMES, out.as_slice()))
 }

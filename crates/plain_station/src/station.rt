@@ -175,6 +175,7 @@ impl Keeper for PlainStation {
         ensures rows { OnOk result ((rows : List AnyRun) × AreStockRuns (state_of self.old).cargo.holders rows × HandedOut S.takes rows sink.old sink.new) }
         ensures beginning { OnErr result ((rows : List AnyRun) → AreStockRuns (state_of self.old).cargo.holders rows → (n : ℕ) × HandedOut S.takes (take n rows) sink.old sink.new) }
         ensures memory { IfErr result (λ fault. fault ≡ ActFault.Memory) }
+        ensures none { OnErr result (sink.new ≡ sink.old) }
         ensures as_before { self.new ≡ self.old }
     {
         self.cargo.stock(sink)
@@ -184,6 +185,7 @@ impl Keeper for PlainStation {
         ensures rows { OnOk result (HandedOut S.takes (irregular_rows (state_of self.old).cargo) sink.old sink.new) }
         ensures beginning { OnErr result ((n : ℕ) × HandedOut S.takes (take n (irregular_rows (state_of self.old).cargo)) sink.old sink.new) }
         ensures memory { IfErr result (λ fault. fault ≡ ActFault.Memory) }
+        ensures none { OnErr result (sink.new ≡ sink.old) }
         ensures as_before { self.new ≡ self.old }
     {
         self.cargo.irregular(sink)
@@ -193,6 +195,7 @@ impl Keeper for PlainStation {
         ensures rows { OnOk result (HandedOut S.takes (book_rows (state_of self.old).cargo) sink.old sink.new) }
         ensures beginning { OnErr result ((n : ℕ) × HandedOut S.takes (take n (book_rows (state_of self.old).cargo)) sink.old sink.new) }
         ensures memory { IfErr result (λ fault. fault ≡ ActFault.Memory) }
+        ensures none { OnErr result (sink.new ≡ sink.old) }
         ensures as_before { self.new ≡ self.old }
     {
         self.cargo.book(sink)
@@ -202,6 +205,7 @@ impl Keeper for PlainStation {
         ensures rows { OnOk result (HandedOut S.takes (pending_messages (state_of self.old).cargo) sink.old sink.new) }
         ensures beginning { OnErr result ((n : ℕ) × HandedOut S.takes (take n (pending_messages (state_of self.old).cargo)) sink.old sink.new) }
         ensures memory { IfErr result (λ fault. fault ≡ ActFault.Memory) }
+        ensures none { OnErr result (sink.new ≡ sink.old) }
         ensures as_before { self.new ≡ self.old }
     {
         self.cargo.pending(sink)
@@ -211,6 +215,7 @@ impl Keeper for PlainStation {
         ensures rows { OnOk result (HandedOut S.takes (trail_rows (state_of self.old).cargo) sink.old sink.new) }
         ensures beginning { OnErr result ((n : ℕ) × HandedOut S.takes (take n (trail_rows (state_of self.old).cargo)) sink.old sink.new) }
         ensures memory { IfErr result (λ fault. fault ≡ ActFault.Memory) }
+        ensures none { OnErr result (sink.new ≡ sink.old) }
         ensures as_before { self.new ≡ self.old }
     {
         self.cargo.trail(sink)

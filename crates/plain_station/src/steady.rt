@@ -75,6 +75,7 @@ impl SteadyCargo {
         ensures rows { OnOk result (HandedOut S.takes (irregular_rows (cargo_of self.now.cargo)) sink.old sink.new) }
         ensures beginning { OnErr result ((n : ℕ) × HandedOut S.takes (take n (irregular_rows (cargo_of self.now.cargo))) sink.old sink.new) }
         ensures memory { IfErr result (λ fault. fault ≡ ActFault.Memory) }
+        ensures none { OnErr result (sink.new ≡ sink.old) }
     {
         match self.cargo.irregular(sink) {
             Ok(()) => Ok(()),
@@ -86,6 +87,7 @@ impl SteadyCargo {
         ensures rows { OnOk result (HandedOut S.takes (book_rows (cargo_of self.now.cargo)) sink.old sink.new) }
         ensures beginning { OnErr result ((n : ℕ) × HandedOut S.takes (take n (book_rows (cargo_of self.now.cargo))) sink.old sink.new) }
         ensures memory { IfErr result (λ fault. fault ≡ ActFault.Memory) }
+        ensures none { OnErr result (sink.new ≡ sink.old) }
     {
         match self.cargo.book(sink) {
             Ok(()) => Ok(()),
@@ -97,6 +99,7 @@ impl SteadyCargo {
         ensures rows { OnOk result (HandedOut S.takes (pending_messages (cargo_of self.now.cargo)) sink.old sink.new) }
         ensures beginning { OnErr result ((n : ℕ) × HandedOut S.takes (take n (pending_messages (cargo_of self.now.cargo))) sink.old sink.new) }
         ensures memory { IfErr result (λ fault. fault ≡ ActFault.Memory) }
+        ensures none { OnErr result (sink.new ≡ sink.old) }
     {
         match self.cargo.pending(sink) {
             Ok(()) => Ok(()),
@@ -108,6 +111,7 @@ impl SteadyCargo {
         ensures rows { OnOk result (HandedOut S.takes (trail_rows (cargo_of self.now.cargo)) sink.old sink.new) }
         ensures beginning { OnErr result ((n : ℕ) × HandedOut S.takes (take n (trail_rows (cargo_of self.now.cargo))) sink.old sink.new) }
         ensures memory { IfErr result (λ fault. fault ≡ ActFault.Memory) }
+        ensures none { OnErr result (sink.new ≡ sink.old) }
     {
         match self.cargo.trail(sink) {
             Ok(()) => Ok(()),
@@ -119,6 +123,7 @@ impl SteadyCargo {
         ensures rows { OnOk result ((rows : List AnyRun) × AreStockRuns (cargo_of self.now.cargo).holders rows × HandedOut S.takes rows sink.old sink.new) }
         ensures beginning { OnErr result ((rows : List AnyRun) → AreStockRuns (cargo_of self.now.cargo).holders rows → (n : ℕ) × HandedOut S.takes (take n rows) sink.old sink.new) }
         ensures memory { IfErr result (λ fault. fault ≡ ActFault.Memory) }
+        ensures none { OnErr result (sink.new ≡ sink.old) }
     {
         match self.cargo.stock(sink) {
             Ok(()) => Ok(()),

@@ -6,8 +6,8 @@ use desk_commands::read_command_text;
 use imp_fields::{Airport, Moment};
 use shipment_machine::{Amount, Declared, Place};
 use station_core::{
-    Answer, BookRow, Input, IrregularRow, Keeper, Key, Message, Sink, TrailRow, Waybill, act_all,
-    answer_one, refusal_text, reply_text,
+    ActFault, Answer, BookRow, Input, IrregularRow, Keeper, Key, Message, Sink, TrailRow, Waybill,
+    act_all, answer_one, refusal_text, reply_text,
 };
 use std::alloc::Global;
 use std::process::Abort;
@@ -603,6 +603,55 @@ fn all_inputs_at_once(rt: HostRuntime) -> Result<(), Fail> {
     assert_eq!(rt; texts.len(), 4);
     for (text, want) in texts.iter().zip(["ok 10", "ok 10", "ok 10", "refused 501"]) {
         assert_eq!(rt; text.as_str(), want);
+    }
+    Ok(())
+}
+
+/// Whether an input was done, at the second attempt if memory was wanting at the first, after which nothing has changed.
+fn is_done_at_last(
+    rt: &impl Abort,
+    station: &mut PlainStation,
+    input: &Input<'_>,
+    at: Moment,
+) -> Result<bool, Fail> {
+    let before = pieces_taken(station)?;
+    match answer_one(station, input, at) {
+        Ok(answer) => Ok(matches!(answer, Answer::Done(_))),
+        Err(fault) => {
+            assert_eq!(rt; fault, ActFault::Memory);
+            assert_eq!(rt; pieces_taken(station)?, before);
+            Ok(matches!(answer_one(station, input, at), Ok(Answer::Done(_))))
+        }
+    }
+}
+
+/// The pieces of a waybill that were taken over, if it was declared.
+fn pieces_taken(station: &mut PlainStation) -> Result<Option<u32>, Fail> {
+    match station.waybill(&number(b"020-12345675")?) {
+        Ok(Some(waybill)) => Ok(Some(waybill.taken.pieces)),
+        Ok(None) => Ok(None),
+        Err(_) => Err(Fail::from("a waybill is always told")),
+    }
+}
+
+// Run with each allocation failing in turn: want of memory is told, changes nothing, and the input acts when it comes again.
+#[test]
+fn want_of_memory_is_told(rt: HostRuntime) -> Result<(), Fail> {
+    let alloc = rt.alloc();
+    let mut station = station(alloc, b"FRA")?;
+    let booked = keyed(BOOKED[0].0, BOOKED[0].1)?;
+    let received = keyed(RECEIVED[0].0, RECEIVED[0].1)?;
+    assert!(rt; is_done_at_last(&rt, &mut station, &booked, at(10, 0)?)?);
+    assert_eq!(rt; pieces_taken(&mut station)?, Some(0));
+    assert!(rt; is_done_at_last(&rt, &mut station, &received, at(10, 30)?)?);
+    assert_eq!(rt; pieces_taken(&mut station)?, Some(10));
+    assert!(rt; is_done_at_last(&rt, &mut station, &received, at(11, 0)?)?);
+    assert_eq!(rt; pieces_taken(&mut station)?, Some(10));
+    let mut sink = all_rows::<BookRow>(alloc);
+    if let Err(fault) = station.book(&mut sink) {
+        assert_eq!(rt; fault, ActFault::Memory);
+        assert_eq!(rt; sink.rows.len(), 0);
+        assert!(rt; station.book(&mut sink).is_ok());
     }
     Ok(())
 }
