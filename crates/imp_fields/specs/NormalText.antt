@@ -48,7 +48,7 @@ line_starts bytes = take (length (lines_of bytes)) (starts_from 0 (slice_split i
 abbrev pub BeginLines : List ℕ → List Token → Type 0
 BeginLines bytes tokens = map (λ t. t.start) tokens ≡ drop (length (line_starts bytes) - length tokens) (line_starts bytes)
 
--- a line is printable, and has at most 255 bytes
+-- the first fault of a line: a byte that does not print, then more than 255 bytes
 abbrev pub line_fault : List ℕ → Option Why
 line_fault line =
     if not (list_all is_printable line) then Some why.Byte
