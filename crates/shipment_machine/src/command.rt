@@ -24,6 +24,7 @@ impl Model for PieceCount {
 }
 
 impl PieceCount {
+    /// The count, where the number is at most 9999.
     pub fn new(number: u32) -> Option<PieceCount>
         ensures in_range { IsSome result ↔ IsCount number }
         ensures value { IfSome result (λ c. c ≡ number) }
@@ -35,6 +36,7 @@ impl PieceCount {
         }
     }
 
+    /// The number, 0 to 9999.
     pub fn number(self) -> u32
         ensures value { result ≡ self }
         ensures in_range { IsCount result }
@@ -244,12 +246,14 @@ impl<'a> Model for DeskRef<'a> {
 }
 
 impl<'a> DeskRef<'a> {
+    /// The command as borrowed.
     pub fn new(command: &'a DeskCommand) -> DeskRef<'a>
         ensures { result ≡ command.now }
     {
         DeskRef { command }
     }
 
+    /// The command.
     pub fn get(&self) -> &'a DeskCommand
         ensures { result.now ≡ self.now }
     {
@@ -272,12 +276,14 @@ impl<'a> Model for CargoRef<'a> {
 }
 
 impl<'a> CargoRef<'a> {
+    /// The line as borrowed.
     pub fn new(line: &'a CargoLine) -> CargoRef<'a>
         ensures { result ≡ line.now }
     {
         CargoRef { line }
     }
 
+    /// The line.
     pub fn get(&self) -> &'a CargoLine
         ensures { result.now ≡ self.now }
     {

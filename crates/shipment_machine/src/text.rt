@@ -17,12 +17,14 @@ impl<'a> Model for Text<'a> {
 }
 
 impl<'a> Text<'a> {
+    /// The text of these bytes, as borrowed.
     pub fn new(bytes: &'a [u8]) -> Text<'a>
         ensures { result ≡ bytes.now }
     {
         Text { bytes }
     }
 
+    /// The bytes of the text.
     pub fn as_bytes(&self) -> &'a [u8]
         ensures { result.now ≡ self.now }
     {

@@ -103,6 +103,7 @@ impl Model for LineRows {
 }
 
 impl LineRows {
+    /// These rows, in the order of the lines.
     pub fn new(rows: Vec<LineRow>) -> LineRows
         ensures { result ≡ rows.items }
     {

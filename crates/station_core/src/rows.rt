@@ -21,6 +21,7 @@ impl Model for RowText {
 }
 
 impl RowText {
+    /// The text of these bytes.
     pub fn new(bytes: Vec<u8>) -> RowText
         ensures { result ≡ bytes.items }
     {

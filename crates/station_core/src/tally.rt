@@ -29,12 +29,14 @@ pub enum Call<'a> {
 impl Tally {
     ghost use Rattle.station_core.specs.Tally.{noted};
 
+    /// Before the first call.
     pub fn new() -> Tally
         ensures { result.given ≡ nothing_given }
     {
         Tally {}
     }
 
+    /// After one call more.
     pub fn then(&self, _call: &Call<'_>) -> Tally
         ensures { result.given ≡ noted self.now.given _call.now }
     {
