@@ -1,6 +1,6 @@
 ghost use Rattle.std.specs.Prelude.{◌≡◌, ◌+◌, ◌≤◌, ◌++◌, ℕ, List, Option, IsTrue, IfSome, length, take, nat_lt, if◌then◌else◌};
 ghost use Rattle.awb_number.specs.Digits.{is_letter, padded};
-ghost use Rattle.imp_fields.specs.Flight.{Designator, IsDesignator, flight_of, flight_text, is_carrier, suffix_of};
+ghost use Rattle.imp_fields.specs.Flight.{Designator, IsDesignator, flight_of, flight_text, is_carrier, same_flight, same_letter, suffix_of};
 
 use crate::put::put;
 use crate::run;
@@ -46,7 +46,27 @@ fn suffix(text: &[u8]) -> Option<Option<u8>>
     }
 }
 
+/// Whether the letters behind two numbers are one, or none.
+fn is_same_letter(a: Option<u8>, b: Option<u8>) -> bool
+    ensures { result ≡ same_letter a b }
+{
+    match (a, b) {
+        (None, None) => true,
+        (Some(a), Some(b)) => a == b,
+        _ => false,
+    }
+}
+
 impl Flight {
+    /// Whether these are one flight: the same carrier, number and letter.
+    pub fn is_same(&self, other: &Flight) -> bool
+        ensures { result ≡ same_flight self.now other.now }
+    {
+        self.carrier == other.carrier
+            && self.number == other.number
+            && is_same_letter(self.suffix, other.suffix)
+    }
+
     /// The flight that a text such as `LH400` names: a carrier of two letters or digits, at least one of them a
     /// letter, one to four digits of value at least 1, and perhaps a letter. Zeros in front don't count.
     pub fn read(text: &[u8]) -> Option<Flight>

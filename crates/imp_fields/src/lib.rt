@@ -18,8 +18,6 @@ mod normal;
 mod put;
 mod quantity;
 mod run;
-#[cfg(test)]
-mod tests;
 mod token;
 
 pub use airport::Airport;
@@ -33,7 +31,7 @@ pub use date::{DayMonth, DayTime, Moment};
 pub use fault::{TextFault, Why};
 pub use field::{cut_at_slash, first_field};
 pub use flight::Flight;
-pub use laws::{flight_law, quantity_law, resolve_law};
+pub use laws::{flight_law, quantity_law, resolve_law, share_law};
 pub use line::{Consignment, Lines, MessageKind};
 pub use local_day::LocalDay;
 pub use name::{Goods, Name};
