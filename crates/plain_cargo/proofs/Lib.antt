@@ -8,3 +8,4 @@ mod Refusing
 mod StillOk
 pub mod Walks
 mod Within
+mod Onto

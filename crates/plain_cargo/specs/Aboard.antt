@@ -2,15 +2,20 @@
 use Rattle.std.specs.Prelude.{ℕ, Bool, nat_lt, List}
 use Rattle.shipment_machine.specs.declared.flight.FlightDate.{FlightDate}
 use Rattle.shipment_machine.specs.declared.moves.Move.{Move}
-use Rattle.shipment_machine.specs.declared.view.Aboard.{Aboard}
-use Rattle.shipment_machine.specs.Book.{built}
+use Rattle.shipment_machine.specs.declared.view.FlightLoad.{FlightLoad}
+use Rattle.shipment_machine.specs.Book.{same_place, built}
+use Rattle.shipment_machine.specs.declared.moves.Place.TheVariants.{Built}
 use Rattle.shipment_machine.specs.Cargo.{Cargo}
-use Rattle.shipment_machine.specs.Sheets.{declaration}
+use Rattle.shipment_machine.specs.Views.{declaration}
+
+-- whether a move goes onto a flight
+abbrev pub is_onto : FlightDate → Move → Bool
+is_onto flight m = same_place (Built flight) m.to
 
 -- whether something of it is built
 abbrev pub is_built_on : List Move → FlightDate → ℕ → Bool
 is_built_on book flight w = nat_lt 0 (built book w flight).pieces
 
 -- what is declared of it, and what is built
-abbrev pub aboard_of : Cargo → FlightDate → ℕ → Aboard
+abbrev pub aboard_of : Cargo → FlightDate → ℕ → FlightLoad
 aboard_of s flight w = record { awb = w; declared = declaration s w; load = built s.book w flight }

@@ -2,30 +2,17 @@
 ghost use Rattle.std.specs.Prelude.{◌≡◌, ◌≤◌, ◌-◌, length};
 ghost use Rattle.plain_cargo.specs.Bounds.{IsWithin};
 ghost use Rattle.plain_cargo.specs.Spots.{is_in};
-ghost use Rattle.imp_fields.specs.Flight.{same_flight};
 ghost use Rattle.shipment_machine.specs.Flights.{same_flight_date};
 ghost use Rattle.shipment_machine.specs.Book.{same_place, in_store, pieces_of, tenths_of, moved_in, moved_out, held, store, drawn, has_moves};
 
 use awb_number::Awb;
-use imp_fields::Flight;
 use shipment_machine::{Amount, FlightDate, Move, Place};
-
-/// Whether two designators are written alike.
-fn is_written_alike(a: &Flight, b: &Flight) -> bool
-    ensures { result ≡ same_flight a.now b.now }
-{
-    let mut one = [0; 7];
-    let mut other = [0; 7];
-    let one_end = a.write(&mut one);
-    let other_end = b.write(&mut other);
-    one[..one_end] == other[..other_end]
-}
 
 /// Whether two flights are one.
 pub(crate) fn is_flight(a: &FlightDate, b: &FlightDate) -> bool
     ensures { result ≡ same_flight_date a.now b.now }
 {
-    is_written_alike(&a.flight, &b.flight) && a.day == b.day
+    a.flight.is_same(&b.flight) && a.day == b.day
 }
 
 /// Whether two places are one.

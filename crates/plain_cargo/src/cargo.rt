@@ -1,17 +1,17 @@
 ghost use Rattle.std.specs.Prelude.{◌≡◌, ◌≤◌, length};
 ghost use Rattle.std.specs.Option.{option_copied};
+ghost use Rattle.shipment_machine.specs.Book.{balances_of};
 ghost use Rattle.shipment_machine.specs.Cargo.{opening_cargo};
 ghost use Rattle.shipment_machine.specs.Lawful.{IsLawful};
-ghost use Rattle.shipment_machine.specs.Sheets.{sheet_of};
 ghost use Rattle.station_core.specs.Step.{has_room};
 ghost use Rattle.plain_cargo.specs.Plain.{cargo_of, declared_in, flights_in, expected_in, parts_in};
 
-use crate::balances::{drawn, held, is_flight, is_moved};
+use crate::balances::{drawn, held, is_flight};
 use crate::rows::{DeclaredRow, ExpectedRow, FlightRow, PartRow, TrailRow};
 use agent_stock::PlainRows;
 use awb_number::Awb;
 use imp_fields::Airport;
-use shipment_machine::{Declared, Expected, FlightDate, Move, Outbound, Part, Place, Sheet};
+use shipment_machine::{Balances, Declared, Expected, FlightDate, Move, Outbound, Part, Place};
 use std::alloc::Global;
 
 /// The cargo of a station in memory. A row that is written anew stands in front of the older one.
@@ -94,21 +94,20 @@ impl PlainCargo {
         Some(row.text.as_slice())
     }
 
-    /// A waybill with its balances and its holder.
-    pub(crate) fn sheet(&self, awb: &Awb) -> Sheet
+    /// What the moves of a waybill add up to.
+    pub(crate) fn balances(&self, awb: &Awb) -> Balances
         requires lawful { IsLawful (cargo_of self.now) }
         requires few { length self.now.book.items ≤ 4_294_967_295 }
-        ensures { result ≡ sheet_of (cargo_of self.now) awb.now }
+        ensures { result ≡ balances_of self.now.book.items awb.now }
     {
         let book = self.book.as_slice();
-        Sheet {
-            declared: self.declared_of(awb),
-            has_moves: is_moved(book, awb),
+        Balances {
             taken: drawn(book, awb, &Place::Hand),
             found: drawn(book, awb, &Place::Surplus),
             free: held(book, awb, &Place::Free),
             missing: held(book, awb, &Place::Missing),
-            holder: self.stock.get(awb),
+            departed: held(book, awb, &Place::Departed),
+            delivered: held(book, awb, &Place::Delivered),
         }
     }
 }

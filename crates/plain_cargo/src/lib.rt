@@ -12,6 +12,3 @@ mod writing;
 
 pub use cargo::PlainCargo;
 pub use writing::CarryFault;
-
-#[cfg(test)]
-mod tests;

@@ -1,7 +1,6 @@
 //! What a command does to the cargo.
 ghost use Rattle.std.specs.Prelude.{◌≡◌, ◌≤◌, ℕ, List, Ok, IfOk, IfErr, length};
-ghost use Rattle.shipment_machine.specs.Agreement.{RefusesAs, outcome_of, view_of};
-ghost use Rattle.shipment_machine.specs.Cargo.{Cargo};
+ghost use Rattle.shipment_machine.specs.Agreement.{RefusesAs, outcome_of};
 ghost use Rattle.shipment_machine.specs.Effect.{effect, carried_out};
 ghost use Rattle.shipment_machine.specs.Lawful.{IsLawful};
 ghost use Rattle.plain_cargo.specs.Plain.{cargo_of};
@@ -9,24 +8,7 @@ ghost use Rattle.station_core.specs.Step.{sent};
 
 use crate::cargo::PlainCargo;
 use imp_fields::Moment;
-use shipment_machine::{Plan, PlanFault, ShipmentCommand, View, plan};
-
-/// Plans a command on this cargo from a view of it.
-fn plan_seen<'a>(
-    cargo: &PlainCargo,
-    view: &View,
-    command: &ShipmentCommand<'a>,
-    at: Moment,
-) -> Result<Plan<'a>, PlanFault>
-    ghost state: { Cargo }
-    requires lawful { IsLawful state }
-    requires fits { view.now ≡ view_of state command.now at }
-    ensures planned { IfOk result (λ plan. effect state command.now at ≡ Ok (outcome_of plan)) }
-    ensures refused { IfErr result (RefusesAs (effect state command.now at)) }
-    ensures stays_lawful { IfOk result (λ plan. (text : List ℕ) → IsLawful (carried_out text (outcome_of plan) state)) }
-{
-    plan(cargo.alloc, view, command, at)
-}
+use shipment_machine::{Plan, PlanFault, ShipmentCommand, plan};
 
 impl PlainCargo {
     /// What a command does at a moment, or the first refusal that is due, with its detail. For want of memory nothing is said
@@ -41,6 +23,6 @@ impl PlainCargo {
         ensures stays_lawful { IfOk result (λ plan. (text : List ℕ) (messages : List (List ℕ)) → IsLawful (sent messages (carried_out text (outcome_of plan) (cargo_of self.now)))) }
     {
         let view = self.view(command, at)?;
-        plan_seen(self, &view, command, at)
+        plan(self.alloc, &view, command, at)
     }
 }

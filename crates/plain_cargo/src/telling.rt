@@ -6,13 +6,13 @@ ghost use Rattle.shipment_machine.specs.Lawful.{IsLawful};
 ghost use Rattle.station_core.specs.Readers.{HandedOut, told_of, waybill_of, is_irregular, irregular_row, irregular_rows, book_rows, message, pending_messages, trail_row, trail_rows};
 ghost use Rattle.plain_cargo.specs.Plain.{cargo_of, trail_row as kept_line, texts_in};
 
-use crate::balances::{drawn, held, stored};
+use crate::balances::stored;
 use crate::cargo::PlainCargo;
 use crate::rows;
 use crate::viewing::waybills_of;
 use agent_stock::{Holder, StockRun};
 use awb_number::Awb;
-use shipment_machine::{Declared, Place};
+use shipment_machine::{Balances, Declared};
 use station_core::{BookRow, IrregularRow, Message, RowText, Sink, TrailRow, Waybill, hand_out};
 use std::alloc::AllocError;
 
@@ -41,15 +41,15 @@ impl PlainCargo {
         requires few { length self.now.book.items ≤ 4_294_967_295 }
         ensures { result ≡ told_of (cargo_of self.now) number.now declared.now }
     {
-        let book = self.book.as_slice();
+        let balances = self.balances(number);
         Waybill {
             declared: *declared,
-            taken: drawn(book, number, &Place::Hand),
-            found: drawn(book, number, &Place::Surplus),
-            store: stored(book, number),
-            departed: held(book, number, &Place::Departed),
-            delivered: held(book, number, &Place::Delivered),
-            missing: held(book, number, &Place::Missing),
+            taken: balances.taken,
+            found: balances.found,
+            store: stored(self.book.as_slice(), number),
+            departed: balances.departed,
+            delivered: balances.delivered,
+            missing: balances.missing,
         }
     }
 
@@ -70,10 +70,8 @@ impl PlainCargo {
         requires declared { IsSome ((cargo_of self.now).declared number.now) }
         ensures { result ≡ irregular_row (cargo_of self.now) number.now }
     {
-        let book = self.book.as_slice();
         let declared = self.declared_of(number).unwrap();
-        let missing = held(book, number, &Place::Missing);
-        let found = drawn(book, number, &Place::Surplus);
+        let Balances { missing, found, .. } = self.balances(number);
         IrregularRow {
             awb: *number,
             origin: declared.origin,

@@ -1,6 +1,6 @@
 //! What a command is planned from.
 ghost use Rattle.std.specs.Prelude.{Some, None, true, false, [], IfSome, ◌≡◌, ◌≤◌, ◌<◌, ℕ, nat_lt, length, map, take, IfOk, OnOk, IsSome, All};
-ghost use Rattle.std.specs.List.{prefix_len};
+ghost use Rattle.std.specs.List.{filter, prefix_len};
 ghost use Rattle.shipment_machine.specs.declared.command.ShipmentCommand.TheVariants as order;
 ghost use Rattle.shipment_machine.specs.declared.view.Rows.TheVariants as rows;
 ghost use Rattle.imp_fields.specs.Date.{resolved};
@@ -8,17 +8,18 @@ ghost use Rattle.shipment_machine.specs.Agreement.{rows_for, view_of};
 ghost use Rattle.shipment_machine.specs.Book.{built, put_rising, waybills_of, waybills_on};
 ghost use Rattle.shipment_machine.specs.Effect.{lines_for, is_day};
 ghost use Rattle.shipment_machine.specs.Lawful.{IsLawful};
-ghost use Rattle.shipment_machine.specs.Sheets.{sheet_of, loads_of, flight_sheet_of, line_row_of};
-ghost use Rattle.plain_cargo.specs.Aboard.{is_built_on, aboard_of};
+ghost use Rattle.shipment_machine.specs.Views.{declaration_view, waybill_view, loads_of, flight_view, line_view_of};
+ghost use Rattle.plain_cargo.specs.Aboard.{is_built_on, is_onto, aboard_of};
 ghost use Rattle.plain_cargo.specs.Plain.{cargo_of};
 
-use crate::balances::held;
+use crate::balances::{held, is_flight, is_moved};
 use crate::cargo::PlainCargo;
 use awb_number::Awb;
 use imp_fields::{DayMonth, LocalDay, Moment, resolve};
 use shipment_machine::{
-    Aboard, Amount, DeskCommand, FlightDate, FlightSheet, InboundLine, InboundPart, LineRow,
-    LineRows, Loads, Move, Part, Place, Rows, ShipmentCommand, View,
+    Amount, DeclarationView, DeskCommand, FlightDate, FlightLoad, FlightView, InboundLine,
+    InboundPart, LineView, LineViews, Loads, Move, Part, Place, Rows, ShipmentCommand, View,
+    WaybillView,
 };
 use std::alloc::{AllocError, Global};
 
@@ -60,6 +61,16 @@ pub(crate) fn waybills_of(alloc: Global, book: &[Move]) -> Result<Vec<Awb>, Allo
     Ok(numbers)
 }
 
+/// Whether a move goes onto a flight.
+fn is_onto(flight: &FlightDate, movement: &Move) -> bool
+    ensures { result ≡ is_onto flight.now movement.now }
+{
+    match movement.to {
+        Place::Built(other) => is_flight(flight, &other),
+        _ => false,
+    }
+}
+
 /// The day that a date means, where it is one of a Moment.
 fn day_meant(date: DayMonth, at: Moment) -> Option<LocalDay>
     ensures some { IfSome result (λ day. (resolved date at.day ≡ Some day) × (is_day (resolved date at.day) ≡ true)) }
@@ -70,14 +81,29 @@ fn day_meant(date: DayMonth, at: Moment) -> Option<LocalDay>
 }
 
 impl PlainCargo {
-    /// The waybills that are built on a flight, rising.
+    /// The moves onto a flight, in their order.
+    fn moves_onto(&self, flight: &FlightDate) -> Result<Vec<Move>, AllocError>
+        ensures { IfOk result (λ moves. moves.items ≡ filter (is_onto flight.now) self.now.book.items) }
+    {
+        let mut moves = Vec::new(self.alloc);
+        for movement in &self.book {
+            if is_onto(flight, movement) {
+                moves.push(*movement)?;
+            }
+        }
+        Ok(moves)
+    }
+
+    /// The waybills that are built on a flight, ascending: of those that were ever built on it, the ones of which something is there
+    /// yet.
     fn numbers_on(&self, flight: &FlightDate) -> Result<Vec<Awb>, AllocError>
         requires lawful { IsLawful (cargo_of self.now) }
         requires few { length self.now.book.items ≤ 4_294_967_295 }
         ensures { IfOk result (λ numbers. numbers.items ≡ waybills_on self.now.book.items flight.now) }
     {
         let mut numbers = Vec::new(self.alloc);
-        for number in &waybills_of(self.alloc, self.book.as_slice())? {
+        let onto = self.moves_onto(flight)?;
+        for number in &waybills_of(self.alloc, onto.as_slice())? {
             if self.is_on(number, flight) {
                 numbers.push(*number)?;
             }
@@ -103,29 +129,28 @@ impl PlainCargo {
         self.load_on(awb, flight).pieces > 0
     }
 
-    /// A flight, seen from one waybill.
-    fn flight_sheet(&self, awb: &Awb, flight: &FlightDate) -> Result<FlightSheet, AllocError>
+    /// A flight, seen from a waybill that is to be built on it.
+    fn flight_view(&self, awb: &Awb, flight: &FlightDate) -> Result<FlightView, AllocError>
         requires lawful { IsLawful (cargo_of self.now) }
         requires few { length self.now.book.items ≤ 4_294_967_295 }
-        ensures { IfOk result (λ sheet. sheet ≡ flight_sheet_of (cargo_of self.now) awb.now flight.now) }
+        ensures { IfOk result (λ view. view ≡ flight_view (cargo_of self.now) awb.now flight.now) }
     {
         let numbers = self.numbers_on(flight)?;
-        Ok(FlightSheet {
+        Ok(FlightView {
             outbound: self.outbound_of(flight),
             waybills: numbers.len() as u16,
             load: self.load_on(awb, flight),
-            expected: self.expected_of(flight, awb),
         })
     }
 
     /// A waybill that is built on a flight.
-    fn aboard(&self, awb: &Awb, flight: &FlightDate) -> Aboard
+    fn aboard(&self, awb: &Awb, flight: &FlightDate) -> FlightLoad
         requires lawful { IsLawful (cargo_of self.now) }
         requires few { length self.now.book.items ≤ 4_294_967_295 }
         requires declared { IsSome ((cargo_of self.now).declared awb.now) }
         ensures { result ≡ aboard_of (cargo_of self.now) flight.now awb.now }
     {
-        Aboard {
+        FlightLoad {
             awb: *awb,
             declared: self.declared_of(awb).unwrap(),
             load: self.load_on(awb, flight),
@@ -147,47 +172,105 @@ impl PlainCargo {
     }
 
     /// What is kept of each line of a manifest that is for here.
-    fn line_rows(&self, flight: &FlightDate, lines: &[InboundLine]) -> Result<LineRows, AllocError>
-        ensures { IfOk result (λ rows. rows ≡ map (line_row_of (cargo_of self.now) flight.now) (lines_for self.now.here lines.now)) }
+    fn line_rows(&self, flight: &FlightDate, lines: &[InboundLine]) -> Result<LineViews, AllocError>
+        ensures { IfOk result (λ rows. rows ≡ map (line_view_of (cargo_of self.now) flight.now) (lines_for self.now.here lines.now)) }
     {
         let mut rows = Vec::new(self.alloc);
         for line in lines {
             if line.unload == self.here {
                 let awb = &line.cargo.awb;
-                rows.push(LineRow {
+                rows.push(LineView {
                     declared: self.declared_of(awb),
                     holder: self.stock.get(awb),
                     expected: self.expected_of(flight, awb),
                 })?;
             }
         }
-        Ok(LineRows::new(rows))
+        Ok(LineViews::new(rows))
     }
 }
 
 impl PlainCargo {
+    /// What the declaration of a waybill is planned from.
+    fn declaration_rows(&self, awb: &Awb) -> Rows
+        ensures { result ≡ rows.Declaration (declaration_view (cargo_of self.now) awb.now) }
+    {
+        Rows::Declaration {
+            waybill: DeclarationView {
+                declared: self.declared_of(awb),
+                has_moves: is_moved(self.book.as_slice(), awb),
+                holder: self.stock.get(awb),
+            },
+        }
+    }
+
+    /// A waybill with its balances.
+    fn waybill_view(&self, awb: &Awb) -> WaybillView
+        requires lawful { IsLawful (cargo_of self.now) }
+        requires few { length self.now.book.items ≤ 4_294_967_295 }
+        ensures { result ≡ waybill_view (cargo_of self.now) awb.now }
+    {
+        WaybillView {
+            declared: self.declared_of(awb),
+            balances: self.balances(awb),
+        }
+    }
+
     /// What a command on a waybill is planned from.
     fn waybill_rows(&self, awb: &Awb) -> Rows
         requires lawful { IsLawful (cargo_of self.now) }
         requires few { length self.now.book.items ≤ 4_294_967_295 }
-        ensures { result ≡ rows.One (sheet_of (cargo_of self.now) awb.now) None }
+        ensures { result ≡ rows.Waybill (waybill_view (cargo_of self.now) awb.now) }
     {
-        Rows::One {
-            sheet: self.sheet(awb),
-            flight: None,
+        Rows::Waybill {
+            waybill: self.waybill_view(awb),
         }
     }
 
-    /// What a command on a waybill and a flight is planned from.
-    fn flight_rows(&self, awb: &Awb, flight: &FlightDate) -> Result<Rows, AllocError>
+    /// What the building of a waybill on a flight is planned from.
+    fn manifest_rows(&self, awb: &Awb, flight: &FlightDate) -> Result<Rows, AllocError>
         requires lawful { IsLawful (cargo_of self.now) }
         requires few { length self.now.book.items ≤ 4_294_967_295 }
-        ensures { IfOk result (λ made. made ≡ rows.One (sheet_of (cargo_of self.now) awb.now) (Some (flight_sheet_of (cargo_of self.now) awb.now flight.now))) }
+        ensures { IfOk result (λ made. made ≡ rows.Manifest (waybill_view (cargo_of self.now) awb.now) (flight_view (cargo_of self.now) awb.now flight.now)) }
     {
-        Ok(Rows::One {
-            sheet: self.sheet(awb),
-            flight: Some(self.flight_sheet(awb, flight)?),
+        Ok(Rows::Manifest {
+            waybill: self.waybill_view(awb),
+            flight: self.flight_view(awb, flight)?,
         })
+    }
+
+    /// What taking a waybill off a flight is planned from.
+    fn offload_rows(&self, awb: &Awb, flight: &FlightDate) -> Rows
+        requires lawful { IsLawful (cargo_of self.now) }
+        requires few { length self.now.book.items ≤ 4_294_967_295 }
+        ensures { result ≡ rows.Offload ((cargo_of self.now).declared awb.now) ((cargo_of self.now).flights flight.now) (built self.now.book.items awb.now flight.now) }
+    {
+        Rows::Offload {
+            declared: self.declared_of(awb),
+            outbound: self.outbound_of(flight),
+            load: self.load_on(awb, flight),
+        }
+    }
+
+    /// What the check-in of a waybill is planned from.
+    fn check_in_rows(&self, awb: &Awb, flight: &FlightDate) -> Rows
+        requires lawful { IsLawful (cargo_of self.now) }
+        requires few { length self.now.book.items ≤ 4_294_967_295 }
+        ensures { result ≡ rows.CheckIn (waybill_view (cargo_of self.now) awb.now) ((cargo_of self.now).expected flight.now awb.now) }
+    {
+        Rows::CheckIn {
+            waybill: self.waybill_view(awb),
+            expected: self.expected_of(flight, awb),
+        }
+    }
+
+    /// What a status update is planned from.
+    fn status_rows(&self, awb: &Awb) -> Rows
+        ensures { result ≡ rows.Status ((cargo_of self.now).declared awb.now) }
+    {
+        Rows::Status {
+            declared: self.declared_of(awb),
+        }
     }
 
     /// What a part of a manifest is planned from whose date names no day.
@@ -196,7 +279,7 @@ impl PlainCargo {
     {
         Rows::Lines {
             taken: false,
-            lines: LineRows::new(Vec::new(self.alloc)),
+            lines: LineViews::new(Vec::new(self.alloc)),
         }
     }
 
@@ -230,7 +313,7 @@ impl PlainCargo {
         ensures { IfOk result (λ made. made ≡ rows_for (cargo_of self.now) (order.Desk command.now) at) }
     {
         match command {
-            DeskCommand::Depart { flight } => Ok(Rows::Loads {
+            DeskCommand::Depart { flight } => Ok(Rows::Departure {
                 outbound: self.outbound_of(flight),
                 loads: self.loads(flight)?,
             }),
@@ -238,10 +321,10 @@ impl PlainCargo {
                 confirmed: self.confirmed,
                 last: self.outbox.len() as u32,
             }),
-            DeskCommand::Manifest { awb, flight, .. } => self.flight_rows(awb, flight),
-            DeskCommand::Offload { awb, flight, .. } => self.flight_rows(awb, flight),
-            DeskCommand::CheckIn { awb, flight, .. } => self.flight_rows(awb, flight),
-            DeskCommand::Book { awb, .. } => Ok(self.waybill_rows(awb)),
+            DeskCommand::Manifest { awb, flight, .. } => self.manifest_rows(awb, flight),
+            DeskCommand::Offload { awb, flight, .. } => Ok(self.offload_rows(awb, flight)),
+            DeskCommand::CheckIn { awb, flight, .. } => Ok(self.check_in_rows(awb, flight)),
+            DeskCommand::Book { awb, .. } => Ok(self.declaration_rows(awb)),
             DeskCommand::Receive { awb, .. } => Ok(self.waybill_rows(awb)),
             DeskCommand::Notify { awb, .. } => Ok(self.waybill_rows(awb)),
             DeskCommand::Deliver { awb, .. } => Ok(self.waybill_rows(awb)),
@@ -259,9 +342,9 @@ impl PlainCargo {
     {
         let rows = match command {
             ShipmentCommand::Desk(desk) => self.desk_rows(desk.get(), at)?,
-            ShipmentCommand::Fwb(line) => self.waybill_rows(&line.get().awb),
+            ShipmentCommand::Fwb(line) => self.declaration_rows(&line.get().awb),
             ShipmentCommand::Ffm(part) => self.part_rows(part, at)?,
-            ShipmentCommand::Fsu(status) => self.waybill_rows(&status.awb),
+            ShipmentCommand::Fsu(status) => self.status_rows(&status.awb),
         };
         Ok(View {
             here: self.here,

@@ -7,12 +7,12 @@ use Rattle.agent_stock.specs.declared.stock.Holder.{Holder}
 use Rattle.agent_stock.specs.declared.stock.Holder.TheVariants as holder
 use Rattle.shipment_machine.specs.declared.flight.FlightDate.{FlightDate}
 use Rattle.shipment_machine.specs.declared.moves.Expected.{Expected}
-use Rattle.shipment_machine.specs.declared.view.LineRow.{LineRow}
+use Rattle.shipment_machine.specs.declared.view.LineView.{LineView}
 use Rattle.shipment_machine.specs.declared.command.CargoLine.{CargoLine}
 use Rattle.shipment_machine.specs.declared.plans.Change.{Change}
 use Rattle.shipment_machine.specs.declared.plans.Refusal.{Refusal}
 use Rattle.shipment_machine.specs.Cargo.{Cargo, written_all}
-use Rattle.shipment_machine.specs.Sheets.{line_row_of}
+use Rattle.shipment_machine.specs.Views.{line_view_of}
 use Rattle.shipment_machine.specs.Effect.{first_refusal, unless_refused, then_write, row_refusals, row_changes, line_refusals, line_changes, lines_changes, declared_by, expected_after}
 use Rattle.shipment_machine.specs.Announced.{Earlier, no_earlier, with_line, is_new, expected_so_far, announced_changes}
 use Rattle.shipment_machine.proofs.FlightKeys.{same-refl}
@@ -83,7 +83,7 @@ follows_on s0 s earlier flight c new who so_far follows known q =
 abbrev Blind : (Bool → Option Holder → Option Expected → Result (List Change) Refusal) → Type 0
 Blind whole = (a b : Option Holder) (x : Option Expected) → whole false a x ≡ whole false b x
 
-row_is : (s0 s : Cargo) (flight : FlightDate) (w : ℕ) (o : Option Expected) (row : LineRow) (whole : Bool → Option Holder → Option Expected → Result (List Change) Refusal) → Blind whole →
+row_is : (s0 s : Cargo) (flight : FlightDate) (w : ℕ) (o : Option Expected) (row : LineView) (whole : Bool → Option Holder → Option Expected → Result (List Change) Refusal) → Blind whole →
     row.declared ≡ s0.declared w → row.holder ≡ s0.holders w → row.expected ≡ s0.expected flight w → LeftBy s0 s flight w o →
     whole (is_new o row) row.holder (expected_so_far o row) ≡ whole (is_none (s.declared w)) (s.holders w) (s.expected flight w)
 row_is s0 s flight w None row whole blind d h x left =
@@ -98,20 +98,20 @@ row_is s0 s flight w (Some e) row whole blind d h x left =
 same_number : (q w : ℕ) → (q == w) ≡ true → q ≡ w
 same_number q w e = grind (arith, nat_tests)
 
-abbrev whole_line : Earlier → FlightDate → CargoLine → List CargoLine → List LineRow → Bool → Option Holder → Option Expected → Result (List Change) Refusal
+abbrev whole_line : Earlier → FlightDate → CargoLine → List CargoLine → List LineView → Bool → Option Holder → Option Expected → Result (List Change) Refusal
 whole_line earlier flight c cs rows new who so_far =
     unless_refused (first_refusal (row_refusals new who so_far c)) (then_write (row_changes new who so_far flight c) (announced_changes (with_line earlier c.awb (expected_after so_far c)) flight cs rows))
 
-follows_is : (s0 s : Cargo) (earlier : Earlier) (flight : FlightDate) (cs : List CargoLine) → Follows s0 earlier flight s → announced_changes earlier flight cs (map (line_row_of s0 flight) cs) ≡ lines_changes s flight cs
+follows_is : (s0 s : Cargo) (earlier : Earlier) (flight : FlightDate) (cs : List CargoLine) → Follows s0 earlier flight s → announced_changes earlier flight cs (map (line_view_of s0 flight) cs) ≡ lines_changes s flight cs
 follows_is s0 s earlier flight [] follows = refl
 follows_is s0 s earlier flight (c ∷ cs) follows =
-    let rows : List LineRow = map (line_row_of s0 flight) cs in
-    row_is s0 s flight c.awb (earlier c.awb) (line_row_of s0 flight c) (whole_line earlier flight c cs rows) (λ a b x. refl) refl refl refl (follows c.awb)
+    let rows : List LineView = map (line_view_of s0 flight) cs in
+    row_is s0 s flight c.awb (earlier c.awb) (line_view_of s0 flight c) (whole_line earlier flight c cs rows) (λ a b x. refl) refl refl refl (follows c.awb)
     ∙ ap (λ (rest : Result (List Change) Refusal). unless_refused (first_refusal (line_refusals s flight c)) (then_write (line_changes s flight c) rest))
     (follows_is s0 (written_all [] (line_changes s flight c) s) (with_line earlier c.awb (expected_after (s.expected flight c.awb) c)) flight cs
     (follows_on s0 s earlier flight c (is_none (s.declared c.awb)) (s.holders c.awb) (s.expected flight c.awb) follows
     (λ q e new. subst (λ k. is_none (s.declared k) ≡ false) (sym (same_number q c.awb e)) new)))
 
 -- what the rows of the lines tell is what the state tells
-pub announced_is : (s : Cargo) (flight : FlightDate) (cs : List CargoLine) → announced_changes no_earlier flight cs (map (line_row_of s flight) cs) ≡ lines_changes s flight cs
+pub announced_is : (s : Cargo) (flight : FlightDate) (cs : List CargoLine) → announced_changes no_earlier flight cs (map (line_view_of s flight) cs) ≡ lines_changes s flight cs
 announced_is s flight cs = follows_is s s no_earlier flight cs (λ q. (refl, refl, refl))

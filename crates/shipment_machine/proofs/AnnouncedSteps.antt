@@ -1,7 +1,7 @@
 -- The lines of a manifest, one after another.
 use Rattle.std.proofs.Common.{◌≡◌, ℕ, ◌+◌, ◌<◌, suc, Option, None, Result, Ok, Err, List, ◌∷◌, ◌++◌, length, get_or, drop, refl, sym, ap, ◌∙◌, append_assoc, add-one, drop-cons}
 use Rattle.shipment_machine.specs.declared.flight.FlightDate.{FlightDate}
-use Rattle.shipment_machine.specs.declared.view.LineRow.{LineRow}
+use Rattle.shipment_machine.specs.declared.view.LineView.{LineView}
 use Rattle.shipment_machine.specs.declared.command.CargoLine.{CargoLine}
 use Rattle.shipment_machine.specs.declared.plans.Change.{Change}
 use Rattle.shipment_machine.specs.declared.plans.Refusal.{Refusal}
@@ -16,14 +16,14 @@ then_again a b (Ok rest) = ap ok (sym (append_assoc {A = Change} a b rest))
 then_again a b (Err refusal) = refl
 
 -- one more line that isn't refused
-step : (earlier later : Earlier) (flight : FlightDate) (c : CargoLine) (row : LineRow) (cs : List CargoLine) (rows : List LineRow) → refusal_now (earlier c.awb) c row ≡ None →
+step : (earlier later : Earlier) (flight : FlightDate) (c : CargoLine) (row : LineView) (cs : List CargoLine) (rows : List LineView) → refusal_now (earlier c.awb) c row ≡ None →
     ((q : ℕ) → later q ≡ with_line earlier c.awb (expected_now (earlier c.awb) c row) q) →
     announced_changes earlier flight (c ∷ cs) (row ∷ rows) ≡ then_write (changes_now (earlier c.awb) flight c row) (announced_changes later flight cs rows)
 step earlier later flight c row cs rows due same =
     ap (λ (o : Option Refusal). unless_refused o (then_write (changes_now (earlier c.awb) flight c row) (announced_changes (with_line earlier c.awb (expected_now (earlier c.awb) c row)) flight cs rows))) due
     ∙ ap (λ (known : Earlier). then_write (changes_now (earlier c.awb) flight c row) (announced_changes known flight cs rows)) (λ i q. sym (same q) i)
 
-pub one_more : (whole : Result (List Change) Refusal) (done all : List Change) (earlier later : Earlier) (flight : FlightDate) (cs : List CargoLine) (rows : List LineRow) (i : ℕ) (c : CargoLine) (row : LineRow) →
+pub one_more : (whole : Result (List Change) Refusal) (done all : List Change) (earlier later : Earlier) (flight : FlightDate) (cs : List CargoLine) (rows : List LineView) (i : ℕ) (c : CargoLine) (row : LineView) →
     whole ≡ then_write done (announced_changes earlier flight (drop i cs) (drop i rows)) →
     i < length cs → i < length rows → c ≡ get_or cs i c → row ≡ get_or rows i row →
     refusal_now (earlier c.awb) c row ≡ None → all ≡ done ++ changes_now (earlier c.awb) flight c row →
@@ -34,7 +34,7 @@ one_more whole done all earlier later flight cs rows i c row so_far in_cs in_row
     let rows-is : drop i rows ≡ row ∷ drop (i + 1) rows = drop-at rows i row in_rows row-is in
     so_far
     ∙ ap (λ (xs : List CargoLine). then_write done (announced_changes earlier flight xs (drop i rows))) cs-is
-    ∙ ap (λ (ys : List LineRow). then_write done (announced_changes earlier flight (c ∷ drop (i + 1) cs) ys)) rows-is
+    ∙ ap (λ (ys : List LineView). then_write done (announced_changes earlier flight (c ∷ drop (i + 1) cs) ys)) rows-is
     ∙ ap (then_write done) (step earlier later flight c row (drop (i + 1) cs) (drop (i + 1) rows) due same)
     ∙ then_again done (changes_now (earlier c.awb) flight c row) (announced_changes later flight (drop (i + 1) cs) (drop (i + 1) rows))
     ∙ ap (λ (m : List Change). then_write m (announced_changes later flight (drop (i + 1) cs) (drop (i + 1) rows))) (sym all-is)

@@ -13,7 +13,7 @@ use Rattle.shipment_machine.specs.Book.{same_place, in_store, pieces_of, tenths_
 use Rattle.shipment_machine.specs.Cargo.{Cargo}
 use Rattle.shipment_machine.specs.Lawful.{is_outside, is_pair, IsLawfulMove, IsLawful}
 use Rattle.shipment_machine.specs.Laws.{IsConserved}
-use Rattle.shipment_machine.proofs.Balances.{total_in, total_out}
+use Rattle.shipment_machine.proofs.BalanceLaws.{total_in, total_out}
 use Rattle.shipment_machine.proofs.ByFlight.{Entry, sum_all, sum_at, covered}
 
 -- Nothing moves outside.
@@ -172,10 +172,10 @@ store_out measure w [] = refl
 store_out measure w (m ∷ book) = simp sum_by-cons (omega (arith, store_out measure w book, store_split (measure m) (m.awb == w) m.from))
 
 -- no more leaves a place of the station than enters it
-abbrev Stays : (Move → ℕ) → List Move → ℕ → Place → Type 0
+abbrev pub Stays : (Move → ℕ) → List Move → ℕ → Place → Type 0
 Stays measure book w p = moved_out measure book w (same_place p) ≤ moved_in measure book w (same_place p)
 
-abbrev AllStay : (Move → ℕ) → List Move → ℕ → Type 0
+abbrev pub AllStay : (Move → ℕ) → List Move → ℕ → Type 0
 AllStay measure book w = (p : Place) → is_outside p ≡ false → Stays measure book w p
 
 -- what is built for one flight is built
@@ -198,6 +198,11 @@ there_is measure book w there = moved_in measure book w there - moved_out measur
 abbrev flight_any : FlightDate
 flight_any = record { flight = record { carrier = []; number = 0; suffix = None }; day = 0 }
 
+-- no more leaves the store than enters it
+pub store_stays : (measure : Move → ℕ) (book : List Move) (w : ℕ) → AllStay measure book w → moved_out measure book w in_store ≤ moved_in measure book w in_store
+store_stays measure book w stay =
+    omega (arith, (built_within measure book w flight_any stay).0, stay Free refl, store_in measure w book, store_out measure w book)
+
 equal_sums : (hi ho si so ti to di do' li lo mi mo n : ℕ) → hi + si + ti + di + li + mi ≡ n → ho + so + to + do' + lo + mo ≡ n → hi ≡ 0 → si ≡ 0 → to ≤ ti → do' ≤ di → lo ≤ li → mo ≤ mi →
     (ho - hi) + (so - si) ≡ (((ti - to) + (di - do')) + (li - lo)) + (mi - mo)
 equal_sums hi ho si so ti to di do' li lo mi mo n a b c d e f g h = omega arith
@@ -205,15 +210,14 @@ equal_sums hi ho si so ti to di do' li lo mi mo n a b c d e f g h = omega arith
 conserved : (s : Cargo) (measure : Move → ℕ) (w : ℕ) → IsLawful s → AllStay measure s.book w →
     came measure s.book w ≡ ((there_is measure s.book w in_store + there_is measure s.book w (same_place Departed)) + there_is measure s.book w (same_place Delivered)) + there_is measure s.book w (same_place Missing)
 conserved s measure w law stay =
-    let stored : moved_out measure s.book w in_store ≤ moved_in measure s.book w in_store =
-    omega (arith, (built_within measure s.book w flight_any stay).0, stay Free refl, store_in measure w s.book, store_out measure w s.book) in
+    let stored = store_stays measure s.book w stay in
     equal_sums _ _ _ _ _ _ _ _ _ _ _ _ _ (total_in measure w s.book) (total_out measure w s.book) (none_in_hand s measure w law) (none_in_surplus s measure w law)
     stored (stay Departed refl) (stay Delivered refl) (stay Missing refl)
 
-stay_pieces : (s : Cargo) (w : ℕ) → IsLawful s → AllStay pieces_of s.book w
+pub stay_pieces : (s : Cargo) (w : ℕ) → IsLawful s → AllStay pieces_of s.book w
 stay_pieces s w law p inside = (law.stocked w p inside).pieces
 
-stay_tenths : (s : Cargo) (w : ℕ) → IsLawful s → AllStay tenths_of s.book w
+pub stay_tenths : (s : Cargo) (w : ℕ) → IsLawful s → AllStay tenths_of s.book w
 stay_tenths s w law p inside = (law.stocked w p inside).tenths
 
 pub is_conserved : (s : Cargo) (w : ℕ) → IsLawful s → IsConserved s.book w

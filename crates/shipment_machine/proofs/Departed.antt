@@ -12,21 +12,21 @@ use Rattle.shipment_machine.specs.declared.flight.FlightDate.{FlightDate}
 use Rattle.shipment_machine.specs.declared.moves.Place.TheVariants.{Built, Departed}
 use Rattle.shipment_machine.specs.declared.moves.Move.{Move}
 use Rattle.shipment_machine.specs.declared.moves.Outbound.{Outbound}
-use Rattle.shipment_machine.specs.declared.view.Aboard.{Aboard}
+use Rattle.shipment_machine.specs.declared.view.FlightLoad.{FlightLoad}
 use Rattle.shipment_machine.specs.Flights.{same_flight_date}
 use Rattle.shipment_machine.specs.Book.{same_place, pieces_of, built, has_moves, waybills_on}
 use Rattle.shipment_machine.specs.Cargo.{Cargo}
-use Rattle.shipment_machine.specs.Sheets.{declaration, loads_of}
+use Rattle.shipment_machine.specs.Views.{declaration, loads_of}
 use Rattle.shipment_machine.specs.Effect.{is_closed, moved, depart_moves}
 use Rattle.shipment_machine.specs.Lawful.{IsLawful, IsLawfulMove, IsNoted, departs_with}
 use Rattle.shipment_machine.proofs.FlightKeys.{same-comm}
-use Rattle.shipment_machine.proofs.Rising.{is_in}
+use Rattle.shipment_machine.specs.Numbers.{is_in}
 use Rattle.shipment_machine.proofs.OnFlight.{is_in-waybills_on, none_in}
 use Rattle.shipment_machine.proofs.Conserved.{held_built}
 use Rattle.shipment_machine.proofs.LawfulView.{none_on}
 use Rattle.shipment_machine.proofs.SoundBook.{IsSound, added, move_under, all_map, same_number}
 use Rattle.shipment_machine.proofs.PlainMoves.{sound_of, within_of}
-use Rattle.shipment_machine.proofs.FlightMoves.{Rising-waybills_on, fewer_on, same_built_at, note_alike, with_note}
+use Rattle.shipment_machine.proofs.FlightMoves.{Rising-waybills_on, fewer_on, same_built_at, with_note}
 use Rattle.shipment_machine.proofs.Departures.{off, off_flight, IsLeaving, departs_sound, built_off, none_build, stays_off, stays_append, leave_with, leave_otherwise}
 
 -- a waybill that has a move is declared
@@ -96,13 +96,13 @@ not_taken true false m n e = omega arith
 not_taken false c m n e = omega arith
 not_taken true true m n e = absurd (true≢false e)
 
-pub departed_lawful : (s : Cargo) (flight : FlightDate) (o : Outbound) (named : Option FlightDate) (at : LocalMinute) (w : ℕ) (ws : List ℕ) → waybills_on s.book flight ≡ w ∷ ws → o.closed ≡ true → bytes_eq o.unload s.here ≡ false →
+pub departed_lawful : (s : Cargo) (flight : FlightDate) (o : Outbound) (named : Option FlightDate) (at : LocalMinute) → named ≡ Some flight → (w : ℕ) (ws : List ℕ) → waybills_on s.book flight ≡ w ∷ ws → o.closed ≡ true → bytes_eq o.unload s.here ≡ false →
     IsLawful s → IsLawful (sent_off s flight o named at (waybills_on s.book flight))
-departed_lawful s flight o named at w ws some shut away law =
+departed_lawful s flight o named at is w ws some shut away law =
     let all : List ℕ = waybills_on s.book flight in
     let a = loaded s flight in
     let new : List Move = s.book ++ off a flight named at all in
-    let sound : IsSound (record s { book = new }) = departs_sound a flight named at all (Rising-waybills_on s.book flight) s (sound_of s law) (λ q h. leaving s flight q law h) in
+    let sound : IsSound (record s { book = new }) = departs_sound a flight named at is all (Rising-waybills_on s.book flight) s (sound_of s law) (λ q h. leaving s flight q law h) in
     let after : (q : ℕ) (k : FlightDate) → (built new q k).pieces ≡ (built s.book q k).pieces - added (is_in q all) (same_flight_date k flight) (a q).pieces =
     λ q k. built_off a s.book flight named at q k all (Rising-waybills_on s.book flight) in
     let less : (q : ℕ) (k : FlightDate) → (built new q k).pieces ≤ (built s.book q k).pieces = λ q k. subst (λ (n : ℕ). n ≤ (built s.book q k).pieces) (sym (after q k)) (minus _ _) in
@@ -129,7 +129,6 @@ departed_lawful s flight o named at w ws some shut away law =
         | true ↦ away
         | false ↦ law.outbound k
       ];
-      alike = note_alike s flight o law.alike;
       mark = law.mark;
     }
   where
@@ -160,7 +159,7 @@ departed_lawful s flight o named at w ws some shut away law =
         ∙ or_false (list_any (departs_with k) s.book)
 
 -- the moves of a departure are those
-abbrev aboard_of : Cargo → FlightDate → ℕ → Aboard
+abbrev aboard_of : Cargo → FlightDate → ℕ → FlightLoad
 aboard_of s flight w = record { awb = w; declared = declaration s w; load = built s.book w flight }
 
 moves_of : (s : Cargo) (flight : FlightDate) (at : LocalMinute) (ws : List ℕ) → ((w : ℕ) → is_in w ws ≡ true → 1 ≤ (built s.book w flight).pieces) →

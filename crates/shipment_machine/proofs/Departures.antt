@@ -1,5 +1,5 @@
 -- A departure keeps a state lawful.
-use Rattle.std.proofs.Common.{◌≡◌, ℕ, ◌+◌, ◌-◌, ◌<◌, ◌≤◌, Bool, true, false, ◌&&◌, ◌||◌, ◌==◌, Option, IsSome, List, [], ◌∷◌, ◌++◌, refl, sym, ap, subst, ◌∙◌, arith, append_assoc, true≢false}
+use Rattle.std.proofs.Common.{◌≡◌, ℕ, ◌+◌, ◌-◌, ◌<◌, ◌≤◌, Bool, true, false, ◌&&◌, ◌||◌, ◌==◌, Option, Some, IsSome, List, [], ◌∷◌, ◌++◌, refl, sym, ap, subst, ◌∙◌, arith, append_assoc, true≢false}
 use Rattle.std.specs.List.{list_any}
 use Rattle.std.proofs.lemmas.Bool.Decides.{nat_tests}
 use Rattle.std.proofs.lemmas.List.{append-nil}
@@ -15,7 +15,8 @@ use Rattle.shipment_machine.specs.Flights.{same_flight_date}
 use Rattle.shipment_machine.specs.Book.{same_place, pieces_of, tenths_of, moved_in, moved_out, brings, takes, built}
 use Rattle.shipment_machine.specs.Cargo.{Cargo}
 use Rattle.shipment_machine.specs.Lawful.{IsNoted, departs_with, builds_on, StaysDeparted}
-use Rattle.shipment_machine.proofs.Rising.{Rising, is_in, below_in, not_in}
+use Rattle.shipment_machine.specs.Numbers.{IsAscending as Rising, is_in}
+use Rattle.shipment_machine.proofs.Rising.{below_in, not_in}
 use Rattle.shipment_machine.proofs.SoundBook.{IsFitting, IsSound, Leaves, with_move, sound_after, there_are, added, same_number}
 
 abbrev pub off_flight : ℕ → FlightDate → Amount → Option FlightDate → LocalMinute → Move
@@ -36,8 +37,8 @@ pub record IsLeaving (s : Cargo) (flight : FlightDate) (a : Amount) (w : ℕ) : 
   pub declared : IsSome (s.declared w)
   pub noted : IsNoted s (Built flight)
 
-fitting : (s : Cargo) (flight : FlightDate) (a : Amount) (w : ℕ) (named : Option FlightDate) (at : LocalMinute) → IsLeaving s flight a w → IsFitting s (off_flight w flight a named at)
-fitting s flight a w named at h = record {
+fitting : (s : Cargo) (flight : FlightDate) (a : Amount) (w : ℕ) (named : Option FlightDate) (at : LocalMinute) → named ≡ Some flight → IsLeaving s flight a w → IsFitting s (off_flight w flight a named at)
+fitting s flight a w named at is h = record {
   pair = refl;
   some = h.some;
   few = h.few;
@@ -45,6 +46,8 @@ fitting s flight a w named at h = record {
   declared = h.declared;
   noted_from = h.noted;
   noted_to = tt;
+  names_from = is;
+  names_to = tt;
   leaves = λ _. all_of _ _ _ _ h.pieces h.tenths;
   room = λ e. absurd (true≢false (sym e));
 }
@@ -82,13 +85,13 @@ in_first : (w : ℕ) (b : Bool) → ((w == w) || b) ≡ true
 in_first w b = let e : (w == w) ≡ true = grind (arith, nat_tests) in ap (λ c. c || b) e
 
 -- the book stays sound
-pub departs_sound : (a : ℕ → Amount) (flight : FlightDate) (named : Option FlightDate) (at : LocalMinute) (ws : List ℕ) → Rising ws → (s : Cargo) → IsSound s → ((w : ℕ) → is_in w ws ≡ true → IsLeaving s flight (a w) w) →
+pub departs_sound : (a : ℕ → Amount) (flight : FlightDate) (named : Option FlightDate) (at : LocalMinute) → named ≡ Some flight → (ws : List ℕ) → Rising ws → (s : Cargo) → IsSound s → ((w : ℕ) → is_in w ws ≡ true → IsLeaving s flight (a w) w) →
     IsSound (record s { book = s.book ++ off a flight named at ws })
-departs_sound a flight named at [] r s sound all = subst (λ (book : List Move). IsSound (record s { book = book })) (sym (append-nil s.book)) sound
-departs_sound a flight named at (w ∷ ws) r s sound all =
+departs_sound a flight named at is [] r s sound all = subst (λ (book : List Move). IsSound (record s { book = book })) (sym (append-nil s.book)) sound
+departs_sound a flight named at is (w ∷ ws) r s sound all =
     let m = off_flight w flight (a w) named at in
-    let next : IsSound (with_move s m) = sound_after s m (fitting s flight (a w) w named at (all w (in_first w (is_in w ws)))) sound in
-    let rest : IsSound (record s { book = (s.book ++ m ∷ []) ++ off a flight named at ws }) = departs_sound a flight named at ws r.1 (with_move s m) next
+    let next : IsSound (with_move s m) = sound_after s m (fitting s flight (a w) w named at is (all w (in_first w (is_in w ws)))) sound in
+    let rest : IsSound (record s { book = (s.book ++ m ∷ []) ++ off a flight named at ws }) = departs_sound a flight named at is ws r.1 (with_move s m) next
     (λ q h. still_leaving s flight (a q) q m (apart w q (below_in w q ws r.0 h)) (all q (in_later w q (is_in q ws) h))) in
     subst (λ (book : List Move). IsSound (record s { book = book })) (append_assoc {A = Move} s.book (m ∷ []) (off a flight named at ws)) rest
 

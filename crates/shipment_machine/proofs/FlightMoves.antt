@@ -17,7 +17,8 @@ use Rattle.shipment_machine.specs.Cargo.{Cargo}
 use Rattle.shipment_machine.specs.Effect.{is_closed}
 use Rattle.shipment_machine.specs.Lawful.{IsLawful, IsLawfulMove, departs_with, StaysDeparted}
 use Rattle.shipment_machine.proofs.FlightKeys.{same-sym, same-alike, same-comm}
-use Rattle.shipment_machine.proofs.Rising.{Rising, is_in, Rising-put_rising, is_in-put_rising, Rising-filter, below_in, yes_here, first_or_later}
+use Rattle.shipment_machine.specs.Numbers.{IsAscending as Rising, is_in}
+use Rattle.shipment_machine.proofs.Rising.{Rising-put_rising, is_in-put_rising, Rising-filter, below_in, yes_here, first_or_later}
 use Rattle.shipment_machine.proofs.OnFlight.{Rising-waybills_of, is_in-waybills_on, same_waybills_on}
 use Rattle.shipment_machine.proofs.SoundBook.{IsFitting, IsSound, with_move, sound_after, added, move_under, all_map}
 use Rattle.shipment_machine.proofs.PlainMoves.{sound_of, within_of, built_after, stays_push, departs_after}
@@ -111,7 +112,6 @@ offloaded s w n t flight named at fit law =
       empty = λ k q h. none_left _ _ (less q k) (law.empty k q h);
       room = λ k. at_most _ _ (fewer_on s.book (s.book ++ m ∷ []) k (λ q. less q k)) (law.room k);
       outbound = law.outbound;
-      alike = law.alike;
       mark = law.mark;
     }
   where
@@ -147,10 +147,6 @@ none_departed s flight k law ajar same = same_departs k flight s.book same ∙ n
     not_true true h = absurd (h refl)
     not_true false h = refl
 
--- a note is one for a flight however it is given
-pub note_alike : (s : Cargo) (flight : FlightDate) (o : Outbound) → ((j k : FlightDate) → IsTrue (same_flight_date j k) → s.flights j ≡ s.flights k) → (j k : FlightDate) → IsTrue (same_flight_date j k) → (with_note s flight o).flights j ≡ (with_note s flight o).flights k
-note_alike s flight o alike j k e = λ i. if same-alike j k flight e i then Some o else alike j k e i
-
 pub noted_open : (s : Cargo) (flight : FlightDate) (o : Outbound) → s.flights flight ≡ None → o.closed ≡ false → bytes_eq o.unload s.here ≡ false → IsLawful s → IsLawful (with_note s flight o)
 noted_open s flight o none ajar away law = record {
   stocked = law.stocked;
@@ -174,7 +170,6 @@ noted_open s flight o none ajar away law = record {
     | true ↦ away
     | false ↦ law.outbound k
   ];
-  alike = note_alike s flight o law.alike;
   mark = law.mark;
 }
   where
@@ -288,6 +283,5 @@ manifested s w n t flight named at fit ajar room law =
         | false ↦ λ e. subst (λ (ws : List ℕ). length ws ≤ 500) (sym (same_waybills_on s.book (s.book ++ m ∷ []) k (λ q. built_less s.book w n t flight named at q k (added_other (w == q) n (same_flight_date k flight) e)))) (law.room k)
       ] refl;
       outbound = law.outbound;
-      alike = law.alike;
       mark = law.mark;
     }

@@ -16,8 +16,8 @@ use Rattle.shipment_machine.specs.declared.command.ShipmentCommand.TheVariants a
 use Rattle.shipment_machine.specs.declared.command.DeskCommand.TheVariants as desk
 use Rattle.shipment_machine.specs.declared.plans.Refusal.{Refusal}
 use Rattle.shipment_machine.specs.Cargo.{Cargo}
-use Rattle.shipment_machine.specs.Sheets.{declaration, undeclared}
-use Rattle.shipment_machine.specs.Effect.{Outcome, effect, refusals, outcome, first_refusal, unless_refused, carried_out}
+use Rattle.shipment_machine.specs.Views.{declaration, undeclared}
+use Rattle.shipment_machine.specs.Effect.{Outcome, effect, rule, first_refusal, unless_refused, carried_out}
 use Rattle.shipment_machine.specs.Lawful.{IsLawful, IsLawfulAmount, IsNoted}
 
 -- no test of a list of refusals holds
@@ -36,11 +36,11 @@ none_holds (t ∷ tests) e =
     not_none e = cc
 
 -- what holds of the outcome, where no test of the refusals holds, holds of the effect
-pub by_refusals : (s : Cargo) (command : ShipmentCommand) (at : LocalMinute) (P : Outcome → Type 0) → (NoneHolds (refusals s command at) → IfOk (outcome s command at) P) → IfOk (effect s command at) P
+pub by_refusals : (s : Cargo) (command : ShipmentCommand) (at : LocalMinute) (P : Outcome → Type 0) → (NoneHolds (rule s command at).refusals → IfOk (rule s command at).outcome P) → IfOk (effect s command at) P
 by_refusals s command at P holds =
-    elim (first_refusal (refusals s command at)) as (λ o. first_refusal (refusals s command at) ≡ o → IfOk (unless_refused o (outcome s command at)) P) [
+    elim (first_refusal (rule s command at).refusals) as (λ o. first_refusal (rule s command at).refusals ≡ o → IfOk (unless_refused o (rule s command at).outcome) P) [
       | Some r ↦ λ _. tt
-      | None ↦ λ e. holds (none_holds (refusals s command at) e)
+      | None ↦ λ e. holds (none_holds (rule s command at).refusals e)
     ] refl
 
 either_false : (a b : Bool) → (a || b) ≡ false → b ≡ false
@@ -54,7 +54,7 @@ keeps_confirm s upto at text law = by_refusals s (order.Desk (desk.Confirm upto)
       within = law.within;
       declarations = law.declarations;
       expectations = law.expectations;
-      moves = all_map _ _ (λ m l. record { pair = l.pair; some = l.some; not_more = l.not_more; declared = l.declared; noted_from = noted m.from l.noted_from; noted_to = noted m.to l.noted_to }) s.book law.moves;
+      moves = all_map _ _ (λ m l. record { pair = l.pair; some = l.some; not_more = l.not_more; declared = l.declared; noted_from = noted m.from l.noted_from; noted_to = noted m.to l.noted_to; names_from = l.names_from; names_to = l.names_to }) s.book law.moves;
       trail = law.trail;
       used = law.used;
       closed = law.closed;
@@ -62,7 +62,6 @@ keeps_confirm s upto at text law = by_refusals s (order.Desk (desk.Confirm upto)
       empty = law.empty;
       room = law.room;
       outbound = law.outbound;
-      alike = law.alike;
       mark = ltb-false _ _ (either_false _ _ none.0);
     }))
   where
@@ -115,7 +114,7 @@ declares s w d fine law = record {
   within = law.within;
   declarations = λ q. chosen (λ d. IsLawfulAmount d.pieces d.tenths) (q == w) d (s.declared q) fine (law.declarations q);
   expectations = λ k q. still_expected (s.expected k q) _ _ (still_some (q == w) d (s.declared q)) (law.expectations k q);
-  moves = all_map _ _ (λ m l. record { pair = l.pair; some = l.some; not_more = l.not_more; declared = still_some (m.awb == w) d (s.declared m.awb) l.declared; noted_from = same_noted s w d m.from l.noted_from; noted_to = same_noted s w d m.to l.noted_to }) s.book law.moves;
+  moves = all_map _ _ (λ m l. record { pair = l.pair; some = l.some; not_more = l.not_more; declared = still_some (m.awb == w) d (s.declared m.awb) l.declared; noted_from = same_noted s w d m.from l.noted_from; noted_to = same_noted s w d m.to l.noted_to; names_from = l.names_from; names_to = l.names_to }) s.book law.moves;
   trail = all_map _ _ (λ (row : ℕ × List ℕ) h. still_some (row.0 == w) d (s.declared row.0) h) s.trail law.trail;
   used = λ q e. still_some (q == w) d (s.declared q) (law.used q e);
   closed = law.closed;
@@ -123,7 +122,6 @@ declares s w d fine law = record {
   empty = law.empty;
   room = law.room;
   outbound = law.outbound;
-  alike = law.alike;
   mark = law.mark;
 }
 

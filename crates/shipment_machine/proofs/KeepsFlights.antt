@@ -14,14 +14,14 @@ use Rattle.shipment_machine.specs.declared.moves.Place.TheVariants.{Hand, Surplu
 use Rattle.shipment_machine.specs.declared.moves.Move.{Move}
 use Rattle.shipment_machine.specs.declared.moves.Expected.{Expected}
 use Rattle.shipment_machine.specs.declared.moves.Outbound.{Outbound}
-use Rattle.shipment_machine.specs.declared.view.Aboard.{Aboard}
+use Rattle.shipment_machine.specs.declared.view.FlightLoad.{FlightLoad}
 use Rattle.shipment_machine.specs.declared.plans.Change.TheVariants.{NoteFlight}
 use Rattle.shipment_machine.specs.declared.command.ShipmentCommand.TheVariants as order
 use Rattle.shipment_machine.specs.declared.command.DeskCommand.TheVariants as desk
 use Rattle.shipment_machine.specs.Amount.{part, less, plus}
 use Rattle.shipment_machine.specs.Book.{pieces_of, tenths_of, free, built, taken_and_found, waybills_on}
 use Rattle.shipment_machine.specs.Cargo.{Cargo, written_all}
-use Rattle.shipment_machine.specs.Sheets.{declaration}
+use Rattle.shipment_machine.specs.Views.{declaration}
 use Rattle.shipment_machine.specs.Effect.{effect, carried_out, moved, is_closed, unload_of, expected_amount, counted_in, uncounted, counted_more, check_in_moves}
 use Rattle.shipment_machine.specs.Lawful.{IsLawful, IsLawfulAmount, IsNoted}
 use Rattle.shipment_machine.proofs.FlightKeys.{same-refl}
@@ -33,7 +33,7 @@ use Rattle.shipment_machine.proofs.SoundBook.{there_are}
 use Rattle.shipment_machine.proofs.PlainMoves.{lawful_after}
 use Rattle.shipment_machine.proofs.FlightMoves.{with_note, noted_open, manifested, HasRoom}
 use Rattle.shipment_machine.proofs.Departed.{sent_off, departed_lawful, depart_moves_are}
-use Rattle.shipment_machine.proofs.Shares.{share_heavy, share_leaves}
+use Rattle.imp_fields.proofs.ShareLemmas.{share_heavy, share_leaves}
 use Rattle.shipment_machine.proofs.WrittenRows.{expects}
 use Rattle.shipment_machine.proofs.KeepsMoves.{is_known, with_moves, may_move, inside_fits, outside_fits, came_with, fits_parts}
 
@@ -76,16 +76,16 @@ keeps_check_in s w flight counted at text law = by_refusals s (order.Desk (desk.
     let sp : Split e first rest = split e counted fine in
     let s1 : Cargo = with_moves s (moved w Hand Free first (Some flight) at) in
     let law1 : IsLawful s1 = may_move s w Hand Free first (Some flight) at (λ some.
-    lawful_after s _ (outside_fits s w first.pieces first.tenths Hand Free (Some flight) at refl refl some sp.heavy known tt tt (omega (arith, sp.pieces)) (omega (arith, sp.tenths))) refl refl law) law in
+    lawful_after s _ (outside_fits s w first.pieces first.tenths Hand Free (Some flight) at refl refl some sp.heavy known tt tt tt tt (omega (arith, sp.pieces)) (omega (arith, sp.tenths))) refl refl law) law in
     let pieces1 : came pieces_of s1.book w ≤ came pieces_of s.book w + first.pieces = came_with s pieces_of w Hand Free first (Some flight) at first.pieces refl (omega arith) law in
     let tenths1 : came tenths_of s1.book w ≤ came tenths_of s.book w + first.tenths = came_with s tenths_of w Hand Free first (Some flight) at first.tenths refl (omega arith) law in
     let s2 : Cargo = with_moves s1 (moved w Hand Missing rest (Some flight) at) in
     let law2 : IsLawful s2 = may_move s1 w Hand Missing rest (Some flight) at (λ some.
-    lawful_after s1 _ (outside_fits s1 w rest.pieces rest.tenths Hand Missing (Some flight) at refl refl some sp.rest_heavy known tt tt (omega (arith, sp.pieces)) (omega (arith, sp.tenths))) refl refl law1) law1 in
+    lawful_after s1 _ (outside_fits s1 w rest.pieces rest.tenths Hand Missing (Some flight) at refl refl some sp.rest_heavy known tt tt tt tt (omega (arith, sp.pieces)) (omega (arith, sp.tenths))) refl refl law1) law1 in
     let pieces2 : came pieces_of s2.book w ≤ came pieces_of s1.book w + rest.pieces = came_with s1 pieces_of w Hand Missing rest (Some flight) at rest.pieces refl (omega arith) law1 in
     let tenths2 : came tenths_of s2.book w ≤ came tenths_of s1.book w + rest.tenths = came_with s1 tenths_of w Hand Missing rest (Some flight) at rest.tenths refl (omega arith) law1 in
     let law3 : IsLawful (with_moves s2 (moved w Surplus Free more (Some flight) at)) = may_move s2 w Surplus Free more (Some flight) at (λ some.
-    lawful_after s2 _ (outside_fits s2 w more.pieces more.tenths Surplus Free (Some flight) at refl refl some (share_heavy e.pieces e.tenths (counted - e.pieces) fine.some fine.tenth_a_piece) known tt tt (omega (arith, sp.pieces)) (omega (arith, sp.tenths))) refl refl law2) law2 in
+    lawful_after s2 _ (outside_fits s2 w more.pieces more.tenths Surplus Free (Some flight) at refl refl some (share_heavy e.pieces e.tenths (counted - e.pieces) fine.some fine.tenth_a_piece) known tt tt tt tt (omega (arith, sp.pieces)) (omega (arith, sp.tenths))) refl refl law2) law2 in
     let joined : ((s.book ++ moved w Hand Free first (Some flight) at) ++ moved w Hand Missing rest (Some flight) at) ++ moved w Surplus Free more (Some flight) at ≡ s.book ++ check_in_moves w flight e counted at =
     join s.book (moved w Hand Free first (Some flight) at) (moved w Hand Missing rest (Some flight) at) (moved w Surplus Free more (Some flight) at) in
     expects text (record s { book = s.book ++ check_in_moves w flight e counted at }) flight w (record { pieces = e.pieces; tenths = e.tenths; checked = true }) fine known
@@ -113,7 +113,7 @@ onto : (s : Cargo) (w p : ℕ) (flight : FlightDate) (at : LocalMinute) → IsSo
     IsLawful (with_moves s (moved w Free (Built flight) (part (free s.book w) p) (Some flight) at))
 onto s w p flight at known ajar noted within few room law =
     may_move s w Free (Built flight) (part (free s.book w) p) (Some flight) at (λ some.
-    manifested s w p _ flight (Some flight) at (inside_fits s w p Free (Built flight) (Some flight) at refl refl some within known tt noted few law) ajar room law) law
+    manifested s w p _ flight (Some flight) at (inside_fits s w p Free (Built flight) (Some flight) at refl refl some within known tt noted tt refl few law) ajar room law) law
 
 pub keeps_manifest : (s : Cargo) (w p : ℕ) (flight : FlightDate) (unload : List ℕ) (at : LocalMinute) (text : List ℕ) → there_are pieces_of s.book w Free ≤ 9999 → IsLawful s → IfOk (effect s (order.Desk (desk.Manifest w flight unload p)) at) (λ done. IsLawful (carried_out text done s))
 keeps_manifest s w p flight unload at text few law = by_refusals s (order.Desk (desk.Manifest w flight unload p)) at _ (λ none.
@@ -130,7 +130,7 @@ keeps_manifest s w p flight unload at text few law = by_refusals s (order.Desk (
 
 -- Departure.
 
-abbrev aboard : Cargo → FlightDate → ℕ → Aboard
+abbrev aboard : Cargo → FlightDate → ℕ → FlightLoad
 aboard s flight w = record { awb = w; declared = declaration s w; load = built s.book w flight }
 
 unloads_away : (o : Option Outbound) (here : List ℕ) → IsSome o → IfSome o (λ o. bytes_eq o.unload here ≡ false) → bytes_eq (unload_of o) here ≡ false
@@ -143,6 +143,6 @@ keeps_depart s flight at text law = by_refusals s (order.Desk (desk.Depart fligh
     let away : bytes_eq (unload_of (s.flights flight)) s.here ≡ false = unloads_away (s.flights flight) s.here (noted_outbound s flight law none.1.0) (law.outbound flight) in
     let left : IsLawful (sent_off s flight o (Some flight) at (waybills_on s.book flight)) = elim (waybills_on s.book flight) as (λ ws. waybills_on s.book flight ≡ ws → IsLawful (sent_off s flight o (Some flight) at (waybills_on s.book flight))) [
       | [] ↦ λ e. absurd (true≢false (sym (ap (λ (n : ℕ). n == 0) (ap length e)) ∙ ap (λ (n : ℕ). n == 0) (sym (length-map (waybills_on s.book flight) (aboard s flight))) ∙ none.1.0))
-      | w ∷ ws ↦ λ e. departed_lawful s flight o (Some flight) at w ws e refl away law
+      | w ∷ ws ↦ λ e. departed_lawful s flight o (Some flight) at refl w ws e refl away law
     ] refl in
     subst (λ (ms : List Move). IsLawful (record (with_note s flight o) { book = s.book ++ ms })) (sym (depart_moves_are s flight at)) left)

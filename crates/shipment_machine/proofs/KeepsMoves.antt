@@ -17,13 +17,14 @@ use Rattle.shipment_machine.specs.Amount.{part, plus, fits}
 use Rattle.shipment_machine.specs.Book.{pieces_of, tenths_of, free, built, missing, taken_and_found}
 use Rattle.shipment_machine.specs.Cargo.{Cargo}
 use Rattle.shipment_machine.specs.Effect.{effect, carried_out, moved, surplus}
-use Rattle.shipment_machine.specs.Lawful.{is_outside, is_pair, IsLawful, IsNoted}
+use Rattle.shipment_machine.specs.Lawful.{is_outside, is_pair, IsLawful, IsNoted, NamesFlight}
 use Rattle.shipment_machine.proofs.Conserved.{came}
 use Rattle.shipment_machine.proofs.Keeps.{by_refusals}
 use Rattle.shipment_machine.proofs.SoundBook.{IsFitting, with_move, there_are, added, came_after}
 use Rattle.shipment_machine.proofs.PlainMoves.{sound_of, lawful_after}
 use Rattle.shipment_machine.proofs.FlightMoves.{offloaded}
-use Rattle.shipment_machine.proofs.Shares.{part_leaves, share_heavy}
+use Rattle.shipment_machine.proofs.Shares.{part_leaves}
+use Rattle.imp_fields.proofs.ShareLemmas.{share_heavy}
 
 pub not_false : (b : Bool) → not b ≡ false → b ≡ true
 not_false true e = refl
@@ -55,9 +56,9 @@ may_move s w from to a flight at moves law =
 -- From a place of the store, or the missing.
 
 -- a part of what is there
-pub inside_fits : (s : Cargo) (w n : ℕ) (from to : Place) (flight : Option FlightDate) (at : LocalMinute) → is_outside from ≡ false → is_pair from to ≡ true → 1 ≤ n → n ≤ there_are pieces_of s.book w from → IsSome (s.declared w) → IsNoted s from → IsNoted s to → there_are pieces_of s.book w from ≤ 9999 → IsLawful s →
+pub inside_fits : (s : Cargo) (w n : ℕ) (from to : Place) (flight : Option FlightDate) (at : LocalMinute) → is_outside from ≡ false → is_pair from to ≡ true → 1 ≤ n → n ≤ there_are pieces_of s.book w from → IsSome (s.declared w) → IsNoted s from → IsNoted s to → NamesFlight from flight → NamesFlight to flight → there_are pieces_of s.book w from ≤ 9999 → IsLawful s →
     IsFitting s (record { awb = w; from = from; to = to; pieces = n; tenths = share_of (there_are pieces_of s.book w from) (there_are tenths_of s.book w from) n; flight = flight; at = at })
-inside_fits s w n from to flight at inside pair some within known noted_from noted_to few law =
+inside_fits s w n from to flight at inside pair some within known noted_from noted_to names_from names_to few law =
     let p = there_are pieces_of s.book w from in
     let t = there_are tenths_of s.book w from in
     let weighs : p ≤ t = (law.stocked w from inside).tenth_a_piece in
@@ -69,6 +70,8 @@ inside_fits s w n from to flight at inside pair some within known noted_from not
       declared = known;
       noted_from = noted_from;
       noted_to = noted_to;
+      names_from = names_from;
+      names_to = names_to;
       leaves = λ _. part_leaves p t n some weighs within;
       room = λ e. absurd (true≢false (sym e ∙ inside));
     }
@@ -79,25 +82,25 @@ small s w from law = (sound_of s law).pieces w
 pub keeps_deliver : (s : Cargo) (w p : ℕ) (name : List ℕ) (at : LocalMinute) (text : List ℕ) → there_are pieces_of s.book w Free ≤ 9999 → IsLawful s → IfOk (effect s (order.Desk (desk.Deliver w p name)) at) (λ done. IsLawful (carried_out text done s))
 keeps_deliver s w p name at text few law = by_refusals s (order.Desk (desk.Deliver w p name)) at _ (λ none.
     may_move s w Free Delivered (part (free s.book w) p) None at (λ some.
-    lawful_after s _ (inside_fits s w p Free Delivered None at refl refl some (ltb-false _ _ none.1.1.1.0) (is_known (s.declared w) none.0) tt tt few law) refl refl law) law)
+    lawful_after s _ (inside_fits s w p Free Delivered None at refl refl some (ltb-false _ _ none.1.1.1.0) (is_known (s.declared w) none.0) tt tt tt tt few law) refl refl law) law)
 
 pub keeps_missing : (s : Cargo) (w p : ℕ) (flight : Option FlightDate) (at : LocalMinute) (text : List ℕ) → there_are pieces_of s.book w Free ≤ 9999 → IsLawful s → IfOk (effect s (order.Desk (desk.Missing w p flight)) at) (λ done. IsLawful (carried_out text done s))
 keeps_missing s w p flight at text few law = by_refusals s (order.Desk (desk.Missing w p flight)) at _ (λ none.
     may_move s w Free Missing (part (free s.book w) p) flight at (λ some.
-    lawful_after s _ (inside_fits s w p Free Missing flight at refl refl some (ltb-false _ _ none.1.0) (is_known (s.declared w) none.0) tt tt few law) refl refl law) law)
+    lawful_after s _ (inside_fits s w p Free Missing flight at refl refl some (ltb-false _ _ none.1.0) (is_known (s.declared w) none.0) tt tt tt tt few law) refl refl law) law)
 
 pub keeps_offload : (s : Cargo) (w p : ℕ) (flight : FlightDate) (at : LocalMinute) (text : List ℕ) → there_are pieces_of s.book w (Built flight) ≤ 9999 → (1 ≤ there_are pieces_of s.book w (Built flight) → IsNoted s (Built flight)) → IsLawful s →
     IfOk (effect s (order.Desk (desk.Offload w flight p)) at) (λ done. IsLawful (carried_out text done s))
 keeps_offload s w p flight at text few noted law = by_refusals s (order.Desk (desk.Offload w flight p)) at _ (λ none.
     may_move s w (Built flight) Free (part (built s.book w flight) p) (Some flight) at (λ some.
     let within : p ≤ there_are pieces_of s.book w (Built flight) = ltb-false _ _ none.1.1.0 in
-    offloaded s w p _ flight (Some flight) at (inside_fits s w p (Built flight) Free (Some flight) at refl refl some within (is_known (s.declared w) none.0) (noted (omega arith)) tt few law) law) law)
+    offloaded s w p _ flight (Some flight) at (inside_fits s w p (Built flight) Free (Some flight) at refl refl some within (is_known (s.declared w) none.0) (noted (omega arith)) tt refl tt few law) law) law)
 
 -- From outside.
 
-pub outside_fits : (s : Cargo) (w n t : ℕ) (from to : Place) (flight : Option FlightDate) (at : LocalMinute) → is_outside from ≡ true → is_pair from to ≡ true → 1 ≤ n → n ≤ t → IsSome (s.declared w) → IsNoted s from → IsNoted s to →
+pub outside_fits : (s : Cargo) (w n t : ℕ) (from to : Place) (flight : Option FlightDate) (at : LocalMinute) → is_outside from ≡ true → is_pair from to ≡ true → 1 ≤ n → n ≤ t → IsSome (s.declared w) → IsNoted s from → IsNoted s to → NamesFlight from flight → NamesFlight to flight →
     came pieces_of s.book w + n ≤ 9999 → came tenths_of s.book w + t ≤ 999999 → IsFitting s (record { awb = w; from = from; to = to; pieces = n; tenths = t; flight = flight; at = at })
-outside_fits s w n t from to flight at outside pair some heavy known noted_from noted_to few light = record {
+outside_fits s w n t from to flight at outside pair some heavy known noted_from noted_to names_from names_to few light = record {
   pair = pair;
   some = some;
   few = omega arith;
@@ -105,6 +108,8 @@ outside_fits s w n t from to flight at outside pair some heavy known noted_from 
   declared = known;
   noted_from = noted_from;
   noted_to = noted_to;
+  names_from = names_from;
+  names_to = names_to;
   leaves = λ e. absurd (true≢false (sym outside ∙ e));
   room = λ _. (few, light);
 }
@@ -165,11 +170,11 @@ keeps_found s w p t flight at text few law = by_refusals s (order.Desk (desk.Fou
     let room = fits_parts (plus (taken_and_found s.book w) more) none.1.0 in
     let s1 : Cargo = with_moves s (moved w Missing Free back flight at) in
     let law1 : IsLawful s1 = may_move s w Missing Free back flight at (λ some.
-    lawful_after s _ (inside_fits s w (min p (missing s.book w).pieces) Missing Free flight at refl refl some (back_held s w p) known tt tt few law) refl refl law) law in
+    lawful_after s _ (inside_fits s w (min p (missing s.book w).pieces) Missing Free flight at refl refl some (back_held s w p) known tt tt tt tt few law) refl refl law) law in
     let pieces1 : came pieces_of s1.book w ≤ came pieces_of s.book w = came_inside s pieces_of w Missing Free back flight at refl refl law in
     let tenths1 : came tenths_of s1.book w ≤ came tenths_of s.book w = came_inside s tenths_of w Missing Free back flight at refl refl law in
     let all : came pieces_of s.book w + more.pieces ≤ 9999 = room.0 in
     let heavy : came tenths_of s.book w + more.tenths ≤ 999999 = room.1 in
     let law2 : IsLawful (with_moves s1 (moved w Surplus Free more flight at)) = may_move s1 w Surplus Free more flight at (λ some.
-    lawful_after s1 _ (outside_fits s1 w more.pieces more.tenths Surplus Free flight at refl refl some (surplus_heavy (p - (missing s.book w).pieces) t) known tt tt (omega arith) (omega arith)) refl refl law1) law1 in
+    lawful_after s1 _ (outside_fits s1 w more.pieces more.tenths Surplus Free flight at refl refl some (surplus_heavy (p - (missing s.book w).pieces) t) known tt tt tt tt (omega arith) (omega arith)) refl refl law1) law1 in
     subst (λ (book : List Move). IsLawful (record s { book = book })) (append_assoc {A = Move} s.book (moved w Missing Free back flight at) (moved w Surplus Free more flight at)) law2)

@@ -25,17 +25,17 @@ use Rattle.shipment_machine.specs.declared.plans.Change.TheVariants.{Expect, Not
 use Rattle.shipment_machine.specs.declared.plans.Refusal.{Refusal}
 use Rattle.shipment_machine.specs.Amount.{amount, fits}
 use Rattle.shipment_machine.specs.Cargo.{Cargo, written, written_all}
-use Rattle.shipment_machine.specs.Sheets.{sheet_of}
+use Rattle.shipment_machine.specs.Views.{declaration_view}
 use Rattle.shipment_machine.specs.Effect.{effect, carried_out, first_refusal, unless_refused, then_write, declaring, declare, declared_by, all_pieces, booked, expected_amount, expected_after, row_changes, line_refusals, line_changes, lines_changes, lines_for, inbound_flight, inbound_part, announced}
 use Rattle.shipment_machine.specs.Lawful.{IsLawful, IsLawfulAmount, HasPieces}
 use Rattle.shipment_machine.proofs.Keeps.{NoneHolds, none_holds, by_refusals}
-use Rattle.shipment_machine.proofs.Shares.{share_heavy}
+use Rattle.imp_fields.proofs.ShareLemmas.{share_heavy}
 use Rattle.shipment_machine.proofs.WrittenRows.{declared_rows, known_after, expects, notes_part, trails}
 use Rattle.shipment_machine.proofs.KeepsMoves.{is_known, with_moves, rests, fits_parts}
 
 -- Declaring.
 
-keeps_declaring : (text : List ℕ) (s : Cargo) (w : ℕ) (d : Declared) → 1 ≤ d.pieces → d.pieces ≤ d.tenths → NoneHolds (declaring (sheet_of s w) w d) → IsLawful s → IsLawful (written_all text (declare (s.holders w) w d) (with_moves s []))
+keeps_declaring : (text : List ℕ) (s : Cargo) (w : ℕ) (d : Declared) → 1 ≤ d.pieces → d.pieces ≤ d.tenths → NoneHolds (declaring (declaration_view s w) w d).refusals → IsLawful s → IsLawful (written_all text (declare (s.holders w) w d) (with_moves s []))
 keeps_declaring text s w d some heavy none law =
     let room = fits_parts (amount d.pieces d.tenths) none.0 in
     declared_rows text (s.holders w) (with_moves s []) w d (record { some = some; not_more = room.0; tenth_a_piece = heavy; not_heavier = room.1 }) (rests s law)

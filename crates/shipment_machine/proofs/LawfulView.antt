@@ -11,12 +11,13 @@ use Rattle.shipment_machine.specs.declared.moves.Place.{Place}
 use Rattle.shipment_machine.specs.declared.moves.Place.TheVariants.{Hand, Surplus, Free, Built, Departed, Delivered, Missing}
 use Rattle.shipment_machine.specs.declared.moves.Move.{Move}
 use Rattle.shipment_machine.specs.declared.moves.Expected.{Expected}
-use Rattle.shipment_machine.specs.declared.view.Aboard.{Aboard}
+use Rattle.shipment_machine.specs.declared.view.FlightLoad.{FlightLoad}
 use Rattle.shipment_machine.specs.Flights.{same_flight_date}
+use Rattle.shipment_machine.proofs.FlightKeys.{same-is}
 use Rattle.shipment_machine.specs.Amount.{IsHeld}
 use Rattle.shipment_machine.specs.Book.{same_place, pieces_of, moved_in, moved_out, brings, built, waybills_of, waybills_on}
 use Rattle.shipment_machine.specs.Cargo.{Cargo}
-use Rattle.shipment_machine.specs.Sheets.{declaration, loads_of}
+use Rattle.shipment_machine.specs.Views.{declaration, loads_of}
 use Rattle.shipment_machine.specs.Effect.{expected_amount}
 use Rattle.shipment_machine.specs.OnBoard.{IsOnBoard}
 use Rattle.shipment_machine.specs.Lawful.{IsLawfulMove, IsLawfulAmount, IsNoted, IsLawful}
@@ -52,7 +53,7 @@ on_board s flight law = kept (λ w. record { awb = w; declared = declaration s w
 
 not_noted : (s : Cargo) (flight : FlightDate) → IsLawful s → s.flights flight ≡ None → (p : Place) → IsNoted s p → same_place (Built flight) p ≡ false
 not_noted s flight law none (Built k) h = elim (same_flight_date flight k) as (λ b. same_flight_date flight k ≡ b → b ≡ false) [
-  | true ↦ λ e. absurd (true≢false (sym h ∙ ap is_some (sym (law.alike flight k e)) ∙ ap is_some none))
+  | true ↦ λ e. absurd (true≢false (sym h ∙ ap is_some (ap s.flights (sym (same-is flight k e))) ∙ ap is_some none))
   | false ↦ λ _. refl
 ] refl
 not_noted s flight law none Hand h = refl
@@ -92,6 +93,6 @@ none_on s flight law none = filter_none (λ w. nat_lt 0 (built s.book w flight).
 -- a flight with something on it is noted
 pub noted_outbound : (s : Cargo) (flight : FlightDate) → IsLawful s → (length (loads_of s flight) == 0) ≡ false → IsSome (s.flights flight)
 noted_outbound s flight law some = elim (s.flights flight) as (λ o. s.flights flight ≡ o → IsSome o) [
-  | None ↦ λ e. absurd (true≢false (sym (ap (λ (ws : List ℕ). length {A = Aboard} (map (λ w. record { awb = w; declared = declaration s w; load = built s.book w flight }) ws) == 0) (none_on s flight law e)) ∙ some))
+  | None ↦ λ e. absurd (true≢false (sym (ap (λ (ws : List ℕ). length {A = FlightLoad} (map (λ w. record { awb = w; declared = declaration s w; load = built s.book w flight }) ws) == 0) (none_on s flight law e)) ∙ some))
   | Some o ↦ λ _. refl
 ] refl

@@ -2,7 +2,7 @@ pub mod Examples
 pub mod Unlawful
 pub mod Crowd
 pub mod ByNumber
-pub mod Balances
+pub mod BalanceLaws
 pub mod Keeps
 pub mod Rising
 pub mod OnFlight
@@ -10,6 +10,7 @@ pub mod Receives
 pub mod FlightKeys
 pub mod ByFlight
 pub mod Conserved
+pub mod Shown
 pub mod LawfulView
 pub mod AnnouncedSteps
 pub mod AnnouncedIs
@@ -26,4 +27,5 @@ pub mod KeepsFlights
 pub mod KeepsRows
 pub mod KeepsAll
 pub mod StaysLawful
+pub mod FromView
 pub mod Opening

@@ -7,13 +7,14 @@ use Rattle.shipment_machine.specs.declared.moves.Place.{Place}
 use Rattle.shipment_machine.specs.declared.moves.Move.{Move}
 use Rattle.shipment_machine.specs.Book.{brings, moved_in, moved_out, built, pieces_of, waybills_of, waybills_on, has_moves, same_place}
 use Rattle.shipment_machine.specs.declared.moves.Place.TheVariants.{Built}
-use Rattle.shipment_machine.proofs.Rising.{Rising, is_in, Rising-put_rising, is_in-put_rising, Rising-filter, is_in-filter, same_rising}
+use Rattle.shipment_machine.specs.Numbers.{IsAscending as Rising, is_in}
+use Rattle.shipment_machine.proofs.Rising.{Rising-put_rising, is_in-put_rising, Rising-filter, is_in-filter, same_rising}
 
 pub Rising-waybills_of : (book : List Move) → Rising (waybills_of book)
 Rising-waybills_of [] = tt
 Rising-waybills_of (m ∷ book) = Rising-put_rising m.awb (waybills_of book) (Rising-waybills_of book)
 
-is_in-waybills_of : (r : ℕ) (book : List Move) → is_in r (waybills_of book) ≡ has_moves book r
+pub is_in-waybills_of : (r : ℕ) (book : List Move) → is_in r (waybills_of book) ≡ has_moves book r
 is_in-waybills_of r [] = refl
 is_in-waybills_of r (m ∷ book) = is_in-put_rising r m.awb (waybills_of book) ∙ ap (λ b. (m.awb == r) || b) (is_in-waybills_of r book)
 

@@ -19,6 +19,5 @@ opening_lawful here = record {
   empty = λ flight w closed. refl;
   room = λ flight. omega arith;
   outbound = λ flight. tt;
-  alike = λ j k t. refl;
   mark = omega arith;
 }

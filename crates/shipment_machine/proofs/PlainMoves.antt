@@ -102,6 +102,5 @@ lawful_after s m fit from to law =
       empty = λ k q h. same_built s.book m q k from to ∙ law.empty k q h;
       room = λ k. subst (λ (ws : List ℕ). length ws ≤ 500) (sym (same_waybills_on s.book (s.book ++ m ∷ []) k (λ q. same_built s.book m q k from to))) (law.room k);
       outbound = law.outbound;
-      alike = law.alike;
       mark = law.mark;
     }

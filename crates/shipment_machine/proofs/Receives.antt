@@ -20,7 +20,7 @@ use Rattle.shipment_machine.specs.declared.command.ShipmentCommand.TheVariants a
 use Rattle.shipment_machine.specs.declared.command.DeskCommand.TheVariants as desk
 use Rattle.shipment_machine.specs.Book.{same_place, pieces_of, tenths_of, brings, takes, moved_in, moved_out, built, taken, taken_and_found}
 use Rattle.shipment_machine.specs.Cargo.{Cargo}
-use Rattle.shipment_machine.specs.Sheets.{undeclared, declaration}
+use Rattle.shipment_machine.specs.Views.{undeclared, declaration}
 use Rattle.shipment_machine.specs.Effect.{effect, carried_out}
 use Rattle.shipment_machine.specs.Lawful.{is_outside, is_pair, IsStocked, IsNoted, IsLawfulMove, IsLawfulAmount, IsLawful, departs_with, builds_on, StaysDeparted}
 use Rattle.shipment_machine.proofs.Keeps.{by_refusals}
@@ -180,8 +180,8 @@ takes_over s w n t at some few heavy known room law =
           ∙ within_after (drawn_of pieces_of s.book) (drawn_of tenths_of s.book) w q n t room (law.within q) (w == q) refl;
       declarations = law.declarations;
       expectations = law.expectations;
-      moves = all_push _ _ (λ m l. record { pair = l.pair; some = l.some; not_more = l.not_more; declared = l.declared; noted_from = noted_book s (s.book ++ in_hand w n t at ∷ []) m.from l.noted_from; noted_to = noted_book s (s.book ++ in_hand w n t at ∷ []) m.to l.noted_to })
-          s.book (in_hand w n t at) law.moves (record { pair = refl; some = some; not_more = few; declared = known; noted_from = tt; noted_to = tt });
+      moves = all_push _ _ (λ m l. record { pair = l.pair; some = l.some; not_more = l.not_more; declared = l.declared; noted_from = noted_book s (s.book ++ in_hand w n t at ∷ []) m.from l.noted_from; noted_to = noted_book s (s.book ++ in_hand w n t at ∷ []) m.to l.noted_to; names_from = l.names_from; names_to = l.names_to })
+          s.book (in_hand w n t at) law.moves (record { pair = refl; some = some; not_more = few; declared = known; noted_from = tt; noted_to = tt; names_from = tt; names_to = tt });
       trail = law.trail;
       used = law.used;
       closed = λ k. ((λ h. departs_same k ∙ (law.closed k).0 h), (λ h. (law.closed k).1 (sym (departs_same k) ∙ h)));
@@ -189,7 +189,6 @@ takes_over s w n t at some few heavy known room law =
       empty = λ k q h. same_built s.book w q n t at k ∙ law.empty k q h;
       room = λ k. subst (λ (ws : List ℕ). length ws ≤ 500) (sym (same_waybills_on s.book (s.book ++ in_hand w n t at ∷ []) k (λ q. same_built s.book w q n t at k))) (law.room k);
       outbound = law.outbound;
-      alike = law.alike;
       mark = law.mark;
     }
 

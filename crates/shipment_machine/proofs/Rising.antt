@@ -4,15 +4,7 @@ use Rattle.std.specs.Bool.{if◌then◌else◌}
 use Rattle.std.specs.List.{AllByRecursion, list_any, filter}
 use Rattle.std.proofs.lemmas.Bool.Decides.{nat_tests}
 use Rattle.shipment_machine.specs.Book.{put_rising}
-
--- a list of numbers, each above those before it
-abbrev pub Rising : List ℕ → Type 0
-Rising [] = Unit {0}
-Rising (x ∷ xs) = AllByRecursion (λ y. x < y) xs × Rising xs
-
--- whether a number is in a list
-abbrev pub is_in : ℕ → List ℕ → Bool
-is_in q xs = list_any (λ x. x == q) xs
+use Rattle.shipment_machine.specs.Numbers.{IsAscending as Rising, is_in}
 
 above_trans : (a b : ℕ) (xs : List ℕ) → a < b → AllByRecursion (λ y. b < y) xs → AllByRecursion (λ y. a < y) xs
 above_trans a b [] h all = tt

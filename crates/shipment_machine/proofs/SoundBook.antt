@@ -10,7 +10,7 @@ use Rattle.shipment_machine.specs.declared.moves.Place.TheVariants.{Hand, Surplu
 use Rattle.shipment_machine.specs.declared.moves.Move.{Move}
 use Rattle.shipment_machine.specs.Book.{same_place, pieces_of, tenths_of, moved_in, moved_out, brings, takes}
 use Rattle.shipment_machine.specs.Cargo.{Cargo}
-use Rattle.shipment_machine.specs.Lawful.{is_outside, is_pair, IsStocked, IsNoted, IsLawfulMove}
+use Rattle.shipment_machine.specs.Lawful.{is_outside, is_pair, IsStocked, IsNoted, NamesFlight, IsLawfulMove}
 use Rattle.shipment_machine.proofs.FlightKeys.{same-alike}
 use Rattle.shipment_machine.proofs.Conserved.{no_way_out, none_in, not_hand, not_surplus, came}
 
@@ -33,6 +33,8 @@ pub record IsFitting (s : Cargo) (m : Move) : Type 0 where
   pub declared : IsSome (s.declared m.awb)
   pub noted_from : IsNoted s m.from
   pub noted_to : IsNoted s m.to
+  pub names_from : NamesFlight m.from m.flight
+  pub names_to : NamesFlight m.to m.flight
   pub leaves : is_outside m.from ≡ false → Leaves (there_are pieces_of s.book m.awb m.from) (there_are tenths_of s.book m.awb m.from) m.pieces m.tenths
   pub room : is_outside m.from ≡ true → (came pieces_of s.book m.awb + m.pieces ≤ 9999) × (came tenths_of s.book m.awb + m.tenths ≤ 999999)
 
@@ -232,6 +234,8 @@ move_under s s' known noted m l = record {
   declared = known m.awb l.declared;
   noted_from = noted_under s s' noted m.from l.noted_from;
   noted_to = noted_under s s' noted m.to l.noted_to;
+  names_from = l.names_from;
+  names_to = l.names_to;
 }
 
 pub all_map : {X : Type 0} (P Q : X → Type 0) → ((x : X) → P x → Q x) → (xs : List X) → AllByRecursion P xs → AllByRecursion Q xs
@@ -250,5 +254,5 @@ sound_after s m fit old = record {
       (λ e o. subst (λ (w : ℕ). came tenths_of s.book w + m.tenths ≤ 999999) (same_number m.awb q e) (fit.room o).1));
   moves = all_push (IsLawfulMove s) (IsLawfulMove (with_move s m)) (move_under s (with_move s m) (λ w h. h) (λ k h. h)) s.book m old.moves
       (move_under s (with_move s m) (λ w h. h) (λ k h. h) m
-      (record { pair = fit.pair; some = fit.some; not_more = fit.few; declared = fit.declared; noted_from = fit.noted_from; noted_to = fit.noted_to }));
+      (record { pair = fit.pair; some = fit.some; not_more = fit.few; declared = fit.declared; noted_from = fit.noted_from; noted_to = fit.noted_to; names_from = fit.names_from; names_to = fit.names_to }));
 }

@@ -1,4 +1,4 @@
--- A view of a lawful state suits its command, and tells the effect.
+-- A view of a lawful state fits its command, and tells the effect.
 use Rattle.std.proofs.Common.{◌≡◌, ℕ, Bool, true, false, not, Option, Some, None, Result, Ok, Err, List, [], map, length, refl, sym, ap, ◌∙◌, true≢false}
 use Rattle.std.specs.Prelude.{is_some, IfOk, IfErr}
 use Rattle.std.specs.Bool.{if◌then◌else◌}
@@ -18,11 +18,12 @@ use Rattle.shipment_machine.specs.declared.plans.PlanFault.TheVariants as fault
 use Rattle.shipment_machine.specs.declared.plans.Refusal.{Refusal}
 use Rattle.shipment_machine.specs.declared.plans.Detail.TheVariants as detail
 use Rattle.imp_fields.specs.declared.fault.Why.TheVariants as why
+use Rattle.shipment_machine.specs.Book.{balances_of}
 use Rattle.shipment_machine.specs.Cargo.{Cargo}
-use Rattle.shipment_machine.specs.Sheets.{sheet_of, flight_sheet_of, line_row_of}
-use Rattle.shipment_machine.specs.Effect.{Outcome, effect, unless_refused, first_refusal, part_refusals, part_outcome, announced, lines_for, is_day, inbound_flight, inbound_part}
+use Rattle.shipment_machine.specs.Views.{line_view_of}
+use Rattle.shipment_machine.specs.Effect.{Outcome, Rule, effect, decided, unless_refused, first_refusal, announcing, announced, lines_for, is_day, inbound_flight, inbound_part}
 use Rattle.shipment_machine.specs.Announced.{no_earlier, announced_changes, part_key}
-use Rattle.shipment_machine.specs.Suits.{IsSoundSheet, IsSoundFlight, Suits, rows_answer}
+use Rattle.shipment_machine.specs.FitsCommand.{AreSound, FitsCommand, rows_answer}
 use Rattle.shipment_machine.specs.Meant.{meant_by}
 use Rattle.shipment_machine.specs.Lawful.{IsLawful}
 use Rattle.shipment_machine.specs.Agreement.{rows_for, outcome_of, RefusesAs, IsAnswer}
@@ -30,35 +31,32 @@ use Rattle.shipment_machine.proofs.Conserved.{held_free, held_built, held_missin
 use Rattle.shipment_machine.proofs.LawfulView.{held_expected, on_board, noted_outbound}
 use Rattle.shipment_machine.proofs.AnnouncedIs.{announced_is}
 
-sound : (s : Cargo) (w : ℕ) → IsLawful s → IsSoundSheet (sheet_of s w)
+sound : (s : Cargo) (w : ℕ) → IsLawful s → AreSound (balances_of s.book w)
 sound s w law = record { free = held_free s w law; missing = held_missing s w law; came = missing_came s w law }
-
-sound_flight : (s : Cargo) (w : ℕ) (flight : FlightDate) → IsLawful s → IsSoundFlight (flight_sheet_of s w flight)
-sound_flight s w flight law = record { load = held_built s w flight law; expected = held_expected s flight w law }
 
 -- the rows of a manifest, where its date means this day
 abbrev rows_of_part : Cargo → InboundPart → LocalMinute → Bool → Rows
-rows_of_part s f at day = if day then rows.Lines (is_some (s.parts (inbound_part f at))) (map (line_row_of s (inbound_flight f at)) (lines_for s.here f.lines)) else rows.Lines false []
+rows_of_part s f at day = if day then rows.Lines (is_some (s.parts (inbound_part f at))) (map (line_view_of s (inbound_flight f at)) (lines_for s.here f.lines)) else rows.Lines false []
 
-suits_part : (s : Cargo) (f : InboundPart) (at : LocalMinute) (meant : Option ℕ) (day : Bool) → is_day meant ≡ day → Suits s.here (rows_of_part s f at day) (order.Ffm f) meant
-suits_part s f at meant true e = λ _. length-map (lines_for s.here f.lines) (line_row_of s (inbound_flight f at))
-suits_part s f at meant false e = λ h. absurd (true≢false (sym h ∙ e))
+fits_part : (s : Cargo) (f : InboundPart) (at : LocalMinute) (meant : Option ℕ) (day : Bool) → is_day meant ≡ day → FitsCommand s.here (rows_of_part s f at day) (order.Ffm f) meant
+fits_part s f at meant true e = λ _. length-map (lines_for s.here f.lines) (line_view_of s (inbound_flight f at))
+fits_part s f at meant false e = λ h. absurd (true≢false (sym h ∙ e))
 
-pub suits : (s : Cargo) (command : ShipmentCommand) (at : LocalMinute) → IsLawful s → Suits s.here (rows_for s command at) command (meant_by command at)
-suits s (order.Desk (desk.Book w origin destination p t goods)) at law = (sound s w law, tt)
-suits s (order.Desk (desk.Receive w p t name)) at law = (sound s w law, tt)
-suits s (order.Desk (desk.Manifest w flight unload p)) at law = (sound s w law, sound_flight s w flight law)
-suits s (order.Desk (desk.Offload w flight p)) at law = (sound s w law, sound_flight s w flight law)
-suits s (order.Desk (desk.Depart flight)) at law = (on_board s flight law, noted_outbound s flight law)
-suits s (order.Desk (desk.CheckIn w flight counted)) at law = (sound s w law, sound_flight s w flight law)
-suits s (order.Desk (desk.Notify w name)) at law = (sound s w law, tt)
-suits s (order.Desk (desk.Deliver w p name)) at law = (sound s w law, tt)
-suits s (order.Desk (desk.Missing w p flight)) at law = (sound s w law, tt)
-suits s (order.Desk (desk.Found w p t flight)) at law = (sound s w law, tt)
-suits s (order.Desk (desk.Confirm upto)) at law = tt
-suits s (order.Fwb c) at law = tt
-suits s (order.Ffm f) at law = suits_part s f at (resolved f.date at.day) (is_day (resolved f.date at.day)) refl
-suits s (order.Fsu f) at law = tt
+pub fits : (s : Cargo) (command : ShipmentCommand) (at : LocalMinute) → IsLawful s → FitsCommand s.here (rows_for s command at) command (meant_by command at)
+fits s (order.Desk (desk.Book w origin destination p t goods)) at law = tt
+fits s (order.Desk (desk.Receive w p t name)) at law = sound s w law
+fits s (order.Desk (desk.Manifest w flight unload p)) at law = sound s w law
+fits s (order.Desk (desk.Offload w flight p)) at law = held_built s w flight law
+fits s (order.Desk (desk.Depart flight)) at law = (on_board s flight law, noted_outbound s flight law)
+fits s (order.Desk (desk.CheckIn w flight counted)) at law = held_expected s flight w law
+fits s (order.Desk (desk.Notify w name)) at law = sound s w law
+fits s (order.Desk (desk.Deliver w p name)) at law = sound s w law
+fits s (order.Desk (desk.Missing w p flight)) at law = sound s w law
+fits s (order.Desk (desk.Found w p t flight)) at law = sound s w law
+fits s (order.Desk (desk.Confirm upto)) at law = tt
+fits s (order.Fwb c) at law = tt
+fits s (order.Ffm f) at law = fits_part s f at (resolved f.date at.day) (is_day (resolved f.date at.day)) refl
+fits s (order.Fsu f) at law = tt
 
 abbrev dateless : Refusal
 dateless = record { number = 301; detail = detail.Line 2 why.Date }
@@ -69,14 +67,14 @@ no_day true r later done e = absurd (true≢false e)
 
 -- a part of a manifest is answered as its effect says
 part_is : (s : Cargo) (f : InboundPart) (at : LocalMinute) (day : Bool) → is_day (resolved f.date at.day) ≡ day →
-    rows_answer s.here (rows_of_part s f at day) (order.Ffm f) at (resolved f.date at.day) ≡ unless_refused (first_refusal (part_refusals s f at)) (part_outcome s f at)
+    rows_answer s.here (rows_of_part s f at day) (order.Ffm f) at (resolved f.date at.day) ≡ decided (announcing s f at)
 part_is s f at true e =
-    ap (λ (r : Result (List Change) Refusal). unless_refused (first_refusal (part_refusals s f at)) (announced (inbound_part f at) (length (lines_for s.here f.lines)) r))
+    ap (λ (r : Result (List Change) Refusal). unless_refused (first_refusal (announcing s f at).refusals) (announced (inbound_part f at) (length (lines_for s.here f.lines)) r))
     (announced_is s (inbound_flight f at) (lines_for s.here f.lines))
 part_is s f at false e =
     no_day (is_day (resolved f.date at.day)) dateless None
     (announced (part_key f (resolved f.date at.day)) (length (lines_for s.here f.lines)) (announced_changes no_earlier (part_key f (resolved f.date at.day)).flight (lines_for s.here f.lines) [])) e
-    ∙ sym (no_day (is_day (resolved f.date at.day)) dateless (if is_some (s.parts (inbound_part f at)) then Some (record { number = 213; detail = detail.Part (inbound_part f at) }) else None) (part_outcome s f at) e)
+    ∙ sym (no_day (is_day (resolved f.date at.day)) dateless (if is_some (s.parts (inbound_part f at)) then Some (record { number = 213; detail = detail.Part (inbound_part f at) }) else None) (announcing s f at).outcome e)
 
 pub answers : (s : Cargo) (command : ShipmentCommand) (at : LocalMinute) → rows_answer s.here (rows_for s command at) command at (meant_by command at) ≡ effect s command at
 answers s (order.Desk (desk.Book w origin destination p t goods)) at = refl
@@ -102,6 +100,7 @@ planned (Err told) answer done is e = tt
 refused_as : (told : PlanFault) (answer done : Result Outcome Refusal) → RefusesAs answer told → answer ≡ done → RefusesAs done told
 refused_as (fault.Refused refusal) answer done is e = sym e ∙ is
 refused_as fault.Memory answer done is e = tt
+refused_as fault.Unfit answer done is e = is
 
 pub refused : (r : Result Plan PlanFault) (answer done : Result Outcome Refusal) → IsAnswer r answer → answer ≡ done → IfErr r (RefusesAs done)
 refused (Ok plan) answer done is e = tt

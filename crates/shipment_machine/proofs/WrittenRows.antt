@@ -37,7 +37,6 @@ uses text s w known law = record {
   empty = law.empty;
   room = law.room;
   outbound = law.outbound;
-  alike = law.alike;
   mark = law.mark;
 }
 
@@ -86,7 +85,6 @@ expects text s flight w e fine known law = record {
   empty = law.empty;
   room = law.room;
   outbound = law.outbound;
-  alike = law.alike;
   mark = law.mark;
 }
 
@@ -104,7 +102,6 @@ notes_part text s part law = record {
   empty = law.empty;
   room = law.room;
   outbound = law.outbound;
-  alike = law.alike;
   mark = law.mark;
 }
 
@@ -126,6 +123,5 @@ trails text s w line known law = record {
   empty = law.empty;
   room = law.room;
   outbound = law.outbound;
-  alike = law.alike;
   mark = law.mark;
 }

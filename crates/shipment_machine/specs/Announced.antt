@@ -2,7 +2,7 @@
 use Rattle.std.specs.Prelude.{◌≡◌, ℕ, Bool, false, not, length, ◌==◌, if◌then◌else◌, Option, Some, None, is_none, Result, Ok, Err, List, [], ◌∷◌}
 use Rattle.shipment_machine.specs.declared.flight.FlightDate.{FlightDate}
 use Rattle.shipment_machine.specs.declared.moves.Expected.{Expected}
-use Rattle.shipment_machine.specs.declared.view.LineRow.{LineRow}
+use Rattle.shipment_machine.specs.declared.view.LineView.{LineView}
 use Rattle.shipment_machine.specs.declared.command.CargoLine.{CargoLine}
 use Rattle.std.specs.Option.{unwrap_or}
 use Rattle.shipment_machine.specs.declared.moves.Part.{Part}
@@ -28,26 +28,26 @@ abbrev pub with_line : Earlier → ℕ → Expected → Earlier
 with_line earlier w e = λ q. if q == w then Some e else earlier q
 
 -- whether a line declares its waybill
-abbrev pub is_new : Option Expected → LineRow → Bool
+abbrev pub is_new : Option Expected → LineView → Bool
 is_new None row = is_none row.declared
 is_new (Some e) row = false
 
 -- what is expected of its waybill so far
-abbrev pub expected_so_far : Option Expected → LineRow → Option Expected
+abbrev pub expected_so_far : Option Expected → LineView → Option Expected
 expected_so_far None row = row.expected
 expected_so_far (Some e) row = Some e
 
-abbrev pub refusal_now : Option Expected → CargoLine → LineRow → Option Refusal
+abbrev pub refusal_now : Option Expected → CargoLine → LineView → Option Refusal
 refusal_now before c row = first_refusal (row_refusals (is_new before row) row.holder (expected_so_far before row) c)
 
-abbrev pub changes_now : Option Expected → FlightDate → CargoLine → LineRow → List Change
+abbrev pub changes_now : Option Expected → FlightDate → CargoLine → LineView → List Change
 changes_now before flight c row = row_changes (is_new before row) row.holder (expected_so_far before row) flight c
 
-abbrev pub expected_now : Option Expected → CargoLine → LineRow → Expected
+abbrev pub expected_now : Option Expected → CargoLine → LineView → Expected
 expected_now before c row = expected_after (expected_so_far before row) c
 
 -- what all lines write, each after those before it; or the first refusal
-abbrev pub announced_changes : Earlier → FlightDate → List CargoLine → List LineRow → Result (List Change) Refusal
+abbrev pub announced_changes : Earlier → FlightDate → List CargoLine → List LineView → Result (List Change) Refusal
 announced_changes earlier flight [] rows = Ok []
 announced_changes earlier flight (c ∷ cs) [] = Ok []
 announced_changes earlier flight (c ∷ cs) (row ∷ rows) =
@@ -64,7 +64,7 @@ part_tests taken f meant =
     ∷ (taken, record { number = 213; detail = detail.Part (part_key f meant) }) ∷ []
 
 -- what it is answered, where it was taken or not, from the rows of its lines for here
-abbrev pub part_answer : List ℕ → Bool → List LineRow → InboundPart → Option ℕ → Result Outcome Refusal
+abbrev pub part_answer : List ℕ → Bool → List LineView → InboundPart → Option ℕ → Result Outcome Refusal
 part_answer here taken rows f meant =
     unless_refused (first_refusal (part_tests taken f meant))
     (announced (part_key f meant) (length (lines_for here f.lines)) (announced_changes no_earlier (part_key f meant).flight (lines_for here f.lines) rows))
@@ -78,7 +78,9 @@ first_rows (Some d) who w = declare who w d
 abbrev pub IsRefusal : Option Refusal → PlanFault → Type 0
 IsRefusal due (fault.Refused refusal) = due ≡ Some refusal
 IsRefusal due fault.Memory = Unit {0}
+IsRefusal due fault.Unfit = ⊥
 
 abbrev pub IsPartFault : Result (List Change) Refusal → PlanFault → Type 0
 IsPartFault answer (fault.Refused refusal) = answer ≡ Err refusal
 IsPartFault answer fault.Memory = Unit {0}
+IsPartFault answer fault.Unfit = ⊥

@@ -36,11 +36,14 @@ use Rattle.shipment_machine.specs.declared.plans.Change.{Change}
 use Rattle.shipment_machine.specs.declared.plans.Change.TheVariants.{Declare, UseUp, NoteFlight, Expect, NotePart, Trail, Confirm}
 use Rattle.shipment_machine.specs.declared.plans.Refusal.{Refusal}
 use Rattle.shipment_machine.specs.declared.plans.Detail.TheVariants as detail
-use Rattle.shipment_machine.specs.declared.view.Sheet.{Sheet}
-use Rattle.shipment_machine.specs.declared.view.FlightSheet.{FlightSheet}
-use Rattle.shipment_machine.specs.declared.view.Aboard.{Aboard}
+use Rattle.shipment_machine.specs.declared.balances.Balances.{Balances}
+use Rattle.shipment_machine.specs.declared.view.DeclarationView.{DeclarationView}
+use Rattle.shipment_machine.specs.declared.view.WaybillView.{WaybillView}
+use Rattle.shipment_machine.specs.declared.view.FlightView.{FlightView}
+use Rattle.shipment_machine.specs.declared.view.FlightLoad.{FlightLoad}
+use Rattle.shipment_machine.specs.Book.{built}
 use Rattle.shipment_machine.specs.Cargo.{Cargo, written_all}
-use Rattle.shipment_machine.specs.Sheets.{undeclared, sheet_of, flight_sheet_of, loads_of}
+use Rattle.shipment_machine.specs.Views.{undeclared, declaration_view, waybill_view, flight_view, loads_of}
 
 -- what a command does that isn't refused
 pub record Outcome : Type 0 where
@@ -48,6 +51,11 @@ pub record Outcome : Type 0 where
   pub notices : List Notice
   pub changes : List Change
   pub count : ℕ
+
+-- A command's refusals, in the order tested, and its outcome where none of them holds.
+pub record Rule : Type 0 where
+  pub refusals : List (Bool × Refusal)
+  pub outcome : Result Outcome Refusal
 
 -- Refusals.
 
@@ -111,13 +119,6 @@ declared_by c = record {
   goods = c.goods;
   notified = false;
 }
-
--- why a waybill can't be declared, or declared anew
-abbrev pub declaring : Sheet → ℕ → Declared → List (Bool × Refusal)
-declaring sheet w d =
-    (not (fits (amount d.pieces d.tenths)), about 217 w)
-    ∷ (is_some sheet.declared && sheet.has_moves, about 202 w)
-    ∷ (at_desk_or_void sheet.holder, about 203 w) ∷ []
 
 -- a number that an agent has is used up
 abbrev pub used_up : Option Holder → ℕ → List Change
@@ -219,92 +220,98 @@ unload_of None = []
 unload_of (Some outbound) = outbound.unload
 
 -- a waybill on a manifest, with all of it that is built on the flight
-abbrev pub manifest_line : Aboard → ManifestLine
+abbrev pub manifest_line : FlightLoad → ManifestLine
 manifest_line a = record { consigned = consigned a.awb a.declared; pieces = a.load.pieces; tenths = a.load.tenths; goods = a.declared.goods }
 
 -- the outcome of some moves, with their notices and a count
 abbrev pub does : List Move → List Notice → List Change → ℕ → Result Outcome Refusal
 does moves notices changes count = Ok (record { moves = moves; notices = notices; changes = changes; count = count })
 
--- What each command does: its refusals, in the order tested, and its outcome where none of them holds. The sheet is that of
--- the waybill; a flight's sheet, the expected row and the loads are those of the flight that the command names.
+-- what a rule says: the first refusal whose test holds, or the outcome
+abbrev pub decided : Rule → Result Outcome Refusal
+decided rule = unless_refused (first_refusal rule.refusals) rule.outcome
 
--- what is declared on a sheet
-abbrev pub declared_on : Sheet → Declared
-declared_on sheet = unwrap_or sheet.declared undeclared
+-- The rule of each command, for what the state has of its waybill and its flight.
+
+-- what is declared of a waybill that has a declaration
+abbrev pub declared_as : Option Declared → Declared
+declared_as declared = unwrap_or declared undeclared
 
 -- what was taken over and found
-abbrev pub came_in : Sheet → Amount
-came_in sheet = plus sheet.taken sheet.found
+abbrev pub came_in : Balances → Amount
+came_in b = plus b.taken b.found
 
 -- Book and FWB: the waybill is declared.
 abbrev pub booked : List ℕ → List ℕ → ℕ → ℕ → List ℕ → Declared
 booked origin destination p t goods =
     record { origin = origin; destination = destination; pieces = p; tenths = book_weight_of p t; goods = goods; notified = false }
 
-abbrev pub declaring_outcome : Sheet → ℕ → Declared → Result Outcome Refusal
-declaring_outcome sheet w d = does [] [] (declare sheet.holder w d) d.pieces
+abbrev pub declaring : DeclarationView → ℕ → Declared → Rule
+declaring view w d = record {
+  refusals = (not (fits (amount d.pieces d.tenths)), about 217 w)
+      ∷ (is_some view.declared && view.has_moves, about 202 w)
+      ∷ (at_desk_or_void view.holder, about 203 w) ∷ [];
+  outcome = does [] [] (declare view.holder w d) d.pieces;
+}
 
 -- Receive: pieces are taken over, with at least a tenth each.
-abbrev pub receive_refusals : List ℕ → Sheet → ℕ → ℕ → ℕ → List (Bool × Refusal)
-receive_refusals here sheet w p t =
-    (is_none sheet.declared, about 201 w)
-    ∷ (not (bytes_eq (declared_on sheet).origin here), about 204 w)
-    ∷ (nat_lt (declared_on sheet).pieces (sheet.taken.pieces + p), about 205 w)
-    ∷ (not (fits (plus (came_in sheet) (amount p (book_weight_of p t)))), about 217 w) ∷ []
-
-abbrev pub receive_outcome : List ℕ → Sheet → ℕ → ℕ → ℕ → List ℕ → LocalMinute → Result Outcome Refusal
-receive_outcome here sheet w p t name at =
+abbrev pub receiving : List ℕ → WaybillView → ℕ → ℕ → ℕ → List ℕ → LocalMinute → Rule
+receiving here view w p t name at =
+    let d = declared_as view.declared in
     let a = amount p (book_weight_of p t) in
-    does (moved w place.Hand place.Free a None at) (told here w (declared_on sheet) (event.ReceivedFromShipper name at) a) [] p
+    record {
+      refusals = (is_none view.declared, about 201 w)
+          ∷ (not (bytes_eq d.origin here), about 204 w)
+          ∷ (nat_lt d.pieces (view.balances.taken.pieces + p), about 205 w)
+          ∷ (not (fits (plus (came_in view.balances) a)), about 217 w) ∷ [];
+      outcome = does (moved w place.Hand place.Free a None at) (told here w d (event.ReceivedFromShipper name at) a) [] p;
+    }
 
 -- Manifest: free pieces are built on a flight, which is noted where it is new.
-abbrev pub manifest_refusals : List ℕ → Sheet → FlightSheet → ℕ → FlightDate → List ℕ → ℕ → List (Bool × Refusal)
-manifest_refusals here sheet on w flight unload p =
-    (is_none sheet.declared, about 201 w)
-    ∷ (bytes_eq unload here, about 204 w)
-    ∷ (is_closed on.outbound, on_flight 208 flight)
-    ∷ (goes_elsewhere on.outbound unload, on_flight 218 flight)
-    ∷ (nat_lt sheet.free.pieces p, only_free sheet.free.pieces)
-    ∷ ((on.load.pieces == 0) && nat_le 500 on.waybills, on_flight 219 flight) ∷ []
-
-abbrev pub manifest_outcome : List ℕ → Sheet → FlightSheet → ℕ → FlightDate → List ℕ → ℕ → LocalMinute → Result Outcome Refusal
-manifest_outcome here sheet on w flight unload p at =
-    let a = part sheet.free p in
-    does (moved w place.Free (place.Built flight) a (Some flight) at)
-    (told here w (declared_on sheet) (event.Manifested flight unload) a)
-    (if is_none on.outbound then NoteFlight flight (record { unload = unload; closed = false }) ∷ [] else []) p
+abbrev pub manifesting : List ℕ → WaybillView → FlightView → ℕ → FlightDate → List ℕ → ℕ → LocalMinute → Rule
+manifesting here view on w flight unload p at =
+    let free = view.balances.free in
+    let a = part free p in
+    record {
+      refusals = (is_none view.declared, about 201 w)
+          ∷ (bytes_eq unload here, about 204 w)
+          ∷ (is_closed on.outbound, on_flight 208 flight)
+          ∷ (goes_elsewhere on.outbound unload, on_flight 218 flight)
+          ∷ (nat_lt free.pieces p, only_free free.pieces)
+          ∷ ((on.load.pieces == 0) && nat_le 500 on.waybills, on_flight 219 flight) ∷ [];
+      outcome = does (moved w place.Free (place.Built flight) a (Some flight) at)
+          (told here w (declared_as view.declared) (event.Manifested flight unload) a)
+          (if is_none on.outbound then NoteFlight flight (record { unload = unload; closed = false }) ∷ [] else []) p;
+    }
 
 -- Offload: built pieces are free again.
-abbrev pub offload_refusals : Sheet → FlightSheet → ℕ → FlightDate → ℕ → List (Bool × Refusal)
-offload_refusals sheet on w flight p =
-    (is_none sheet.declared, about 201 w)
-    ∷ (is_closed on.outbound, on_flight 208 flight)
-    ∷ (nat_lt on.load.pieces p, about 207 w) ∷ []
-
-abbrev pub offload_outcome : List ℕ → Sheet → FlightSheet → ℕ → FlightDate → ℕ → LocalMinute → Result Outcome Refusal
-offload_outcome here sheet on w flight p at =
-    let a = part on.load p in
-    does (moved w (place.Built flight) place.Free a (Some flight) at)
-    (told here w (declared_on sheet) (event.Differs flight at discrepancy.Offloaded) a) [] p
+abbrev pub offloading : List ℕ → Option Declared → Option Outbound → Amount → ℕ → FlightDate → ℕ → LocalMinute → Rule
+offloading here declared outbound load w flight p at =
+    let a = part load p in
+    record {
+      refusals = (is_none declared, about 201 w)
+          ∷ (is_closed outbound, on_flight 208 flight)
+          ∷ (nat_lt load.pieces p, about 207 w) ∷ [];
+      outcome = does (moved w (place.Built flight) place.Free a (Some flight) at)
+          (told here w (declared_as declared) (event.Differs flight at discrepancy.Offloaded) a) [] p;
+    }
 
 -- Depart: each waybill on the flight moves off with all that is built of it, and the flight is closed.
-abbrev pub depart_refusals : Option Outbound → List Aboard → FlightDate → List (Bool × Refusal)
-depart_refusals outbound loads flight = (is_closed outbound, on_flight 208 flight) ∷ (length loads == 0, on_flight 209 flight) ∷ []
-
-abbrev pub depart_moves : List Aboard → FlightDate → LocalMinute → List Move
+abbrev pub depart_moves : List FlightLoad → FlightDate → LocalMinute → List Move
 depart_moves loads flight at = flat_map (λ a. moved a.awb (place.Built flight) place.Departed a.load (Some flight) at) loads
 
-abbrev pub depart_notices : List ℕ → List ℕ → List Aboard → FlightDate → List Notice
+abbrev pub depart_notices : List ℕ → List ℕ → List FlightLoad → FlightDate → List Notice
 depart_notices here unload loads flight =
     flat_map (λ a. told here a.awb a.declared (event.Departed flight unload) a.load) loads
     ++ notice.Manifest here flight unload (map manifest_line loads) ∷ []
 
-abbrev pub depart_outcome : List ℕ → Option Outbound → List Aboard → FlightDate → LocalMinute → Result Outcome Refusal
-depart_outcome here outbound loads flight at =
-    does (depart_moves loads flight at) (depart_notices here (unload_of outbound) loads flight)
-    (NoteFlight flight (record { unload = unload_of outbound; closed = true }) ∷ [])
-    (sum_by (λ a. a.load.pieces) loads)
+abbrev pub departing : List ℕ → Option Outbound → List FlightLoad → FlightDate → LocalMinute → Rule
+departing here outbound loads flight at = record {
+  refusals = (is_closed outbound, on_flight 208 flight) ∷ (length loads == 0, on_flight 209 flight) ∷ [];
+  outcome = does (depart_moves loads flight at) (depart_notices here (unload_of outbound) loads flight)
+      (NoteFlight flight (record { unload = unload_of outbound; closed = true }) ∷ [])
+      (sum_by (λ a. a.load.pieces) loads);
+}
 
 -- Check-in: what was counted goes to the free cargo, the rest of what was expected to the missing, the surplus comes from
 -- outside.
@@ -316,14 +323,6 @@ uncounted e counted = less e (counted_in e counted)
 
 abbrev pub counted_more : Amount → ℕ → Amount
 counted_more e counted = part e (counted - e.pieces)
-
-abbrev pub check_in_refusals : Sheet → Option Expected → ℕ → ℕ → List (Bool × Refusal)
-check_in_refusals sheet expected w counted =
-    let e = expected_amount expected in
-    (is_none sheet.declared, about 201 w)
-    ∷ (is_none expected, about 211 w)
-    ∷ (is_checked expected, about 212 w)
-    ∷ (not (fits (plus (came_in sheet) (plus e (counted_more e counted)))), about 217 w) ∷ []
 
 abbrev pub check_in_moves : ℕ → FlightDate → Amount → ℕ → LocalMinute → List Move
 check_in_moves w flight e counted at =
@@ -337,129 +336,122 @@ check_in_notices here w d flight e counted at =
     ++ told here w d (event.Differs flight at discrepancy.Missing) (uncounted e counted)
     ++ told here w d (event.Differs flight at discrepancy.Found) (counted_more e counted)
 
-abbrev pub check_in_outcome : List ℕ → Sheet → Option Expected → ℕ → FlightDate → ℕ → LocalMinute → Result Outcome Refusal
-check_in_outcome here sheet expected w flight counted at =
+abbrev pub checking_in : List ℕ → WaybillView → Option Expected → ℕ → FlightDate → ℕ → LocalMinute → Rule
+checking_in here view expected w flight counted at =
     let e = expected_amount expected in
-    does (check_in_moves w flight e counted at) (check_in_notices here w (declared_on sheet) flight e counted at)
-    (Expect flight w (record { pieces = e.pieces; tenths = e.tenths; checked = true }) ∷ []) counted
+    record {
+      refusals = (is_none view.declared, about 201 w)
+          ∷ (is_none expected, about 211 w)
+          ∷ (is_checked expected, about 212 w)
+          ∷ (not (fits (plus (came_in view.balances) (plus e (counted_more e counted)))), about 217 w) ∷ [];
+      outcome = does (check_in_moves w flight e counted at) (check_in_notices here w (declared_as view.declared) flight e counted at)
+          (Expect flight w (record { pieces = e.pieces; tenths = e.tenths; checked = true }) ∷ []) counted;
+    }
 
 -- Notify: the consignee is told of all that is free.
-abbrev pub notify_refusals : List ℕ → Sheet → ℕ → List (Bool × Refusal)
-notify_refusals here sheet w =
-    (is_none sheet.declared, about 201 w)
-    ∷ (not (bytes_eq (declared_on sheet).destination here), about 204 w)
-    ∷ (sheet.free.pieces == 0, only_free 0) ∷ []
-
-abbrev pub notify_outcome : List ℕ → Sheet → ℕ → List ℕ → LocalMinute → Result Outcome Refusal
-notify_outcome here sheet w name at =
-    does [] (told here w (declared_on sheet) (event.Notified name at) sheet.free) (Declare w (record (declared_on sheet) { notified = true }) ∷ []) sheet.free.pieces
+abbrev pub notifying : List ℕ → WaybillView → ℕ → List ℕ → LocalMinute → Rule
+notifying here view w name at =
+    let d = declared_as view.declared in
+    let free = view.balances.free in
+    record {
+      refusals = (is_none view.declared, about 201 w)
+          ∷ (not (bytes_eq d.destination here), about 204 w)
+          ∷ (free.pieces == 0, only_free 0) ∷ [];
+      outcome = does [] (told here w d (event.Notified name at) free) (Declare w (record d { notified = true }) ∷ []) free.pieces;
+    }
 
 -- Deliver: free pieces go to the consignee, who was notified.
-abbrev pub deliver_refusals : List ℕ → Sheet → ℕ → ℕ → List (Bool × Refusal)
-deliver_refusals here sheet w p =
-    (is_none sheet.declared, about 201 w)
-    ∷ (not (bytes_eq (declared_on sheet).destination here), about 204 w)
-    ∷ (not (declared_on sheet).notified, about 210 w)
-    ∷ (nat_lt sheet.free.pieces p, only_free sheet.free.pieces) ∷ []
-
-abbrev pub deliver_outcome : List ℕ → Sheet → ℕ → ℕ → List ℕ → LocalMinute → Result Outcome Refusal
-deliver_outcome here sheet w p name at =
-    let a = part sheet.free p in
-    does (moved w place.Free place.Delivered a None at) (told here w (declared_on sheet) (event.Delivered name at) a) [] p
+abbrev pub delivering : List ℕ → WaybillView → ℕ → ℕ → List ℕ → LocalMinute → Rule
+delivering here view w p name at =
+    let d = declared_as view.declared in
+    let free = view.balances.free in
+    let a = part free p in
+    record {
+      refusals = (is_none view.declared, about 201 w)
+          ∷ (not (bytes_eq d.destination here), about 204 w)
+          ∷ (not d.notified, about 210 w)
+          ∷ (nat_lt free.pieces p, only_free free.pieces) ∷ [];
+      outcome = does (moved w place.Free place.Delivered a None at) (told here w d (event.Delivered name at) a) [] p;
+    }
 
 -- Missing: free pieces are missing.
-abbrev pub missing_refusals : Sheet → ℕ → ℕ → List (Bool × Refusal)
-missing_refusals sheet w p =
-    (is_none sheet.declared, about 201 w) ∷ (nat_lt sheet.free.pieces p, only_free sheet.free.pieces) ∷ []
-
-abbrev pub missing_outcome : List ℕ → Sheet → ℕ → ℕ → Option FlightDate → LocalMinute → Result Outcome Refusal
-missing_outcome here sheet w p flight at =
-    let a = part sheet.free p in
-    does (moved w place.Free place.Missing a flight at) (told_differs here w (declared_on sheet) flight discrepancy.Missing at a) [] p
+abbrev pub recording_missing : List ℕ → WaybillView → ℕ → ℕ → Option FlightDate → LocalMinute → Rule
+recording_missing here view w p flight at =
+    let free = view.balances.free in
+    let a = part free p in
+    record {
+      refusals = (is_none view.declared, about 201 w) ∷ (nat_lt free.pieces p, only_free free.pieces) ∷ [];
+      outcome = does (moved w place.Free place.Missing a flight at)
+          (told_differs here w (declared_as view.declared) flight discrepancy.Missing at a) [] p;
+    }
 
 -- Found: missing pieces come back first; the others are a surplus.
-abbrev pub come_back : Sheet → ℕ → Amount
-come_back sheet p = part sheet.missing (min p sheet.missing.pieces)
+abbrev pub come_back : Amount → ℕ → Amount
+come_back missing p = part missing (min p missing.pieces)
 
-abbrev pub come_new : Sheet → ℕ → ℕ → Amount
-come_new sheet p t = surplus (p - sheet.missing.pieces) t
+abbrev pub come_new : Amount → ℕ → ℕ → Amount
+come_new missing p t = surplus (p - missing.pieces) t
 
-abbrev pub found_refusals : Sheet → ℕ → ℕ → ℕ → List (Bool × Refusal)
-found_refusals sheet w p t =
-    (is_none sheet.declared, about 201 w)
-    ∷ (not (fits (plus (came_in sheet) (come_new sheet p t))), about 217 w) ∷ []
-
-abbrev pub found_outcome : List ℕ → Sheet → ℕ → ℕ → ℕ → Option FlightDate → LocalMinute → Result Outcome Refusal
-found_outcome here sheet w p t flight at =
-    does (moved w place.Missing place.Free (come_back sheet p) flight at ++ moved w place.Surplus place.Free (come_new sheet p t) flight at)
-    (told_differs here w (declared_on sheet) flight discrepancy.Found at (plus (come_back sheet p) (come_new sheet p t))) [] p
+abbrev pub recording_found : List ℕ → WaybillView → ℕ → ℕ → ℕ → Option FlightDate → LocalMinute → Rule
+recording_found here view w p t flight at =
+    let back = come_back view.balances.missing p in
+    let new = come_new view.balances.missing p t in
+    record {
+      refusals = (is_none view.declared, about 201 w)
+          ∷ (not (fits (plus (came_in view.balances) new)), about 217 w) ∷ [];
+      outcome = does (moved w place.Missing place.Free back flight at ++ moved w place.Surplus place.Free new flight at)
+          (told_differs here w (declared_as view.declared) flight discrepancy.Found at (plus back new)) [] p;
+    }
 
 -- Confirm: the mark moves up, to the last message at most.
-abbrev pub confirm_refusals : ℕ → ℕ → ℕ → List (Bool × Refusal)
-confirm_refusals confirmed last upto =
-    (nat_lt upto confirmed || nat_lt last upto, record { number = 401; detail = detail.Messages confirmed last }) ∷ []
+abbrev pub confirming : ℕ → ℕ → ℕ → Rule
+confirming confirmed last upto = record {
+  refusals = (nat_lt upto confirmed || nat_lt last upto, record { number = 401; detail = detail.Messages confirmed last }) ∷ [];
+  outcome = does [] [] (Confirm upto ∷ []) (upto - confirmed);
+}
 
-abbrev pub confirm_outcome : ℕ → ℕ → Result Outcome Refusal
-confirm_outcome confirmed upto = does [] [] (Confirm upto ∷ []) (upto - confirmed)
-
--- A part of a manifest: all lines for here count, or none.
-abbrev pub part_refusals : Cargo → InboundPart → LocalMinute → List (Bool × Refusal)
-part_refusals s f at =
-    (not (is_day (resolved f.date at.day)), record { number = 301; detail = detail.Line 2 why.Date })
-    ∷ (is_some (s.parts (inbound_part f at)), record { number = 213; detail = detail.Part (inbound_part f at) }) ∷ []
-
+-- A part of a manifest: all lines for here count, or none. The lines may still be refused.
 abbrev pub announced : Part → ℕ → Result (List Change) Refusal → Result Outcome Refusal
 announced key count (Ok changes) = does [] [] (changes ++ NotePart key ∷ []) count
 announced key count (Err refusal) = Err refusal
 
-abbrev pub part_outcome : Cargo → InboundPart → LocalMinute → Result Outcome Refusal
-part_outcome s f at = let lines = lines_for s.here f.lines in announced (inbound_part f at) (length lines) (lines_changes s (inbound_flight f at) lines)
+abbrev pub announcing : Cargo → InboundPart → LocalMinute → Rule
+announcing s f at =
+    let key = inbound_part f at in
+    let lines = lines_for s.here f.lines in
+    record {
+      refusals = (not (is_day (resolved f.date at.day)), record { number = 301; detail = detail.Line 2 why.Date })
+          ∷ (is_some (s.parts key), record { number = 213; detail = detail.Part key }) ∷ [];
+      outcome = announced key (length lines) (lines_changes s (inbound_flight f at) lines);
+    }
 
 -- A status message: its lines join the trail.
-abbrev pub status_refusals : Sheet → ℕ → List (Bool × Refusal)
-status_refusals sheet w = (is_none sheet.declared, about 201 w) ∷ []
+abbrev pub noting_status : Option Declared → ℕ → List (List ℕ) → Rule
+noting_status declared w lines = record {
+  refusals = (is_none declared, about 201 w) ∷ [];
+  outcome = does [] [] (map (λ line. Trail w line) lines) (length lines);
+}
 
-abbrev pub status_outcome : ℕ → List (List ℕ) → Result Outcome Refusal
-status_outcome w lines = does [] [] (map (λ line. Trail w line) lines) (length lines)
-
--- The same for each command, in a state.
-
-abbrev pub refusals : Cargo → ShipmentCommand → LocalMinute → List (Bool × Refusal)
-refusals s (order.Desk (desk.Book w origin destination p t goods)) at = declaring (sheet_of s w) w (booked origin destination p t goods)
-refusals s (order.Fwb c) at = declaring (sheet_of s c.awb) c.awb (declared_by c)
-refusals s (order.Desk (desk.Receive w p t name)) at = receive_refusals s.here (sheet_of s w) w p t
-refusals s (order.Desk (desk.Manifest w flight unload p)) at = manifest_refusals s.here (sheet_of s w) (flight_sheet_of s w flight) w flight unload p
-refusals s (order.Desk (desk.Offload w flight p)) at = offload_refusals (sheet_of s w) (flight_sheet_of s w flight) w flight p
-refusals s (order.Desk (desk.Depart flight)) at = depart_refusals (s.flights flight) (loads_of s flight) flight
-refusals s (order.Desk (desk.CheckIn w flight counted)) at = check_in_refusals (sheet_of s w) (s.expected flight w) w counted
-refusals s (order.Desk (desk.Notify w name)) at = notify_refusals s.here (sheet_of s w) w
-refusals s (order.Desk (desk.Deliver w p name)) at = deliver_refusals s.here (sheet_of s w) w p
-refusals s (order.Desk (desk.Missing w p flight)) at = missing_refusals (sheet_of s w) w p
-refusals s (order.Desk (desk.Found w p t flight)) at = found_refusals (sheet_of s w) w p t
-refusals s (order.Desk (desk.Confirm upto)) at = confirm_refusals s.confirmed (length s.outbox) upto
-refusals s (order.Ffm f) at = part_refusals s f at
-refusals s (order.Fsu f) at = status_refusals (sheet_of s f.awb) f.awb
-
--- What a command does, where none of its refusals holds. Only the lines of a manifest may still be refused.
-abbrev pub outcome : Cargo → ShipmentCommand → LocalMinute → Result Outcome Refusal
-outcome s (order.Desk (desk.Book w origin destination p t goods)) at = declaring_outcome (sheet_of s w) w (booked origin destination p t goods)
-outcome s (order.Fwb c) at = declaring_outcome (sheet_of s c.awb) c.awb (declared_by c)
-outcome s (order.Desk (desk.Receive w p t name)) at = receive_outcome s.here (sheet_of s w) w p t name at
-outcome s (order.Desk (desk.Manifest w flight unload p)) at = manifest_outcome s.here (sheet_of s w) (flight_sheet_of s w flight) w flight unload p at
-outcome s (order.Desk (desk.Offload w flight p)) at = offload_outcome s.here (sheet_of s w) (flight_sheet_of s w flight) w flight p at
-outcome s (order.Desk (desk.Depart flight)) at = depart_outcome s.here (s.flights flight) (loads_of s flight) flight at
-outcome s (order.Desk (desk.CheckIn w flight counted)) at = check_in_outcome s.here (sheet_of s w) (s.expected flight w) w flight counted at
-outcome s (order.Desk (desk.Notify w name)) at = notify_outcome s.here (sheet_of s w) w name at
-outcome s (order.Desk (desk.Deliver w p name)) at = deliver_outcome s.here (sheet_of s w) w p name at
-outcome s (order.Desk (desk.Missing w p flight)) at = missing_outcome s.here (sheet_of s w) w p flight at
-outcome s (order.Desk (desk.Found w p t flight)) at = found_outcome s.here (sheet_of s w) w p t flight at
-outcome s (order.Desk (desk.Confirm upto)) at = confirm_outcome s.confirmed upto
-outcome s (order.Ffm f) at = part_outcome s f at
-outcome s (order.Fsu f) at = status_outcome f.awb f.lines
+-- the rule of each command in a state
+abbrev pub rule : Cargo → ShipmentCommand → LocalMinute → Rule
+rule s (order.Desk (desk.Book w origin destination p t goods)) at = declaring (declaration_view s w) w (booked origin destination p t goods)
+rule s (order.Fwb c) at = declaring (declaration_view s c.awb) c.awb (declared_by c)
+rule s (order.Desk (desk.Receive w p t name)) at = receiving s.here (waybill_view s w) w p t name at
+rule s (order.Desk (desk.Manifest w flight unload p)) at = manifesting s.here (waybill_view s w) (flight_view s w flight) w flight unload p at
+rule s (order.Desk (desk.Offload w flight p)) at = offloading s.here (s.declared w) (s.flights flight) (built s.book w flight) w flight p at
+rule s (order.Desk (desk.Depart flight)) at = departing s.here (s.flights flight) (loads_of s flight) flight at
+rule s (order.Desk (desk.CheckIn w flight counted)) at = checking_in s.here (waybill_view s w) (s.expected flight w) w flight counted at
+rule s (order.Desk (desk.Notify w name)) at = notifying s.here (waybill_view s w) w name at
+rule s (order.Desk (desk.Deliver w p name)) at = delivering s.here (waybill_view s w) w p name at
+rule s (order.Desk (desk.Missing w p flight)) at = recording_missing s.here (waybill_view s w) w p flight at
+rule s (order.Desk (desk.Found w p t flight)) at = recording_found s.here (waybill_view s w) w p t flight at
+rule s (order.Desk (desk.Confirm upto)) at = confirming s.confirmed (length s.outbox) upto
+rule s (order.Ffm f) at = announcing s f at
+rule s (order.Fsu f) at = noting_status (s.declared f.awb) f.awb f.lines
 
 -- The effect of a command on a state at a moment: the first refusal, or what it does.
 abbrev pub effect : Cargo → ShipmentCommand → LocalMinute → Result Outcome Refusal
-effect s command at = unless_refused (first_refusal (refusals s command at)) (outcome s command at)
+effect s command at = decided (rule s command at)
 
 -- the state afterwards, where the telegram in work has this text; the notices' texts aren't in the outbox yet
 abbrev pub carried_out : List ℕ → Outcome → Cargo → Cargo

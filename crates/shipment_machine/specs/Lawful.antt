@@ -1,5 +1,5 @@
 -- What holds of every state of a station.
-use Rattle.std.specs.Prelude.{◌≡◌, ℕ, ◌≤◌, Bool, true, false, ◌&&◌, ◌↔◌, IsTrue, IsSome, IfSome, ⊤, Some, List, [], ◌∷◌, length, All}
+use Rattle.std.specs.Prelude.{◌≡◌, ℕ, ◌≤◌, Bool, true, false, ◌&&◌, ◌↔◌, IsTrue, IsSome, IfSome, ⊤, Option, Some, List, [], ◌∷◌, length, All}
 use Rattle.std.specs.List.{AllByRecursion, list_any}
 use Rattle.std.specs.Str.{bytes_eq}
 use Rattle.shipment_machine.specs.declared.flight.FlightDate.{FlightDate}
@@ -11,7 +11,6 @@ use Rattle.shipment_machine.specs.declared.command.InboundLine.{InboundLine}
 use Rattle.shipment_machine.specs.declared.command.ShipmentCommand.{ShipmentCommand}
 use Rattle.shipment_machine.specs.declared.command.ShipmentCommand.TheVariants as order
 use Rattle.shipment_machine.specs.declared.command.DeskCommand.TheVariants as desk
-use Rattle.shipment_machine.specs.Flights.{same_flight_date}
 use Rattle.shipment_machine.specs.Book.{same_place, pieces_of, tenths_of, moved_in, moved_out, held, built, taken_and_found, waybills_on}
 use Rattle.shipment_machine.specs.Cargo.{Cargo}
 use Rattle.shipment_machine.specs.Amount.{fits}
@@ -48,6 +47,11 @@ abbrev pub IsNoted : Cargo → Place → Type 0
 IsNoted s (Built flight) = IsSome (s.flights flight)
 IsNoted s _ = ⊤
 
+-- a move from a built place, or to one, is told with its flight
+abbrev pub NamesFlight : Place → Option FlightDate → Type 0
+NamesFlight (Built flight) named = named ≡ Some flight
+NamesFlight _ named = ⊤
+
 -- a move that may be made, of a declared waybill and noted flights
 pub record IsLawfulMove (s : Cargo) (m : Move) : Type 0 where
   pub pair : IsTrue (is_pair m.from m.to)
@@ -56,6 +60,8 @@ pub record IsLawfulMove (s : Cargo) (m : Move) : Type 0 where
   pub declared : IsSome (s.declared m.awb)
   pub noted_from : IsNoted s m.from
   pub noted_to : IsNoted s m.to
+  pub names_from : NamesFlight m.from m.flight
+  pub names_to : NamesFlight m.to m.flight
 
 -- pieces and tenths that may be declared or expected
 pub record IsLawfulAmount (pieces tenths : ℕ) : Type 0 where
@@ -90,8 +96,6 @@ pub record IsLawful (s : Cargo) : Type 0 where
   pub empty : (flight : FlightDate) (w : ℕ) → IsTrue (is_closed (s.flights flight)) → (built s.book w flight).pieces ≡ 0
   pub room : (flight : FlightDate) → length (waybills_on s.book flight) ≤ 500
   pub outbound : (flight : FlightDate) → IfSome (s.flights flight) (λ o. bytes_eq o.unload s.here ≡ false)
-  -- one flight, however it is given
-  pub alike : (j k : FlightDate) → IsTrue (same_flight_date j k) → s.flights j ≡ s.flights k
   pub mark : s.confirmed ≤ length s.outbox
 
 -- whether the numbers of a command are ones that its types allow: each declared or announced line has a piece

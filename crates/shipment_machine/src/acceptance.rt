@@ -1,7 +1,7 @@
 //! What is declared and taken over.
 ghost use Rattle.std.specs.Prelude.{◌≡◌, ℕ, ◌≤◌, ◌++◌, Some, None, OnOk, if◌then◌else◌};
 ghost use Rattle.shipment_machine.specs.Amount.{amount, fits};
-ghost use Rattle.shipment_machine.specs.Effect.{unless_refused, first_refusal, at_desk_or_void, declare, declared_by, declaring, declaring_outcome, receive_refusals, receive_outcome};
+ghost use Rattle.shipment_machine.specs.Effect.{decided, at_desk_or_void, booked, declare, declared_by, declaring, receiving};
 ghost use Rattle.shipment_machine.specs.Agreement.{IsAnswer};
 ghost use Rattle.shipment_machine.specs.Claims.{claimed};
 
@@ -9,15 +9,16 @@ use crate::amount::{Amount, is_within};
 use crate::claim::Claim;
 use crate::command::CargoLine;
 use crate::drafting::{
-    Setting, add_move, add_notice, blank, fits_with, is_same, pieces_of, refuse_waybill, tenths_of,
+    PlanContext, add_move, add_notice, blank, fits_with, is_same, pieces_of, refuse_waybill,
+    tenths_of,
 };
 use crate::moves::{Declared, Place};
 use crate::notice::Event;
 use crate::plans::{Change, Plan, PlanFault};
-use crate::view::Sheet;
+use crate::view::{DeclarationView, WaybillView};
 use agent_stock::Holder;
 use awb_number::Awb;
-use imp_fields::{Name, Pieces, Tenths, book_weight, share};
+use imp_fields::{Airport, Goods, Name, Pieces, Tenths, book_weight, share};
 use std::alloc::AllocError;
 
 /// Whether a number is in stock with the desk, or void.
@@ -87,42 +88,63 @@ pub(crate) fn claim_of(line: &CargoLine) -> Claim
     }
 }
 
+/// What a booking declares: these pieces, with at least a tenth each.
+pub(crate) fn booked(
+    origin: Airport,
+    destination: Airport,
+    pieces: Pieces,
+    tenths: Tenths,
+    goods: Goods,
+) -> Claim
+    ensures value { claimed result ≡ booked origin destination pieces tenths goods }
+    ensures some { 1 ≤ result.pieces }
+    ensures own { 1 ≤ pieces }
+{
+    Claim {
+        origin,
+        destination,
+        pieces: pieces.number(),
+        tenths: u64::from(book_weight(pieces.number(), tenths.number())),
+        goods,
+    }
+}
+
 /// Declares a waybill, or declares it anew while it has no moves.
 pub(crate) fn book<'a>(
-    on: &Setting,
-    sheet: &Sheet,
+    on: &PlanContext,
+    view: &DeclarationView,
     awb: Awb,
     claim: &Claim,
 ) -> Result<Plan<'a>, PlanFault>
     requires { 1 ≤ claim.now.pieces }
-    ensures { IsAnswer result (unless_refused (first_refusal (declaring sheet.now awb (claimed claim.now))) (declaring_outcome sheet.now awb (claimed claim.now))) }
+    ensures { IsAnswer result (decided (declaring view.now awb (claimed claim.now))) }
 {
     let Some(declared) = declared_as(claim) else {
         return Err(refuse_waybill(217, awb));
     };
-    if sheet.declared.is_some() && sheet.has_moves {
+    if view.declared.is_some() && view.has_moves {
         return Err(refuse_waybill(202, awb));
     }
-    if is_at_desk_or_void(sheet.holder) {
+    if is_at_desk_or_void(view.holder) {
         return Err(refuse_waybill(203, awb));
     }
     let mut plan = blank(on.alloc, claim.pieces);
-    add_declaration(&mut plan.changes, sheet.holder, awb, declared)?;
+    add_declaration(&mut plan.changes, view.holder, awb, declared)?;
     Ok(plan)
 }
 
 /// Takes pieces over from the shipper or an agent.
 pub(crate) fn receive<'a>(
-    on: &Setting,
-    sheet: &Sheet,
+    on: &PlanContext,
+    view: &WaybillView,
     awb: Awb,
     pieces: Pieces,
     tenths: Tenths,
     name: Name,
 ) -> Result<Plan<'a>, PlanFault>
-    ensures { IsAnswer result (unless_refused (first_refusal (receive_refusals on.now.here sheet.now awb pieces tenths)) (receive_outcome on.now.here sheet.now awb pieces tenths name on.now.at)) }
+    ensures { IsAnswer result (decided (receiving on.now.here view.now awb pieces tenths name on.now.at)) }
 {
-    let Some(declared) = &sheet.declared else {
+    let Some(declared) = &view.declared else {
         return Err(refuse_waybill(201, awb));
     };
     if !is_same(declared.origin, on.here) {
@@ -133,11 +155,15 @@ pub(crate) fn receive<'a>(
         tenths: book_weight(pieces.number(), tenths.number()),
     };
     if u64::from(declared.pieces.number())
-        < u64::from(sheet.taken.pieces) + u64::from(amount.pieces)
+        < u64::from(view.balances.taken.pieces) + u64::from(amount.pieces)
     {
         return Err(refuse_waybill(205, awb));
     }
-    if !fits_with(sheet, u64::from(amount.pieces), u64::from(amount.tenths)) {
+    if !fits_with(
+        &view.balances,
+        u64::from(amount.pieces),
+        u64::from(amount.tenths),
+    ) {
         return Err(refuse_waybill(217, awb));
     }
     let event = Event::ReceivedFromShipper { name, at: on.at };

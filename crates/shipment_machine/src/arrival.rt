@@ -1,21 +1,22 @@
 //! What a flight brought.
 ghost use Rattle.std.specs.Prelude.{◌≡◌, ◌+◌, ◌-◌, ◌*◌, ◌/◌, ◌≤◌, ◌<◌, ◌^◌, Some, None, IfSome, IfOk, if◌then◌else◌};
 ghost use Rattle.shipment_machine.specs.Amount.{IsHeld, plus, fits};
-ghost use Rattle.shipment_machine.specs.Effect.{unless_refused, first_refusal, came_in, expected_amount, counted_in, uncounted, counted_more, check_in_moves, check_in_notices, check_in_refusals, check_in_outcome};
+ghost use Rattle.shipment_machine.specs.Effect.{decided, came_in, expected_amount, counted_in, uncounted, counted_more, check_in_moves, check_in_notices, checking_in};
 ghost use Rattle.shipment_machine.specs.Agreement.{IsAnswer};
 ghost use Rattle.shipment_machine.specs.Splits.{IsPartOf, GoesWith};
 ghost use Rattle.shipment_machine.specs.declared.notice.Event.TheVariants as event;
 
 use crate::amount::Amount;
+use crate::balances::Balances;
 use crate::command::PieceCount;
 use crate::drafting::{
-    Setting, add_move, add_notice, blank, fits_with, refuse_waybill, together, widened,
+    PlanContext, add_move, add_notice, blank, fits_with, refuse_waybill, together, widened,
 };
 use crate::flight::FlightDate;
 use crate::moves::{Declared, Expected, Move, Place};
 use crate::notice::{Event, Notice};
 use crate::plans::{Change, Plan, PlanFault};
-use crate::view::Sheet;
+use crate::view::WaybillView;
 use awb_number::Awb;
 use imp_fields::{Discrepancy, Moment, share};
 use std::alloc::AllocError;
@@ -64,17 +65,17 @@ fn tenths_beyond(whole: Amount, pieces: u32) -> u64
 }
 
 /// What was counted beyond the expected pieces, unless it is past what can be.
-fn more_of(sheet: &Sheet, whole: Amount, counted: u32) -> Option<Amount>
+fn more_of(balances: &Balances, whole: Amount, counted: u32) -> Option<Amount>
     requires held { IsHeld whole }
     requires some { 1 ≤ whole.pieces }
     requires few { counted ≤ 9999 }
-    ensures value { result ≡ (if fits (plus (came_in sheet.now) (plus whole (counted_more whole counted))) then Some (counted_more whole counted) else None) }
+    ensures value { result ≡ (if fits (plus (came_in balances.now) (plus whole (counted_more whole counted))) then Some (counted_more whole counted) else None) }
     ensures fitting { IfSome result (GoesWith whole) }
 {
     let pieces = counted.saturating_sub(whole.pieces);
     let tenths = tenths_beyond(whole, pieces);
     if !fits_with(
-        sheet,
+        balances,
         widened(whole.pieces) + widened(pieces),
         widened(whole.tenths) + tenths,
     ) {
@@ -99,7 +100,7 @@ fn differs(flight: &FlightDate, at: Moment, discrepancy: Discrepancy) -> Event
 
 /// The moves of a check-in.
 fn moves_in(
-    on: &Setting,
+    on: &PlanContext,
     awb: Awb,
     flight: &FlightDate,
     whole: Amount,
@@ -147,7 +148,7 @@ fn moves_in(
 
 /// The status messages of a check-in.
 fn notices_in(
-    on: &Setting,
+    on: &PlanContext,
     declared: &Declared,
     awb: Awb,
     flight: &FlightDate,
@@ -179,17 +180,17 @@ fn notices_in(
 
 /// Takes over what was counted of a waybill that a flight brought.
 pub(crate) fn check_in<'a>(
-    on: &Setting,
-    sheet: &Sheet,
+    on: &PlanContext,
+    view: &WaybillView,
     expected: &Option<Expected>,
     awb: Awb,
     flight: &FlightDate,
     counted: PieceCount,
 ) -> Result<Plan<'a>, PlanFault>
     requires { IsHeld (expected_amount expected.now) }
-    ensures { IsAnswer result (unless_refused (first_refusal (check_in_refusals sheet.now expected.now awb counted)) (check_in_outcome on.now.here sheet.now expected.now awb flight.now counted on.now.at)) }
+    ensures { IsAnswer result (decided (checking_in on.now.here view.now expected.now awb flight.now counted on.now.at)) }
 {
-    let Some(declared) = &sheet.declared else {
+    let Some(declared) = &view.declared else {
         return Err(refuse_waybill(201, awb));
     };
     let Some(row) = expected else {
@@ -202,7 +203,7 @@ pub(crate) fn check_in<'a>(
         pieces: row.pieces.number(),
         tenths: row.tenths.number(),
     };
-    let Some(more) = more_of(sheet, whole, counted.number()) else {
+    let Some(more) = more_of(&view.balances, whole, counted.number()) else {
         return Err(refuse_waybill(217, awb));
     };
     let mut plan = blank(on.alloc, counted.number());

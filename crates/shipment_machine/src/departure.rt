@@ -1,26 +1,26 @@
 //! What leaves with a flight.
 ghost use Rattle.std.specs.Prelude.{◌≡◌, ◌==◌, false, ◌+◌, ◌*◌, ◌≤◌, ◌<◌, All, IsSome, IfOk, map, length};
 ghost use Rattle.std.specs.List.{flat_map, sum_by};
-ghost use Rattle.shipment_machine.specs.Effect.{unless_refused, first_refusal, depart_refusals, depart_outcome, depart_moves, manifest_line, told};
+ghost use Rattle.shipment_machine.specs.Effect.{decided, departing, depart_moves, manifest_line, told};
 ghost use Rattle.shipment_machine.specs.Agreement.{IsAnswer};
 ghost use Rattle.shipment_machine.specs.OnBoard.{IsOnBoard};
 ghost use Rattle.shipment_machine.specs.declared.notice.Event.TheVariants as event;
 
 use crate::drafting::{
-    Setting, add_move, add_notice, blank, consigned_as, pieces_of, refuse_flight, tenths_of,
+    PlanContext, add_move, add_notice, blank, consigned_as, pieces_of, refuse_flight, tenths_of,
 };
 use crate::flight::FlightDate;
 use crate::moves::{Move, Outbound, Place};
 use crate::notice::{Event, ManifestLine, ManifestLines, Notice};
 use crate::plans::{Change, Plan, PlanFault};
-use crate::view::{Aboard, Loads};
+use crate::view::{FlightLoad, Loads};
 use imp_fields::Airport;
 use std::alloc::AllocError;
 
 /// The moves of a departure: each waybill leaves with all that is built of it.
 fn departing_moves(
-    on: &Setting,
-    loads: &[Aboard],
+    on: &PlanContext,
+    loads: &[FlightLoad],
     flight: &FlightDate,
 ) -> Result<Vec<Move>, AllocError>
     requires { All IsOnBoard loads.now }
@@ -44,8 +44,8 @@ fn departing_moves(
 
 /// The status messages of a departure.
 fn departing_notices(
-    on: &Setting,
-    loads: &[Aboard],
+    on: &PlanContext,
+    loads: &[FlightLoad],
     flight: &FlightDate,
     unload: Airport,
 ) -> Result<Vec<Notice>, AllocError>
@@ -71,7 +71,7 @@ fn departing_notices(
 }
 
 /// A waybill on a manifest.
-fn line_of(aboard: &Aboard) -> ManifestLine
+fn line_of(aboard: &FlightLoad) -> ManifestLine
     requires { IsOnBoard aboard.now }
     ensures { result ≡ manifest_line aboard.now }
 {
@@ -84,7 +84,7 @@ fn line_of(aboard: &Aboard) -> ManifestLine
 }
 
 /// The lines of the manifest.
-fn lines_of(on: &Setting, loads: &[Aboard]) -> Result<ManifestLines, AllocError>
+fn lines_of(on: &PlanContext, loads: &[FlightLoad]) -> Result<ManifestLines, AllocError>
     requires on_board { All IsOnBoard loads.now }
     requires few { length loads.now ≤ 500 }
     ensures { IfOk result (λ lines. lines ≡ map manifest_line loads.now) }
@@ -97,7 +97,7 @@ fn lines_of(on: &Setting, loads: &[Aboard]) -> Result<ManifestLines, AllocError>
 }
 
 /// How many pieces leave.
-fn pieces_aboard(loads: &[Aboard]) -> u32
+fn pieces_aboard(loads: &[FlightLoad]) -> u32
     requires on_board { All IsOnBoard loads.now }
     requires few { length loads.now ≤ 500 }
     ensures { result ≡ sum_by (λ a. a.load.pieces) loads.now }
@@ -111,14 +111,14 @@ fn pieces_aboard(loads: &[Aboard]) -> u32
 
 /// Sends a flight off with all that is built on it.
 pub(crate) fn depart<'a>(
-    on: &Setting,
+    on: &PlanContext,
     outbound: &Option<Outbound>,
     loads: &Loads,
     flight: &FlightDate,
 ) -> Result<Plan<'a>, PlanFault>
     requires on_board { All IsOnBoard loads.now }
     requires noted { (length loads.now == 0) ≡ false → IsSome outbound.now }
-    ensures { IsAnswer result (unless_refused (first_refusal (depart_refusals outbound.now loads.now flight.now)) (depart_outcome on.now.here outbound.now loads.now flight.now on.now.at)) }
+    ensures { IsAnswer result (decided (departing on.now.here outbound.now loads.now flight.now on.now.at)) }
 {
     let loads = loads.as_slice();
     if let Some(noted) = outbound

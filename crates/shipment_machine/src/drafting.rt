@@ -7,18 +7,18 @@ ghost use Rattle.shipment_machine.specs.Effect.{about as waybill_refusal, only_f
 ghost use Rattle.shipment_machine.specs.declared.plans.PlanFault.TheVariants as fault;
 
 use crate::amount::{Amount, is_within};
+use crate::balances::Balances;
 use crate::flight::FlightDate;
 use crate::moves::{Declared, Move, Place};
 use crate::notice::{Event, Notice};
 use crate::plans::{Detail, Plan, PlanFault, Refusal};
-use crate::view::Sheet;
 use awb_number::Awb;
 use imp_fields::{Airport, BookTenths, Consigned, Moment, Pieces};
 use std::alloc::{AllocError, Global};
 
 /// What each command is planned with: the memory, the station and the moment.
 #[derive(Clone, Copy)]
-pub(crate) struct Setting {
+pub(crate) struct PlanContext {
     pub(crate) alloc: Global,
     pub(crate) here: Airport,
     pub(crate) at: Moment,
@@ -71,14 +71,14 @@ pub(crate) fn widened(number: u32) -> u64
 }
 
 /// Whether what was taken over and found is still within bounds with so much more.
-pub(crate) fn fits_with(sheet: &Sheet, pieces: u64, tenths: u64) -> bool
+pub(crate) fn fits_with(balances: &Balances, pieces: u64, tenths: u64) -> bool
     requires few { pieces < 2 ^ 62 }
     requires light { tenths < 2 ^ 62 }
-    ensures { result ≡ fits (plus (came_in sheet.now) (amount pieces tenths)) }
+    ensures { result ≡ fits (plus (came_in balances.now) (amount pieces tenths)) }
 {
     is_within(
-        widened(sheet.taken.pieces) + widened(sheet.found.pieces) + pieces,
-        widened(sheet.taken.tenths) + widened(sheet.found.tenths) + tenths,
+        widened(balances.taken.pieces) + widened(balances.found.pieces) + pieces,
+        widened(balances.taken.tenths) + widened(balances.found.tenths) + tenths,
     )
 }
 

@@ -1,40 +1,43 @@
 //! What the consignee is told and given.
 ghost use Rattle.std.specs.Prelude.{◌≡◌};
 ghost use Rattle.shipment_machine.specs.Amount.{IsHeld};
-ghost use Rattle.shipment_machine.specs.Effect.{unless_refused, first_refusal, notify_refusals, notify_outcome, deliver_refusals, deliver_outcome};
+ghost use Rattle.shipment_machine.specs.Effect.{decided, notifying, delivering};
 ghost use Rattle.shipment_machine.specs.Agreement.{IsAnswer};
 
 use crate::amount::part_of;
-use crate::drafting::{Setting, add_move, add_notice, blank, is_same, refuse_free, refuse_waybill};
+use crate::drafting::{
+    PlanContext, add_move, add_notice, blank, is_same, refuse_free, refuse_waybill,
+};
 use crate::moves::{Declared, Place};
 use crate::notice::Event;
 use crate::plans::{Change, Plan, PlanFault};
-use crate::view::Sheet;
+use crate::view::WaybillView;
 use awb_number::Awb;
 use imp_fields::{Name, Pieces};
 
 /// Notifies the consignee of all that is free.
 pub(crate) fn notify<'a>(
-    on: &Setting,
-    sheet: &Sheet,
+    on: &PlanContext,
+    view: &WaybillView,
     awb: Awb,
     name: Name,
 ) -> Result<Plan<'a>, PlanFault>
-    requires { IsHeld sheet.now.free }
-    ensures { IsAnswer result (unless_refused (first_refusal (notify_refusals on.now.here sheet.now awb)) (notify_outcome on.now.here sheet.now awb name on.now.at)) }
+    requires { IsHeld view.now.balances.free }
+    ensures { IsAnswer result (decided (notifying on.now.here view.now awb name on.now.at)) }
 {
-    let Some(declared) = &sheet.declared else {
+    let Some(declared) = &view.declared else {
         return Err(refuse_waybill(201, awb));
     };
     if !is_same(declared.destination, on.here) {
         return Err(refuse_waybill(204, awb));
     }
-    if sheet.free.pieces == 0 {
-        return Err(refuse_free(sheet.free));
+    let free = view.balances.free;
+    if free.pieces == 0 {
+        return Err(refuse_free(free));
     }
     let event = Event::Notified { name, at: on.at };
-    let mut plan = blank(on.alloc, sheet.free.pieces);
-    add_notice(&mut plan.notices, on.here, awb, declared, event, sheet.free)?;
+    let mut plan = blank(on.alloc, free.pieces);
+    add_notice(&mut plan.notices, on.here, awb, declared, event, free)?;
     plan.changes.push(Change::Declare {
         awb,
         declared: Declared {
@@ -47,16 +50,16 @@ pub(crate) fn notify<'a>(
 
 /// Hands free pieces to the consignee, who was notified.
 pub(crate) fn deliver<'a>(
-    on: &Setting,
-    sheet: &Sheet,
+    on: &PlanContext,
+    view: &WaybillView,
     awb: Awb,
     pieces: Pieces,
     name: Name,
 ) -> Result<Plan<'a>, PlanFault>
-    requires { IsHeld sheet.now.free }
-    ensures { IsAnswer result (unless_refused (first_refusal (deliver_refusals on.now.here sheet.now awb pieces)) (deliver_outcome on.now.here sheet.now awb pieces name on.now.at)) }
+    requires { IsHeld view.now.balances.free }
+    ensures { IsAnswer result (decided (delivering on.now.here view.now awb pieces name on.now.at)) }
 {
-    let Some(declared) = &sheet.declared else {
+    let Some(declared) = &view.declared else {
         return Err(refuse_waybill(201, awb));
     };
     if !is_same(declared.destination, on.here) {
@@ -65,10 +68,11 @@ pub(crate) fn deliver<'a>(
     if !declared.notified {
         return Err(refuse_waybill(210, awb));
     }
-    if sheet.free.pieces < pieces.number() {
-        return Err(refuse_free(sheet.free));
+    let free = view.balances.free;
+    if free.pieces < pieces.number() {
+        return Err(refuse_free(free));
     }
-    let part = part_of(sheet.free, pieces.number());
+    let part = part_of(free, pieces.number());
     let event = Event::Delivered { name, at: on.at };
     let mut plan = blank(on.alloc, pieces.number());
     add_move(

@@ -14,11 +14,11 @@ ghost use Rattle.shipment_machine.specs.declared.plans.Change.TheVariants as cha
 use crate::acceptance::{add_declaration, claim_of, declared_as, is_at_desk_or_void};
 use crate::amount::is_within;
 use crate::command::{CargoLine, CargoRef, InboundLine, InboundPart};
-use crate::drafting::{Setting, blank, is_same, pieces_of, refuse_waybill, tenths_of, widened};
+use crate::drafting::{PlanContext, blank, is_same, pieces_of, refuse_waybill, tenths_of, widened};
 use crate::flight::FlightDate;
 use crate::moves::{Declared, Expected, Part};
 use crate::plans::{Change, Detail, Plan, PlanFault, Refusal};
-use crate::view::{LineRow, LineRows};
+use crate::view::{LineView, LineViews};
 use agent_stock::Holder;
 use awb_number::Awb;
 use imp_fields::{Airport, LocalDay, Why, book_weight};
@@ -54,7 +54,7 @@ fn expected_with(so_far: Option<Expected>, line: &CargoLine) -> Option<Expected>
 }
 
 /// Tests a line after those before it. `before` is what is expected of its waybill by an earlier line.
-fn find(before: Option<Expected>, line: &CargoLine, row: &LineRow) -> Result<Finding, PlanFault>
+fn find(before: Option<Expected>, line: &CargoLine, row: &LineView) -> Result<Finding, PlanFault>
     ensures due { OnOk result (refusal_now before line.now row.now ≡ None) }
     ensures declared { IfOk result (λ finding. finding.declared ≡ (if is_new before row.now then Some (declared_by line.now) else None)) }
     ensures expected { IfOk result (λ finding. finding.expected ≡ expected_now before line.now row.now) }
@@ -117,7 +117,7 @@ fn add_line<'a>(
     earlier: &mut HashMap<u64, Expected>,
     flight: &FlightDate,
     line: &CargoLine,
-    row: &LineRow,
+    row: &LineView,
 ) -> Result<(), PlanFault>
     ensures due { OnOk result (refusal_now (get nat_eq earlier.old line.now.awb) line.now row.now ≡ None) }
     ensures changes { OnOk result (changes.new.items ≡ changes.old.items ++ changes_now (get nat_eq earlier.old line.now.awb) flight.now line.now row.now) }
@@ -157,7 +157,7 @@ pub(crate) fn announced<'a>(
     alloc: Global,
     flight: &FlightDate,
     lines: &[CargoRef<'_>],
-    rows: &[LineRow],
+    rows: &[LineView],
 ) -> Result<Vec<Change<'a>>, PlanFault>
     requires { length rows.now ≡ length lines.now }
     ensures ok { IfOk result (λ changes. announced_changes no_earlier flight.now lines.now rows.now ≡ Ok changes.items) }
@@ -200,9 +200,9 @@ fn no_day() -> PlanFault
 
 /// Takes a part of a manifest, whose date means this day: all its lines for here count, or none.
 pub(crate) fn announce<'a>(
-    on: &Setting,
+    on: &PlanContext,
     taken: bool,
-    rows: &LineRows,
+    rows: &LineViews,
     part: &InboundPart<'_>,
     meant: Option<u32>,
 ) -> Result<Plan<'a>, PlanFault>

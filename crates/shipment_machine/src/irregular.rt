@@ -1,18 +1,19 @@
 //! What is missing and found.
 ghost use Rattle.std.specs.Prelude.{◌≡◌, ◌+◌, ◌≤◌, ◌++◌, OnOk, min};
 ghost use Rattle.shipment_machine.specs.Amount.{IsHeld, part};
-ghost use Rattle.shipment_machine.specs.Effect.{unless_refused, first_refusal, surplus, told_differs, missing_refusals, missing_outcome, found_refusals, found_outcome};
+ghost use Rattle.shipment_machine.specs.Effect.{decided, surplus, told_differs, recording_missing, recording_found};
 ghost use Rattle.shipment_machine.specs.Agreement.{IsAnswer};
+ghost use Rattle.shipment_machine.specs.FitsCommand.{AreSound};
 
 use crate::amount::{Amount, part_of};
 use crate::drafting::{
-    Setting, add_move, add_notice, blank, fits_with, refuse_free, refuse_waybill, together,
+    PlanContext, add_move, add_notice, blank, fits_with, refuse_free, refuse_waybill, together,
 };
 use crate::flight::FlightDate;
 use crate::moves::{Declared, Place};
 use crate::notice::{Event, Notice};
 use crate::plans::{Plan, PlanFault};
-use crate::view::Sheet;
+use crate::view::WaybillView;
 use awb_number::Awb;
 use imp_fields::{Discrepancy, Pieces, Tenths, book_weight};
 use std::alloc::AllocError;
@@ -53,7 +54,7 @@ fn returned(missing: Amount, pieces: u32) -> Amount
 /// Adds a discrepancy, where a flight is named.
 fn add_discrepancy(
     notices: &mut Vec<Notice>,
-    on: &Setting,
+    on: &PlanContext,
     awb: Awb,
     declared: &Declared,
     flight: &Option<FlightDate>,
@@ -76,22 +77,23 @@ fn add_discrepancy(
 
 /// Records free pieces as missing.
 pub(crate) fn record_missing<'a>(
-    on: &Setting,
-    sheet: &Sheet,
+    on: &PlanContext,
+    view: &WaybillView,
     awb: Awb,
     pieces: Pieces,
     flight: &Option<FlightDate>,
 ) -> Result<Plan<'a>, PlanFault>
-    requires { IsHeld sheet.now.free }
-    ensures { IsAnswer result (unless_refused (first_refusal (missing_refusals sheet.now awb pieces)) (missing_outcome on.now.here sheet.now awb pieces flight.now on.now.at)) }
+    requires { IsHeld view.now.balances.free }
+    ensures { IsAnswer result (decided (recording_missing on.now.here view.now awb pieces flight.now on.now.at)) }
 {
-    let Some(declared) = &sheet.declared else {
+    let Some(declared) = &view.declared else {
         return Err(refuse_waybill(201, awb));
     };
-    if sheet.free.pieces < pieces.number() {
-        return Err(refuse_free(sheet.free));
+    let free = view.balances.free;
+    if free.pieces < pieces.number() {
+        return Err(refuse_free(free));
     }
-    let part = part_of(sheet.free, pieces.number());
+    let part = part_of(free, pieces.number());
     let lost = Discrepancy::Missing;
     let mut plan = blank(on.alloc, pieces.number());
     add_move(
@@ -109,28 +111,32 @@ pub(crate) fn record_missing<'a>(
 
 /// Records pieces as found: missing ones first, the others as a surplus.
 pub(crate) fn record_found<'a>(
-    on: &Setting,
-    sheet: &Sheet,
+    on: &PlanContext,
+    view: &WaybillView,
     awb: Awb,
     pieces: Pieces,
     tenths: Tenths,
     flight: &Option<FlightDate>,
 ) -> Result<Plan<'a>, PlanFault>
-    requires held { IsHeld sheet.now.missing }
-    requires within { sheet.now.missing.tenths ≤ sheet.now.taken.tenths + sheet.now.found.tenths }
-    ensures { IsAnswer result (unless_refused (first_refusal (found_refusals sheet.now awb pieces tenths)) (found_outcome on.now.here sheet.now awb pieces tenths flight.now on.now.at)) }
+    requires { AreSound view.now.balances }
+    ensures { IsAnswer result (decided (recording_found on.now.here view.now awb pieces tenths flight.now on.now.at)) }
 {
-    let Some(declared) = &sheet.declared else {
+    let Some(declared) = &view.declared else {
         return Err(refuse_waybill(201, awb));
     };
+    let missing = view.balances.missing;
     let more = surplus_of(
-        pieces.number().saturating_sub(sheet.missing.pieces),
+        pieces.number().saturating_sub(missing.pieces),
         tenths.number(),
     );
-    if !fits_with(sheet, u64::from(more.pieces), u64::from(more.tenths)) {
+    if !fits_with(
+        &view.balances,
+        u64::from(more.pieces),
+        u64::from(more.tenths),
+    ) {
         return Err(refuse_waybill(217, awb));
     }
-    let back = returned(sheet.missing, pieces.number());
+    let back = returned(missing, pieces.number());
     let both = together(back, more);
     let seen = Discrepancy::Found;
     let mut plan = blank(on.alloc, pieces.number());

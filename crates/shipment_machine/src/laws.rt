@@ -1,10 +1,11 @@
 //! Laws over the definitions alone.
-ghost use Rattle.std.specs.Prelude.{ℕ, List};
+ghost use Rattle.std.specs.Prelude.{◌≡◌, ℕ, List};
 ghost use Rattle.shipment_machine.specs.declared.moves.Move.{Move};
-ghost use Rattle.shipment_machine.specs.Book.{pieces_of, tenths_of};
+ghost use Rattle.shipment_machine.specs.Book.{pieces_of, tenths_of, waybills_of, has_moves};
 ghost use Rattle.shipment_machine.specs.Cargo.{Cargo, opening_cargo};
 ghost use Rattle.shipment_machine.specs.Lawful.{IsLawful};
-ghost use Rattle.shipment_machine.specs.Laws.{BalancesAgree, IsConserved, KeepsLawful};
+ghost use Rattle.shipment_machine.specs.Numbers.{IsAscending, is_in};
+ghost use Rattle.shipment_machine.specs.Laws.{AreBalances, BalancesAgree, IsConserved, KeepsLawful};
 
 /// For each waybill what was taken over or found is in store, departed, delivered or missing, in any list of moves.
 pub fn balance_law()
@@ -26,4 +27,16 @@ pub fn opening_law()
 /// Whatever is done, a lawful state stays lawful.
 pub fn lawful_law()
     ensures { KeepsLawful }
+{}
+
+/// The waybills of a book are its moves' waybills, ascending, each once.
+pub fn waybills_law()
+    ensures ascending { (book : List Move) → IsAscending (waybills_of book) }
+    ensures moved { (book : List Move) (w : ℕ) → is_in w (waybills_of book) ≡ has_moves book w }
+{}
+
+/// In a lawful state each amount that is shown of a waybill is a balance of the book: what was taken over and found are those of the
+/// places outside with the other sign, and the others are those of their places.
+pub fn amounts_law()
+    ensures { (s : Cargo) (w : ℕ) → IsLawful s → AreBalances s.book w }
 {}

@@ -4,10 +4,12 @@
 mod acceptance;
 mod amount;
 mod arrival;
+mod balances;
 mod claim;
 mod command;
 mod departure;
 mod drafting;
+mod fitting;
 mod flight;
 mod handover;
 mod inbound;
@@ -23,6 +25,7 @@ mod text;
 mod view;
 
 pub use amount::Amount;
+pub use balances::Balances;
 pub use command::{
     CargoLine, CargoRef, DeskCommand, DeskRef, InboundLine, InboundLines, InboundPart,
     InboundStatus, PieceCount, ShipmentCommand, TrailLines,
@@ -33,15 +36,6 @@ pub use notice::{Event, ManifestLine, ManifestLines, Notice};
 pub use planning::plan;
 pub use plans::{Change, Detail, Plan, PlanFault, Refusal};
 pub use text::Text;
-pub use view::{Aboard, FlightSheet, LineRow, LineRows, Loads, Rows, Sheet, View};
-
-#[cfg(test)]
-mod message_tests;
-#[cfg(test)]
-mod plan_tests;
-#[cfg(test)]
-mod samples;
-#[cfg(test)]
-mod seen;
-#[cfg(test)]
-mod tests;
+pub use view::{
+    DeclarationView, FlightLoad, FlightView, LineView, LineViews, Loads, Rows, View, WaybillView,
+};

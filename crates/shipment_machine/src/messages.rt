@@ -1,19 +1,23 @@
 //! Messages that were sent, and status messages that arrived.
 ghost use Rattle.std.specs.Prelude.{◌≡◌, IfOk, map};
-ghost use Rattle.shipment_machine.specs.Effect.{unless_refused, first_refusal, confirm_refusals, confirm_outcome, status_refusals, status_outcome};
+ghost use Rattle.shipment_machine.specs.Effect.{decided, confirming, noting_status};
 ghost use Rattle.shipment_machine.specs.declared.plans.Change.TheVariants as change;
 ghost use Rattle.shipment_machine.specs.Agreement.{IsAnswer};
 
 use crate::command::InboundStatus;
-use crate::drafting::{Setting, blank, refuse_waybill};
+use crate::drafting::{PlanContext, blank, refuse_waybill};
+use crate::moves::Declared;
 use crate::plans::{Change, Detail, Plan, PlanFault, Refusal};
 use crate::text::Text;
-use crate::view::Sheet;
 use awb_number::Awb;
 use std::alloc::AllocError;
 
 /// The rows of a status message: its lines join the trail.
-fn trail_of<'a>(on: &Setting, awb: Awb, lines: &[Text<'a>]) -> Result<Vec<Change<'a>>, AllocError>
+fn trail_of<'a>(
+    on: &PlanContext,
+    awb: Awb,
+    lines: &[Text<'a>],
+) -> Result<Vec<Change<'a>>, AllocError>
     ensures { IfOk result (λ changes. changes.items ≡ map (λ line. change.Trail awb line) lines.now) }
 {
     let mut changes = Vec::new(on.alloc);
@@ -28,13 +32,13 @@ fn trail_of<'a>(on: &Setting, awb: Awb, lines: &[Text<'a>]) -> Result<Vec<Change
 
 /// Adds the lines of a status message to the trail of a waybill.
 pub(crate) fn note_status<'a>(
-    on: &Setting,
-    sheet: &Sheet,
+    on: &PlanContext,
+    declared: &Option<Declared>,
     status: &InboundStatus<'a>,
 ) -> Result<Plan<'a>, PlanFault>
-    ensures { IsAnswer result (unless_refused (first_refusal (status_refusals sheet.now status.now.awb)) (status_outcome status.now.awb status.now.lines)) }
+    ensures { IsAnswer result (decided (noting_status declared.now status.now.awb status.now.lines)) }
 {
-    if sheet.declared.is_none() {
+    if declared.is_none() {
         return Err(refuse_waybill(201, status.awb));
     }
     let lines = status.lines.as_slice();
@@ -45,12 +49,12 @@ pub(crate) fn note_status<'a>(
 
 /// Confirms the messages up to a number.
 pub(crate) fn confirm<'a>(
-    on: &Setting,
+    on: &PlanContext,
     confirmed: u32,
     last: u32,
     upto: u32,
 ) -> Result<Plan<'a>, PlanFault>
-    ensures { IsAnswer result (unless_refused (first_refusal (confirm_refusals confirmed last upto)) (confirm_outcome confirmed upto)) }
+    ensures { IsAnswer result (decided (confirming confirmed last upto)) }
 {
     if upto < confirmed || last < upto {
         return Err(PlanFault::Refused(Refusal {

@@ -85,6 +85,8 @@ pub enum PlanFault {
     Refused(Refusal),
     /// Out of memory: this says nothing of the command.
     Memory,
+    /// The view is none that a lawful state has for the command.
+    Unfit,
 }
 
 impl From<AllocError> for PlanFault {

@@ -1,40 +1,43 @@
 ghost use Rattle.std.specs.Prelude.{◌≡◌, ◌≤◌, ◌↔◌, length, IsSome, IfSome};
 
 use crate::amount::Amount;
+use crate::balances::Balances;
 use crate::moves::{Declared, Expected, Outbound};
 use agent_stock::Holder;
 use awb_number::Awb;
 use imp_fields::Airport;
 use std::marker::Model;
 
-/// A waybill with its balances and its holder.
+/// What the declaration of a waybill is planned from.
 #[derive(Clone, Copy, Debug)]
-pub struct Sheet {
+pub struct DeclarationView {
     pub declared: Option<Declared>,
-    /// Whether the book has a move of it. Its balances don't tell: pieces may have gone to the
+    /// Whether the book has a move of it. Its balances don't say so: pieces may have gone to the
     /// missing and come back.
     pub has_moves: bool,
-    pub taken: Amount,
-    pub found: Amount,
-    pub free: Amount,
-    pub missing: Amount,
     pub holder: Option<Holder>,
 }
 
-/// A flight, seen from one waybill.
+/// A waybill with its balances.
 #[derive(Clone, Copy, Debug)]
-pub struct FlightSheet {
+pub struct WaybillView {
+    pub declared: Option<Declared>,
+    pub balances: Balances,
+}
+
+/// A flight, seen from a waybill that is to be built on it.
+#[derive(Clone, Copy, Debug)]
+pub struct FlightView {
     pub outbound: Option<Outbound>,
     /// How many waybills are built on it.
     pub waybills: u16,
     /// What of this waybill is built on it.
     pub load: Amount,
-    pub expected: Option<Expected>,
 }
 
 /// A waybill that is built on a flight.
 #[derive(Clone, Copy, Debug)]
-pub struct Aboard {
+pub struct FlightLoad {
     pub awb: Awb,
     pub declared: Declared,
     pub load: Amount,
@@ -43,14 +46,14 @@ pub struct Aboard {
 /// All waybills on a flight, their numbers rising, 500 at most.
 #[derive(Drop)]
 pub struct Loads {
-    loads: Vec<Aboard>,
+    loads: Vec<FlightLoad>,
 }
 
 impl Model for Loads {
     ghost use Rattle.std.specs.Prelude.{List, ◌≤◌, length};
-    ghost use Rattle.shipment_machine.specs.declared.view.Aboard.{Aboard};
+    ghost use Rattle.shipment_machine.specs.declared.view.FlightLoad.{FlightLoad};
 
-    ghost Value = { List Aboard };
+    ghost Value = { List FlightLoad };
 
     ghost view = { λ a. a.loads.items };
 
@@ -59,7 +62,7 @@ impl Model for Loads {
 
 impl Loads {
     /// None where there are more than 500.
-    pub fn new(loads: Vec<Aboard>) -> Option<Loads>
+    pub fn new(loads: Vec<FlightLoad>) -> Option<Loads>
         ensures in_range { IsSome result ↔ (length loads.items ≤ 500) }
         ensures value { IfSome result (λ kept. kept ≡ loads.items) }
     {
@@ -71,7 +74,7 @@ impl Loads {
     }
 
     /// The waybills, in their order.
-    pub fn as_slice(&self) -> &[Aboard]
+    pub fn as_slice(&self) -> &[FlightLoad]
         ensures value { result.now ≡ self.now }
         ensures in_range { length result.now ≤ 500 }
     {
@@ -81,7 +84,7 @@ impl Loads {
 
 /// What is kept of the waybill of a manifest's line.
 #[derive(Clone, Copy, Debug)]
-pub struct LineRow {
+pub struct LineView {
     pub declared: Option<Declared>,
     pub holder: Option<Holder>,
     pub expected: Option<Expected>,
@@ -89,57 +92,80 @@ pub struct LineRow {
 
 /// What is kept of each line of a manifest, in its order.
 #[derive(Drop)]
-pub struct LineRows {
-    rows: Vec<LineRow>,
+pub struct LineViews {
+    rows: Vec<LineView>,
 }
 
-impl Model for LineRows {
+impl Model for LineViews {
     ghost use Rattle.std.specs.Prelude.{List};
-    ghost use Rattle.shipment_machine.specs.declared.view.LineRow.{LineRow};
+    ghost use Rattle.shipment_machine.specs.declared.view.LineView.{LineView};
 
-    ghost Value = { List LineRow };
+    ghost Value = { List LineView };
 
     ghost view = { λ a. a.rows.items };
 }
 
-impl LineRows {
+impl LineViews {
     /// These rows, in the order of the lines.
-    pub fn new(rows: Vec<LineRow>) -> LineRows
+    pub fn new(rows: Vec<LineView>) -> LineViews
         ensures { result ≡ rows.items }
     {
-        LineRows { rows }
+        LineViews { rows }
     }
 
     /// The rows, in the order of the lines.
-    pub fn as_slice(&self) -> &[LineRow]
+    pub fn as_slice(&self) -> &[LineView]
         ensures { result.now ≡ self.now }
     {
         self.rows.as_slice()
     }
 }
 
-/// The rows that a command needs.
+/// What a command reads, and no more.
 #[derive(Drop)]
 pub enum Rows {
-    /// A waybill, and the flight that the command names.
-    One {
-        sheet: Sheet,
-        flight: Option<FlightSheet>,
+    /// A booking, or an FWB: the waybill that is declared.
+    Declaration {
+        waybill: DeclarationView,
     },
-    /// A flight, and what is built on it.
-    Loads {
+    /// A receipt, a notice, a delivery, missing or found pieces: the waybill.
+    Waybill {
+        waybill: WaybillView,
+    },
+    /// A manifest: the waybill and the flight that it is built on.
+    Manifest {
+        waybill: WaybillView,
+        flight: FlightView,
+    },
+    /// An offload: what is declared of the waybill, and what of it is built on the flight.
+    Offload {
+        declared: Option<Declared>,
+        outbound: Option<Outbound>,
+        load: Amount,
+    },
+    /// A departure: the flight, and what is built on it.
+    Departure {
         outbound: Option<Outbound>,
         loads: Loads,
     },
-    /// Whether the part was taken, and each line for here. No day: nothing.
-    Lines {
-        taken: bool,
-        lines: LineRows,
+    /// A check-in: the waybill, and what the flight brings of it.
+    CheckIn {
+        waybill: WaybillView,
+        expected: Option<Expected>,
     },
-    /// The mark of what was confirmed, and the number of the last message.
+    /// A confirmation: the mark of what was confirmed, and the number of the last message.
     Messages {
         confirmed: u32,
         last: u32,
+    },
+    /// A part of a manifest: whether the part was taken, and each line for here. Where its date means no day: nothing.
+    Lines {
+        taken: bool,
+        lines: LineViews,
+    },
+    /// A status update: what is declared of the waybill.
+    Status {
+        declared: Option<Declared>,
     },
 }
 

@@ -1,10 +1,7 @@
 use Rattle.plain_cargo.proofs.cargo.PlainCargo.desk_rows.Goals as goal
 
 pub returns-in-Manifest : goal.returns-in-Manifest
-returns-in-Manifest c = rw c.in-Manifest.is c.flight_rows.ensures
+returns-in-Manifest c = rw c.in-Manifest.is c.manifest_rows.ensures
 
 pub returns-in-Offload : goal.returns-in-Offload
-returns-in-Offload c = rw c.in-Offload.is c.flight_rows-in-Offload.ensures
-
-pub returns-in-CheckIn : goal.returns-in-CheckIn
-returns-in-CheckIn c = rw c.in-CheckIn.is c.flight_rows-in-CheckIn.ensures
+returns-in-Offload c = rw c.in-Offload.is c.offload_rows.ensures

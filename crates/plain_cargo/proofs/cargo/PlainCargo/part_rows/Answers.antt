@@ -5,7 +5,7 @@ use Rattle.std.proofs.lemmas.Bool.{cond-true, cond-false}
 use Rattle.imp_fields.specs.Date.{resolved}
 use Rattle.shipment_machine.specs.declared.view.Rows.TheVariants as rows
 use Rattle.shipment_machine.specs.Effect.{is_day, lines_for}
-use Rattle.shipment_machine.specs.Sheets.{line_row_of}
+use Rattle.shipment_machine.specs.Views.{line_view_of}
 use Rattle.plain_cargo.specs.Plain.{cargo_of, parts_in}
 use Rattle.plain_cargo.proofs.Meant.{still_some}
 use Rattle.plain_cargo.proofs.cargo.PlainCargo.part_rows.Goals as goal
@@ -21,6 +21,6 @@ returns c =
     let taken = c.is_some.ensures ∙ still_some c.text_of.result ∙ ap is_some c.text_of.ensures
     ∙ ap (λ (o : Option ℕ). is_some (parts_in s.parts.items (record { flight = record { flight = f.flight; day = unwrap_or o 0 }; airport = f.loaded; number = f.number }))) (sym is) in
     let lines = c.in_ok-line_rows.ensures
-    ∙ ap (λ l. map (line_row_of (cargo_of s) (record { flight = f.flight; day = c.in-Some.day })) (lines_for s.here l)) c.as_slice.ensures.value
-    ∙ ap (λ (o : Option ℕ). map (line_row_of (cargo_of s) (record { flight = f.flight; day = unwrap_or o 0 })) (lines_for s.here f.lines)) (sym is) in
+    ∙ ap (λ l. map (line_view_of (cargo_of s) (record { flight = f.flight; day = c.in-Some.day })) (lines_for s.here l)) c.as_slice.ensures.value
+    ∙ ap (λ (o : Option ℕ). map (line_view_of (cargo_of s) (record { flight = f.flight; day = unwrap_or o 0 })) (lines_for s.here f.lines)) (sym is) in
     (λ i. rows.Lines (taken i) (lines i)) ∙ sym (cond-true (is_day m) _ _ c.in-Some.ensures.some.1)

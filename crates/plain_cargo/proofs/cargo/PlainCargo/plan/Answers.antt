@@ -1,5 +1,5 @@
 use Rattle.std.proofs.Common.{ℕ, List}
-use Rattle.shipment_machine.specs.Agreement.{outcome_of}
+use Rattle.shipment_machine.specs.Agreement.{StaysLawful, outcome_of}
 use Rattle.shipment_machine.specs.Effect.{carried_out}
 use Rattle.shipment_machine.specs.Lawful.{IsLawful}
 use Rattle.plain_cargo.specs.Plain.{cargo_of}
@@ -10,5 +10,5 @@ use Rattle.plain_cargo.proofs.cargo.PlainCargo.plan.Goals as goal
 
 pub returns-clause-stays_lawful : goal.returns-clause-stays_lawful
 returns-clause-stays_lawful c = let s = cargo_of c.args.self.now in
-    still_ok (λ plan. (text : List ℕ) → IsLawful (carried_out text (outcome_of plan) s)) (λ plan. (text : List ℕ) (messages : List (List ℕ)) → IsLawful (sent messages (carried_out text (outcome_of plan) s)))
-    c.plan_seen.result (λ plan h text messages. sent_lawful messages (carried_out text (outcome_of plan) s) (h text)) c.plan_seen.ensures.stays_lawful
+    still_ok (StaysLawful s) (λ plan. (text : List ℕ) (messages : List (List ℕ)) → IsLawful (sent messages (carried_out text (outcome_of plan) s)))
+    c.plan.result (λ plan h text messages. sent_lawful messages (carried_out text (outcome_of plan) s) (h text)) (c.plan.ensures.stays_lawful s (c.requires.lawful, c.in_ok-view.ensures))

@@ -1,36 +1,22 @@
 use Rattle.std.proofs.Common.{◌∙◌, ap}
-use Rattle.shipment_machine.specs.Book.{taken, found, store, departed, delivered, missing}
-use Rattle.plain_cargo.proofs.Within.{within_taken, within_found, within_places}
+use Rattle.shipment_machine.specs.declared.balances.Balances.{Balances}
+use Rattle.shipment_machine.specs.Book.{store}
+use Rattle.plain_cargo.proofs.Within.{within_places}
 use Rattle.plain_cargo.specs.Plain.{cargo_of}
 use Rattle.plain_cargo.proofs.cargo.PlainCargo.told.Goals as goal
 
-pub drawn-requires-clause-within : goal.drawn-requires-clause-within
-drawn-requires-clause-within c = rw c.as_slice-book.ensures.value (within_taken (cargo_of c.args.self.now) c.args.number.now c.requires.lawful)
-
-pub drawn-requires-2-clause-within : goal.drawn-requires-2-clause-within
-drawn-requires-2-clause-within c = rw c.as_slice-book.ensures.value (within_found (cargo_of c.args.self.now) c.args.number.now c.requires.lawful)
-
 pub stored-requires-clause-within : goal.stored-requires-clause-within
-stored-requires-clause-within c = rw c.as_slice-book.ensures.value (within_places (cargo_of c.args.self.now) c.args.number.now c.requires.lawful).0
-
-pub held-requires-clause-within : goal.held-requires-clause-within
-held-requires-clause-within c = rw c.as_slice-book.ensures.value (within_places (cargo_of c.args.self.now) c.args.number.now c.requires.lawful).1
-
-pub held-requires-2-clause-within : goal.held-requires-2-clause-within
-held-requires-2-clause-within c = rw c.as_slice-book.ensures.value (within_places (cargo_of c.args.self.now) c.args.number.now c.requires.lawful).2
-
-pub held-requires-3-clause-within : goal.held-requires-3-clause-within
-held-requires-3-clause-within c = rw c.as_slice-book.ensures.value (within_places (cargo_of c.args.self.now) c.args.number.now c.requires.lawful).3
+stored-requires-clause-within c = rw c.as_slice.ensures.value (within_places (cargo_of c.args.self.now) c.args.number.now c.requires.lawful).0
 
 pub returns : goal.returns
 returns c =
-    let b = c.as_slice-book.ensures.value in
+    let b = c.balances-balances.ensures in
     λ i. record {
       declared = c.args.declared.now;
-      taken = (c.drawn.ensures ∙ ap (λ l. taken l c.args.number.now) b) i;
-      found = (c.drawn-2.ensures ∙ ap (λ l. found l c.args.number.now) b) i;
-      store = (c.stored.ensures ∙ ap (λ l. store l c.args.number.now) b) i;
-      departed = (c.held.ensures ∙ ap (λ l. departed l c.args.number.now) b) i;
-      delivered = (c.held-2.ensures ∙ ap (λ l. delivered l c.args.number.now) b) i;
-      missing = (c.held-3.ensures ∙ ap (λ l. missing l c.args.number.now) b) i;
+      taken = ap (λ (b : Balances). b.taken) b i;
+      found = ap (λ (b : Balances). b.found) b i;
+      store = (c.stored.ensures ∙ ap (λ l. store l c.args.number.now) c.as_slice.ensures.value) i;
+      departed = ap (λ (b : Balances). b.departed) b i;
+      delivered = ap (λ (b : Balances). b.delivered) b i;
+      missing = ap (λ (b : Balances). b.missing) b i;
     }

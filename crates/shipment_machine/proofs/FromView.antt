@@ -1,0 +1,40 @@
+-- A plan from a view of a lawful state.
+use Rattle.std.proofs.Common.{◌≡◌, ℕ, Option, Result, Ok, sym, ap, subst, ◌∙◌}
+use Rattle.std.specs.Prelude.{IfOk, IfErr}
+use Rattle.imp_fields.specs.Date.{LocalMinute}
+use Rattle.shipment_machine.specs.declared.command.ShipmentCommand.{ShipmentCommand}
+use Rattle.shipment_machine.specs.declared.plans.Plan.{Plan}
+use Rattle.shipment_machine.specs.declared.plans.PlanFault.{PlanFault}
+use Rattle.shipment_machine.specs.declared.view.View.{View}
+use Rattle.shipment_machine.specs.Agreement.{IsAnswer, IsViewOf, RefusesAs, StaysLawful, view_of, outcome_of}
+use Rattle.shipment_machine.specs.Cargo.{Cargo}
+use Rattle.shipment_machine.specs.Effect.{effect}
+use Rattle.shipment_machine.specs.Lawful.{IsLawful, IsProper}
+use Rattle.shipment_machine.specs.Meant.{meant_by}
+use Rattle.shipment_machine.specs.FitsCommand.{FitsCommand, rows_answer}
+use Rattle.shipment_machine.proofs.ViewAnswers.{fits, answers, planned, refused}
+use Rattle.shipment_machine.proofs.StaysLawful.{stays_lawful}
+
+module _ (s : Cargo) (command : ShipmentCommand) (view : View) (at : LocalMinute) (meant : Option ℕ) (is : meant ≡ meant_by command at) (shows : IsViewOf s command at view) where
+  law : IsLawful s
+  law = shows.0
+
+  same : view ≡ view_of s command at
+  same = shows.1
+
+  -- a lawful state's rows pass the test
+  pub rows_fit : FitsCommand view.here view.rows command meant
+  rows_fit = subst (λ (m : Option ℕ). FitsCommand view.here view.rows command m) (sym is) (subst (λ (v : View). FitsCommand v.here v.rows command (meant_by command at)) (sym same) (fits s command at law))
+
+  told : rows_answer view.here view.rows command at meant ≡ effect s command at
+  told = ap (λ (m : Option ℕ). rows_answer view.here view.rows command at m) is ∙ ap (λ (v : View). rows_answer v.here v.rows command at (meant_by command at)) same ∙ answers s command at
+
+  module _ (r : Result Plan PlanFault) (answer : IsAnswer r (rows_answer view.here view.rows command at meant)) where
+    pub view_planned : IfOk r (λ plan. effect s command at ≡ Ok (outcome_of plan))
+    view_planned = planned r (rows_answer view.here view.rows command at meant) (effect s command at) answer told
+
+    pub view_refused : IfErr r (RefusesAs (effect s command at))
+    view_refused = refused r (rows_answer view.here view.rows command at meant) (effect s command at) answer told
+
+    pub view_lawful : IfOk r (λ _. IsProper command) → IfOk r (StaysLawful s)
+    view_lawful proper = stays_lawful s command at r law proper view_planned

@@ -1,0 +1,40 @@
+-- What is shown of a waybill in a lawful state is its balances.
+use Rattle.std.proofs.Common.{◌≡◌, ℕ, ◌-◌, ◌≤◌, Bool, false, List, refl, arith}
+use Rattle.std.specs.Prelude.{pos, neg_ℤ, ◌-ℤ◌}
+use Rattle.std.proofs.lemmas.Int.{ints}
+use Rattle.shipment_machine.specs.declared.moves.Place.{Place}
+use Rattle.shipment_machine.specs.declared.moves.Place.TheVariants.{Hand, Surplus, Free, Built, Departed, Delivered, Missing}
+use Rattle.shipment_machine.specs.declared.moves.Move.{Move}
+use Rattle.shipment_machine.specs.Book.{same_place, in_store, pieces_of, tenths_of, moved_in, moved_out, held, drawn}
+use Rattle.shipment_machine.specs.Cargo.{Cargo}
+use Rattle.shipment_machine.specs.Lawful.{IsLawful, is_outside}
+use Rattle.shipment_machine.specs.Laws.{IsBalance, CameFrom, AreBalances}
+use Rattle.shipment_machine.proofs.Conserved.{none_in_hand, none_in_surplus, stay_pieces, stay_tenths, store_stays}
+
+left : (i o : ℕ) → o ≤ i → pos (i - o) ≡ pos i -ℤ pos o
+left i o h = omega (arith, ints, h)
+
+came : (i o : ℕ) → i ≡ 0 → pos (o - i) ≡ neg_ℤ (pos i -ℤ pos o)
+came i o h = omega (arith, ints, h)
+
+-- at places that keep what they are given
+at_places : (book : List Move) (w : ℕ) (there : Place → Bool) → moved_out pieces_of book w there ≤ moved_in pieces_of book w there → moved_out tenths_of book w there ≤ moved_in tenths_of book w there → IsBalance book w there (held book w there)
+at_places book w there p t = record { pieces = left _ _ p; tenths = left _ _ t }
+
+inside : (s : Cargo) (w : ℕ) (p : Place) → IsLawful s → is_outside p ≡ false → IsBalance s.book w (same_place p) (held s.book w (same_place p))
+inside s w p law e = at_places s.book w (same_place p) (stay_pieces s w law p e) (stay_tenths s w law p e)
+
+outside : (book : List Move) (w : ℕ) (there : Place → Bool) → moved_in pieces_of book w there ≡ 0 → moved_in tenths_of book w there ≡ 0 → CameFrom book w there (drawn book w there)
+outside book w there p t = record { pieces = came _ _ p; tenths = came _ _ t }
+
+pub are_balances : (s : Cargo) (w : ℕ) → IsLawful s → AreBalances s.book w
+are_balances s w law = record {
+  taken = outside s.book w (same_place Hand) (none_in_hand s pieces_of w law) (none_in_hand s tenths_of w law);
+  found = outside s.book w (same_place Surplus) (none_in_surplus s pieces_of w law) (none_in_surplus s tenths_of w law);
+  store = at_places s.book w in_store (store_stays pieces_of s.book w (stay_pieces s w law)) (store_stays tenths_of s.book w (stay_tenths s w law));
+  free = inside s w Free law refl;
+  built = λ flight. inside s w (Built flight) law refl;
+  departed = inside s w Departed law refl;
+  delivered = inside s w Delivered law refl;
+  missing = inside s w Missing law refl;
+}

@@ -1,0 +1,12 @@
+-- Lists of numbers in ascending order.
+use Rattle.std.specs.Prelude.{ℕ, ◌<◌, Bool, ◌==◌, ⊤, List, [], ◌∷◌}
+use Rattle.std.specs.List.{AllByRecursion, list_any}
+
+-- each number is above those before it
+abbrev pub IsAscending : List ℕ → Type 0
+IsAscending [] = ⊤
+IsAscending (x ∷ xs) = AllByRecursion (λ y. x < y) xs × IsAscending xs
+
+-- whether a number is in a list
+abbrev pub is_in : ℕ → List ℕ → Bool
+is_in q xs = list_any (λ x. x == q) xs

@@ -1,0 +1,44 @@
+-- What a station's state has of a waybill, of a flight and of a manifest's line.
+use Rattle.std.specs.Prelude.{ℕ, false, List, [], map, length}
+use Rattle.std.specs.Option.{unwrap_or}
+use Rattle.shipment_machine.specs.declared.flight.FlightDate.{FlightDate}
+use Rattle.shipment_machine.specs.declared.moves.Declared.{Declared}
+use Rattle.shipment_machine.specs.declared.view.DeclarationView.{DeclarationView}
+use Rattle.shipment_machine.specs.declared.view.WaybillView.{WaybillView}
+use Rattle.shipment_machine.specs.declared.view.FlightView.{FlightView}
+use Rattle.shipment_machine.specs.declared.view.FlightLoad.{FlightLoad}
+use Rattle.shipment_machine.specs.declared.view.LineView.{LineView}
+use Rattle.shipment_machine.specs.declared.command.CargoLine.{CargoLine}
+use Rattle.shipment_machine.specs.Book.{has_moves as is_moved, balances_of, built, waybills_on}
+use Rattle.shipment_machine.specs.Cargo.{Cargo}
+
+-- what is declared of a waybill that has a declaration
+abbrev pub undeclared : Declared
+undeclared = record { origin = []; destination = []; pieces = 0; tenths = 0; goods = []; notified = false }
+
+abbrev pub declaration : Cargo → ℕ → Declared
+declaration s w = unwrap_or (s.declared w) undeclared
+
+-- what the state has of a waybill that is declared
+abbrev pub declaration_view : Cargo → ℕ → DeclarationView
+declaration_view s w = record { declared = s.declared w; has_moves = is_moved s.book w; holder = s.holders w }
+
+-- what it has of a waybill with its balances
+abbrev pub waybill_view : Cargo → ℕ → WaybillView
+waybill_view s w = record { declared = s.declared w; balances = balances_of s.book w }
+
+-- what it has of a flight, for a waybill that is to be built on it
+abbrev pub flight_view : Cargo → ℕ → FlightDate → FlightView
+flight_view s w flight = record {
+  outbound = s.flights flight;
+  waybills = length (waybills_on s.book flight);
+  load = built s.book w flight;
+}
+
+-- what is built on a flight, rising
+abbrev pub loads_of : Cargo → FlightDate → List FlightLoad
+loads_of s flight = map (λ w. record { awb = w; declared = declaration s w; load = built s.book w flight }) (waybills_on s.book flight)
+
+-- what it has of a manifest's line
+abbrev pub line_view_of : Cargo → FlightDate → CargoLine → LineView
+line_view_of s flight c = record { declared = s.declared c.awb; holder = s.holders c.awb; expected = s.expected flight c.awb }
