@@ -1,12 +1,12 @@
 -- A cargo is lawful in one way at most.
-use Rattle.std.specs.Prelude.{List, [], ◌∷◌}
+use Rattle.std.specs.Prelude.{Option, List, [], ◌∷◌}
 use Rattle.std.proofs.Props.{props}
 use Rattle.shipment_machine.specs.declared.flight.FlightDate.{FlightDate}
 use Rattle.shipment_machine.specs.declared.moves.Move.{Move}
 use Rattle.shipment_machine.specs.declared.moves.Place.{Place}
 use Rattle.shipment_machine.specs.declared.moves.Place.TheVariants.{Hand, Surplus, Free, Built, Departed, Delivered, Missing}
 use Rattle.shipment_machine.specs.Cargo.{Cargo}
-use Rattle.shipment_machine.specs.Lawful.{IsNoted, StaysDeparted}
+use Rattle.shipment_machine.specs.Lawful.{IsNoted, NamesFlight, StaysDeparted}
 
 pub noted_prop : (s : Cargo) (p : Place) → IsProp (IsNoted s p)
 noted_prop s Hand = Prim.hlevel (props)
@@ -20,3 +20,12 @@ noted_prop s Missing = Prim.hlevel (props)
 pub departed_prop : (flight : FlightDate) (book : List Move) → IsProp (StaysDeparted flight book)
 departed_prop flight [] = Prim.hlevel (props)
 departed_prop flight (m ∷ later) = Prim.hlevel (props, departed_prop flight later)
+
+pub names_prop : (p : Place) (named : Option FlightDate) → IsProp (NamesFlight p named)
+names_prop Hand named = Prim.hlevel (props)
+names_prop Surplus named = Prim.hlevel (props)
+names_prop Free named = Prim.hlevel (props)
+names_prop (Built flight) named = Prim.hlevel (props)
+names_prop Departed named = Prim.hlevel (props)
+names_prop Delivered named = Prim.hlevel (props)
+names_prop Missing named = Prim.hlevel (props)

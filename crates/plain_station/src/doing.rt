@@ -74,6 +74,8 @@ fn do_shipment(
         Ok(plan) => plan,
         Err(PlanFault::Memory) => return Err(ActFault::Memory),
         Err(PlanFault::Refused(refusal)) => return Err(ActFault::Refused(refusal)),
+        // The view is that of this very cargo.
+        Err(PlanFault::Unfit) => unreachable!(),
     };
     let Ok(messages) = texts_of(alloc, &plan.notices) else {
         return Err(ActFault::Memory);

@@ -7,6 +7,3 @@ mod station;
 mod steady;
 
 pub use station::PlainStation;
-
-#[cfg(test)]
-mod tests;

@@ -148,6 +148,8 @@ impl Keeper for PlainStation {
 
     ghost settled = { λ k s keeps sound found finds. absurd finds };
 
+    ghost lawful = { λ k s sound finds. absurd finds };
+
     fn act(&mut self, input: &Input<'_>, at: Moment) -> Result<Reply, ActFault> {
         match input {
             Input::Keyed(key, command) => self.act_on_command(key, command, at),

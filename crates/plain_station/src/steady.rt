@@ -9,7 +9,7 @@ ghost use Rattle.plain_cargo.specs.Plain.{cargo_of};
 ghost use Rattle.station_core.specs.Step.{acted};
 ghost use Rattle.station_core.specs.declared.input.Input.TheVariants.{Keyed, Wire};
 ghost use Rattle.plain_station.specs.Doing.{IsSteady, Does};
-ghost use Rattle.plain_station.specs.Props.{noted_prop, departed_prop};
+ghost use Rattle.plain_station.specs.Props.{noted_prop, names_prop, departed_prop};
 
 use crate::doing::{do_command, do_telegram};
 use agent_stock::StockRun;
@@ -26,7 +26,7 @@ use telegrams::Telegram;
 #[derive(Drop)]
 pub(crate) struct SteadyCargo {
     pub(crate) cargo: PlainCargo,
-    ghost steady: { IsSteady (cargo_of cargo) } by { Prim.hlevel (props, noted_prop, departed_prop) },
+    ghost steady: { IsSteady (cargo_of cargo) } by { Prim.hlevel (props, noted_prop, names_prop, departed_prop) },
 }
 
 impl SteadyCargo {

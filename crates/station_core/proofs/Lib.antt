@@ -3,6 +3,7 @@ mod Keys
 mod Reading
 mod Refusals
 mod RetryLaw
+mod RunLaw
 mod Runs
 pub mod StepLaw
 mod Walks

@@ -25,7 +25,7 @@ use Rattle.shipment_machine.specs.declared.plans.Change.{Change}
 use Rattle.shipment_machine.specs.declared.plans.Change.TheVariants.{Declare, UseUp, NoteFlight, Expect, NotePart, Trail, Confirm}
 use Rattle.shipment_machine.specs.declared.plans.Refusal.{Refusal}
 use Rattle.shipment_machine.specs.Cargo.{Cargo, same_part, written, written_all}
-use Rattle.shipment_machine.specs.Effect.{Outcome, used_up, unless_refused, first_refusal, refusals, outcome, effect, carried_out}
+use Rattle.shipment_machine.specs.Effect.{Outcome, used_up, unless_refused, first_refusal, rule, effect, carried_out}
 use Rattle.shipment_machine.specs.Lawful.{IsLawful, IsLawfulMove, IsNoted, IsProper, HasPieces}
 use Rattle.shipment_machine.proofs.KeepsAll.{keeps_lawful}
 use Rattle.telegrams.specs.NoticeText.{notice_text}
@@ -65,6 +65,8 @@ module _ (s : Cargo) (h : Holders) (o : List (List ℕ)) where
       declared = all.0.declared;
       noted_from = noted m.from all.0.noted_from;
       noted_to = noted m.to all.0.noted_to;
+      names_from = all.0.names_from;
+      names_to = all.0.names_to;
     },
     moved book all.1,
   )
@@ -83,7 +85,6 @@ module _ (s : Cargo) (h : Holders) (o : List (List ℕ)) where
     empty = law.empty;
     room = law.room;
     outbound = law.outbound;
-    alike = law.alike;
     mark = mark;
   }
 
@@ -94,7 +95,7 @@ sent_lawful texts s law =
 
 -- Orders on the stock.
 
-never_used : (order : Order) → ◌≡◌ {A = Option Holder} (Some (holder_after order)) (Some Used) → ⊥
+pub never_used : (order : Order) → ◌≡◌ {A = Option Holder} (Some (holder_after order)) (Some Used) → ⊥
 never_used (TakeIn run) e = cc
 never_used (Issue run agent) e = cc
 never_used (GiveBack run agent) e = cc
@@ -175,7 +176,7 @@ noted_quiet : (b : Bool) (change : Change) → NotesNone (change ∷ []) → Not
 noted_quiet true change quiet = quiet
 noted_quiet false change quiet = tt
 
-outcome_quiet : (s : Cargo) (c : DeskCommand) (at : LocalMinute) → Quiet (outcome s (shipment.Desk c) at)
+outcome_quiet : (s : Cargo) (c : DeskCommand) (at : LocalMinute) → Quiet (rule s (shipment.Desk c) at).outcome
 outcome_quiet s (desk.Book w origin destination p t goods) at = used_quiet (s.holders w) w
 outcome_quiet s (desk.Receive w p t name) at = tt
 outcome_quiet s (desk.Manifest w flight unload p) at = noted_quiet _ _ tt
@@ -189,7 +190,7 @@ outcome_quiet s (desk.Found w p t flight) at = tt
 outcome_quiet s (desk.Confirm upto) at = tt
 
 desk_quiet : (s : Cargo) (c : DeskCommand) (at : LocalMinute) → Quiet (effect s (shipment.Desk c) at)
-desk_quiet s c at = unless (first_refusal (refusals s (shipment.Desk c) at)) (outcome s (shipment.Desk c) at) (outcome_quiet s c at)
+desk_quiet s c at = unless (first_refusal (rule s (shipment.Desk c) at).refusals) (rule s (shipment.Desk c) at).outcome (outcome_quiet s c at)
 
 -- The types of inputs give each declared and each announced line a piece.
 

@@ -1,5 +1,6 @@
 -- What an input makes of a station, whatever it is answered.
-use Rattle.std.specs.Prelude.{◌≡◌, ◌⊎◌, ℕ, ◌+◌, ◌<◌, Bool, true, false, Result, Ok, Err, List, take, length, Option, Some, None}
+use Rattle.std.specs.Prelude.{◌≡◌, ◌⊎◌, ℕ, ◌+◌, ◌<◌, Bool, true, false, Result, Ok, Err, IfErr, OnOk, OnErr, List, take, length, Option, Some, None}
+use Rattle.shipment_machine.specs.Cargo.{Cargo}
 use Rattle.station_core.specs.declared.answer.Reply.{Reply}
 use Rattle.station_core.specs.declared.answer.Answer.{Answer}
 use Rattle.station_core.specs.declared.answer.Answer.TheVariants as answer
@@ -7,6 +8,7 @@ use Rattle.station_core.specs.declared.answer.ActFault.{ActFault}
 use Rattle.station_core.specs.declared.answer.ActFault.TheVariants as fault
 use Rattle.imp_fields.specs.Date.{LocalMinute}
 use Rattle.station_core.specs.declared.input.Input.{Input}
+use Rattle.station_core.specs.Readers.{HandedOut}
 use Rattle.station_core.specs.Step.{State, step, after_all}
 
 -- Whether it answers Reopen from then on: after Store, and then only.
@@ -82,3 +84,15 @@ pub record OnlyReads {K : Type 0} (keeps : K → State → Type 0) (is_sound : K
   pub sound : is_sound new → is_sound old
   pub same : (s : State) → keeps old s → is_sound new → keeps new s
   pub leaves : is_sound new → (found : Option State) → may_find new found → may_find old found
+
+-- A reader of rows changes nothing. At Ok its sink took the rows in order, or those up to one after which it wanted no more; at Err
+-- a beginning of them. A station that has to be opened again hands out nothing.
+pub record HandsOut {K S Row : Type 0} (keeps : K → State → Type 0) (is_sound : K → Type 0) (is_broken : K → Bool) (may_find : K → Option State → Type 0)
+    (old new : K) (result : Result (Unit {0}) ActFault) (takes : S → Row → Bool → S → Type 0) (AreRows : Cargo → List Row → Type 0) (from to : S) : Type 0 where
+  pub reopen : is_broken old ≡ true → (result ≡ Err fault.Reopen) × (new ≡ old) × (to ≡ from)
+  pub fault : is_broken old ≡ false → IfErr result IsReadersFault
+  pub reads : OnlyReads keeps is_sound is_broken may_find old new
+  pub rows : (s : State) → keeps old s → is_sound new → OnOk result ((rows : List Row) × AreRows s.cargo rows × HandedOut takes rows from to)
+  pub beginning : (s : State) → keeps old s → is_sound new → OnErr result ((rows : List Row) → AreRows s.cargo rows → (n : ℕ) × HandedOut takes (take n rows) from to)
+  -- whatever it answers, the sink took some rows, one after another
+  pub took : (rows : List Row) × HandedOut takes rows from to

@@ -1,11 +1,11 @@
 -- The values that inputs have by their types.
-use Rattle.std.specs.Prelude.{◌≤◌, IsTrue, IfSome}
+use Rattle.std.specs.Prelude.{◌≤◌, IsTrue, IfSome, List}
 use Rattle.std.specs.List.{AllByRecursion}
 use Rattle.awb_number.specs.Number.{IsNumber}
 use Rattle.imp_fields.specs.Amount.{IsPieces, IsTenths}
 use Rattle.imp_fields.specs.Airport.{is_airport}
 use Rattle.imp_fields.specs.Flight.{IsDesignator}
-use Rattle.imp_fields.specs.Date.{IsCalendarDay}
+use Rattle.imp_fields.specs.Date.{IsCalendarDay, LocalMinute}
 use Rattle.imp_fields.specs.Name.{is_goods}
 use Rattle.shipment_machine.specs.declared.command.CargoLine.{CargoLine}
 use Rattle.shipment_machine.specs.declared.command.InboundLine.{InboundLine}
@@ -34,3 +34,7 @@ IsContent (Fsu u) = IsNumber u.awb
 abbrev pub IsInput : Input → Type 0
 IsInput (Keyed key command) = IsTrue (is_key key) × IsCommand command
 IsInput (Wire telegram) = IsContent telegram.content
+
+-- a list of inputs, each at its moment
+abbrev pub AreInputs : List (Input × LocalMinute) → Type 0
+AreInputs inputs = AllByRecursion (λ (one : Input × LocalMinute). IsInput one.0) inputs

@@ -7,7 +7,7 @@ use Rattle.shipment_machine.specs.declared.moves.Declared.{Declared}
 use Rattle.shipment_machine.specs.declared.moves.Move.{Move}
 use Rattle.shipment_machine.specs.Book.{taken, found, store, departed, delivered, missing, waybills_of}
 use Rattle.shipment_machine.specs.Cargo.{Cargo}
-use Rattle.shipment_machine.specs.Sheets.{declaration}
+use Rattle.shipment_machine.specs.Views.{declaration}
 use Rattle.station_core.specs.declared.rows.IrregularRow.{IrregularRow}
 use Rattle.station_core.specs.declared.rows.BookRow.{BookRow}
 use Rattle.station_core.specs.declared.rows.Message.{Message}

@@ -1,4 +1,4 @@
-ghost use Rattle.std.specs.Prelude.{◌≡◌, ℕ, Bool, true, false, List, take, Option, Some, Err, IfOk, IfErr, OnOk, OnErr};
+ghost use Rattle.std.specs.Prelude.{◌≡◌, ℕ, Bool, true, false, List, Option, Some, Err, IfOk, IfErr};
 
 use crate::answer::{ActFault, Reply};
 use crate::input::Input;
@@ -14,12 +14,11 @@ use imp_fields::Moment;
 /// wants no more, or after a fault.
 pub trait Keeper {
     ghost use Rattle.agent_stock.specs.Runs.{AreStockRuns};
-    ghost use Rattle.agent_stock.specs.declared.runs.StockRun.{StockRun};
     ghost use Rattle.agent_stock.specs.declared.stock.Order.{Order};
     ghost use Rattle.desk_commands.specs.declared.command.Command.TheVariants.{Stock};
-    ghost use Rattle.station_core.specs.Step.{State};
-    ghost use Rattle.station_core.specs.Keeping.{Breaks, Acts, Leaves, IsReadersFault, OnlyReads};
-    ghost use Rattle.station_core.specs.Readers.{HandedOut, waybill_of, irregular_rows, book_rows, pending_messages, trail_rows};
+    ghost use Rattle.station_core.specs.Step.{State, IsLawfulState};
+    ghost use Rattle.station_core.specs.Keeping.{Breaks, Acts, Leaves, IsReadersFault, OnlyReads, HandsOut};
+    ghost use Rattle.station_core.specs.Readers.{waybill_of, irregular_rows, book_rows, pending_messages, trail_rows};
     ghost use Rattle.station_core.specs.declared.input.Input.{Input};
     ghost use Rattle.station_core.specs.declared.input.Input.TheVariants.{Keyed};
 
@@ -68,44 +67,32 @@ pub trait Keeper {
 
     /// The stock, as its maximal runs of one holder, rising.
     fn stock<S: Sink<StockRun>>(&mut self, sink: &mut S) -> Result<(), ActFault>
-        ensures reopen { is_broken self.old ≡ true → (result ≡ Err ActFault.Reopen) × (self.new ≡ self.old) × (sink.new ≡ sink.old) }
-        ensures fault { is_broken self.old ≡ false → IfErr result IsReadersFault }
-        ensures reads { OnlyReads keeps is_sound is_broken may_find self.old self.new }
-        ensures rows { (s : State) → keeps self.old s → is_sound self.new → OnOk result ((rows : List StockRun) × AreStockRuns s.cargo.holders rows × HandedOut S.takes rows sink.old sink.new) }
-        ensures beginning { (s : State) → keeps self.old s → is_sound self.new → OnErr result ((rows : List StockRun) → AreStockRuns s.cargo.holders rows → (n : ℕ) × HandedOut S.takes (take n rows) sink.old sink.new) };
+        ensures { HandsOut keeps is_sound is_broken may_find self.old self.new result
+            S.takes (λ s rows. AreStockRuns s.holders rows) sink.old sink.new };
 
     /// The waybills of which pieces are missing or were found, rising.
     fn irregular<S: Sink<IrregularRow>>(&mut self, sink: &mut S) -> Result<(), ActFault>
-        ensures reopen { is_broken self.old ≡ true → (result ≡ Err ActFault.Reopen) × (self.new ≡ self.old) × (sink.new ≡ sink.old) }
-        ensures fault { is_broken self.old ≡ false → IfErr result IsReadersFault }
-        ensures reads { OnlyReads keeps is_sound is_broken may_find self.old self.new }
-        ensures rows { (s : State) → keeps self.old s → is_sound self.new → OnOk result (HandedOut S.takes (irregular_rows s.cargo) sink.old sink.new) }
-        ensures beginning { (s : State) → keeps self.old s → is_sound self.new → OnErr result ((n : ℕ) × HandedOut S.takes (take n (irregular_rows s.cargo)) sink.old sink.new) };
+        ensures { HandsOut keeps is_sound is_broken may_find self.old self.new result
+            S.takes (λ s rows. rows ≡ irregular_rows s) sink.old sink.new };
 
     /// The movement book, in order.
     fn book<S: Sink<BookRow>>(&mut self, sink: &mut S) -> Result<(), ActFault>
-        ensures reopen { is_broken self.old ≡ true → (result ≡ Err ActFault.Reopen) × (self.new ≡ self.old) × (sink.new ≡ sink.old) }
-        ensures fault { is_broken self.old ≡ false → IfErr result IsReadersFault }
-        ensures reads { OnlyReads keeps is_sound is_broken may_find self.old self.new }
-        ensures rows { (s : State) → keeps self.old s → is_sound self.new → OnOk result (HandedOut S.takes (book_rows s.cargo) sink.old sink.new) }
-        ensures beginning { (s : State) → keeps self.old s → is_sound self.new → OnErr result ((n : ℕ) × HandedOut S.takes (take n (book_rows s.cargo)) sink.old sink.new) };
+        ensures { HandsOut keeps is_sound is_broken may_find self.old self.new result
+            S.takes (λ s rows. rows ≡ book_rows s) sink.old sink.new };
 
     /// The messages that weren't confirmed yet, in order.
     fn pending<S: Sink<Message>>(&mut self, sink: &mut S) -> Result<(), ActFault>
-        ensures reopen { is_broken self.old ≡ true → (result ≡ Err ActFault.Reopen) × (self.new ≡ self.old) × (sink.new ≡ sink.old) }
-        ensures fault { is_broken self.old ≡ false → IfErr result IsReadersFault }
-        ensures reads { OnlyReads keeps is_sound is_broken may_find self.old self.new }
-        ensures rows { (s : State) → keeps self.old s → is_sound self.new → OnOk result (HandedOut S.takes (pending_messages s.cargo) sink.old sink.new) }
-        ensures beginning { (s : State) → keeps self.old s → is_sound self.new → OnErr result ((n : ℕ) × HandedOut S.takes (take n (pending_messages s.cargo)) sink.old sink.new) };
+        ensures { HandsOut keeps is_sound is_broken may_find self.old self.new result
+            S.takes (λ s rows. rows ≡ pending_messages s) sink.old sink.new };
 
     /// The trail, in order.
     fn trail<S: Sink<TrailRow>>(&mut self, sink: &mut S) -> Result<(), ActFault>
-        ensures reopen { is_broken self.old ≡ true → (result ≡ Err ActFault.Reopen) × (self.new ≡ self.old) × (sink.new ≡ sink.old) }
-        ensures fault { is_broken self.old ≡ false → IfErr result IsReadersFault }
-        ensures reads { OnlyReads keeps is_sound is_broken may_find self.old self.new }
-        ensures rows { (s : State) → keeps self.old s → is_sound self.new → OnOk result (HandedOut S.takes (trail_rows s.cargo) sink.old sink.new) }
-        ensures beginning { (s : State) → keeps self.old s → is_sound self.new → OnErr result ((n : ℕ) × HandedOut S.takes (take n (trail_rows s.cargo)) sink.old sink.new) };
+        ensures { HandsOut keeps is_sound is_broken may_find self.old self.new result
+            S.takes (λ s rows. rows ≡ trail_rows s) sink.old sink.new };
 
     /// A reopening finds the state that it keeps.
     ghost settled: { (k : Self) (s : State) → keeps k s → is_sound k → (found : Option State) → may_find k found → found ≡ Some s };
+
+    /// Each state that a reopening may find is lawful.
+    ghost lawful: { (k : Self) (s : State) → is_sound k → may_find k (Some s) → IsLawfulState s };
 }

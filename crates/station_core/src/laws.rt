@@ -1,10 +1,11 @@
 //! What holds of the definitions.
 ghost use Rattle.std.specs.Prelude.{◌≡◌, ℕ, List};
 ghost use Rattle.imp_fields.specs.Date.{LocalMinute};
+ghost use Rattle.shipment_machine.specs.Laws.{IsConserved, AreBalances};
 ghost use Rattle.station_core.specs.declared.input.Input.{Input};
-ghost use Rattle.station_core.specs.Ranges.{IsInput};
+ghost use Rattle.station_core.specs.Ranges.{IsInput, AreInputs};
 ghost use Rattle.station_core.specs.Retries.{RetryEvent, ActsOnce};
-ghost use Rattle.station_core.specs.Step.{State, IsLawfulState, opening, step};
+ghost use Rattle.station_core.specs.Step.{State, IsLawfulState, opening, step, after_all};
 
 /// Whatever is sent, cut off by a crash and repeated, each accepted input acts once.
 pub fn retry_law()
@@ -15,4 +16,12 @@ pub fn retry_law()
 pub fn step_law()
     ensures opening { (here : List ℕ) → IsLawfulState (opening here) }
     ensures step { (s : State) (input : Input) (at : LocalMinute) → IsInput input → IsLawfulState s → IsLawfulState (step s input at).state }
+{}
+
+/// Every state that inputs lead to from a new station is lawful. In it, for each waybill, what was taken over or found is in store,
+/// departed, delivered or missing, in pieces and in tenths; and the amounts that are shown of it are the balances of its moves.
+pub fn run_law()
+    ensures lawful { (here : List ℕ) (inputs : List (Input × LocalMinute)) → AreInputs inputs → IsLawfulState (after_all (opening here) inputs) }
+    ensures conserved { (here : List ℕ) (inputs : List (Input × LocalMinute)) (w : ℕ) → AreInputs inputs → IsConserved (after_all (opening here) inputs).cargo.book w }
+    ensures shown { (here : List ℕ) (inputs : List (Input × LocalMinute)) (w : ℕ) → AreInputs inputs → AreBalances (after_all (opening here) inputs).cargo.book w }
 {}

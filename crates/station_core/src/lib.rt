@@ -24,6 +24,3 @@ pub use rows::{BookRow, IrregularRow, Message, RowText, TrailRow, Waybill};
 pub use sink::{Sink, hand_out};
 pub use stock::{count_of_order, refusal_of_order};
 pub use texts::{detail_text, refusal_text, reply_text};
-
-#[cfg(test)]
-mod tests;

@@ -7,7 +7,8 @@ use Rattle.std.specs.FinMap.{get, get-insert}
 use Rattle.std.proofs.lemmas.Int.{ints}
 use Rattle.std.proofs.lemmas.Map.Text.{is_eq-slice_cmp}
 use Rattle.imp_fields.specs.Date.{LocalMinute}
-use Rattle.agent_stock.specs.Stock.{run_of, order_refusal, after_order}
+use Rattle.agent_stock.specs.Stock.{Holders, covers, run_of, holder_after, order_refusal, after_order}
+use Rattle.agent_stock.specs.declared.stock.Holder.TheVariants.{Used}
 use Rattle.agent_stock.specs.declared.stock.Order.{Order}
 use Rattle.shipment_machine.specs.Cargo.{opening_cargo}
 use Rattle.desk_commands.specs.Command.{command_text}
@@ -15,13 +16,14 @@ use Rattle.desk_commands.specs.declared.command.Command.TheVariants.{Stock}
 use Rattle.station_core.specs.declared.input.Input.{Input}
 use Rattle.station_core.specs.declared.input.Input.TheVariants.{Keyed}
 use Rattle.station_core.specs.Key.{is_key}
+use Rattle.station_core.proofs.StepLaw.{never_used}
 use Rattle.station_core.specs.Step.{State, step, answered, key_answer, stock_acted, first_time, keeping, accepted}
 use Rattle.station_rows.proofs.Keys.{kept_total, kept_same}
 use Rattle.station_rows.specs.Meant.{with_kept}
 use Rattle.station_rows.specs.Store.{View, Survives}
 use Rattle.station_rows.specs.Tables.{Tables, kept_cmp}
 use Rattle.station_rows.specs.Tables as table
-use Rattle.station_tables.specs.Meaning.{meaning_of, holders_in, keeping_in, airport_in, is_kept_row, IsLawful}
+use Rattle.station_tables.specs.Meaning.{meaning_of, holders_in, keeping_in, airport_in, is_kept_row, IsLawful, HasNoUsed}
 use Rattle.station_tables.specs.Steady.{IsAfter, MayEndBy}
 use Rattle.station_tables.proofs.MapLaws.{all-insert}
 use Rattle.station_tables.proofs.Writing.{lawful_stations, lawful_stock, lawful_kept, lawful_of}
@@ -38,6 +40,13 @@ regroup false b c p q = p
 
 kept_fits : (key text : List ℕ) (count : ℕ) → is_key key ≡ true → count < 4_294_967_296 → is_kept_row (key, record { command = text; count = pos count }) ≡ true
 kept_fits key text count is_a below = regroup (is_key key) (int_le (pos 0) (pos count)) (int_le (pos count) (pos 4_294_967_295)) is_a (counted count below)
+
+still_unused : (h : Holders) (order : Order) → ((w : ℕ) → h w ≡ Some Used → ⊥) → (w : ℕ) → after_order h order w ≡ Some Used → ⊥
+still_unused h order unused w used =
+    elim (covers (run_of order) w) as (λ b. cond b (Some (holder_after order)) (h w) ≡ Some Used → ⊥) [
+      | true ↦ λ e. never_used order e
+      | false ↦ λ e. unused w e
+    ] used
 
 module _ (before : Tables) (mid : Tables) (key : List ℕ) (order : Order) (text : List ℕ) (count : ℕ)
     (none : get before.kept key ≡ None) (unrefused : order_refusal (holders_in before.stock) order ≡ None) (given : holders_in mid.stock ≡ after_order (holders_in before.stock) order)
@@ -85,10 +94,14 @@ module _ (before : Tables) (mid : Tables) (key : List ℕ) (order : Order) (text
   after_lawful is_a below lawful = lawful_of after (lawful_stations mid lawful) (lawful_stock mid lawful)
       (all-insert kept_cmp kept_total kept_same is_kept_row mid.kept key (record { command = text; count = pos count }) (lawful_kept mid lawful) (kept_fits key text count is_a below))
 
+  -- no order uses a number up
+  pub after_unused : HasNoUsed before → HasNoUsed after
+  after_unused unused w used = still_unused (holders_in before.stock) order unused w (ap (λ h. h w) (sym given) ∙ used)
+
   -- whether the commit was made or not
-  pub either : (old now new : View) → Survives old now → MayEndBy now new after → is_key key ≡ true → count < 4_294_967_296 → IsLawful mid
+  pub either : (old now new : View) → Survives old now → MayEndBy now new after → is_key key ≡ true → count < 4_294_967_296 → IsLawful mid → HasNoUsed before
       → new.IsSound → (t : Tables) → new.may_leave t → old.may_leave t ⊎ IsAfter (meaning_of before) (Keyed key (Stock order)) t
-  either old now new survives ends is_a below lawful sound t left = ⊎_elim
+  either old now new survives ends is_a below lawful unused sound t left = ⊎_elim
       (λ was. inl (survives.crash (ends.sound sound) t was))
-      (λ e. inr (record { lawful = subst IsLawful (sym e) (after_lawful is_a below lawful); state = λ at. ap meaning_of e ∙ after_is at }))
+      (λ e. inr (record { lawful = subst IsLawful (sym e) (after_lawful is_a below lawful); unused = subst HasNoUsed (sym e) (after_unused unused); state = λ at. ap meaning_of e ∙ after_is at }))
       (ends.crash sound t left)

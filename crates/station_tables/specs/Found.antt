@@ -3,13 +3,13 @@ use Rattle.std.specs.Prelude.{◌≡◌, true, Option, Some}
 use Rattle.station_core.specs.Step.{State}
 use Rattle.station_rows.specs.Tables.{Tables}
 use Rattle.station_rows.specs.Store.{View}
-use Rattle.station_tables.specs.Meaning.{meaning_of, state_of}
+use Rattle.station_tables.specs.Meaning.{meaning_of, Means}
 
 -- some tables that a crash may leave mean this state, or none
 abbrev pub Finds : View → Option State → Type 0
-Finds v found = (t : Tables) × v.may_leave t × (state_of t ≡ found)
+Finds v found = (t : Tables) × v.may_leave t × Means t found
 
 -- The tables mean this state, unless the store is shut. A crash leaves tables that mean it.
 pub record Keeps (v : View) (s : State) : Type 0 where
   pub now : v.is_open ≡ true → meaning_of v.now ≡ s
-  pub found : (t : Tables) → v.may_leave t → state_of t ≡ Some s
+  pub found : (t : Tables) → v.may_leave t → Means t (Some s)

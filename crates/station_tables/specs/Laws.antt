@@ -1,10 +1,14 @@
 -- How calls on a store go on from one another.
-use Rattle.std.specs.Prelude.{◌≡◌, refl, Option, Some}
-use Rattle.std.proofs.Common.{◌∙◌, sym, ap, subst}
-use Rattle.station_core.specs.Step.{State}
+use Rattle.std.specs.Prelude.{◌≡◌, refl, Option, Some, None, []}
+use Rattle.std.proofs.Common.{◌∙◌, sym, ap, subst, lit≤}
+use Rattle.shipment_machine.specs.Cargo.{Cargo, opening_cargo}
+use Rattle.shipment_machine.specs.Lawful as cargo
+use Rattle.shipment_machine.proofs.Opening.{opening_lawful}
+use Rattle.station_core.proofs.StepLaw.{still_lawful}
+use Rattle.station_core.specs.Step.{State, IsLawfulState}
 use Rattle.station_rows.specs.Tables.{Tables}
 use Rattle.station_rows.specs.Store.{View, Survives}
-use Rattle.station_tables.specs.Meaning.{IsLawful, holders_in, meaning_of, state_of}
+use Rattle.station_tables.specs.Meaning.{IsLawful, HasNoUsed, Means, airport_in, holders_in, meaning_of}
 use Rattle.station_tables.specs.Steady.{IsReady, IsSteady, IsAsBefore, IsBeside}
 use Rattle.station_tables.specs.Found.{Keeps, Finds}
 
@@ -38,13 +42,29 @@ survives_goes_on a b c first second = record {
   crash = λ sound t left. first.crash (second.sound sound) t (second.crash sound t left);
 }
 
+-- tables mean one state at most
+pub means_once : (t : Tables) (s : State) (found : Option State) → Means t (Some s) → Means t found → found ≡ Some s
+means_once t s (Some other) means again = ap Some (sym again.2 ∙ means.2)
+means_once t s None means none = absurd (none (means.0, means.1))
+
 -- what is found is what is kept
 pub found_is : (v : View) (s : State) → Keeps v s → (found : Option State) → Finds v found → found ≡ Some s
-found_is v s keeps found finds = sym finds.2 ∙ keeps.found finds.0 finds.1
+found_is v s keeps found finds = means_once finds.0 s found (keeps.found finds.0 finds.1) finds.2
+
+-- a state that tables mean is lawful
+pub found_lawful : (v : View) (s : State) → Finds v (Some s) → IsLawfulState s
+found_lawful v s finds =
+    let t : Tables = finds.0 in
+    let opened : Cargo = opening_cargo (airport_in t.stations) in
+    let law : cargo.IsLawful (record opened { holders = holders_in t.stock }) =
+    still_lawful opened (holders_in t.stock) [] (opening_lawful (airport_in t.stations)) (λ w used. absurd (finds.2.1 w used)) (lit≤ tt) in
+    subst IsLawfulState finds.2.2 (record { cargo = law; parts = λ part. tt })
 
 -- a steady store keeps what its tables mean
 pub steady_keeps : (v : View) → IsSteady v → ((t : Tables) → v.may_leave t → t ≡ v.committed) → Keeps v (meaning_of v.now)
 steady_keeps v steady settled = record {
   now = λ is_open. refl;
-  found = λ t left. ap state_of (settled t left ∙ sym steady.rest.same) ∙ rw steady.lawful refl;
+  found = λ t left.
+      let same : v.now ≡ t = steady.rest.same ∙ sym (settled t left) in
+      (subst IsLawful same steady.lawful, subst HasNoUsed same steady.unused, ap meaning_of (sym same));
 }

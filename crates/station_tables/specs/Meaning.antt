@@ -77,6 +77,11 @@ is_lawful t = is_station t.stations && list_all is_stock_row (entries t.stock) &
 abbrev pub IsLawful : Tables → Type 0
 IsLawful t = is_lawful t ≡ true
 
--- the state that tables mean, if they are lawful
-abbrev pub state_of : Tables → Option State
-state_of t = if is_lawful t then Some (meaning_of t) else None
+-- No number is used: nothing declares one.
+abbrev pub HasNoUsed : Tables → Type 0
+HasNoUsed t = (w : ℕ) → holders_in t.stock w ≡ Some holder.Used → ⊥
+
+-- Lawful tables in which no number is used mean their state, and others none.
+abbrev pub Means : Tables → Option State → Type 0
+Means t (Some s) = IsLawful t × HasNoUsed t × (meaning_of t ≡ s)
+Means t None = ¬ (IsLawful t × HasNoUsed t)

@@ -6,13 +6,14 @@ use Rattle.station_core.specs.declared.input.Input.{Input}
 use Rattle.station_core.specs.Step.{State, step}
 use Rattle.station_rows.specs.Tables.{Tables}
 use Rattle.station_rows.specs.Store.{View, IsAtRest}
-use Rattle.station_tables.specs.Meaning.{meaning_of, IsLawful}
+use Rattle.station_tables.specs.Meaning.{meaning_of, IsLawful, HasNoUsed}
 
 -- no transaction is open, and the tables mean a state
 pub record IsSteady (v : View) : Type 0 where
   pub is_open : v.is_open ≡ true
   pub rest : IsAtRest v
   pub lawful : IsLawful v.now
+  pub unused : HasNoUsed v.now
 
 -- the store is open, and the tables mean a state
 pub record IsReady (v : View) : Type 0 where
@@ -42,6 +43,7 @@ pub record Serves (old : State) (input : Input) (given : Answer) (new : State) :
 -- the tables mean the state after the step at any moment
 pub record IsAfter (before : State) (input : Input) (t : Tables) : Type 0 where
   pub lawful : IsLawful t
+  pub unused : HasNoUsed t
   pub state : (at : LocalMinute) → meaning_of t ≡ (step before input at).state
 
 -- nothing was committed but these tables, if they were

@@ -23,8 +23,8 @@ const SERIALS: u64 = 10_000_000;
 /// The stock in the tables of a store.
 #[derive(Drop)]
 pub struct Desk<S: TableStore> {
-    pub(crate) alloc: Global,
-    pub(crate) store: S,
+    pub alloc: Global,
+    pub store: S,
 }
 
 /// The holder in a row, if it names one.

@@ -10,8 +10,3 @@ mod station;
 pub use desk::Desk;
 pub use opening::{AttachFault, create};
 pub use station::Station;
-
-#[cfg(test)]
-mod stops;
-#[cfg(test)]
-mod tests;

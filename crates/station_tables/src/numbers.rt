@@ -37,7 +37,7 @@ fn all_held(alloc: Global, rows: &[StockRow]) -> Option<Vec<Held>>
 
 impl<S: TableStore> Desk<S> {
     /// The numbers in stock with their holders, rising. A fault: the database call failed, memory ran out, or a row stands for no number.
-    pub(crate) fn numbers(&mut self) -> Result<Vec<Held>, StoreFault>
+    pub fn numbers(&mut self) -> Result<Vec<Held>, StoreFault>
         ensures rising { (S.view self.new.store).IsSound → IfOk result (λ all. AreRising all.items) }
         ensures holders { (S.view self.new.store).IsSound → IsLawful (S.view self.old.store).now → IfOk result (λ all. holders_among all.items ≡ holders_in (S.view self.old.store).now.stock) }
         ensures same { OnOk result ((S.view self.new.store).IsSound → IsUnchanged (S.view self.old.store) (S.view self.new.store)) }

@@ -95,7 +95,7 @@ impl<S: TableStore> Station<S> {
 }
 
 impl<S: TableStore> Keeper for Station<S> {
-    ghost use Rattle.station_tables.specs.Laws.{found_is};
+    ghost use Rattle.station_tables.specs.Laws.{found_is, found_lawful};
     ghost use Rattle.station_tables.specs.Orders.{IsOrder};
 
     ghost keeps = { λ k s. (S.view k.desk.store).IsSound → Keeps (S.view k.desk.store) s };
@@ -111,6 +111,8 @@ impl<S: TableStore> Keeper for Station<S> {
     ghost takes_orders = { λ key order. tt };
 
     ghost settled = { λ k s keeps sound found finds. found_is _ s (keeps sound) found finds };
+
+    ghost lawful = { λ k s sound finds. found_lawful (S.view k.desk.store) s finds };
 
     fn act(&mut self, input: &Input<'_>, _at: Moment) -> Result<Reply, ActFault> {
         if self.broken {

@@ -1,10 +1,10 @@
-use Rattle.std.proofs.Common.{◌∙◌, sym, ap, subst, inl, inr, ⊎_elim}
+use Rattle.std.proofs.Common.{◌∙◌, ap, subst, inl, inr, ⊎_elim}
 use Rattle.station_core.specs.Step.{State}
 use Rattle.station_rows.specs.declared.rows.Rows.{Rows}
 use Rattle.station_rows.specs.Connection.{connection_view}
 use Rattle.station_tables.specs.Found.{Keeps}
-use Rattle.station_tables.specs.Meaning.{meaning_of, state_of}
-use Rattle.station_tables.proofs.NewStation.{opening-steady, meaning-opening, state-opening}
+use Rattle.station_tables.specs.Meaning.{meaning_of}
+use Rattle.station_tables.proofs.NewStation.{opening-steady, meaning-opening, opening-found}
 use Rattle.station_tables.proofs.opening.create.Goals as goal
 
 pub over-requires : goal.over-requires
@@ -21,8 +21,8 @@ returns-in-Ok-clause-keeps g c = λ sound.
 
 pub returns-in-Err-default-Occupied-clause-leaves : goal.returns-in-Err-default-Occupied-clause-leaves
 returns-in-Err-default-Occupied-clause-leaves g c = λ sound found finds.
-    ⊎_elim (λ before. inl (finds.0, before, finds.2)) (λ made. inr (made.0, sym finds.2 ∙ ap state_of made.1 ∙ state-opening)) (c.in-Err-default-Occupied.ensures.spares.crash sound finds.0 finds.1)
+    ⊎_elim (λ before. inl (finds.0, before, finds.2)) (λ made. inr (made.0, opening-found finds.0 found made.1 finds.2)) (c.in-Err-default-Occupied.ensures.spares.crash sound finds.0 finds.1)
 
 pub returns-in-Err-default-Store-clause-leaves : goal.returns-in-Err-default-Store-clause-leaves
 returns-in-Err-default-Store-clause-leaves g c = λ sound found finds.
-    ⊎_elim (λ before. inl (finds.0, before, finds.2)) (λ made. inr (made.0, sym finds.2 ∙ ap state_of made.1 ∙ state-opening)) (c.in-Err-default-Store.ensures.spares.crash sound finds.0 finds.1)
+    ⊎_elim (λ before. inl (finds.0, before, finds.2)) (λ made. inr (made.0, opening-found finds.0 found made.1 finds.2)) (c.in-Err-default-Store.ensures.spares.crash sound finds.0 finds.1)
