@@ -1,0 +1,67 @@
+-- How the report of a stock ends: its rows are known as those that are the runs of the stock.
+use Rattle.std.proofs.Common.{◌≡◌, ap, sym, subst, inl, inr, ℕ, ◌+◌, Some, None, Result, Ok, Err, List, [], ◌++◌, length, take, OnOk, OnErr, IfErr}
+use Rattle.std.specs.List.{flat_map}
+use Rattle.std.proofs.lemmas.List.{length-take-le}
+use Rattle.agent_stock.specs.Stock.{Holders}
+use Rattle.agent_stock.specs.Runs.{AreStockRuns}
+use Rattle.agent_stock.specs.declared.runs.StockRun.{StockRun}
+use Rattle.station_core.specs.Given.{Given}
+use Rattle.station_core.specs.Ends.{Sent}
+use Rattle.station_core.specs.Keeping.{IsReadersFault}
+use Rattle.station_core.specs.Readers.{HandedOut}
+use Rattle.station_core.specs.declared.answer.ActFault.{ActFault}
+use Rattle.reports.specs.declared.fault.ReportCause.{ReportCause}
+use Rattle.reports.specs.declared.fault.ReportCause.TheVariants as cause
+use Rattle.reports.specs.declared.fault.ReportFault.{ReportFault}
+use Rattle.reports.specs.Lines.{stock_line, report_text}
+use Rattle.reports.specs.Reports.{IsStockReport}
+use Rattle.reports.specs.Progress.{Progress, Ends}
+use Rattle.reports.specs.Ended.{IsBegun, HaveGone, HasEnded, HasEndedStock}
+use Rattle.reports.proofs.Telling.{Handed, start_whole, handed, unfinished, Took, SameName, reported}
+
+have_gone : (text : List ℕ) (n : ℕ) (old new : Given) → Sent old new text n → HaveGone n old new
+have_gone text n old new sent = (take n text, length-take-le n text sent.0, sent.1)
+
+of_stock : (Open : Type 0) (holders : Holders) (front text : List ℕ) (old new : Given) (r : Result (Unit {0}) ReportFault) → IsStockReport holders text → HasEnded Open (front ++ text) old new r → HasEndedStock Open holders front old new r
+of_stock Open holders front text old new (Ok x) is h = (text, is, h)
+of_stock Open holders front text old new (Err e) is h = (inl (text, is, h.0), have_gone (front ++ text) e.sent old new h.0.0, h.0.1, h.1)
+
+fault_of : (start : Given) (text : List ℕ) (n : ℕ) (p q : Progress) (e : ActFault) (r : Result (Unit {0}) ReportFault)
+    → ((why : ReportCause) → p.cause ≡ Some why → (r ≡ Err (record { sent = p.sent; cause = why })) × (q ≡ p))
+    → (p.cause ≡ None → (r ≡ Err (record { sent = p.sent; cause = cause.Act e })) × (q ≡ p))
+    → Handed start text n p → (f : ReportFault) × (r ≡ Err f)
+fault_of start text n p q e r cut unread (inl w) = (_, (unread w.cause).0)
+fault_of start text n p q e r cut unread (inr c) = (_, (cut c.why c.cause).0)
+
+module _ {S N : Type 0} (P : S → Progress) (name : S → N) (holders : Holders) where
+  abbrev Hands : List StockRun → S → S → Type 0
+  Hands rows old new = HandedOut (Took P stock_line (SameName P stock_line name)) rows old new
+
+  pub reported_stock : (read : Result (Unit {0}) ActFault) (r : Result (Unit {0}) ReportFault) (Open : Type 0) (old mid new : S)
+      → (P old).rows ≡ 0 → (P old).sent ≡ 0 → (P old).cause ≡ None
+      → ((rows : List StockRun) × Hands rows old mid)
+      → OnOk read ((rows : List StockRun) × AreStockRuns holders rows × Hands rows old mid)
+      → OnErr read ((rows : List StockRun) → AreStockRuns holders rows → (n : ℕ) × Hands (take n rows) old mid)
+      → (Open → IfErr read IsReadersFault)
+      → ((why : ReportCause) → (P mid).cause ≡ Some why → (r ≡ Err (record { sent = (P mid).sent; cause = why })) × (new ≡ mid))
+      → ((P mid).cause ≡ None → IfErr read (λ e. (r ≡ Err (record { sent = (P mid).sent; cause = cause.Act e })) × (new ≡ mid)))
+      → ((P mid).cause ≡ None → OnOk read (Ends (P mid) (P new) r))
+      → HasEndedStock Open holders (P old).front (P old).given (P new).given r
+  reported_stock (Ok x) r Open old mid new no_rows none_sent no_cause took (rows, are, all) part fault cut unread ends =
+      let end = reported P stock_line name (Ok x) r Open rows old mid new no_rows none_sent no_cause all tt fault cut unread ends in
+      of_stock Open holders (P old).front (report_text stock_line rows) (P old).given (P new).given r (rows, are, λ _. report_text stock_line rows) end
+  reported_stock (Err e) r Open old mid new no_rows none_sent no_cause took all part fault cut unread ends =
+      let front : List ℕ = (P old).front in
+      let start = start_whole (P old) no_rows none_sent no_cause in
+      let told = handed P stock_line (SameName P stock_line name) took.0 (P old).given front 0 old mid took.1 start in
+      let cut_p : (why : ReportCause) → (P mid).cause ≡ Some why → (r ≡ Err (record { sent = (P mid).sent; cause = why })) × (P new ≡ P mid) = λ why is. ((cut why is).0, ap P (cut why is).1) in
+      let unread_p : (P mid).cause ≡ None → (r ≡ Err (record { sent = (P mid).sent; cause = cause.Act e })) × (P new ≡ P mid) = λ none. ((unread none).0, ap P (unread none).1) in
+      let failed = fault_of (P old).given (front ++ flat_map stock_line took.0) (0 + length took.0) (P mid) (P new) e r cut_p unread_p told in
+      let any = unfinished (P old).given (front ++ flat_map stock_line took.0) (0 + length took.0) (P mid) (P new) Open e [] r cut_p unread_p fault told in
+      let any_f = subst (HasEnded Open ((front ++ flat_map stock_line took.0) ++ []) (P old).given (P new).given) failed.1 any in
+      let each : (text : List ℕ) → IsStockReport holders text → IsBegun (front ++ text) failed.0 (P old).given (P new).given =
+      λ text is.
+      let end = reported P stock_line name (Err e) r Open is.0 old mid new no_rows none_sent no_cause tt (part is.0 is.1) fault cut unread ends in
+      let now = subst (λ t. HasEnded Open (front ++ t) (P old).given (P new).given r) (sym is.2) end in
+      (subst (HasEnded Open (front ++ text) (P old).given (P new).given) failed.1 now).0 in
+      subst (HasEndedStock Open holders front (P old).given (P new).given) (sym failed.1) (inr each, have_gone _ failed.0.sent (P old).given (P new).given any_f.0.0, any_f.0.1, any_f.1)

@@ -1,0 +1,52 @@
+-- What a report that ended before its end leaves.
+use Rattle.std.specs.Prelude.{◌≡◌, ◌⊎◌, ℕ, Result, Ok, Err, List, ◌++◌, length}
+use Rattle.agent_stock.specs.Stock.{Holders}
+use Rattle.station_core.specs.Given.{Given}
+use Rattle.station_core.specs.Ends.{Sent, HasCause}
+use Rattle.station_core.specs.Keeping.{IsReadersFault}
+use Rattle.station_core.specs.declared.answer.ActFault.TheVariants as act
+use Rattle.reports.specs.declared.fault.ReportCause.{ReportCause}
+use Rattle.reports.specs.declared.fault.ReportCause.TheVariants as cause
+use Rattle.reports.specs.declared.fault.ReportFault.{ReportFault}
+use Rattle.reports.specs.Reports.{IsStockReport}
+
+-- the station has to be opened again, and nothing went out
+abbrev pub IsReopen : Result (Unit {0}) ReportFault → Type 0
+IsReopen result = result ≡ Err (record { sent = 0; cause = cause.Act act.Reopen })
+
+-- of a station that is open: the writer's fault, want of memory, or the store's
+abbrev pub IsCause : ReportCause → Type 0
+IsCause cause.Write = Unit {0}
+IsCause (cause.Act e) = IsReadersFault e
+
+abbrev pub IsFault : ReportFault → Type 0
+IsFault e = IsCause e.cause
+
+-- at a fault of the writer it failed or took no byte; at another it did neither
+abbrev pub HasTold : ReportCause → Given → Given → Type 0
+HasTold cause.Write old new = HasCause old new
+HasTold (cause.Act e) old new = (new.failures ≡ old.failures) × (new.idle ≡ old.idle)
+
+-- so many bytes went out as it tells, and they are a beginning of the text
+abbrev pub IsBegun : List ℕ → ReportFault → Given → Given → Type 0
+IsBegun text e old new = Sent old new text e.sent × HasTold e.cause old new
+
+-- so many bytes went out
+abbrev pub HaveGone : ℕ → Given → Given → Type 0
+HaveGone sent old new = (out : List ℕ) × (length out ≡ sent) × (new.bytes ≡ old.bytes ++ out)
+
+-- the same of the report of a stock, behind what stands in front: of one list of its runs, or of each
+abbrev pub IsBegunStock : Holders → List ℕ → ReportFault → Given → Given → Type 0
+IsBegunStock holders front e old new =
+    ((text : List ℕ) × IsStockReport holders text × IsBegun (front ++ text) e old new)
+    ⊎ ((text : List ℕ) → IsStockReport holders text → IsBegun (front ++ text) e old new)
+
+-- A report ended: its text went out, or a beginning of it. A fault is no refusal, nor Reopen of a station that is open.
+abbrev pub HasEnded : Type 0 → List ℕ → Given → Given → Result (Unit {0}) ReportFault → Type 0
+HasEnded open_station text old new (Ok x) = new.bytes ≡ old.bytes ++ text
+HasEnded open_station text old new (Err e) = IsBegun text e old new × (open_station → IsCause e.cause)
+
+-- the same of the report of a stock, behind what stands in front
+abbrev pub HasEndedStock : Type 0 → Holders → List ℕ → Given → Given → Result (Unit {0}) ReportFault → Type 0
+HasEndedStock open_station holders front old new (Ok x) = (text : List ℕ) × IsStockReport holders text × (new.bytes ≡ old.bytes ++ (front ++ text))
+HasEndedStock open_station holders front old new (Err e) = IsBegunStock holders front e old new × HaveGone e.sent old new × HasTold e.cause old new × (open_station → IsCause e.cause)
