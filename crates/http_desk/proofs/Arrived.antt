@@ -1,0 +1,84 @@
+-- What a request wants, by what has come of it.
+use Rattle.std.proofs.Common.{arith, ◌≡◌, ◌∙◌, ap, sym, subst, ℕ, ◌+◌, ◌-◌, ◌≤◌, List, ◌++◌, length, take, drop, codes}
+use Rattle.std.proofs.lemmas.List.{length-drop}
+use Rattle.httparse.specs.Grammar.{RequestHead, print_request}
+use Rattle.httparse.proofs.GrammarLemmas.{request_unique}
+use Rattle.imp_fields.specs.Date.{LocalMinute}
+use Rattle.station_core.specs.Step.{State}
+use Rattle.http_desk.specs.declared.fault.FaultTold.{FaultTold}
+use Rattle.http_desk.specs.declared.wanted.Post.{Post}
+use Rattle.http_desk.specs.declared.wanted.Wanted.{Wanted}
+use Rattle.http_desk.specs.declared.wanted.Wanted.TheVariants as wanted
+use Rattle.http_desk.specs.declared.wanted.HeadWants.{HeadWants}
+use Rattle.http_desk.specs.declared.wanted.HeadWants.TheVariants as wants
+use Rattle.http_desk.specs.Fields.{meant}
+use Rattle.http_desk.specs.Request.{Fault, HeadAsks, fault, head_asks, key_of, IsAskedUnder}
+use Rattle.http_desk.specs.Reply.{Reply, fault_reply, body_reply}
+use Rattle.http_desk.specs.Answer.{head_room, head_of, HasHead, Replied, SendsAnswer, IsAnsweredAs, Answers}
+use Rattle.http_desk.specs.Reading.{HasNoHead}
+use Rattle.http_desk.specs.Wanted.{wanted_state, Wants, BodyWants, posted_of}
+use Rattle.http_desk.specs.Came.{BeginsWith}
+use Rattle.http_desk.proofs.Heads.{head_stays}
+
+pub no_head_wants : (bytes : List ℕ) (f : FaultTold) → meant f ≡ fault 400 (codes "head") → HasNoHead bytes → Wants bytes (wanted.Fault f)
+no_head_wants bytes f is none = record {
+  answered = λ s at status out after r. record {
+    head = λ h has. absurd (none.0 h has);
+    none = λ no. (subst (λ (g : Fault). Replied s (fault_reply g) s status out after) is r, none.1);
+  };
+  report = λ name is. cc is;
+}
+
+module _ (bytes : List ℕ) where
+  -- a request has one head
+  one_head : (h k : RequestHead) → HasHead bytes h → HasHead bytes k → h ≡ k
+  one_head h k has also = (request_unique (take head_room bytes) h k has.0.0 also.0.0 has.0.1 also.0.1).0
+
+  abbrev AnsweredBy : State → LocalMinute → ℕ → List ℕ → State → RequestHead → Type 0
+  AnsweredBy s at status out after h = IsAnsweredAs (head_asks (head_of h)) (head_of h) (drop (length (print_request h)) bytes) s at status out after
+
+  by_head : (s : State) (at : LocalMinute) (status : ℕ) (out : List ℕ) (after : State) (h : RequestHead) → HasHead bytes h → AnsweredBy s at status out after h → Answers bytes s at status out after
+  by_head s at status out after h has answer = record {
+    head = λ k also. subst (AnsweredBy s at status out after) (one_head h k has also) answer;
+    none = λ no. absurd (no h has);
+  }
+
+  pub now_wants : (w : Wanted) (key : _) (start : ℕ) → BeginsWith bytes (wants.Now w) key start → Wants bytes w
+  now_wants w key start b = record {
+    answered = λ s at status out after r. by_head s at status out after b.head b.has (b.wants.answered (head_of b.head) (drop (length (print_request b.head)) bytes) s at status out after r);
+    report = λ name is. (b.head, b.has, b.wants.report name is);
+  }
+
+  room_left : (n start : ℕ) → start + n ≤ length bytes → n ≤ length (drop start bytes)
+  room_left n start fits = let l : length (drop start bytes) ≡ length bytes - start = length-drop start bytes in omega (arith, l, fits)
+
+  pub body_wants : (post : Post) (n : ℕ) (key : _) (start : ℕ) (body : List ℕ) (w : Wanted) → BeginsWith bytes (wants.Body post n) key start → start + n ≤ length bytes
+      → body ≡ take n (drop start bytes) → BodyWants (posted_of post) key body w → Wants bytes w
+  body_wants post n key start body w b fits is (asks, asked, told) = record {
+    answered = λ s at status out after r.
+        let head = head_of b.head in
+        let rest : List ℕ = drop (length (print_request b.head)) bytes in
+        let starts : drop start bytes ≡ rest = ap (λ k. drop k bytes) b.start_is in
+        let under : IsAskedUnder (posted_of post) (key_of head.fields) body asks = subst (λ k. IsAskedUnder (posted_of post) k body asks) b.key_is asked in
+        let sent : SendsAnswer (posted_of post) n head rest s at status out after = record {
+          whole = subst (λ (l : List ℕ). n ≤ length l) starts (room_left n start fits);
+          asks = asks;
+          asked = subst (λ (l : List ℕ). IsAskedUnder (posted_of post) (key_of head.fields) l asks) (is ∙ ap (λ (l : List ℕ). take n l) starts) under;
+          replied = subst (λ (next : State). Replied s (body_reply s at asks) next status out after) (told.state s at) (subst (λ (reply : Reply). Replied s reply (wanted_state s at w) status out after) (told.reply s at) r);
+        } in
+        by_head s at status out after b.head b.has (subst (λ (a : HeadAsks). IsAnsweredAs a head rest s at status out after) (sym b.wants) sent);
+    report = λ name is. absurd (told.report name is);
+  }
+
+-- more bytes came behind a head
+pub begins_on : (before after part : List ℕ) (w : HeadWants) (key : _) (start : ℕ) → length before ≤ 16_384 → after ≡ before ++ part → BeginsWith before w key start → BeginsWith after w key start
+begins_on before after part w key start room is b = record {
+  head = b.head;
+  has = subst (λ (bytes : List ℕ). HasHead bytes b.head) (sym is) (head_stays before part b.head room b.has);
+  wants = b.wants;
+  key_is = b.key_is;
+  start_is = b.start_is;
+}
+
+pub len_of : (start n : ℕ) → (start + n) - start ≡ n
+len_of start n = omega arith

@@ -1,0 +1,10 @@
+mod Arrived
+mod AskedJson
+mod Examples
+mod FieldLaws
+mod Heads
+mod Joining
+mod NoVerb
+mod Reporting
+mod Wanting
+mod WholeWaybill

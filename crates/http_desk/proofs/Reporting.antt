@@ -1,0 +1,84 @@
+-- How an answer with a report ends, by how the report ended.
+use Rattle.std.proofs.Common.{arith, ◌≡◌, ◌∙◌, ap, subst, refl, inl, inr, ℕ, ◌<◌, Bool, false, Result, Ok, Err, List, [], ◌∷◌, ◌++◌, take}
+use Rattle.std.specs.Prelude.{◌⊎◌}
+use Rattle.std.proofs.lemmas.List.{length-take-le}
+use Rattle.station_core.specs.Given.{Given}
+use Rattle.station_core.specs.Ends.{Sent, HasCause}
+use Rattle.station_core.specs.Step.{State}
+use Rattle.reports.specs.Ended.{HasTold, HaveGone, IsBegun, IsCause}
+use Rattle.reports.specs.declared.fault.ReportCause.{ReportCause}
+use Rattle.reports.specs.declared.fault.ReportCause.TheVariants as cause
+use Rattle.reports.specs.declared.fault.ReportFault.{ReportFault}
+use Rattle.http_desk.specs.declared.route.Report.{Report}
+use Rattle.http_desk.specs.declared.route.Report.TheVariants as report
+use Rattle.http_desk.specs.Reply.{report_head, IsReport}
+use Rattle.http_desk.specs.Serving.{unavailable, SomeOrEach}
+use Rattle.http_desk.specs.Writing.{HasEndedReport, HasSent, HasReported}
+use Rattle.http_desk.specs.declared.serve.Served.{Served}
+use Rattle.http_desk.specs.declared.serve.ServeFault.{ServeFault}
+use Rattle.http_desk.specs.declared.serve.ServeFault.TheVariants as serve
+use Rattle.station_core.specs.declared.answer.ActFault.{ActFault}
+
+-- a report that ended before its end
+pub record EndedEarly (Open : Type 0) (s : State) (name : Report) (old new : Given) (e : ReportFault) : Type 0 where
+  pub part : SomeOrEach s name (λ whole. Sent old new whole e.sent)
+  pub gone : HaveGone e.sent old new
+  pub told : HasTold e.cause old new
+  pub fault : Open → IsCause e.cause
+
+module _ (Open : Type 0) (s : State) (old new : Given) (e : ReportFault) where
+  of_text : (name : Report) (front text : List ℕ) → front ≡ report_head → IsReport s name text → IsBegun (front ++ text) e old new → (Open → IsCause e.cause) → EndedEarly Open s name old new e
+  of_text name front text is are begun fault = record {
+    part = inl (text, are, subst (λ f. Sent old new (f ++ text) e.sent) is begun.0);
+    gone = (take e.sent (front ++ text), length-take-le e.sent (front ++ text) begun.0.0, begun.0.1);
+    told = begun.1;
+    fault = fault;
+  }
+
+  pub ended_early : (name : Report) (front : List ℕ) → front ≡ report_head → HasEndedReport Open s name front old new (Err e) → EndedEarly Open s name old new e
+  ended_early report.Stock front is (inl (text, are, begun), gone, told, fault) = of_text report.Stock front text is are begun fault
+  ended_early report.Stock front is (inr each, gone, told, fault) = record {
+    gone = gone;
+    part = inr (λ text are. subst (λ f. Sent old new (f ++ text) e.sent) is (each text are).0);
+    told = told;
+    fault = fault;
+  }
+  ended_early report.Irregularities front is (begun, fault) = of_text report.Irregularities front _ is refl begun fault
+  ended_early report.Movements front is (begun, fault) = of_text report.Movements front _ is refl begun fault
+  ended_early report.Trail front is (begun, fault) = of_text report.Trail front _ is refl begun fault
+  ended_early report.Pending front is (begun, fault) = of_text report.Pending front _ is refl begun fault
+
+append_none : (xs : List ℕ) → xs ++ [] ≡ xs
+append_none [] = refl
+append_none (x ∷ xs) = ap (λ ys. x ∷ ys) (append_none xs)
+
+-- what holds of some text, or of each, is weakened
+pub some_or_each : (s : State) (name : Report) (P Q : List ℕ → Type 0) → ((whole : List ℕ) → P whole → Q whole) → SomeOrEach s name P → SomeOrEach s name Q
+some_or_each s name P Q more (inl (text, are, p)) = inl (text, are, more (report_head ++ text) p)
+some_or_each s name P Q more (inr each) = inr (λ text are. more (report_head ++ text) (each text are))
+
+-- The answer with a report, by how the report ended.
+module _ (s : State) (name : Report) (old mid : Given) where
+  pub after_write : (Open : Type 0) (e : ReportFault) → e.cause ≡ cause.Write → EndedEarly Open s name old mid e
+      → (SomeOrEach s name (λ whole. Sent old mid whole e.sent) ⊎ Sent old mid unavailable e.sent) × HasCause old mid
+  after_write Open e is ended = (inl ended.part, subst (λ (why : ReportCause). HasTold why old mid) is ended.told)
+
+  pub after_part : (Open : Type 0) (e : ReportFault) → EndedEarly Open s name old mid e → HasReported s name old mid (Ok (record { status = 200; reopen = false }))
+  after_part Open e ended = inr (inl (refl, some_or_each s name (λ whole. Sent old mid whole e.sent) (λ whole. (n : ℕ) × (mid.bytes ≡ old.bytes ++ take n whole)) (λ whole sent. (e.sent, sent.1)) ended.part))
+
+  none_gone : HaveGone 0 old mid → mid.bytes ≡ old.bytes
+  none_gone ([], empty, e) = e ∙ append_none old.bytes
+  none_gone (x ∷ xs, empty, e) = absurd (omega (arith, empty))
+
+  pub after_none : (Open : Type 0) (e : ReportFault) (fault : ActFault) (reopen : Bool) (new : Given) (r : Result Served ServeFault)
+      → e.sent ≡ 0 → e.cause ≡ cause.Act fault → reopen ≡ false → EndedEarly Open s name old mid e → HasSent 503 reopen unavailable mid new r → HasReported s name old new r
+  after_none Open e fault reopen new (Ok served) none is open_station ended (told, bytes) =
+      let same : mid.bytes ≡ old.bytes = none_gone (subst (λ (n : ℕ). HaveGone n old mid) none ended.gone) in
+      inr (inr (told ∙ (λ i. record { status = 503; reopen = open_station i }), bytes ∙ ap (λ b. b ++ unavailable) same))
+  after_none Open e fault reopen new (Err serve.Read) none is open_station ended sent = absurd sent
+  after_none Open e fault reopen new (Err (serve.Write n)) none is open_station ended (part, why) =
+      let same : mid.bytes ≡ old.bytes = none_gone (subst (λ (n : ℕ). HaveGone n old mid) none ended.gone) in
+      let still : (mid.failures ≡ old.failures) × (mid.idle ≡ old.idle) = subst (λ (why : ReportCause). HasTold why old mid) is ended.told in (
+        inr (part.0, part.1 ∙ ap (λ b. b ++ take n unavailable) same),
+        subst (λ (f : ℕ). (f < new.failures) ⊎ (old.idle < new.idle)) still.0 (subst (λ (i : ℕ). (mid.failures < new.failures) ⊎ (i < new.idle)) still.1 why),
+      )

@@ -1,0 +1,87 @@
+-- What a head or a body wants.
+use Rattle.std.proofs.Common.{◌≡◌, ◌∙◌, sym, ap, subst, refl, ℕ, List, [], Option, Some, None, Result, Ok, Err}
+use Rattle.std.specs.Prelude.{MatchResult}
+use Rattle.std.specs.Result.{result_ok}
+use Rattle.std.specs.Array.{IsWholeChunk}
+use Rattle.awb_number.specs.Number.{number_of}
+use Rattle.awb_number.specs.declared.awb.AwbFault.{AwbFault}
+use Rattle.station_core.specs.Readers.{waybill_of}
+use Rattle.http_desk.specs.declared.fault.FaultTold.{FaultTold}
+use Rattle.http_desk.specs.declared.route.Report.{Report}
+use Rattle.http_desk.specs.declared.wanted.Wanted.{Wanted}
+use Rattle.http_desk.specs.declared.wanted.Wanted.TheVariants as wanted
+use Rattle.http_desk.specs.Fields.{meant}
+use Rattle.http_desk.specs.Routes.{got_waybill, got_holder, got_report}
+use Rattle.http_desk.specs.Request.{HeadAsks, refuses, looks_up, fault}
+use Rattle.http_desk.specs.Reply.{Reply, numbered, unknown, fault_reply, waybill_reply, holder_reply}
+use Rattle.http_desk.specs.Answer.{Replied, IsAnsweredAs}
+use Rattle.http_desk.specs.Wanted.{WantsNow}
+
+option_of : {A : Type 0} → Option A → A → A
+option_of (Some x) other = x
+option_of None other = other
+
+some_is : {A : Type 0} (x y : A) → ◌≡◌ {A = Option A} (Some x) (Some y) → x ≡ y
+unfolding option_of
+some_is x y e = ap (λ o. option_of o x) e
+
+-- twelve bytes that are the whole of a text
+pub chunk_is : {E : Type 0} (P : E → Type 0) (r : Result (List ℕ) E) (text bytes : List ℕ) → ◌≡◌ {A = Option (List ℕ)} (Some bytes) (result_ok r) → MatchResult r (λ y. IsWholeChunk text y 12) P → bytes ≡ text
+chunk_is P (Ok y) text bytes e chunk = some_is bytes y e ∙ chunk.same
+chunk_is P (Err fault) text bytes e chunk = cc e
+
+-- a number that is read is looked up, and one that isn't is unknown
+module _ (reply : ℕ → Reply) where
+  number_read : (r : Result ℕ AwbFault) (w : ℕ) → ◌≡◌ {A = Option ℕ} (Some w) (result_ok r) → reply w ≡ numbered r reply
+  number_read (Ok v) w e = ap reply (some_is w v e)
+  number_read (Err f) w e = cc e
+
+  none_read : (r : Result ℕ AwbFault) → ◌≡◌ {A = Option ℕ} None (result_ok r) → unknown ≡ numbered r reply
+  none_read (Ok v) e = cc e
+  none_read (Err f) e = refl
+
+pub waybill_wanted : (name : List ℕ) (w : ℕ) → ◌≡◌ {A = Option ℕ} (Some w) (result_ok (number_of name)) → WantsNow (looks_up (got_waybill name)) (wanted.Waybill w)
+waybill_wanted name w e = record {
+  answered = λ head rest s at status out after r. subst (λ reply. Replied s reply s status out after) (number_read (λ v. waybill_reply v (waybill_of s.cargo v)) (number_of name) w e) r;
+  report = λ report is. cc is;
+}
+
+pub holder_wanted : (name : List ℕ) (w : ℕ) → ◌≡◌ {A = Option ℕ} (Some w) (result_ok (number_of name)) → WantsNow (looks_up (got_holder name)) (wanted.Holder w)
+holder_wanted name w e = record {
+  answered = λ head rest s at status out after r. subst (λ reply. Replied s reply s status out after) (number_read (λ v. holder_reply v (s.cargo.holders v)) (number_of name) w e) r;
+  report = λ report is. cc is;
+}
+
+pub no_waybill : (name : List ℕ) (f : FaultTold) → meant f ≡ fault 404 [] → ◌≡◌ {A = Option ℕ} None (result_ok (number_of name)) → WantsNow (looks_up (got_waybill name)) (wanted.Fault f)
+no_waybill name f is e = record {
+  answered = λ head rest s at status out after r.
+      subst (λ reply. Replied s reply s status out after) (ap fault_reply is ∙ none_read (λ v. waybill_reply v (waybill_of s.cargo v)) (number_of name) e) r;
+  report = λ report is. cc is;
+}
+
+pub no_holder : (name : List ℕ) (f : FaultTold) → meant f ≡ fault 404 [] → ◌≡◌ {A = Option ℕ} None (result_ok (number_of name)) → WantsNow (looks_up (got_holder name)) (wanted.Fault f)
+no_holder name f is e = record {
+  answered = λ head rest s at status out after r.
+      subst (λ reply. Replied s reply s status out after) (ap fault_reply is ∙ none_read (λ v. holder_reply v (s.cargo.holders v)) (number_of name) e) r;
+  report = λ report is. cc is;
+}
+
+report_of : Wanted → Report → Report
+report_of (wanted.Report name) other = name
+report_of _ other = other
+
+report_is : (name other : Report) → ◌≡◌ {A = Wanted} (wanted.Report name) (wanted.Report other) → name ≡ other
+unfolding report_of
+report_is name other e = ap (λ w. report_of w name) e
+
+pub report_wanted : (name : Report) → WantsNow (looks_up (got_report name)) (wanted.Report name)
+report_wanted name = record {
+  answered = λ head rest s at status out after r. r;
+  report = λ other is. ap (λ n. looks_up (got_report n)) (report_is name other is);
+}
+
+pub fault_wanted : (asks : HeadAsks) (f : FaultTold) → asks ≡ refuses (meant f) → WantsNow asks (wanted.Fault f)
+fault_wanted asks f is = record {
+  answered = λ head rest s at status out after r. subst (λ (a : HeadAsks). IsAnsweredAs a head rest s at status out after) (sym is) r;
+  report = λ report is. cc is;
+}

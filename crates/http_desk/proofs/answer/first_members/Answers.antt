@@ -1,0 +1,13 @@
+use Rattle.std.proofs.Common.{◌≡◌, ◌∙◌, ap, ◌++◌, codes, string_bytes}
+use Rattle.serde_json.specs.Data.{string}
+use Rattle.serde_json.specs.Written.{compact_text}
+use Rattle.awb_number.specs.Number.{number_text}
+use Rattle.desk_commands.proofs.Written.{told}
+use Rattle.http_desk.proofs.answer.first_members.Goals as goal
+
+pub returns : goal.returns
+returns c =
+    let awb : string_bytes c.in_ok-awb.awb ≡ compact_text (string (number_text c.args.number.now)) = c.in_ok-awb.ensures ∙ ap (λ t. compact_text (string t)) (c.ascii_text.ensures ∙ c.write-awb.ensures.text) in
+    told string_bytes c.format.result _ _
+    (λ i. codes "{\"awb\":" ++ (awb i ++ (codes ",\"delivered\":" ++ (c.in_ok-delivered.ensures i ++ (codes ",\"departed\":" ++ (c.in_ok-departed.ensures i ++ codes ","))))))
+    c.format.ensures.ok

@@ -1,0 +1,12 @@
+use Rattle.std.proofs.Common.{◌≡◌, ◌∙◌, ap, ◌++◌, codes, string_bytes}
+use Rattle.serde_json.specs.Data.{string}
+use Rattle.serde_json.specs.Written.{compact_text}
+use Rattle.desk_commands.proofs.Written.{told}
+use Rattle.http_desk.proofs.answer.third_members.Goals as goal
+
+pub returns : goal.returns
+returns c =
+    let origin : string_bytes c.in_ok-origin.origin ≡ compact_text (string c.args.known.now.declared.origin) = c.in_ok-origin.ensures ∙ ap (λ t. compact_text (string t)) (c.ascii_text.ensures ∙ c.letters-origin.ensures.value) in
+    told string_bytes c.format.result _ _
+    (λ i. codes "\"missing\":" ++ (c.in_ok-missing.ensures i ++ (codes ",\"notified\":" ++ (c.flag_text-notified.ensures i ++ (codes ",\"origin\":" ++ (origin i ++ codes ","))))))
+    c.format.ensures.ok

@@ -1,0 +1,15 @@
+use Rattle.std.proofs.Common.{◌≡◌, ◌<◌, ◌++◌, length, ◌+◌}
+use Rattle.http_desk.proofs.reading.read_head.Given as goal
+
+abbrev pub invariant-loop-turn : goal.invariant-loop-turn
+invariant-loop-turn g l =
+    let before = g.I.ByteIn.given l.fn.reader in
+    let now = g.I.ByteIn.given l.reader in
+    record {
+      come : now.bytes ≡ before.bytes ++ l.bytes.items;
+      room : length l.bytes.items < 16_384;
+      calls : now.calls ≡ before.calls + l.turn;
+      failures : now.failures ≡ before.failures;
+      idle : now.idle ≡ before.idle;
+      headers : length l.headers ≡ 64;
+    }

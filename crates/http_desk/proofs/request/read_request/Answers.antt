@@ -1,0 +1,19 @@
+use Rattle.std.proofs.Common.{subst, List, ℕ}
+use Rattle.http_desk.specs.Came.{BeginsWith}
+use Rattle.http_desk.proofs.Arrived.{begins_on}
+use Rattle.http_desk.proofs.Heads.{ended_all, other_err}
+use Rattle.http_desk.specs.declared.reading.ReadEnd.TheVariants as reading
+use Rattle.http_desk.proofs.request.read_request.Goals as goal
+
+pub returns-in-Err-read_body-clause-read : goal.returns-in-Err-read_body-clause-read
+returns-in-Err-read_body-clause-read g c = λ is.
+    ended_all (g.I.ByteIn.given c.args.reader.now) (g.I.ByteIn.given c.read_head.new.reader) (g.I.ByteIn.given c.read_body.new.reader) c.in-Ok.head.1
+    c.in-Ok.ensures.turns c.in-Ok.ensures.calls c.in-Ok.ensures.failures c.in-Ok.ensures.idle (c.in-Err-read_body.ensures.read (other_err c.in-Err-read_body.end reading.Read is))
+
+pub returns-in-Ok-read_body-clause-request : goal.returns-in-Ok-read_body-clause-request
+returns-in-Ok-read_body-clause-request g c =
+    let before : List ℕ = c.read_head.new.bytes.items in (
+      begins_on before c.read_body.new.bytes.items c.in-Ok-read_body.ensures.come.part c.in-Ok-wants_at.wants c.in-Ok-wants_at.key c.in-Ok.head.0.len c.in-Ok.ensures.room c.in-Ok-read_body.ensures.come.bytes
+          (subst (λ (bytes : List ℕ). BeginsWith bytes c.in-Ok-wants_at.wants c.in-Ok-wants_at.key c.in-Ok.head.0.len) c.as_slice.ensures.value c.in-Ok-wants_at.ensures),
+      c.in-Ok-read_body.ensures.body,
+    )

@@ -1,0 +1,14 @@
+pub mod Routes
+pub mod Request
+pub mod Reply
+pub mod Answer
+pub mod Reading
+pub mod Serving
+pub mod Fields
+pub mod Asked
+pub mod HeadTold
+pub mod Wanted
+pub mod Came
+pub mod Members
+pub mod Told
+pub mod Writing

@@ -1,0 +1,40 @@
+-- What has come of a request.
+use Rattle.std.specs.Prelude.{◌≡◌, ◌⊎◌, ℕ, ◌+◌, ◌-◌, ◌≤◌, List, ◌++◌, length}
+use Rattle.httparse.specs.Grammar.{RequestHead}
+use Rattle.httparse.specs.Spans.{RequestOverflows}
+use Rattle.station_core.specs.Given.{Given}
+use Rattle.station_core.specs.Ends.{HasCause}
+use Rattle.http_desk.specs.Answer.{head_room, most_fields, HasHead}
+
+-- one read more, whose bytes stand behind those that had come; no read failed
+pub record HasCome (old new : Given) (before after : List ℕ) : Type 0 where
+  pub part : List ℕ
+  pub bytes : after ≡ before ++ part
+  pub given : new.bytes ≡ old.bytes ++ part
+  pub calls : new.calls ≡ old.calls + 1
+  pub failures : new.failures ≡ old.failures
+  pub idle : new.idle ≡ old.idle
+
+-- some reads more, whose bytes stand behind those that had come; no read failed
+pub record HasGrown (old new : Given) (before after : List ℕ) : Type 0 where
+  pub part : List ℕ
+  pub bytes : after ≡ before ++ part
+  pub given : new.bytes ≡ old.bytes ++ part
+  pub failures : new.failures ≡ old.failures
+  pub idle : new.idle ≡ old.idle
+
+-- the most reads of a request
+abbrev pub most_reads : ℕ
+most_reads = 100_000
+
+-- the reader failed, or the input ended, or so many reads were made
+abbrev pub HasEndedEarly : Given → Given → Type 0
+HasEndedEarly old new = HasCause old new ⊎ (old.calls + most_reads ≤ new.calls)
+
+-- the same where some reads were made before
+abbrev pub HasEndedAfter : ℕ → Given → Given → Type 0
+HasEndedAfter turns old new = HasCause old new ⊎ (old.calls + (most_reads - turns) ≤ new.calls)
+
+-- no head is there, nor can one with few enough fields come in its room
+abbrev pub HasNoHead : List ℕ → Type 0
+HasNoHead bytes = ((h : RequestHead) → ¬ (HasHead bytes h)) × (RequestOverflows most_fields bytes ⊎ (head_room ≤ length bytes))

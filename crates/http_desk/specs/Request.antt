@@ -1,0 +1,126 @@
+-- What a request asks, by the tests in their order.
+use Rattle.std.specs.Prelude.{◌≡◌, ◌⊎◌, ℕ, ◌&&◌, Bool, nat_le, List, [], ◌∷◌, length, map, codes, Option, Some, None, Result, Ok, Err, IsUtf8, if◌then◌else◌}
+use Rattle.std.specs.Char.{to_ascii_lowercase}
+use Rattle.std.specs.List.{list_all}
+use Rattle.std.specs.Str.{bytes_eq}
+use Rattle.serde_json.specs.Data.{Data}
+use Rattle.serde_json.specs.Read.{read}
+use Rattle.awb_number.specs.Digits.{is_digit, decimal_value}
+use Rattle.imp_fields.specs.Steps.{where_true}
+use Rattle.imp_fields.specs.declared.fault.TextFault.{TextFault}
+use Rattle.shipment_machine.specs.declared.plans.Refusal.{Refusal}
+use Rattle.desk_commands.specs.declared.command.Command.{Command}
+use Rattle.desk_commands.specs.declared.verb.Verb.{Verb}
+use Rattle.desk_commands.specs.Body.{IsBodyOf}
+use Rattle.telegrams.specs.Meaning.{Meant, IsTelegram, telegram_fault, refusal_of}
+use Rattle.station_core.specs.Key.{is_key}
+use Rattle.station_core.specs.declared.input.Input.{Input}
+use Rattle.station_core.specs.declared.input.Input.TheVariants.{Keyed, Wire}
+use Rattle.http_desk.specs.Routes.{Posted, posted_command, posted_telegram, Got, Place, posts, gets, place_of}
+
+-- a request's head, as far as it is read: the fields are names and values without blanks and tabs round them
+pub record Head : Type 0 where
+  pub method : List ℕ
+  pub target : List ℕ
+  pub fields : List (List ℕ × List ℕ)
+
+-- A fault is told by its status and a word, or none; at a wrong method the right one stands in a line of its own.
+pub record Fault : Type 0 where
+  pub status : ℕ
+  pub word : List ℕ
+  pub allow : Option (List ℕ)
+
+abbrev pub fault : ℕ → List ℕ → Fault
+fault status word = record { status = status; word = word; allow = None }
+
+abbrev pub wrong_method : List ℕ → Fault
+wrong_method allowed = record { status = 405; word = []; allow = Some allowed }
+
+-- names are compared without case
+abbrev pub is_named : List ℕ → List ℕ × List ℕ → Bool
+is_named name field = bytes_eq (map to_ascii_lowercase field.0) name
+
+abbrev pub values_of : List ℕ → List (List ℕ × List ℕ) → List (List ℕ)
+values_of name [] = []
+values_of name (field ∷ fields) = if is_named name field then field.1 ∷ values_of name fields else values_of name fields
+
+-- a length is one to ten digits, and at most 65,536
+abbrev pub is_length : List ℕ → Bool
+is_length value = nat_le 1 (length value) && nat_le (length value) 10 && list_all is_digit value
+
+abbrev pub length_told : List ℕ → Option ℕ
+length_told value = where_true (is_length value) (decimal_value value)
+
+abbrev pub within_length : Option ℕ → Result ℕ Fault
+within_length None = Err (fault 400 (codes "length"))
+within_length (Some n) = if nat_le n 65_536 then Ok n else Err (fault 413 [])
+
+abbrev pub length_in : List ℕ → Result ℕ Fault
+length_in value = within_length (length_told value)
+
+abbrev pub length_among : List (List ℕ) → Result ℕ Fault
+length_among [] = Err (fault 411 [])
+length_among (value ∷ []) = length_in value
+length_among (value ∷ other ∷ values) = Err (fault 400 (codes "length"))
+
+-- a transfer encoding is told as a missing length
+abbrev pub length_beside : List (List ℕ) → List (List ℕ) → Result ℕ Fault
+length_beside [] lengths = length_among lengths
+length_beside (encoding ∷ encodings) lengths = Err (fault 411 [])
+
+abbrev pub body_length : List (List ℕ × List ℕ) → Result ℕ Fault
+body_length fields = length_beside (values_of (codes "transfer-encoding") fields) (values_of (codes "content-length") fields)
+
+-- What a head asks: it is refused, it gets something, or it posts a body of some length.
+pub data HeadAsks : Type 0 where
+  refuses : Fault → HeadAsks
+  looks_up : Got → HeadAsks
+  sends : Posted → ℕ → HeadAsks
+
+abbrev pub sends_body : Posted → Result ℕ Fault → HeadAsks
+sends_body posted (Ok n) = sends posted n
+sends_body posted (Err f) = refuses f
+
+abbrev pub place_asks : Head → Option Place → HeadAsks
+place_asks head None = refuses (fault 404 [])
+place_asks head (Some (posts posted)) = if bytes_eq head.method (codes "POST") then sends_body posted (body_length head.fields) else refuses (wrong_method (codes "POST"))
+place_asks head (Some (gets got)) = if bytes_eq head.method (codes "GET") then looks_up got else refuses (wrong_method (codes "GET"))
+
+abbrev pub head_asks : Head → HeadAsks
+head_asks head = place_asks head (place_of head.target)
+
+-- the key under which a command is posted: there is one, and it is a key
+abbrev pub key_among : List (List ℕ) → Option (List ℕ)
+key_among (key ∷ []) = if is_key key then Some key else None
+key_among _ = None
+
+abbrev pub key_of : List (List ℕ × List ℕ) → Option (List ℕ)
+key_of fields = key_among (values_of (codes "request-key") fields)
+
+-- What a body asks: it is refused by a word, it is no telegram, or it is an input for the station.
+pub data BodyAsks : Type 0 where
+  bad_body : Fault → BodyAsks
+  unreadable : Refusal → BodyAsks
+  for_station : Input → BodyAsks
+
+-- the bytes are JSON that says this command of the verb
+abbrev pub IsSaid : Verb → List ℕ → Command → Type 0
+IsSaid verb bytes command = IsUtf8 bytes × ((d : Data) × (read bytes ≡ Some d) × IsBodyOf verb d command)
+
+abbrev pub IsCommandAsked : Verb → Option (List ℕ) → List ℕ → BodyAsks → Type 0
+IsCommandAsked verb None bytes asks = asks ≡ bad_body (fault 400 (codes "key"))
+IsCommandAsked verb (Some key) bytes asks =
+    ((command : Command) × IsSaid verb bytes command × (asks ≡ for_station (Keyed key command)))
+    ⊎ (((command : Command) → ¬ (IsSaid verb bytes command)) × (asks ≡ bad_body (fault 400 (codes "body"))))
+
+abbrev pub IsTelegramAsked : List ℕ → BodyAsks → Type 0
+IsTelegramAsked bytes asks =
+    ((t : Meant) × IsTelegram bytes t × (asks ≡ for_station (Wire t)))
+    ⊎ ((told : TextFault) × (telegram_fault bytes ≡ Some told) × (asks ≡ unreadable (refusal_of told)))
+
+abbrev pub IsAskedUnder : Posted → Option (List ℕ) → List ℕ → BodyAsks → Type 0
+IsAskedUnder (posted_command verb) key bytes asks = IsCommandAsked verb key bytes asks
+IsAskedUnder posted_telegram key bytes asks = IsTelegramAsked bytes asks
+
+abbrev pub IsAsked : Posted → List (List ℕ × List ℕ) → List ℕ → BodyAsks → Type 0
+IsAsked posted fields bytes asks = IsAskedUnder posted (key_of fields) bytes asks

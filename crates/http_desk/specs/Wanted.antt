@@ -1,0 +1,62 @@
+-- What a request wants of the desk, and what it is replied.
+use Rattle.std.specs.Prelude.{◌≡◌, ℕ, List, Option}
+use Rattle.imp_fields.specs.Date.{LocalMinute}
+use Rattle.station_core.specs.Readers.{waybill_of}
+use Rattle.station_core.specs.Step.{State, step}
+use Rattle.http_desk.specs.declared.route.Report.{Report}
+use Rattle.http_desk.specs.declared.wanted.Post.{Post}
+use Rattle.http_desk.specs.declared.wanted.Post.TheVariants as post
+use Rattle.http_desk.specs.declared.wanted.Wanted.{Wanted}
+use Rattle.http_desk.specs.declared.wanted.Wanted.TheVariants as wanted
+use Rattle.http_desk.specs.declared.wanted.HeadWants.{HeadWants}
+use Rattle.http_desk.specs.declared.wanted.HeadWants.TheVariants as wants
+use Rattle.http_desk.specs.Fields.{meant}
+use Rattle.http_desk.specs.Routes.{Posted, posted_command, posted_telegram, got_report}
+use Rattle.http_desk.specs.Request.{Head, HeadAsks, BodyAsks, looks_up, sends, IsAskedUnder}
+use Rattle.http_desk.specs.Reply.{Reply, report_reply, fault_reply, refusal_reply, answer_reply, waybill_reply, holder_reply, body_reply, body_state}
+use Rattle.http_desk.specs.Answer.{Replied, IsAnsweredAs, Answers}
+use Rattle.http_desk.specs.Serving.{GetsReport}
+
+-- the reply to it, and the state after it
+abbrev pub wanted_reply : State → LocalMinute → Wanted → Reply
+wanted_reply s at (wanted.Fault f) = fault_reply (meant f)
+wanted_reply s at (wanted.Unreadable refusal) = refusal_reply refusal
+wanted_reply s at (wanted.Waybill w) = waybill_reply w (waybill_of s.cargo w)
+wanted_reply s at (wanted.Holder w) = holder_reply w (s.cargo.holders w)
+wanted_reply s at (wanted.Report name) = report_reply name
+wanted_reply s at (wanted.Input i) = answer_reply (step s i at).answer
+
+abbrev pub wanted_state : State → LocalMinute → Wanted → State
+wanted_state s at (wanted.Input i) = (step s i at).state
+wanted_state s at _ = s
+
+-- The request with these bytes is answered by the reply to what it wants, and a report is wanted only where it is got.
+pub record Wants (bytes : List ℕ) (w : Wanted) : Type 0 where
+  pub answered : (s : State) (at : LocalMinute) (status : ℕ) (out : List ℕ) (after : State) → Replied s (wanted_reply s at w) (wanted_state s at w) status out after → Answers bytes s at status out after
+  pub report : (name : Report) → w ≡ wanted.Report name → GetsReport bytes name
+
+-- the same of what a head asks that sends no body
+pub record WantsNow (asks : HeadAsks) (w : Wanted) : Type 0 where
+  pub answered : (head : Head) (rest : List ℕ) (s : State) (at : LocalMinute) (status : ℕ) (out : List ℕ) (after : State)
+      → Replied s (wanted_reply s at w) (wanted_state s at w) status out after → IsAnsweredAs asks head rest s at status out after
+  pub report : (name : Report) → w ≡ wanted.Report name → asks ≡ looks_up (got_report name)
+
+-- what is posted
+abbrev pub posted_of : Post → Posted
+posted_of (post.Command verb) = posted_command verb
+posted_of post.Telegram = posted_telegram
+
+-- a head wants something at once, or sends a body of so many bytes
+abbrev pub HasWants : HeadAsks → HeadWants → Type 0
+HasWants asks (wants.Now w) = WantsNow asks w
+HasWants asks (wants.Body post n) = asks ≡ sends (posted_of post) n
+
+-- the reply to what a body asks
+pub record WantsAsked (asks : BodyAsks) (w : Wanted) : Type 0 where
+  pub reply : (s : State) (at : LocalMinute) → wanted_reply s at w ≡ body_reply s at asks
+  pub state : (s : State) (at : LocalMinute) → wanted_state s at w ≡ body_state s at asks
+  pub report : (name : Report) → w ≡ wanted.Report name → ⊥
+
+-- what a body asks is wanted
+abbrev pub BodyWants : Posted → Option (List ℕ) → List ℕ → Wanted → Type 0
+BodyWants posted key body w = (asks : BodyAsks) × IsAskedUnder posted key body asks × WantsAsked asks w

@@ -1,0 +1,54 @@
+-- What is told for a request, and what goes out of it.
+use Rattle.std.specs.Prelude.{◌≡◌, ◌⊎◌, ℕ, Bool, false, Option, Result, Ok, Err, List, ◌++◌, take, string_bytes}
+use Rattle.imp_fields.specs.Date.{LocalMinute}
+use Rattle.station_core.specs.Given.{Given}
+use Rattle.station_core.specs.Ends.{Sent, HasCause}
+use Rattle.station_core.specs.Step.{State}
+use Rattle.reports.specs.Ended.{HasEnded, HasEndedStock}
+use Rattle.reports.specs.Reports.{irregularity_report, movement_book, pending_report, trail_report}
+use Rattle.reports.specs.declared.fault.ReportFault.{ReportFault}
+use Rattle.http_desk.specs.declared.asking.Told.{Told}
+use Rattle.http_desk.specs.declared.asking.Told.TheVariants as told
+use Rattle.http_desk.specs.declared.route.Report.{Report}
+use Rattle.http_desk.specs.declared.route.Report.TheVariants as report
+use Rattle.http_desk.specs.declared.serve.Served.{Served}
+use Rattle.http_desk.specs.declared.serve.ServeFault.{ServeFault}
+use Rattle.http_desk.specs.declared.serve.ServeFault.TheVariants as serve
+use Rattle.http_desk.specs.Reply.{report_head, IsReport}
+use Rattle.http_desk.specs.Answer.{Answers}
+use Rattle.http_desk.specs.Serving.{unavailable, GetsReport, SomeOrEach, IsBeforeOrAfter}
+
+-- what is told for the request with these bytes is its answer, and the state after it is kept
+abbrev pub IsToldFor : List ℕ → State → LocalMinute → Told → (State → Type 0) → (Option State → Type 0) → Type 0
+IsToldFor bytes s at (told.Json status text) keeps may_find = (after : State) × Answers bytes s at status (string_bytes text) after × keeps after
+IsToldFor bytes s at (told.Report name) keeps may_find = GetsReport bytes name × ((text : List ℕ) → IsReport s name text → Answers bytes s at 200 (report_head ++ text) s) × keeps s
+IsToldFor bytes s at (told.Unavailable reopen) keeps may_find = IsBeforeOrAfter bytes s at may_find
+
+-- the bytes went out, or their beginning
+abbrev pub HasSent : ℕ → Bool → List ℕ → Given → Given → Result Served ServeFault → Type 0
+HasSent status reopen bytes old new (Ok served) = (served ≡ record { status = status; reopen = reopen }) × (new.bytes ≡ old.bytes ++ bytes)
+HasSent status reopen bytes old new (Err serve.Read) = ⊥
+HasSent status reopen bytes old new (Err (serve.Write sent)) = Sent old new bytes sent × HasCause old new
+
+-- a report ended behind what stands in front of it
+abbrev pub HasEndedReport : Type 0 → State → Report → List ℕ → Given → Given → Result (Unit {0}) ReportFault → Type 0
+HasEndedReport open_station s report.Stock front old new r = HasEndedStock open_station s.cargo.holders front old new r
+HasEndedReport open_station s report.Irregularities front old new r = HasEnded open_station (front ++ irregularity_report s.cargo) old new r
+HasEndedReport open_station s report.Movements front old new r = HasEnded open_station (front ++ movement_book s.cargo) old new r
+HasEndedReport open_station s report.Trail front old new r = HasEnded open_station (front ++ trail_report s.cargo) old new r
+HasEndedReport open_station s report.Pending front old new r = HasEnded open_station (front ++ pending_report s.cargo) old new r
+
+-- an answer with a report went out: whole, up to a fault, or 503 where it hadn't begun
+abbrev pub HasReported : State → Report → Given → Given → Result Served ServeFault → Type 0
+HasReported s name old new (Ok served) =
+    ((served ≡ record { status = 200; reopen = false }) × ((text : List ℕ) × IsReport s name text × (new.bytes ≡ old.bytes ++ (report_head ++ text))))
+    ⊎ (((served ≡ record { status = 200; reopen = false }) × SomeOrEach s name (λ whole. (n : ℕ) × (new.bytes ≡ old.bytes ++ take n whole)))
+    ⊎ ((served ≡ record { status = 503; reopen = false }) × (new.bytes ≡ old.bytes ++ unavailable)))
+HasReported s name old new (Err serve.Read) = ⊥
+HasReported s name old new (Err (serve.Write sent)) = (SomeOrEach s name (λ whole. Sent old new whole sent) ⊎ Sent old new unavailable sent) × HasCause old new
+
+-- what is told went out
+abbrev pub HasWritten : Told → State → Given → Given → Result Served ServeFault → Type 0
+HasWritten (told.Json status text) s old new r = HasSent status false (string_bytes text) old new r
+HasWritten (told.Report name) s old new r = HasReported s name old new r
+HasWritten (told.Unavailable reopen) s old new r = HasSent 503 reopen unavailable old new r

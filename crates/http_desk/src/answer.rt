@@ -1,0 +1,219 @@
+//! The bytes of an answer.
+ghost use Rattle.std.specs.Prelude.{◌≡◌, IfOk, string_bytes, option_map};
+ghost use Rattle.http.specs.StatusCode.{IsStatusCode};
+ghost use Rattle.serde_json.specs.View.{view};
+ghost use Rattle.serde_json.specs.Written.{compact_text};
+ghost use Rattle.http_desk.specs.Reply.{status_line, allow_line, json_fields, json_answer, report_head, refused_data, ok_data, pair_data, holding_data, holder_data, holder_word, holder_name, waybill_data};
+ghost use Rattle.serde_json.specs.Data.{boolean, string};
+ghost use Rattle.http_desk.specs.Members.{first_members, second_members, third_members, last_members};
+
+use agent_stock::Holder;
+use awb_number::{Awb, ascii_text};
+use http::StatusCode;
+use serde_json::{Value, json};
+use shipment_machine::Amount;
+use station_core::Waybill;
+use std::alloc::{AllocError, Global};
+
+/// `HTTP/1.1 409 Conflict`.
+fn status_line(alloc: Global, status: u16) -> Result<String, AllocError>
+    requires { IsStatusCode status }
+    ensures { IfOk result (λ line. string_bytes line ≡ status_line status) }
+{
+    match StatusCode::from_u16(status) {
+        Ok(code) => format!(in alloc; "HTTP/1.1 {code}\r\n"),
+        Err(_) => unreachable!(),
+    }
+}
+
+/// The line of the method that is allowed.
+fn allow_line(alloc: Global, allow: Option<&str>) -> Result<String, AllocError>
+    ensures { IfOk result (λ line. string_bytes line ≡ allow_line (option_map (λ method. method.now) allow.entry)) }
+{
+    match allow {
+        Some(method) => format!(in alloc; "Allow: {method}\r\n"),
+        None => Ok(String::new(alloc)),
+    }
+}
+
+/// The fields of an answer of JSON, and the empty line behind them.
+fn json_fields(alloc: Global, len: usize) -> Result<String, AllocError>
+    ensures { IfOk result (λ text. string_bytes text ≡ json_fields len) }
+{
+    format!(in alloc;
+        "Content-Type: application/json\r\nContent-Length: {len}\r\nConnection: close\r\n\r\n"
+    )
+}
+
+/// An answer of JSON.
+pub(crate) fn json_answer(
+    alloc: Global,
+    status: u16,
+    allow: Option<&str>,
+    body: &str,
+) -> Result<String, AllocError>
+    requires { IsStatusCode status }
+    ensures { IfOk result (λ text. string_bytes text ≡ json_answer status (option_map (λ method. method.now) allow.entry) body.now) }
+{
+    let first = status_line(alloc, status)?;
+    let allow = allow_line(alloc, allow)?;
+    let fields = json_fields(alloc, body.len())?;
+    format!(in alloc; "{first}{allow}{fields}{body}")
+}
+
+/// What stands in front of a report.
+pub(crate) fn report_head(alloc: Global) -> Result<String, AllocError>
+    ensures { IfOk result (λ text. string_bytes text ≡ report_head) }
+{
+    let first = status_line(alloc, 200)?;
+    format!(in alloc; "{first}Content-Type: text/plain\r\nConnection: close\r\n\r\n")
+}
+
+/// The body of a fault or a refusal.
+pub(crate) fn refused_text(alloc: Global, refused: u16, detail: &str) -> Result<String, AllocError>
+    ensures { IfOk result (λ text. string_bytes text ≡ compact_text (refused_data refused detail.now)) }
+{
+    json!(in alloc; {"detail": detail, "refused": refused})?.to_string(alloc)
+}
+
+/// The body of a reply.
+pub(crate) fn ok_text(alloc: Global, count: u32) -> Result<String, AllocError>
+    ensures { IfOk result (λ text. string_bytes text ≡ compact_text (ok_data count)) }
+{
+    json!(in alloc; {"count": count, "reply": "ok"})?.to_string(alloc)
+}
+
+fn holder_word(holder: &Holder) -> &'static str
+    ensures { result.now ≡ holder_word holder.now }
+{
+    match holder {
+        Holder::Desk => "desk",
+        Holder::Agent(_) => "agent",
+        Holder::Used => "used",
+        Holder::Void => "void",
+    }
+}
+
+fn holder_name(holder: &Holder) -> &str
+    ensures { result.now ≡ holder_name holder.now }
+{
+    match holder {
+        Holder::Agent(code) => code.as_str(),
+        _ => "",
+    }
+}
+
+fn holding_text(alloc: Global, awb: &str, holder: &str, name: &str) -> Result<String, AllocError>
+    ensures { IfOk result (λ text. string_bytes text ≡ compact_text (holding_data awb.now holder.now name.now)) }
+{
+    json!(in alloc; {"awb": awb, "holder": holder, "name": name})?.to_string(alloc)
+}
+
+/// The body that tells who holds a number.
+pub(crate) fn holder_text(
+    alloc: Global,
+    number: &Awb,
+    holder: &Holder,
+) -> Result<String, AllocError>
+    ensures { IfOk result (λ text. string_bytes text ≡ compact_text (holder_data number.now holder.now)) }
+{
+    let awb = number.write();
+    holding_text(
+        alloc,
+        ascii_text(&awb),
+        holder_word(holder),
+        holder_name(holder),
+    )
+}
+
+/// Pieces and tenths.
+fn pair(alloc: Global, amount: &Amount) -> Result<Value, AllocError>
+    ensures { IfOk result (λ v. view v ≡ pair_data amount.now) }
+{
+    let (pieces, tenths) = (amount.pieces, amount.tenths);
+    json!(in alloc; [pieces, tenths])
+}
+
+/// Pieces and tenths, as JSON.
+fn pair_text(alloc: Global, amount: &Amount) -> Result<String, AllocError>
+    ensures { IfOk result (λ text. string_bytes text ≡ compact_text (pair_data amount.now)) }
+{
+    pair(alloc, amount)?.to_string(alloc)
+}
+
+/// A text, as JSON.
+fn quoted(alloc: Global, text: &str) -> Result<String, AllocError>
+    ensures { IfOk result (λ quoted. string_bytes quoted ≡ compact_text (string text.now)) }
+{
+    json!(in alloc; text)?.to_string(alloc)
+}
+
+// A waybill's members stand in the order of their names' bytes.
+
+/// The number, what was delivered, and what departed.
+fn first_members(alloc: Global, number: &Awb, known: &Waybill) -> Result<String, AllocError>
+    ensures { IfOk result (λ text. string_bytes text ≡ first_members number.now known.now) }
+{
+    let awb = number.write();
+    let awb = quoted(alloc, ascii_text(&awb))?;
+    let delivered = pair_text(alloc, &known.delivered)?;
+    let departed = pair_text(alloc, &known.departed)?;
+    format!(in alloc; "{{\"awb\":{awb},\"delivered\":{delivered},\"departed\":{departed},")
+}
+
+/// The destination, what was found, and the goods.
+fn second_members(alloc: Global, known: &Waybill) -> Result<String, AllocError>
+    ensures { IfOk result (λ text. string_bytes text ≡ second_members known.now) }
+{
+    let destination = known.declared.destination.letters();
+    let destination = quoted(alloc, ascii_text(&destination))?;
+    let found = pair_text(alloc, &known.found)?;
+    let goods = quoted(alloc, ascii_text(known.declared.goods.as_bytes()))?;
+    format!(in alloc; "\"destination\":{destination},\"found\":{found},\"goods\":{goods},")
+}
+
+/// Yes or no, as JSON.
+fn flag_text(flag: bool) -> &'static str
+    ensures { result.now ≡ compact_text (boolean flag) }
+{
+    if flag { "true" } else { "false" }
+}
+
+/// What is missing, whether the consignee was notified, and the origin.
+fn third_members(alloc: Global, known: &Waybill) -> Result<String, AllocError>
+    ensures { IfOk result (λ text. string_bytes text ≡ third_members known.now) }
+{
+    let missing = pair_text(alloc, &known.missing)?;
+    let notified = flag_text(known.declared.notified);
+    let origin = known.declared.origin.letters();
+    let origin = quoted(alloc, ascii_text(&origin))?;
+    format!(in alloc; "\"missing\":{missing},\"notified\":{notified},\"origin\":{origin},")
+}
+
+/// The declared pieces, what is in the store, what was taken over, and the declared tenths.
+fn last_members(alloc: Global, known: &Waybill) -> Result<String, AllocError>
+    ensures { IfOk result (λ text. string_bytes text ≡ last_members known.now) }
+{
+    let pieces = known.declared.pieces.number();
+    let store = pair_text(alloc, &known.store)?;
+    let taken = pair_text(alloc, &known.taken)?;
+    let tenths = known.declared.tenths.number();
+    format!(in alloc;
+        "\"pieces\":{pieces},\"store\":{store},\"taken\":{taken},\"tenths\":{tenths}}}"
+    )
+}
+
+/// The body that tells what is known of a waybill.
+pub(crate) fn waybill_text(
+    alloc: Global,
+    number: &Awb,
+    known: &Waybill,
+) -> Result<String, AllocError>
+    ensures { IfOk result (λ text. string_bytes text ≡ compact_text (waybill_data number.now known.now)) }
+{
+    let first = first_members(alloc, number, known)?;
+    let second = second_members(alloc, known)?;
+    let third = third_members(alloc, known)?;
+    let last = last_members(alloc, known)?;
+    format!(in alloc; "{first}{second}{third}{last}")
+}

@@ -1,0 +1,182 @@
+//! Asking the station for what a request wants.
+ghost use Rattle.std.specs.Prelude.{◌≡◌, true, false, IfOk, Option, Some, string_bytes, option_map};
+ghost use Rattle.http.specs.StatusCode.{IsStatusCode};
+ghost use Rattle.serde_json.specs.Data.{Data};
+ghost use Rattle.serde_json.specs.Written.{compact_text};
+ghost use Rattle.station_core.specs.Step.{State};
+ghost use Rattle.station_core.specs.declared.input.Input.{Input as AnyInput};
+ghost use Rattle.http_desk.specs.Told.{IsToldAs, HasAsked, tells_reopen};
+ghost use Rattle.imp_fields.specs.Date.{LocalMinute};
+ghost use Rattle.station_core.specs.Texts.{detail_text};
+ghost use Rattle.http_desk.specs.Fields.{meant};
+ghost use Rattle.http_desk.specs.Reply.{refused_data, json_reply, fault_reply, refusal_status, refusal_reply, answer_reply, waybill_reply, holder_reply};
+
+use crate::answer::{holder_text, json_answer, ok_text, refused_text, waybill_text};
+use crate::fault::FaultTold;
+use crate::head::NOT_FOUND;
+use crate::route::Report;
+use crate::wanted::Wanted;
+use agent_stock::Holder;
+use awb_number::Awb;
+use imp_fields::Moment;
+use shipment_machine::Refusal;
+use station_core::{ActFault, Answer, Input, Keeper, Waybill, answer_one, detail_text};
+use std::alloc::{AllocError, Global};
+
+/// What is to be written.
+#[derive(Drop)]
+pub(crate) enum Told {
+    /// An answer of JSON: its status and its bytes.
+    Json(u16, String),
+    /// A report, which is read while it is written.
+    Report(Report),
+    /// Memory was wanting or the station failed; it may have to be opened again.
+    Unavailable(bool),
+}
+
+/// An answer of JSON, or want of memory for it.
+fn json_told(
+    alloc: Global,
+    status: u16,
+    allow: Option<&str>,
+    body: Result<String, AllocError>,
+) -> Told
+    requires { IsStatusCode status }
+    ensures { (d : Data) → IfOk body (λ text. string_bytes text ≡ compact_text d) → IsToldAs (json_reply status (option_map (λ method. method.now) allow.entry) d) result }
+{
+    let Ok(body) = body else {
+        return Told::Unavailable(false);
+    };
+    match json_answer(alloc, status, allow, body.as_str()) {
+        Ok(text) => Told::Json(status, text),
+        Err(_) => Told::Unavailable(false),
+    }
+}
+
+/// The answer to a fault of the request.
+fn fault_told(alloc: Global, fault: &FaultTold) -> Told
+    ensures { IsToldAs (fault_reply (meant fault.now)) result }
+{
+    if fault.status < 100 || fault.status > 999 {
+        return Told::Unavailable(false);
+    }
+    let body = refused_text(alloc, fault.status, fault.word);
+    json_told(alloc, fault.status, fault.allow, body)
+}
+
+/// The status of a refusal: an unreadable telegram is a bad request, any other one a conflict.
+fn refusal_status(refused: u16) -> u16
+    ensures status { result ≡ refusal_status refused }
+    ensures valid { IsStatusCode result }
+{
+    match refused {
+        301 | 302 => 400,
+        _ => 409,
+    }
+}
+
+/// The body of a refusal.
+fn refusal_text(alloc: Global, refusal: &Refusal) -> Result<String, AllocError>
+    ensures { IfOk result (λ text. string_bytes text ≡ compact_text (refused_data refusal.now.number (detail_text refusal.now.detail))) }
+{
+    let detail = detail_text(alloc, &refusal.detail)?;
+    refused_text(alloc, refusal.number, detail.as_str())
+}
+
+/// The answer to a refusal.
+fn refusal_told(alloc: Global, refusal: &Refusal) -> Told
+    ensures { IsToldAs (refusal_reply refusal.now) result }
+{
+    let body = refusal_text(alloc, refusal);
+    json_told(alloc, refusal_status(refusal.number), None, body)
+}
+
+/// The answer to an input.
+fn answer_told(alloc: Global, answer: &Answer) -> Told
+    ensures { IsToldAs (answer_reply answer.now) result }
+{
+    match answer {
+        Answer::Done(reply) => json_told(alloc, 200, None, ok_text(alloc, reply.count)),
+        Answer::Refused(refusal) => refusal_told(alloc, refusal),
+    }
+}
+
+/// The answer that tells who holds a number.
+fn holder_told(alloc: Global, number: &Awb, holder: &Option<Holder>) -> Told
+    ensures { IsToldAs (holder_reply number.now holder.now) result }
+{
+    match holder {
+        Some(holder) => json_told(alloc, 200, None, holder_text(alloc, number, holder)),
+        None => fault_told(alloc, &NOT_FOUND),
+    }
+}
+
+/// The answer that tells what is known of a waybill.
+fn waybill_told(alloc: Global, number: &Awb, waybill: &Option<Waybill>) -> Told
+    ensures { IsToldAs (waybill_reply number.now waybill.now) result }
+{
+    match waybill {
+        Some(known) => json_told(alloc, 200, None, waybill_text(alloc, number, known)),
+        None => fault_told(alloc, &NOT_FOUND),
+    }
+}
+
+/// Asks who holds a number.
+fn ask_holder<K: Keeper>(alloc: Global, keeper: &mut K, number: &Awb) -> Told
+    ensures sound { K.is_sound keeper.new → K.is_sound keeper.old }
+    ensures breaks { K.is_broken keeper.new ≡ K.is_broken keeper.old }
+    ensures asked { (s : State) (at : LocalMinute) → K.keeps keeper.old s → K.is_sound keeper.new
+        → HasAsked s at (Wanted.Holder number.now) result (K.keeps keeper.new) (K.may_find keeper.new) }
+    ensures reopen { tells_reopen result ≡ K.is_broken keeper.new }
+{
+    match keeper.holder(number) {
+        Ok(holder) => holder_told(alloc, number, &holder),
+        Err(fault) => Told::Unavailable(fault == ActFault::Reopen),
+    }
+}
+
+/// Asks what is known of a waybill.
+fn ask_waybill<K: Keeper>(alloc: Global, keeper: &mut K, number: &Awb) -> Told
+    ensures sound { K.is_sound keeper.new → K.is_sound keeper.old }
+    ensures breaks { K.is_broken keeper.new ≡ K.is_broken keeper.old }
+    ensures asked { (s : State) (at : LocalMinute) → K.keeps keeper.old s → K.is_sound keeper.new
+        → HasAsked s at (Wanted.Waybill number.now) result (K.keeps keeper.new) (K.may_find keeper.new) }
+    ensures reopen { tells_reopen result ≡ K.is_broken keeper.new }
+{
+    match keeper.waybill(number) {
+        Ok(waybill) => waybill_told(alloc, number, &waybill),
+        Err(fault) => Told::Unavailable(fault == ActFault::Reopen),
+    }
+}
+
+/// Hands the station an input.
+fn ask_input<K: Keeper>(alloc: Global, keeper: &mut K, input: &Input<'_>, at: Moment) -> Told
+    requires { K.takes input.now }
+    ensures sound { K.is_sound keeper.new → K.is_sound keeper.old }
+    ensures asked { (s : State) → K.keeps keeper.old s → K.is_broken keeper.old ≡ false → K.is_sound keeper.new
+        → HasAsked s at (Wanted.Input input.now) result (K.keeps keeper.new) (K.may_find keeper.new) }
+    ensures reopen { tells_reopen result ≡ K.is_broken keeper.new }
+{
+    match answer_one(keeper, input, at) {
+        Ok(answer) => answer_told(alloc, &answer),
+        Err(fault) => Told::Unavailable(fault != ActFault::Memory),
+    }
+}
+
+/// Asks the station for what is wanted. A report is left to be read while it is written.
+pub(crate) fn ask<K: Keeper>(alloc: Global, keeper: &mut K, wanted: &Wanted<'_>, at: Moment) -> Told
+    requires { (input : AnyInput) → K.takes input }
+    ensures sound { K.is_sound keeper.new → K.is_sound keeper.old }
+    ensures asked { (s : State) → K.keeps keeper.old s → K.is_broken keeper.old ≡ false → K.is_sound keeper.new
+        → HasAsked s at wanted.now result (K.keeps keeper.new) (K.may_find keeper.new) }
+    ensures told { K.is_broken keeper.old ≡ false → tells_reopen result ≡ K.is_broken keeper.new }
+{
+    match wanted {
+        Wanted::Fault(fault) => fault_told(alloc, fault),
+        Wanted::Unreadable(refusal) => refusal_told(alloc, refusal),
+        Wanted::Waybill(number) => ask_waybill(alloc, keeper, number),
+        Wanted::Holder(number) => ask_holder(alloc, keeper, number),
+        Wanted::Report(report) => Told::Report(*report),
+        Wanted::Input(input) => ask_input(alloc, keeper, input, at),
+    }
+}

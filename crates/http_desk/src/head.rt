@@ -1,0 +1,91 @@
+//! What the head of a request asks.
+ghost use Rattle.std.specs.Prelude.{◌≡◌, ℕ, List, length, map, All, option_map, Some};
+ghost use Rattle.httparse.specs.Spans.{header_bytes, IsHeaderWithin};
+ghost use Rattle.http_desk.specs.HeadTold.{asks_meant};
+ghost use Rattle.http_desk.specs.Request.{place_asks};
+ghost use Rattle.http_desk.specs.Routes.{Posted, Got, posts, gets, place_told};
+
+use crate::fault::FaultTold;
+use crate::fields::body_length;
+use crate::route::Route;
+use httparse::spans::HeaderSpan;
+
+/// There is nothing at the path.
+pub(crate) const NOT_FOUND: FaultTold = FaultTold {
+    status: 404,
+    word: "",
+    allow: None,
+};
+
+/// What is there can only be posted.
+const ALLOW_POST: FaultTold = FaultTold {
+    status: 405,
+    word: "",
+    allow: Some("POST"),
+};
+
+/// What is there can only be got.
+const ALLOW_GET: FaultTold = FaultTold {
+    status: 405,
+    word: "",
+    allow: Some("GET"),
+};
+
+/// What a head asks.
+#[derive(Clone, Copy, Debug, PartialEq, Eq)]
+pub(crate) enum Asks {
+    Refused(FaultTold),
+    /// It gets what the route leads to.
+    Got(Route),
+    /// It posts a body of so many bytes.
+    Posted(Route, u64),
+}
+
+/// A route that takes a body.
+fn post(route: Route, method: &[u8], buf: &[u8], fields: &[HeaderSpan]) -> Asks
+    requires { All (IsHeaderWithin (length buf.now)) fields.now }
+    ensures { (path target : List ℕ) (posted : Posted) → place_told path route ≡ posts posted
+        → asks_meant path result ≡ place_asks (record { method = method.now; target = target; fields = map (header_bytes buf.now) fields.now }) (Some (posts posted)) }
+{
+    if method != b"POST".as_slice() {
+        return Asks::Refused(ALLOW_POST);
+    }
+    match body_length(buf, fields) {
+        Ok(len) => Asks::Posted(route, len),
+        Err(fault) => Asks::Refused(fault),
+    }
+}
+
+/// A route that takes none.
+fn get(route: Route, method: &[u8]) -> Asks
+    ensures { (path target : List ℕ) (fields : List (List ℕ × List ℕ)) (got : Got) → place_told path route ≡ gets got
+        → asks_meant path result ≡ place_asks (record { method = method.now; target = target; fields = fields }) (Some (gets got)) }
+{
+    if method != b"GET".as_slice() {
+        return Asks::Refused(ALLOW_GET);
+    }
+    Asks::Got(route)
+}
+
+/// What a head asks of what its path leads to.
+pub(crate) fn head_asks(
+    route: Option<Route>,
+    method: &[u8],
+    buf: &[u8],
+    fields: &[HeaderSpan],
+) -> Asks
+    requires { All (IsHeaderWithin (length buf.now)) fields.now }
+    ensures { (path target : List ℕ)
+        → asks_meant path result ≡ place_asks (record { method = method.now; target = target; fields = map (header_bytes buf.now) fields.now }) (option_map (place_told path) route) }
+{
+    let Some(route) = route else {
+        return Asks::Refused(NOT_FOUND);
+    };
+    match route {
+        Route::Command(_) => post(route, method, buf, fields),
+        Route::Telegrams => post(route, method, buf, fields),
+        Route::Waybill => get(route, method),
+        Route::Stock => get(route, method),
+        Route::Report(_) => get(route, method),
+    }
+}

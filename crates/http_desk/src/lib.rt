@@ -1,0 +1,18 @@
+//! The desk of a station over HTTP.
+#![tactic(auto)]
+
+mod answer;
+mod asked;
+mod asking;
+mod fault;
+mod fields;
+mod head;
+mod reading;
+mod request;
+mod route;
+mod serve;
+mod wanted;
+mod writing;
+
+pub use route::{Page, Report, Route};
+pub use serve::{ServeFault, Served, serve_one};

@@ -1,0 +1,133 @@
+//! One request, from its reader.
+ghost use Rattle.std.specs.Prelude.{◌≡◌, ◌≤◌, ◌+◌, ◌++◌, [], length, Err, OnOk, IfOk};
+ghost use Rattle.httparse.specs.Spans.{IsRequestOf, IsRequestWithin};
+ghost use Rattle.http_desk.specs.Came.{BeginsWith, HasBody, HasRequest};
+ghost use Rattle.http_desk.specs.Reading.{HasEndedEarly, HasEndedAfter, HasGrown};
+ghost use Rattle.http_desk.specs.Wanted.{Wants};
+
+use crate::fault::FaultTold;
+use crate::fields::key_of;
+use crate::reading::{ReadEnd, read_head, read_on};
+use crate::wanted::{HeadWants, Wanted, body_wants, head_wants};
+use httparse::spans::{EMPTY_HEADER_SPAN, HeaderSpan, RequestSpans};
+use station_core::{ByteIn, Key};
+use std::alloc::{AllocError, Global};
+
+/// The head is none.
+const BAD_HEAD: FaultTold = FaultTold {
+    status: 400,
+    word: "head",
+    allow: None,
+};
+
+/// What has come.
+#[derive(Drop)]
+pub(crate) enum Came {
+    /// No head, and none can come.
+    NoHead,
+    /// A head: what it wants, its key, and where its body starts. A body that it sends has come.
+    Head(HeadWants, Option<Key>, usize),
+}
+
+/// What the head in front of the bytes wants, and its key.
+fn wants_at(
+    alloc: Global,
+    bytes: &[u8],
+    spans: &RequestSpans,
+    headers: &[HeaderSpan],
+) -> Result<(HeadWants, Option<Key>), AllocError>
+    requires within { IsRequestWithin bytes.now headers.now spans.now }
+    requires head { IsRequestOf bytes.now headers.now spans.now }
+    requires room { length bytes.now ≤ 16_384 }
+    requires few { length headers.now ≡ 64 }
+    ensures { IfOk result (λ told. BeginsWith bytes.now told.0 told.1 spans.now.len) }
+{
+    let wants = head_wants(alloc, bytes, spans, headers)?;
+    Ok((wants, key_of(bytes, &headers[..spans.headers])))
+}
+
+/// Reads on until the body of a head has come.
+fn read_body<I: ByteIn>(
+    reader: &mut I,
+    bytes: &mut Vec<u8>,
+    wants: &HeadWants,
+    start: usize,
+    turns: u32,
+) -> Result<(), ReadEnd>
+    requires { turns ≤ 100_000 }
+    ensures come { OnOk result (HasGrown (I.given reader.old) (I.given reader.new) bytes.old.items bytes.new.items) }
+    ensures body { OnOk result (HasBody wants.now start bytes.new.items) }
+    ensures read { result ≡ Err ReadEnd.Read → HasEndedAfter turns (I.given reader.old) (I.given reader.new) }
+    ensures no_head { result ≡ Err ReadEnd.Head → ⊥ }
+{
+    let HeadWants::Body(_, len) = wants else {
+        return Ok(());
+    };
+    let Some(whole) = start.checked_add(*len as usize) else {
+        return Err(ReadEnd::Memory);
+    };
+    read_on(reader, bytes, whole, turns)
+}
+
+/// Reads one request.
+pub(crate) fn read_request<I: ByteIn>(
+    alloc: Global,
+    reader: &mut I,
+    bytes: &mut Vec<u8>,
+) -> Result<Came, ReadEnd>
+    requires { bytes.old.items ≡ [] }
+    ensures come { OnOk result ((I.given reader.new).bytes ≡ (I.given reader.old).bytes ++ bytes.new.items) }
+    ensures request { IfOk result (HasRequest bytes.new.items) }
+    ensures read { result ≡ Err ReadEnd.Read → HasEndedEarly (I.given reader.old) (I.given reader.new) }
+    ensures no_head { result ≡ Err ReadEnd.Head → ⊥ }
+{
+    let mut headers = [EMPTY_HEADER_SPAN; 64];
+    let (spans, turns) = match read_head(reader, bytes, &mut headers) {
+        Ok(head) => head,
+        Err(ReadEnd::Head) => return Ok(Came::NoHead),
+        Err(end) => return Err(end),
+    };
+    let Ok((wants, key)) = wants_at(alloc, bytes.as_slice(), &spans, &headers) else {
+        return Err(ReadEnd::Memory);
+    };
+    match read_body(reader, bytes, &wants, spans.len, turns) {
+        Ok(()) => Ok(Came::Head(wants, key, spans.len)),
+        Err(end) => Err(end),
+    }
+}
+
+/// What a head wants, and the body that it sends.
+fn whole_wants<'a>(
+    alloc: Global,
+    bytes: &'a [u8],
+    wants: HeadWants,
+    key: Option<Key>,
+    start: usize,
+) -> Result<Wanted<'a>, AllocError>
+    requires begins { BeginsWith bytes.now wants key start }
+    requires body { HasBody wants start bytes.now }
+    ensures { IfOk result (Wants bytes.entry.now) }
+{
+    match wants {
+        HeadWants::Now(wanted) => Ok(wanted),
+        HeadWants::Body(post, len) => {
+            let body = &bytes[start..start + len as usize];
+            body_wants(alloc, post, key, body)
+        }
+    }
+}
+
+/// What a request wants that has come.
+pub(crate) fn wanted<'a>(
+    alloc: Global,
+    bytes: &'a [u8],
+    came: Came,
+) -> Result<Wanted<'a>, AllocError>
+    requires { HasRequest bytes.now came }
+    ensures { IfOk result (Wants bytes.entry.now) }
+{
+    match came {
+        Came::NoHead => Ok(Wanted::Fault(BAD_HEAD)),
+        Came::Head(wants, key, start) => whole_wants(alloc, bytes, wants, key, start),
+    }
+}

@@ -1,0 +1,119 @@
+//! The desk's routes.
+ghost use Rattle.std.specs.Prelude.{◌≡◌, ◌∷◌, drop, IfOk, option_map, option_and_then};
+ghost use Rattle.http_desk.specs.Routes.{desk_rows, page_of, report_called, place_told, place_at};
+
+use desk_commands::Verb;
+use matchit::{InsertError, Router};
+use std::alloc::Global;
+
+/// What a path leads to, as the router has it.
+#[derive(Clone, Copy, Debug, PartialEq, Eq)]
+pub enum Page {
+    Act,
+    Telegrams,
+    Waybill,
+    Stock,
+    Outbox,
+    Report,
+}
+
+/// A report that can be got.
+#[derive(Clone, Copy, Debug, PartialEq, Eq)]
+pub enum Report {
+    Stock,
+    Irregularities,
+    Movements,
+    Trail,
+    Pending,
+}
+
+/// What a path leads to. The name of a waybill or of a number stands at the path's end.
+#[derive(Clone, Copy, Debug, PartialEq, Eq)]
+pub enum Route {
+    Command(Verb),
+    Telegrams,
+    Waybill,
+    Stock,
+    Report(Report),
+}
+
+/// The router of the desk.
+pub(crate) fn desk_router(alloc: Global) -> Result<Router<Page>, InsertError>
+    ensures { IfOk result (λ r. r ≡ desk_rows) }
+{
+    let mut router = Router::new(alloc);
+    router.insert("/v1/act/{verb}", Page::Act)?;
+    router.insert("/v1/telegrams", Page::Telegrams)?;
+    router.insert("/v1/waybills/{awb}", Page::Waybill)?;
+    router.insert("/v1/stock/{awb}", Page::Stock)?;
+    router.insert("/v1/outbox", Page::Outbox)?;
+    router.insert("/v1/reports/{name}", Page::Report)?;
+    Ok(router)
+}
+
+/// The page of a path.
+fn found_page(router: &Router<Page>, path: &str) -> Option<Page>
+    ensures { result ≡ page_of router.now path.now }
+{
+    match router.at(path) {
+        Ok(found) => Some(*found.value),
+        Err(_) => None,
+    }
+}
+
+/// A report by its name.
+fn report_called(name: &[u8]) -> Option<Report>
+    ensures { result ≡ report_called name.now }
+{
+    if name == b"stock".as_slice() {
+        Some(Report::Stock)
+    } else if name == b"irregularities".as_slice() {
+        Some(Report::Irregularities)
+    } else if name == b"movements".as_slice() {
+        Some(Report::Movements)
+    } else if name == b"trail".as_slice() {
+        Some(Report::Trail)
+    } else {
+        None
+    }
+}
+
+/// What stands behind so many bytes.
+pub(crate) fn behind(path: &str, count: usize) -> &[u8]
+    ensures { result.now ≡ drop count path.now }
+{
+    match path.as_bytes().get(count..) {
+        Some(name) => name,
+        None => &[],
+    }
+}
+
+/// What a page of a path is.
+fn route_at(page: Page, path: &str) -> Option<Route>
+    ensures { option_map (place_told path.now) result ≡ place_at path.now page }
+{
+    match page {
+        Page::Act => {
+            let verb = Verb::read(behind(path, 8))?;
+            Some(Route::Command(verb))
+        }
+        Page::Telegrams => Some(Route::Telegrams),
+        Page::Waybill => Some(Route::Waybill),
+        Page::Stock => Some(Route::Stock),
+        Page::Outbox => Some(Route::Report(Report::Pending)),
+        Page::Report => {
+            let report = report_called(behind(path, 12))?;
+            Some(Route::Report(report))
+        }
+    }
+}
+
+/// What a path leads to.
+pub(crate) fn route_of(router: &Router<Page>, path: &str) -> Option<Route>
+    ensures { option_map (place_told path.now) result ≡ option_and_then (place_at path.now) (page_of router.now path.now) }
+{
+    match found_page(router, path) {
+        Some(page) => route_at(page, path),
+        None => None,
+    }
+}

@@ -1,0 +1,83 @@
+//! One connection.
+ghost use Rattle.std.specs.Prelude.{◌≡◌, false, Err, IfOk};
+ghost use Rattle.station_core.specs.Step.{State};
+ghost use Rattle.station_core.specs.declared.input.Input.{Input as AnyInput};
+ghost use Rattle.http_desk.specs.Told.{tells_reopen};
+ghost use Rattle.http_desk.specs.Came.{HasRequest};
+ghost use Rattle.http_desk.specs.Reading.{HasEndedEarly};
+ghost use Rattle.http_desk.specs.Serving.{HasServed};
+ghost use Rattle.http_desk.specs.Writing.{IsToldFor};
+
+use crate::asking::{Told, ask};
+use crate::reading::ReadEnd;
+use crate::request::{Came, read_request, wanted};
+use crate::writing::write_told;
+use imp_fields::Moment;
+use station_core::{ByteIn, ByteOut, Keeper};
+use std::alloc::Global;
+
+/// What a connection was answered.
+#[derive(Clone, Copy, Debug, PartialEq, Eq)]
+pub struct Served {
+    pub status: u16,
+    /// The keeper was asked, and has to be opened again.
+    pub reopen: bool,
+}
+
+/// Why a connection wasn't answered whole.
+#[derive(Clone, Copy, Debug, PartialEq, Eq)]
+pub enum ServeFault {
+    /// The reader failed, the input ended within the request, or 100,000 reads were made. Nothing was written or changed.
+    Read,
+    /// The writer failed or took no byte. These are the bytes of the answer that went out.
+    Write { sent: u64 },
+}
+
+/// Asks the station for what a request wants that has come.
+fn told_for<K: Keeper>(alloc: Global, keeper: &mut K, bytes: &[u8], came: Came, at: Moment) -> Told
+    requires request { HasRequest bytes.now came }
+    requires takes { (input : AnyInput) → K.takes input }
+    ensures sound { K.is_sound keeper.new → K.is_sound keeper.old }
+    ensures told { (s : State) → K.keeps keeper.old s → K.is_broken keeper.old ≡ false → K.is_sound keeper.new
+        → IsToldFor bytes.now s at result (K.keeps keeper.new) (K.may_find keeper.new) }
+    ensures tells { K.is_broken keeper.old ≡ false → tells_reopen result ≡ K.is_broken keeper.new }
+{
+    match wanted(alloc, bytes, came) {
+        Ok(wanted) => ask(alloc, keeper, &wanted, at),
+        Err(_) => Told::Unavailable(false),
+    }
+}
+
+/// One connection: a request is read, asked of the keeper and answered.
+pub fn serve_one<K: Keeper, I: ByteIn, O: ByteOut>(
+    alloc: Global,
+    keeper: &mut K,
+    reader: &mut I,
+    writer: &mut O,
+    at: Moment,
+) -> Result<Served, ServeFault>
+    requires { (input : AnyInput) → K.takes input }
+    ensures sound { K.is_sound keeper.new → K.is_sound keeper.old }
+
+    // Reading ended: nothing was written, nothing was changed.
+    ensures unread { result ≡ Err ServeFault.Read → (O.taken writer.new ≡ O.taken writer.old) × (keeper.new ≡ keeper.old) }
+    ensures read_cause { result ≡ Err ServeFault.Read → HasEndedEarly (I.given reader.old) (I.given reader.new) }
+
+    // The answer to the bytes that were read, or a beginning of it; and the keeper keeps the state after it.
+    ensures served { (s : State) → K.keeps keeper.old s → K.is_broken keeper.old ≡ false → K.is_sound keeper.new
+        → HasServed s at (I.given reader.old) (I.given reader.new) (O.taken writer.old) (O.taken writer.new) (K.keeps keeper.new) (K.may_find keeper.new) result }
+
+    // It tells to open the station again exactly where this connection broke it.
+    ensures told { (s : State) → K.keeps keeper.old s → K.is_broken keeper.old ≡ false → K.is_sound keeper.new
+        → IfOk result (λ served. served.reopen ≡ K.is_broken keeper.new) }
+{
+    let mut bytes = Vec::new(alloc);
+    match read_request(alloc, reader, &mut bytes) {
+        Ok(came) => {
+            let told = told_for(alloc, keeper, bytes.as_slice(), came, at);
+            write_told(alloc, keeper, writer, &told)
+        }
+        Err(ReadEnd::Memory) => write_told(alloc, keeper, writer, &Told::Unavailable(false)),
+        Err(_) => Err(ServeFault::Read),
+    }
+}

@@ -1,0 +1,211 @@
+//! What a request wants.
+ghost use Rattle.std.specs.Prelude.{◌≡◌, drop, IfOk, option_map, option_and_then};
+ghost use Rattle.std.specs.Result.{result_ok};
+ghost use Rattle.awb_number.specs.Number.{number_of};
+ghost use Rattle.httparse.specs.Grammar.{RequestHead};
+ghost use Rattle.httparse.specs.Spans.{IsRequestAt, IsRequestOf, IsRequestWithin};
+ghost use Rattle.http_desk.specs.Answer.{head_of};
+ghost use Rattle.http_desk.specs.Asked.{body_meant};
+ghost use Rattle.http_desk.specs.HeadTold.{asks_meant, got_at};
+ghost use Rattle.http_desk.specs.Request.{head_asks, IsAskedUnder};
+ghost use Rattle.http_desk.specs.Routes.{desk_rows, page_of, path_of, place_at, place_told};
+ghost use Rattle.http_desk.specs.Wanted.{WantsNow, HasWants, WantsAsked, BodyWants, posted_of};
+
+use crate::asked::{Body, command_asked, telegram_asked};
+use crate::fault::FaultTold;
+use crate::head::{Asks, NOT_FOUND, head_asks};
+use crate::route::{Report, Route, behind, desk_router, route_of};
+use awb_number::Awb;
+use desk_commands::Verb;
+use httparse::spans::{HeaderSpan, RequestSpans};
+use shipment_machine::Refusal;
+use station_core::{Input, Key};
+use std::alloc::{AllocError, Global};
+
+/// What a whole request wants.
+#[derive(Drop)]
+pub(crate) enum Wanted<'a> {
+    /// It is refused by its head or by its body.
+    Fault(FaultTold),
+    /// Its body is no telegram.
+    Unreadable(Refusal),
+    Waybill(Awb),
+    Holder(Awb),
+    Report(Report),
+    Input(Input<'a>),
+}
+
+/// What a request posts.
+#[derive(Clone, Copy, Debug, PartialEq, Eq)]
+pub(crate) enum Post {
+    Command(Verb),
+    Telegram,
+}
+
+/// What a head wants.
+#[derive(Drop)]
+pub(crate) enum HeadWants {
+    /// No body is read.
+    Now(Wanted<'static>),
+    /// A body of so many bytes is posted.
+    Body(Post, u64),
+}
+
+/// The part of a target in front of a question mark.
+fn path_in(target: &str) -> &str
+    ensures { result.now ≡ path_of target.now }
+{
+    match target.split_once('?') {
+        Some((path, _)) => path,
+        None => target,
+    }
+}
+
+/// The number that twelve bytes spell.
+fn read_twelve(bytes: &[u8; 12]) -> Option<Awb>
+    ensures { result ≡ result_ok (number_of bytes.now) }
+{
+    match Awb::read(bytes) {
+        Ok(number) => Some(number),
+        Err(_) => None,
+    }
+}
+
+/// The waybill number behind so many bytes of a path.
+fn number_behind(path: &str, count: usize) -> Option<Awb>
+    ensures { result ≡ result_ok (number_of (drop count path.now)) }
+{
+    let bytes = <[u8; 12]>::try_from(behind(path, count)).ok()?;
+    read_twelve(&bytes)
+}
+
+/// A waybill that is looked up.
+fn waybill_at(path: &str) -> Wanted<'static>
+    ensures { WantsNow (got_at (place_told path.now Route.Waybill)) result }
+{
+    match number_behind(path, 13) {
+        Some(number) => Wanted::Waybill(number),
+        None => Wanted::Fault(NOT_FOUND),
+    }
+}
+
+/// A number whose holder is looked up.
+fn holder_at(path: &str) -> Wanted<'static>
+    ensures { WantsNow (got_at (place_told path.now Route.Stock)) result }
+{
+    match number_behind(path, 10) {
+        Some(number) => Wanted::Holder(number),
+        None => Wanted::Fault(NOT_FOUND),
+    }
+}
+
+/// What is got at a path.
+fn got(route: Route, path: &str) -> Wanted<'static>
+    ensures { WantsNow (got_at (place_told path.now route)) result }
+{
+    match route {
+        Route::Waybill => waybill_at(path),
+        Route::Stock => holder_at(path),
+        Route::Report(report) => Wanted::Report(report),
+        Route::Command(_) => Wanted::Fault(NOT_FOUND),
+        Route::Telegrams => Wanted::Fault(NOT_FOUND),
+    }
+}
+
+/// What a path leads to.
+fn routed(alloc: Global, path: &str) -> Result<Option<Route>, AllocError>
+    ensures { IfOk result (λ route. option_map (place_told path.now) route ≡ option_and_then (place_at path.now) (page_of desk_rows path.now)) }
+{
+    match desk_router(alloc) {
+        Ok(router) => Ok(route_of(&router, path)),
+        Err(_) => Err(AllocError),
+    }
+}
+
+/// The target of a request.
+fn target_of<'a>(bytes: &'a [u8], spans: &RequestSpans, headers: &[HeaderSpan]) -> &'a str
+    requires within { IsRequestWithin bytes.now headers.now spans.now }
+    requires head { IsRequestOf bytes.now headers.now spans.now }
+    ensures { (h : RequestHead) → IsRequestAt bytes.entry.now headers.now spans.now h → result.now ≡ h.target }
+{
+    match str::from_utf8(spans.path.of(bytes)) {
+        Ok(target) => target,
+        Err(_) => unreachable!(),
+    }
+}
+
+/// What a head asks that sends no body, or the body that it sends.
+fn wants_of(asks: Asks, path: &str) -> HeadWants
+    ensures { HasWants (asks_meant path.now asks) result }
+{
+    match asks {
+        Asks::Refused(fault) => HeadWants::Now(Wanted::Fault(fault)),
+        Asks::Got(route) => HeadWants::Now(got(route, path)),
+        Asks::Posted(route, len) => match route {
+            Route::Command(verb) => HeadWants::Body(Post::Command(verb), len),
+            Route::Telegrams => HeadWants::Body(Post::Telegram, len),
+            _ => HeadWants::Now(Wanted::Fault(NOT_FOUND)),
+        },
+    }
+}
+
+/// What a head wants.
+pub(crate) fn head_wants(
+    alloc: Global,
+    bytes: &[u8],
+    spans: &RequestSpans,
+    headers: &[HeaderSpan],
+) -> Result<HeadWants, AllocError>
+    requires within { IsRequestWithin bytes.now headers.now spans.now }
+    requires head { IsRequestOf bytes.now headers.now spans.now }
+    ensures { (h : RequestHead) → IsRequestAt bytes.now headers.now spans.now h → IfOk result (HasWants (head_asks (head_of h))) }
+{
+    let path = path_in(target_of(bytes, spans, headers));
+    let route = routed(alloc, path)?;
+    let method = spans.method.of(bytes);
+    let asks = head_asks(route, method, bytes, &headers[..spans.headers]);
+    Ok(wants_of(asks, path))
+}
+
+/// What a body asks.
+fn asked<'a>(
+    alloc: Global,
+    post: Post,
+    key: Option<Key>,
+    body: &'a [u8],
+) -> Result<Body<'a>, AllocError>
+    ensures { IfOk result (λ asked. IsAskedUnder (posted_of post) key body.entry.now (body_meant asked)) }
+{
+    if let Post::Command(verb) = post {
+        return command_asked(alloc, verb, key, body);
+    }
+    telegram_asked(alloc, body)
+}
+
+/// What is wanted by what a body asks.
+fn wanted_of(body: Body<'_>) -> Wanted<'_>
+    ensures { WantsAsked (body_meant body.entry) result }
+{
+    match body {
+        Body::Bad(word) => Wanted::Fault(FaultTold {
+            status: 400,
+            word,
+            allow: None,
+        }),
+        Body::Unreadable(refusal) => Wanted::Unreadable(refusal),
+        Body::Input(input) => Wanted::Input(input),
+    }
+}
+
+/// What a body wants.
+pub(crate) fn body_wants<'a>(
+    alloc: Global,
+    post: Post,
+    key: Option<Key>,
+    body: &'a [u8],
+) -> Result<Wanted<'a>, AllocError>
+    ensures { IfOk result (BodyWants (posted_of post) key body.entry.now) }
+{
+    let body = asked(alloc, post, key, body)?;
+    Ok(wanted_of(body))
+}

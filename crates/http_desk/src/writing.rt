@@ -1,0 +1,131 @@
+//! Writing an answer.
+ghost use Rattle.std.specs.Prelude.{◌≡◌, true, false, Err};
+ghost use Rattle.station_core.specs.Keeping.{IsReadersFault, OnlyReads};
+ghost use Rattle.station_core.specs.Step.{State};
+ghost use Rattle.http_desk.specs.Serving.{unavailable};
+ghost use Rattle.http_desk.specs.Writing.{HasSent, HasEndedReport, HasReported, HasWritten};
+ghost use Rattle.reports.specs.Ended.{IsReopen};
+ghost use Rattle.http_desk.specs.declared.route.Report.{Report as AnyReport};
+
+use crate::answer::report_head;
+use crate::asking::Told;
+use crate::route::Report;
+use crate::serve::{ServeFault, Served};
+use reports::{
+    ReportCause, ReportFault, irregularity_report_behind, movement_book_behind,
+    pending_report_behind, stock_report_behind, trail_report_behind,
+};
+use station_core::{ActFault, ByteOut, Keeper, send};
+use std::alloc::Global;
+
+/// The answer of a station that can't answer. It wants no memory.
+const UNAVAILABLE: &str =
+    "HTTP/1.1 503 Service Unavailable\r\nContent-Type: application/json\r\nContent-Length: 27\r\nConnection: close\r\n\r\n{\"detail\":\"\",\"refused\":503}";
+
+/// The bytes of that answer.
+fn unavailable() -> &'static [u8]
+    ensures { result.now ≡ unavailable }
+{
+    UNAVAILABLE.as_bytes()
+}
+
+/// Writes an answer.
+fn send_answer<O: ByteOut>(
+    writer: &mut O,
+    status: u16,
+    bytes: &[u8],
+    reopen: bool,
+) -> Result<Served, ServeFault>
+    ensures { HasSent status reopen bytes.now (O.taken writer.old) (O.taken writer.new) result }
+{
+    match send(writer, bytes) {
+        Ok(()) => Ok(Served { status, reopen }),
+        Err(sent) => Err(ServeFault::Write { sent: sent as u64 }),
+    }
+}
+
+/// Writes a report behind its head, while it is read.
+fn send_report<K: Keeper, O: ByteOut>(
+    alloc: Global,
+    keeper: &mut K,
+    writer: &mut O,
+    report: Report,
+    head: &[u8],
+) -> Result<(), ReportFault>
+    ensures reads { OnlyReads K.keeps K.is_sound K.is_broken K.may_find keeper.old keeper.new }
+    ensures reopen { K.is_broken keeper.old ≡ true → IsReopen result × (keeper.new ≡ keeper.old) × (O.taken writer.new ≡ O.taken writer.old) }
+    ensures ended { (s : State) → K.keeps keeper.old s → K.is_sound keeper.new
+        → HasEndedReport (K.is_broken keeper.old ≡ false) s report head.now (O.taken writer.old) (O.taken writer.new) result }
+{
+    match report {
+        Report::Stock => stock_report_behind(alloc, keeper, writer, head),
+        Report::Irregularities => irregularity_report_behind(alloc, keeper, writer, head),
+        Report::Movements => movement_book_behind(alloc, keeper, writer, head),
+        Report::Trail => trail_report_behind(alloc, keeper, writer, head),
+        Report::Pending => pending_report_behind(alloc, keeper, writer, head),
+    }
+}
+
+/// Whether the station has to be opened again.
+fn is_reopen(fault: &ActFault) -> bool
+    ensures { IsReadersFault fault.now → result ≡ false }
+{
+    match fault {
+        ActFault::Reopen => true,
+        _ => false,
+    }
+}
+
+/// Answers with a report.
+fn write_report<K: Keeper, O: ByteOut>(
+    alloc: Global,
+    keeper: &mut K,
+    writer: &mut O,
+    report: Report,
+) -> Result<Served, ServeFault>
+    ensures reads { OnlyReads K.keeps K.is_sound K.is_broken K.may_find keeper.old keeper.new }
+    ensures reported { (s : State) → K.keeps keeper.old s → K.is_broken keeper.old ≡ false → K.is_sound keeper.new
+        → HasReported s report (O.taken writer.old) (O.taken writer.new) result }
+    ensures read { result ≡ Err ServeFault.Read → ⊥ }
+{
+    let Ok(head) = report_head(alloc) else {
+        return send_answer(writer, 503, unavailable(), false);
+    };
+    match send_report(alloc, keeper, writer, report, head.as_bytes()) {
+        Ok(()) => Ok(Served {
+            status: 200,
+            reopen: false,
+        }),
+        Err(ReportFault { sent, cause }) => match cause {
+            ReportCause::Write => Err(ServeFault::Write { sent }),
+            ReportCause::Act(fault) => {
+                if sent > 0 {
+                    return Ok(Served {
+                        status: 200,
+                        reopen: false,
+                    });
+                }
+                send_answer(writer, 503, unavailable(), is_reopen(&fault))
+            }
+        },
+    }
+}
+
+/// Writes what is told.
+pub(crate) fn write_told<K: Keeper, O: ByteOut>(
+    alloc: Global,
+    keeper: &mut K,
+    writer: &mut O,
+    told: &Told,
+) -> Result<Served, ServeFault>
+    ensures reads { OnlyReads K.keeps K.is_sound K.is_broken K.may_find keeper.old keeper.new }
+    ensures written { (s : State) → ((name : AnyReport) → told.now ≡ Told.Report name → K.keeps keeper.old s × (K.is_broken keeper.old ≡ false)) → K.is_sound keeper.new
+        → HasWritten told.now s (O.taken writer.old) (O.taken writer.new) result }
+    ensures read { result ≡ Err ServeFault.Read → ⊥ }
+{
+    match told {
+        Told::Json(status, text) => send_answer(writer, *status, text.as_bytes(), false),
+        Told::Report(report) => write_report(alloc, keeper, writer, *report),
+        Told::Unavailable(reopen) => send_answer(writer, 503, unavailable(), *reopen),
+    }
+}
