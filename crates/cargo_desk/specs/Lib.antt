@@ -1,4 +1,1 @@
-pub mod Row
-pub mod Lines
-pub mod Ended
 pub mod Words

@@ -2,8 +2,8 @@
 use Rattle.std.specs.Prelude.{ℕ, Bool, true, false, List, [], ◌∷◌, codes, string_bytes, Result, Ok, Err}
 use Rattle.std.specs.declared.string.String.{String}
 use Rattle.std.specs.Str.{bytes_eq}
-use Rattle.cargo_desk.specs.declared.stock.RunFault.{RunFault}
-use Rattle.cargo_desk.specs.declared.stock.RunFault.TheVariants as fault
+use Rattle.stock_list.specs.declared.answer.RunFault.{RunFault}
+use Rattle.stock_list.specs.declared.answer.RunFault.TheVariants as fault
 
 -- what stands behind `fault` on standard error
 abbrev pub fault_text : RunFault → List ℕ

@@ -4,18 +4,13 @@
 ghost use Rattle.std.specs.Prelude.{◌≡◌};
 ghost use Rattle.cargo_desk.specs.Words.{fault_text, asks_for_stock, status_of};
 
-mod row;
-mod run;
-mod stock;
-
 use imp_fields::Moment;
-use run::run_stock;
 use station_core::Counted;
 use station_rows::open_memory;
 use station_tables::create;
 use std::process::ExitCode;
 use std::{env, io};
-use stock::RunFault;
+use stock_list::{RunFault, run_stock};
 
 /// What is said of a call with other words.
 const USAGE: &str = "usage: cargo_desk stock < LIST";

@@ -2,10 +2,10 @@ use Rattle.std.proofs.Common.{◌≡◌, false, List, ◌+◌, ◌<◌, ◌≤�
 use Rattle.csv.specs.Reading.{Ready, default_config}
 use Rattle.csv.specs.declared.reader.Trim.TheVariants as trim
 use Rattle.station_core.specs.Step.{State}
-use Rattle.cargo_desk.specs.Lines.{Row}
-use Rattle.cargo_desk.specs.Ended.{HasRun}
-use Rattle.cargo_desk.proofs.More.{Known}
-use Rattle.cargo_desk.proofs.run.run_stock.Given as goal
+use Rattle.stock_list.specs.Lines.{Row}
+use Rattle.stock_list.specs.Ended.{HasRun}
+use Rattle.stock_list.proofs.More.{Known}
+use Rattle.stock_list.proofs.run.run_stock.Given as goal
 
 -- the rows so far were answered, and take the text to what the reader has left
 abbrev pub invariant-loop-row : goal.invariant-loop-row

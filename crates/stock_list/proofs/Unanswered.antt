@@ -8,10 +8,10 @@ use Rattle.station_core.specs.declared.answer.ActFault.TheVariants as act
 use Rattle.station_core.specs.declared.input.Input.{Input}
 use Rattle.station_core.specs.Step.{State, step}
 use Rattle.station_core.specs.Keeping.{Answers, MayLeave}
-use Rattle.cargo_desk.specs.declared.stock.RunFault.TheVariants as fault
-use Rattle.cargo_desk.specs.Row.{row_asks}
-use Rattle.cargo_desk.specs.Lines.{Row, input_of, asked_after, row_after}
-use Rattle.cargo_desk.specs.Ended.{run_fault}
+use Rattle.stock_list.specs.declared.answer.RunFault.TheVariants as fault
+use Rattle.stock_list.specs.Row.{row_asks}
+use Rattle.stock_list.specs.Lines.{Row, input_of, asked_after, row_after}
+use Rattle.stock_list.specs.Ended.{run_fault}
 
 pub still_kept : (s : State) (i : Input) (at : LocalMinute) (e : ActFault) (keeps : State → Type 0) → Answers s i at (Err e) keeps → run_fault e ≡ fault.Memory → keeps s
 still_kept s i at act.Memory keeps answers is = answers

@@ -1,8 +1,8 @@
 use Rattle.std.proofs.Common.{[], ◌∷◌, ◌++◌, sym, ◌∙◌, ap, append_assoc}
 use Rattle.std.specs.Prelude.{string_bytes}
-use Rattle.cargo_desk.specs.Lines.{answer_text}
-use Rattle.cargo_desk.proofs.Written.{told}
-use Rattle.cargo_desk.proofs.stock.answer_line.Goals as goal
+use Rattle.stock_list.specs.Lines.{answer_text}
+use Rattle.stock_list.proofs.Written.{told}
+use Rattle.stock_list.proofs.answer.answer_line.Goals as goal
 
 pub returns : goal.returns
 returns c = told string_bytes c.format.result _ _

@@ -1,8 +1,8 @@
 use Rattle.std.proofs.Common.{refl, sym, ◌∙◌, inl, inr, ⊎_elim}
 use Rattle.csv.specs.Records.{fields_of}
-use Rattle.cargo_desk.specs.Lines.{input_of}
-use Rattle.cargo_desk.proofs.Unanswered.{still_kept, found_row}
-use Rattle.cargo_desk.proofs.stock.answer_row.Goals as goal
+use Rattle.stock_list.specs.Lines.{input_of}
+use Rattle.stock_list.proofs.Unanswered.{still_kept, found_row}
+use Rattle.stock_list.proofs.answer.answer_row.Goals as goal
 
 pub returns-in-Err-clause-stopped : goal.returns-in-Err-clause-stopped
 returns-in-Err-clause-stopped g c = λ s keeps works sound.

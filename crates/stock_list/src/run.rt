@@ -1,10 +1,10 @@
 ghost use Rattle.std.specs.Prelude.{◌≡◌, false, List, Option, OnOk, IfOk, IfErr, IfSome};
 ghost use Rattle.csv.specs.Reading.{error_kind};
 ghost use Rattle.station_core.specs.Step.{State};
-ghost use Rattle.cargo_desk.specs.Ended.{reader_fault, HasRun, HasStopped, rows_read, AreFirst};
-ghost use Rattle.cargo_desk.specs.Lines.{Row, stock_rows};
+ghost use Rattle.stock_list.specs.Ended.{reader_fault, HasRun, HasStopped, rows_read, AreFirst};
+ghost use Rattle.stock_list.specs.Lines.{Row, stock_rows};
 
-use crate::stock::{RunFault, answer_row};
+use crate::answer::{RunFault, answer_row};
 use csv::{Error, ErrorKind, ReaderBuilder};
 use imp_fields::Moment;
 use station_core::{ByteOut, Keeper};

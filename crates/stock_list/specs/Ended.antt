@@ -6,9 +6,9 @@ use Rattle.imp_fields.specs.Date.{LocalMinute}
 use Rattle.station_core.specs.declared.answer.ActFault.{ActFault}
 use Rattle.station_core.specs.declared.answer.ActFault.TheVariants as act
 use Rattle.station_core.specs.Step.{State}
-use Rattle.cargo_desk.specs.declared.stock.RunFault.{RunFault}
-use Rattle.cargo_desk.specs.declared.stock.RunFault.TheVariants as fault
-use Rattle.cargo_desk.specs.Lines.{Row, row_line, row_good, row_after, lines_from, rows_good, rows_after, stock_rows}
+use Rattle.stock_list.specs.declared.answer.RunFault.{RunFault}
+use Rattle.stock_list.specs.declared.answer.RunFault.TheVariants as fault
+use Rattle.stock_list.specs.Lines.{Row, row_line, row_good, row_after, lines_from, rows_good, rows_after, stock_rows}
 
 -- a keeper that answers Reopen has had a store that failed
 abbrev pub run_fault : ActFault → RunFault

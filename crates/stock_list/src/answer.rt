@@ -1,8 +1,8 @@
 ghost use Rattle.std.specs.Prelude.{◌≡◌, ◌⊎◌, ℕ, ◌+◌, false, List, ◌++◌, Some, Option, IfOk, IfErr, OnOk, take, string_bytes};
 ghost use Rattle.csv.specs.Records.{fields_of};
 ghost use Rattle.station_core.specs.Step.{State};
-ghost use Rattle.cargo_desk.specs.Ended.{run_fault, IsAnswered, IsStopped};
-ghost use Rattle.cargo_desk.specs.Lines.{answer_text, answer_line, bad_line};
+ghost use Rattle.stock_list.specs.Ended.{run_fault, IsAnswered, IsStopped};
+ghost use Rattle.stock_list.specs.Lines.{answer_text, answer_line, bad_line};
 
 use crate::row::read_row;
 use csv::ByteRecord;

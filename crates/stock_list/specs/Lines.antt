@@ -11,7 +11,7 @@ use Rattle.station_core.specs.declared.input.Input.TheVariants.{Keyed}
 use Rattle.station_core.specs.Retries.{is_done}
 use Rattle.station_core.specs.Step.{State, step}
 use Rattle.station_core.specs.Texts.{reply_text, refusal_text}
-use Rattle.cargo_desk.specs.Row.{row_asks}
+use Rattle.stock_list.specs.Row.{row_asks}
 
 abbrev pub Row : Type 0
 Row = List (List ℕ)

@@ -1,10 +1,10 @@
 use Rattle.std.proofs.Common.{rules, arith, ◌∙◌, sym, refl, inl, inr, ◌+◌, ◌<◌, ◌≤◌, List, [], ◌∷◌, ◌++◌, Some, None, subst, Fits, w64}
-use Rattle.cargo_desk.specs.Ended.{IsReadersFault}
+use Rattle.stock_list.specs.Ended.{IsReadersFault}
 use Rattle.csv.specs.Records.{fields_of}
-use Rattle.cargo_desk.specs.Lines.{Row, rows_after}
-use Rattle.cargo_desk.proofs.More.{append_nil, known_start, known_more, known_end, known_first, counted_more, run_more, readers_fault, stops_more}
-use Rattle.cargo_desk.proofs.Unanswered.{passed_on}
-use Rattle.cargo_desk.proofs.run.run_stock.Goals as goal
+use Rattle.stock_list.specs.Lines.{Row, rows_after}
+use Rattle.stock_list.proofs.More.{append_nil, known_start, known_more, known_end, known_first, counted_more, run_more, readers_fault, stops_more}
+use Rattle.stock_list.proofs.Unanswered.{passed_on}
+use Rattle.stock_list.proofs.run.run_stock.Goals as goal
 
 pub loop-row-init : goal.loop-row-init
 loop-row-init g c =

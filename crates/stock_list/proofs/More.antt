@@ -8,10 +8,10 @@ use Rattle.csv.specs.declared.parser.State.TheVariants as st
 use Rattle.csv.specs.declared.reader.Reader.{Reader}
 use Rattle.csv.specs.Reading.{Reached, ReadRecord, default_config, source_of, strip_bom}
 use Rattle.csv.proofs.ReadFacts.{rows-end, rows-more}
-use Rattle.cargo_desk.specs.declared.stock.RunFault.{RunFault}
-use Rattle.cargo_desk.specs.Lines.{Row, row_line, row_good, row_after, lines_from, rows_good, rows_after, stock_rows}
-use Rattle.cargo_desk.specs.Ended.{IsAnswered, IsStopped, HasRun, HasStopped, AreFirst, IsReadersFault, reader_fault}
-use Rattle.cargo_desk.proofs.Records.{all_records, first_records}
+use Rattle.stock_list.specs.declared.answer.RunFault.{RunFault}
+use Rattle.stock_list.specs.Lines.{Row, row_line, row_good, row_after, lines_from, rows_good, rows_after, stock_rows}
+use Rattle.stock_list.specs.Ended.{IsAnswered, IsStopped, HasRun, HasStopped, AreFirst, IsReadersFault, reader_fault}
+use Rattle.stock_list.proofs.Records.{all_records, first_records}
 
 after_more : (s : State) (rows : List Row) (row : Row) (at : LocalMinute) → rows_after s (rows ++ row ∷ []) at ≡ row_after (rows_after s rows at) row at
 after_more s [] row at = refl

@@ -1,6 +1,6 @@
 ghost use Rattle.std.specs.Prelude.{◌≡◌, ◌^◌, ◌<◌, ◌≤◌, length, Some, IfSome};
 ghost use Rattle.csv.specs.Records.{fields_of, field_at};
-ghost use Rattle.cargo_desk.specs.Row.{digits_of, run_of, order_of, asked_by, row_asks};
+ghost use Rattle.stock_list.specs.Row.{digits_of, run_of, order_of, asked_by, row_asks};
 
 use agent_stock::{AgentCode, Order, Run};
 use awb_number::{Awb, decimal};

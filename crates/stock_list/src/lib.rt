@@ -1,0 +1,10 @@
+//! A stock list: rows of CSV that ask for orders on the stock, each answered by a line.
+#![tactic(auto)]
+
+mod answer;
+mod row;
+mod run;
+
+pub use answer::{RunFault, answer_row};
+pub use row::read_row;
+pub use run::run_stock;
