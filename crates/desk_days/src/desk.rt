@@ -1,0 +1,147 @@
+//! The keepers of a station's state on which a day is played.
+use crate::day::Report;
+use agent_stock::{Holder, Order};
+use awb_number::Awb;
+use desk_commands::Command;
+use imp_fields::{Airport, Moment};
+use plain_station::PlainStation;
+use reports::{
+    ReportCause, ReportFault, irregularity_report, movement_book, pending_report, stock_report,
+    trail_report,
+};
+use sqlite::MemStore;
+use station_core::{ActFault, Answer, Counted, Input, Keeper, Key, Waybill, answer_one};
+use station_rows::{Rows, open_memory};
+use station_tables::{Station, create};
+use std::alloc::Global;
+
+/// A kind of keeper.
+#[derive(Clone, Copy, Debug, PartialEq, Eq)]
+pub enum Kind {
+    /// Lists in memory.
+    Plain,
+    /// The tables of a store in memory. They keep the stock alone, and their station is always at XXX.
+    Tables,
+}
+
+impl Kind {
+    /// What it is called where a line differs.
+    pub fn name(self) -> &'static str {
+        match self {
+            Kind::Plain => "the plain station",
+            Kind::Tables => "tables",
+        }
+    }
+}
+
+/// A station with its keeper.
+#[derive(Drop)]
+pub enum Desk {
+    Plain(PlainStation),
+    Tables(Station<Rows<MemStore>>),
+}
+
+/// An order on the stock.
+fn answer_order<K: Keeper>(
+    keeper: &mut K,
+    key: Key,
+    order: Order,
+    at: Moment,
+) -> Result<Answer, ActFault> {
+    let input = Input::Keyed(key, Command::Stock(order));
+    answer_one(keeper, &input, at)
+}
+
+/// An input, where it is an order on the stock.
+fn answer_if_order<K: Keeper>(
+    keeper: &mut K,
+    input: &Input<'_>,
+    at: Moment,
+) -> Result<Answer, ActFault> {
+    match input {
+        Input::Keyed(key, Command::Stock(order)) => answer_order(keeper, *key, *order, at),
+        _ => Err(ActFault::Reopen),
+    }
+}
+
+/// A report.
+fn put_report<K: Keeper>(
+    alloc: Global,
+    keeper: &mut K,
+    report: Report,
+    writer: &mut Counted<Vec<u8>>,
+) -> Result<(), ReportFault> {
+    match report {
+        Report::Stock => stock_report(alloc, keeper, writer),
+        Report::Irregularities => irregularity_report(alloc, keeper, writer),
+        Report::Movements => movement_book(alloc, keeper, writer),
+        Report::Trail => trail_report(alloc, keeper, writer),
+        Report::Pending => pending_report(alloc, keeper, writer),
+    }
+}
+
+/// Why a report isn't there. The writer is memory.
+fn cause(fault: ReportFault) -> ActFault {
+    match fault.cause {
+        ReportCause::Write => ActFault::Memory,
+        ReportCause::Act(fault) => fault,
+    }
+}
+
+/// A new station over tables in memory.
+fn tables(alloc: Global) -> Result<Desk, ActFault> {
+    let Ok(conn) = open_memory(alloc) else {
+        return Err(ActFault::Memory);
+    };
+    match create(alloc, conn) {
+        Ok(station) => Ok(Desk::Tables(station)),
+        Err(_) => Err(ActFault::Store),
+    }
+}
+
+impl Desk {
+    /// A new station.
+    pub fn new(alloc: Global, kind: Kind, here: Airport) -> Result<Desk, ActFault> {
+        match kind {
+            Kind::Plain => Ok(Desk::Plain(PlainStation::new(alloc, here))),
+            Kind::Tables => tables(alloc),
+        }
+    }
+
+    /// What is told of an input. Tables answer `Reopen` to what they don't take.
+    pub fn answer(&mut self, input: &Input<'_>, at: Moment) -> Result<Answer, ActFault> {
+        match self {
+            Desk::Plain(station) => answer_one(station, input, at),
+            Desk::Tables(station) => answer_if_order(station, input, at),
+        }
+    }
+
+    /// Who has a number.
+    pub fn holder(&mut self, number: &Awb) -> Result<Option<Holder>, ActFault> {
+        match self {
+            Desk::Plain(station) => station.holder(number),
+            Desk::Tables(station) => station.holder(number),
+        }
+    }
+
+    /// What is known of a waybill.
+    pub fn waybill(&mut self, number: &Awb) -> Result<Option<Waybill>, ActFault> {
+        match self {
+            Desk::Plain(station) => station.waybill(number),
+            Desk::Tables(station) => station.waybill(number),
+        }
+    }
+
+    /// The text of a report.
+    pub fn report(&mut self, alloc: Global, report: Report) -> Result<Vec<u8>, ActFault> {
+        let mut writer = Counted::new(Vec::new(alloc));
+        let put = match self {
+            Desk::Plain(station) => put_report(alloc, station, report, &mut writer),
+            Desk::Tables(station) => put_report(alloc, station, report, &mut writer),
+        };
+        match put {
+            Ok(()) => Ok(writer.into_inner()),
+            Err(fault) => Err(cause(fault)),
+        }
+    }
+}

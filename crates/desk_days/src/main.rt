@@ -1,0 +1,131 @@
+//! Days at a cargo station, as scripts. Each one is played on every keeper of a station's state, and each line that the station
+//! prints is compared with the line that the script says.
+//!
+//! A script is plain text. Its statements, one a line:
+//!
+//! - `station FRA`: a new station with nothing in it;
+//! - `at 2026-01-12 10:30`: the moment of all that follows;
+//! - `act VERB KEY BODY`: a command, its body one line of JSON;
+//! - `take`, `take lf`, `take hex`: a telegram, from the `|` lines below;
+//! - `beginnings`: each beginning of the bytes of the `|` lines, from none to all, as a telegram. It prints a line for each run of
+//!   equal answers;
+//! - `stock`: the `|` lines below as rows of a stock list: key, verb, prefix, serial, count and agent;
+//! - `waybill NUMBER`, `holder NUMBER`: what is known of a waybill, and who has a number, as objects of JSON, or `none`;
+//! - `outbox`, `report NAME`: a report.
+//!
+//! A line `| TEXT` belongs to the statement above it. `take` sends such lines ended by CR and LF, `take lf` and `beginnings` by LF,
+//! and `take hex` sends the bytes that their digits tell. `|998 TEXT` stands for 998 such lines. A line `= TEXT` is what must be printed,
+//! one for each line, where a CR at the end of a printed line doesn't count. Empty lines and those that begin with `#` are for the reader.
+#![tactic(auto)]
+
+mod compare;
+mod day;
+mod desk;
+mod objects;
+mod play;
+mod reading;
+mod statement;
+mod telegram;
+
+use day::{Day, DayFault};
+use desk::Kind;
+use play::Played;
+use std::alloc::{AllocError, Global};
+use std::process::ExitCode;
+use std::{env, fs, io};
+
+/// Whether a day went as told.
+#[derive(Clone, Copy, Debug, PartialEq, Eq)]
+enum Outcome {
+    AsTold,
+    Differs,
+    Unplayed,
+}
+
+/// What is printed of a day that was played: its differences, or that there is none.
+fn verdict(
+    alloc: Global,
+    name: &str,
+    day: &Day<'_>,
+    played: &Played,
+) -> Result<String, AllocError> {
+    let told = day.told();
+    let differences = played.differences;
+    if differences > 0 {
+        let log = &played.log;
+        return format!(in alloc; "{log}{name}: lines that differ: {differences}\n");
+    }
+    if day.is_of_orders() {
+        format!(in alloc; "{name}: {told} lines as told, over tables too\n")
+    } else {
+        format!(in alloc; "{name}: {told} lines as told\n")
+    }
+}
+
+/// Plays a day on each keeper that takes it.
+fn play_on_all(alloc: Global, name: &str, day: &Day<'_>) -> Result<Played, DayFault> {
+    let mut played = Played::new(alloc);
+    play::play(alloc, name, day, Kind::Plain, &mut played)?;
+    if day.is_of_orders() {
+        play::play(alloc, name, day, Kind::Tables, &mut played)?;
+    }
+    Ok(played)
+}
+
+/// Why a day wasn't played.
+fn fault_text(alloc: Global, name: &str, fault: &DayFault) -> Result<String, AllocError> {
+    match fault {
+        DayFault::Bad { line, why } => format!(in alloc; "{name}:{line}: {why}\n"),
+        DayFault::Memory => format!(in alloc; "{name}: out of memory\n"),
+    }
+}
+
+/// Reads and plays a script.
+fn run(alloc: Global, name: &str, script: &str) -> Result<(Outcome, String), AllocError> {
+    let day = match reading::read_day(alloc, script) {
+        Ok(day) => day,
+        Err(fault) => return Ok((Outcome::Unplayed, fault_text(alloc, name, &fault)?)),
+    };
+    match play_on_all(alloc, name, &day) {
+        Ok(played) => {
+            let outcome = if played.differences == 0 {
+                Outcome::AsTold
+            } else {
+                Outcome::Differs
+            };
+            Ok((outcome, verdict(alloc, name, &day, &played)?))
+        }
+        Err(fault) => Ok((Outcome::Unplayed, fault_text(alloc, name, &fault)?)),
+    }
+}
+
+/// The exit status of an outcome, or a worse one from before.
+fn status_after(status: u8, outcome: Outcome) -> u8 {
+    let own = match outcome {
+        Outcome::AsTold => 0,
+        Outcome::Differs => 1,
+        Outcome::Unplayed => 2,
+    };
+    status.max(own)
+}
+
+/// Status 0: all went as told; 1: a line differed; 2: a script can't be read, or none was named.
+fn main(rt: HostRuntime) -> Result<ExitCode, io::Error> {
+    let words: Vec<String> = env::args(&rt)?.collect(rt.alloc())?;
+    let mut status = 0;
+    if words.len() < 2 {
+        eprintln!(rt; "usage: desk_days SCRIPT..")?;
+        status = 2;
+    }
+    for name in words.iter().skip(1) {
+        let Ok(script) = fs::read_to_string(&rt, name.as_str()) else {
+            println!(rt; "{name}: can't be read")?;
+            status = 2;
+            continue;
+        };
+        let (outcome, text) = run(rt.alloc(), name.as_str(), script.as_str())?;
+        print!(rt; "{text}")?;
+        status = status_after(status, outcome);
+    }
+    Ok(ExitCode::from(status))
+}

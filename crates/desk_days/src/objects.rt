@@ -1,0 +1,84 @@
+//! What is known of a number, as objects of JSON. Their members stand in the order of their names.
+use agent_stock::Holder;
+use awb_number::Awb;
+use imp_fields::{Airport, Goods};
+use serde_json::Value;
+use shipment_machine::{Amount, Declared};
+use station_core::Waybill;
+use std::alloc::{AllocError, Global};
+
+/// The word for who has a number.
+fn holder_word(holder: &Holder) -> &'static str {
+    match holder {
+        Holder::Desk => "desk",
+        Holder::Agent(_) => "agent",
+        Holder::Used => "used",
+        Holder::Void => "void",
+    }
+}
+
+/// Who has a number.
+pub fn holder_object(alloc: Global, awb: &Awb, holder: &Holder) -> Result<String, AllocError> {
+    let word = holder_word(holder);
+    let name = match holder {
+        Holder::Agent(code) => code.as_str(),
+        _ => "",
+    };
+    format!(in alloc; "{{\"awb\":\"{awb}\",\"holder\":\"{word}\",\"name\":\"{name}\"}}")
+}
+
+/// Pieces and tenths.
+fn pair(alloc: Global, amount: &Amount) -> Result<String, AllocError> {
+    let (pieces, tenths) = (amount.pieces, amount.tenths);
+    format!(in alloc; "[{pieces},{tenths}]")
+}
+
+/// A text of ASCII as JSON quotes it.
+fn quoted(alloc: Global, text: &[u8]) -> Result<String, AllocError> {
+    match std::str::from_utf8(text) {
+        Ok(text) => Value::String(String::from_str(alloc, text)?).to_string(alloc),
+        Err(_) => Err(AllocError),
+    }
+}
+
+/// An airport's letters.
+fn letters(alloc: Global, airport: &Airport) -> Result<String, AllocError> {
+    quoted(alloc, &airport.letters())
+}
+
+fn goods(alloc: Global, goods: &Goods) -> Result<String, AllocError> {
+    quoted(alloc, goods.as_bytes())
+}
+
+/// The members from `notified` to `pieces`.
+fn route(alloc: Global, declared: &Declared) -> Result<String, AllocError> {
+    let notified = declared.notified;
+    let origin = letters(alloc, &declared.origin)?;
+    let pieces = declared.pieces.number();
+    format!(in alloc; "\"notified\":{notified},\"origin\":{origin},\"pieces\":{pieces}")
+}
+
+/// The members from `delivered` to `missing`.
+fn left(alloc: Global, waybill: &Waybill) -> Result<String, AllocError> {
+    let delivered = pair(alloc, &waybill.delivered)?;
+    let departed = pair(alloc, &waybill.departed)?;
+    let destination = letters(alloc, &waybill.declared.destination)?;
+    let found = pair(alloc, &waybill.found)?;
+    let goods = goods(alloc, &waybill.declared.goods)?;
+    let missing = pair(alloc, &waybill.missing)?;
+    format!(in alloc;
+        "\"delivered\":{delivered},\"departed\":{departed},\"destination\":{destination},\"found\":{found},\"goods\":{goods},\"missing\":{missing}"
+    )
+}
+
+/// What is known of a waybill.
+pub fn waybill_object(alloc: Global, awb: &Awb, waybill: &Waybill) -> Result<String, AllocError> {
+    let left = left(alloc, waybill)?;
+    let route = route(alloc, &waybill.declared)?;
+    let store = pair(alloc, &waybill.store)?;
+    let taken = pair(alloc, &waybill.taken)?;
+    let tenths = waybill.declared.tenths.number();
+    format!(in alloc;
+        "{{\"awb\":\"{awb}\",{left},{route},\"store\":{store},\"taken\":{taken},\"tenths\":{tenths}}}"
+    )
+}

@@ -1,0 +1,278 @@
+//! A day, played on a station.
+use crate::compare::compare;
+use crate::day::{Ask, Day, DayFault, Form, Repeated, Step};
+use crate::desk::{Desk, Kind};
+use crate::objects::{holder_object, waybill_object};
+use crate::telegram::bytes_of;
+use awb_number::Awb;
+use desk_commands::{Verb, read_command, read_command_text};
+use imp_fields::{Airport, Moment};
+use serde_json::Value;
+use station_core::{ActFault, Answer, Input, Key, refusal_text, reply_text};
+use std::alloc::{AllocError, Global};
+use telegrams::{TelegramFault, read_telegram};
+
+/// What came of a day so far.
+#[derive(Drop)]
+pub struct Played {
+    /// How many lines differed.
+    pub differences: u64,
+    /// Each of them.
+    pub log: String,
+}
+
+impl Played {
+    /// Nothing was played yet.
+    pub fn new(alloc: Global) -> Played {
+        Played {
+            differences: 0,
+            log: String::new(alloc),
+        }
+    }
+}
+
+/// What is printed of a fault that is no refusal.
+fn fault_word(fault: &ActFault) -> &'static str {
+    match fault {
+        ActFault::Store => "fault store",
+        ActFault::Reopen => "fault reopen",
+        _ => "fault memory",
+    }
+}
+
+/// What is printed of a fault.
+fn fault_text(alloc: Global, fault: &ActFault) -> Result<String, AllocError> {
+    match fault {
+        ActFault::Refused(refusal) => refusal_text(alloc, refusal),
+        _ => String::from_str(alloc, fault_word(fault)),
+    }
+}
+
+/// What is printed of an answer.
+fn answer_text(alloc: Global, answer: &Result<Answer, ActFault>) -> Result<String, AllocError> {
+    match answer {
+        Ok(Answer::Done(reply)) => reply_text(alloc, reply),
+        Ok(Answer::Refused(refusal)) => refusal_text(alloc, refusal),
+        Err(fault) => fault_text(alloc, fault),
+    }
+}
+
+/// An input of the desk.
+fn act(
+    alloc: Global,
+    desk: &mut Desk,
+    input: &Input<'_>,
+    at: Moment,
+) -> Result<String, AllocError> {
+    let answer = desk.answer(input, at);
+    answer_text(alloc, &answer)
+}
+
+/// A command by its body.
+fn act_body(
+    alloc: Global,
+    desk: &mut Desk,
+    verb: Verb,
+    key: Key,
+    body: &str,
+    at: Moment,
+) -> Result<String, AllocError> {
+    let value = match Value::from_str(alloc, body) {
+        Ok(value) => value,
+        Err(e) if e.is_memory() => return Err(AllocError),
+        Err(_) => return String::from_str(alloc, "body bad"),
+    };
+    match read_command(verb, &value) {
+        Ok(command) => act(alloc, desk, &Input::Keyed(key, command), at),
+        Err(_) => String::from_str(alloc, "body bad"),
+    }
+}
+
+/// A telegram.
+fn take(alloc: Global, desk: &mut Desk, bytes: &[u8], at: Moment) -> Result<String, AllocError> {
+    match read_telegram(alloc, bytes) {
+        Ok(telegram) => act(alloc, desk, &Input::Wire(telegram), at),
+        Err(TelegramFault::Refused(refusal)) => refusal_text(alloc, &refusal),
+        Err(TelegramFault::Memory) => Err(AllocError),
+    }
+}
+
+/// Appends the line of a run of beginnings.
+fn put_run(
+    alloc: Global,
+    out: &mut Vec<u8>,
+    from: usize,
+    to: usize,
+    answer: &str,
+) -> Result<(), AllocError> {
+    let line = format!(in alloc; "{from} to {to}: {answer}\n")?;
+    out.extend_from_slice(line.as_bytes())
+}
+
+/// Each beginning of some bytes, as a telegram.
+fn take_beginnings(
+    alloc: Global,
+    desk: &mut Desk,
+    bytes: &[u8],
+    at: Moment,
+    out: &mut Vec<u8>,
+) -> Result<(), AllocError> {
+    let mut from = 0;
+    let mut before = take(alloc, desk, b"", at)?;
+    for to in 1..=bytes.len() {
+        let answer = take(alloc, desk, &bytes[..to], at)?;
+        if answer.as_str() != before.as_str() {
+            put_run(alloc, out, from, to - 1, before.as_str())?;
+            from = to;
+            before = answer;
+        }
+    }
+    put_run(alloc, out, from, bytes.len(), before.as_str())
+}
+
+/// The key of a row of a stock list and the text of its command, where the row has six fields and a key.
+fn row_text(alloc: Global, row: &str) -> Result<Option<(Key, String)>, AllocError> {
+    if row.split(',').count() != 6 {
+        return Ok(None);
+    }
+    let Some((key, rest)) = row.split_once(',') else {
+        return Ok(None);
+    };
+    let Some(key) = Key::read(key.as_bytes()) else {
+        return Ok(None);
+    };
+    // Take-in and void have no agent.
+    let fields = match rest.strip_suffix(',') {
+        Some(fields) => fields,
+        None => rest,
+    };
+    let mut text = String::new(alloc);
+    for field in fields.split(',') {
+        if !text.is_empty() {
+            text.push('\n')?;
+        }
+        text.push_str(field)?;
+    }
+    Ok(Some((key, text)))
+}
+
+/// A row of a stock list, counted from 1.
+fn act_row(
+    alloc: Global,
+    desk: &mut Desk,
+    number: u32,
+    row: &str,
+    at: Moment,
+) -> Result<String, AllocError> {
+    if let Some((key, text)) = row_text(alloc, row)?
+        && let Some(command) = read_command_text(text.as_bytes())
+    {
+        let answer = act(alloc, desk, &Input::Keyed(key, command), at)?;
+        return format!(in alloc; "{key} {answer}");
+    }
+    format!(in alloc; "row {number} bad")
+}
+
+/// The rows of a stock list.
+fn act_rows(
+    alloc: Global,
+    desk: &mut Desk,
+    rows: &[Repeated<'_>],
+    at: Moment,
+    out: &mut Vec<u8>,
+) -> Result<(), AllocError> {
+    let mut number: u32 = 0;
+    for row in rows {
+        for _ in 0..row.times {
+            number = number.saturating_add(1);
+            let answer = act_row(alloc, desk, number, row.text, at)?;
+            put_text(out, &answer)?;
+        }
+    }
+    Ok(())
+}
+
+/// Who has a number.
+fn holder_text(alloc: Global, desk: &mut Desk, number: &Awb) -> Result<String, AllocError> {
+    match desk.holder(number) {
+        Ok(Some(holder)) => holder_object(alloc, number, &holder),
+        Ok(None) => String::from_str(alloc, "none"),
+        Err(fault) => fault_text(alloc, &fault),
+    }
+}
+
+/// What is known of a waybill.
+fn waybill_text(alloc: Global, desk: &mut Desk, number: &Awb) -> Result<String, AllocError> {
+    match desk.waybill(number) {
+        Ok(Some(waybill)) => waybill_object(alloc, number, &waybill),
+        Ok(None) => String::from_str(alloc, "none"),
+        Err(fault) => fault_text(alloc, &fault),
+    }
+}
+
+/// Appends a line.
+fn put_text(out: &mut Vec<u8>, text: &str) -> Result<(), AllocError> {
+    out.extend_from_slice(text.as_bytes())?;
+    out.extend_from_slice(b"\n")
+}
+
+/// What is printed at a statement.
+fn printed(alloc: Global, desk: &mut Desk, step: &Step<'_>) -> Result<Vec<u8>, DayFault> {
+    let mut out = Vec::new(alloc);
+    match &step.ask {
+        Ask::Station(_) => {}
+        Ask::Act(verb, key) => {
+            put_text(
+                &mut out,
+                &act_body(alloc, desk, *verb, *key, step.body, step.at)?,
+            )?;
+        }
+        Ask::Take(form) => {
+            let bytes = bytes_of(alloc, *form, &step.lines)?;
+            put_text(&mut out, &take(alloc, desk, &bytes, step.at)?)?;
+        }
+        Ask::Beginnings => {
+            let bytes = bytes_of(alloc, Form::Lf, &step.lines)?;
+            take_beginnings(alloc, desk, &bytes, step.at, &mut out)?;
+        }
+        Ask::Stock => act_rows(alloc, desk, &step.lines, step.at, &mut out)?,
+        Ask::Waybill(number) => put_text(&mut out, &waybill_text(alloc, desk, number)?)?,
+        Ask::Holder(number) => put_text(&mut out, &holder_text(alloc, desk, number)?)?,
+        Ask::Report(report) => match desk.report(alloc, *report) {
+            Ok(text) => return Ok(text),
+            Err(fault) => put_text(&mut out, &fault_text(alloc, &fault)?)?,
+        },
+    }
+    Ok(out)
+}
+
+/// A new station for a statement at this line.
+fn new_desk(alloc: Global, kind: Kind, here: Airport, line: u32) -> Result<Desk, DayFault> {
+    match Desk::new(alloc, kind, here) {
+        Ok(desk) => Ok(desk),
+        Err(_) => Err(DayFault::Bad {
+            line,
+            why: "no station could be made",
+        }),
+    }
+}
+
+/// Plays a day on a kind of keeper, and adds what differed.
+pub fn play(
+    alloc: Global,
+    name: &str,
+    day: &Day<'_>,
+    kind: Kind,
+    played: &mut Played,
+) -> Result<(), DayFault> {
+    let mut desk = new_desk(alloc, kind, day.here, 1)?;
+    for step in &day.steps {
+        if let Ask::Station(here) = step.ask {
+            desk = new_desk(alloc, kind, here, step.line)?;
+        }
+        let printed = printed(alloc, &mut desk, step)?;
+        let differences = compare(alloc, name, kind, step, &printed, &mut played.log)?;
+        played.differences = played.differences.saturating_add(differences);
+    }
+    Ok(())
+}
