@@ -14,6 +14,3 @@ pub use plain::PlainRows;
 pub use rows::StockRows;
 pub use runs::{Held, StockRun, runs_of};
 pub use stock::{Holder, Order, Run, StockFault, Test};
-
-#[cfg(test)]
-mod tests;

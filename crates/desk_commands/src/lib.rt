@@ -10,10 +10,6 @@ mod laws;
 mod lines;
 mod number;
 mod reading;
-#[cfg(test)]
-mod reading_tests;
-#[cfg(test)]
-mod tests;
 mod texts;
 mod verb;
 

@@ -10,8 +10,6 @@ mod flight_line;
 mod known;
 mod point;
 mod reading;
-#[cfg(test)]
-mod tests;
 mod writing;
 
 use awb_number::Awb;

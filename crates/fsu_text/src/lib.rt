@@ -8,8 +8,6 @@ mod message;
 mod reading;
 mod sent;
 mod status;
-#[cfg(test)]
-mod tests;
 mod writing;
 
 pub use message::Fsu;

@@ -6,8 +6,6 @@ ghost use Rattle.imp_fields.specs.Consignment.{Shipment};
 ghost use Rattle.fwb_text.specs.Fwb.{IsFwb, fwb_fault};
 
 mod reading;
-#[cfg(test)]
-mod tests;
 
 use imp_fields::Consignment;
 pub use reading::read;

@@ -14,6 +14,3 @@ mod transaction;
 pub use memory::{memory_is_sound, open_memory};
 pub use rows::{CreateFault, Rows};
 pub use store::{KeptRow, StockRow, StoreFault, TableStore};
-
-#[cfg(test)]
-mod tests;

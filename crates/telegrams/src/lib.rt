@@ -7,8 +7,6 @@ mod laws;
 mod notice;
 mod reading;
 mod telegram;
-#[cfg(test)]
-mod tests;
 
 pub use laws::telegram_law;
 pub use notice::notice_text;

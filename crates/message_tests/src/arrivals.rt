@@ -1,0 +1,96 @@
+//! Telegrams that arrive.
+use crate::said::{say, shown, told};
+use shipment_machine::{CargoLine, Detail, Refusal};
+use std::alloc::Global;
+use telegrams::{Content, PartContent, StatusContent, TelegramFault, read_telegram};
+
+/// What comes of what is asked.
+pub fn answer(alloc: Global, asked: &str, text: &[u8]) -> Option<String> {
+    match asked {
+        "text" => normal(alloc, text),
+        "content" => content(alloc, text),
+        "fault" => fault(alloc, text),
+        _ => None,
+    }
+}
+
+/// The text of a telegram.
+fn normal(alloc: Global, text: &[u8]) -> Option<String> {
+    let Ok(telegram) = read_telegram(alloc, text) else {
+        return None;
+    };
+    say(alloc, shown(telegram.text().as_bytes()))
+}
+
+/// What a telegram says.
+fn content(alloc: Global, text: &[u8]) -> Option<String> {
+    let Ok(telegram) = read_telegram(alloc, text) else {
+        return None;
+    };
+    match telegram.content() {
+        Content::Fwb(line) => {
+            let line = cargo(alloc, line)?;
+            format!(in alloc; "FWB {line}").ok()
+        }
+        Content::Ffm(part) => manifest(alloc, part),
+        Content::Fsu(status) => trail(alloc, status),
+    }
+}
+
+/// The number, the route, the pieces, tenths and total of a consignment line, and its goods.
+fn cargo(alloc: Global, line: &CargoLine) -> Option<String> {
+    let (origin, destination) = (line.origin.letters(), line.destination.letters());
+    let (origin, destination) = (shown(&origin), shown(&destination));
+    let (pieces, tenths) = (line.pieces.number(), line.tenths.number());
+    let total = told(alloc, line.total.map(|total| total.number()))?;
+    let goods = shown(line.goods.as_bytes());
+    let number = line.awb;
+    format!(in alloc; "{number} {origin} {destination} {pieces} {tenths} {total} [{goods}]").ok()
+}
+
+/// The part's number, the flight, its date and where it was loaded, and each line with where it is unloaded.
+fn manifest(alloc: Global, part: &PartContent) -> Option<String> {
+    let mut flight = [0; 7];
+    let end = part.flight.write(&mut flight);
+    let (flight, loaded) = (shown(&flight[..end]), part.loaded.letters());
+    let (number, date, loaded) = (part.sequence.number(), part.date, shown(&loaded));
+    let (day, month) = (date.day, date.month);
+    let mut said = format!(in alloc; "FFM {number} {flight} {day} {month} {loaded}").ok()?;
+    for line in part.lines.as_slice() {
+        let unload = line.unload.letters();
+        let cargo = cargo(alloc, &line.cargo)?;
+        let line = format!(in alloc; "; {} {cargo}", shown(&unload)).ok()?;
+        said.push_str(line.as_str()).ok()?;
+    }
+    Some(said)
+}
+
+/// The number of a status message, and its lines.
+fn trail(alloc: Global, status: &StatusContent<'_>) -> Option<String> {
+    let mut said = format!(in alloc; "FSU {}", status.awb).ok()?;
+    for line in status.lines.as_slice() {
+        let line = format!(in alloc; " [{}]", shown(line.as_bytes())).ok()?;
+        said.push_str(line.as_str()).ok()?;
+    }
+    Some(said)
+}
+
+/// The number of a telegram's refusal, with the line and what is wrong there, or `none`.
+fn fault(alloc: Global, text: &[u8]) -> Option<String> {
+    let Err(fault) = read_telegram(alloc, text) else {
+        return say(alloc, "none");
+    };
+    match fault {
+        TelegramFault::Memory => None,
+        TelegramFault::Refused(refusal) => refused(alloc, &refusal),
+    }
+}
+
+fn refused(alloc: Global, refusal: &Refusal) -> Option<String> {
+    let number = refusal.number;
+    match refusal.detail {
+        Detail::Nothing => format!(in alloc; "{number}").ok(),
+        Detail::Line { line, why } => format!(in alloc; "{number} {line} {why:?}").ok(),
+        _ => None,
+    }
+}

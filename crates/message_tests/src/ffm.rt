@@ -1,0 +1,153 @@
+//! Flight manifest messages.
+use crate::said::{Runs, fault_said, quantity_said, shown, token_said, words};
+use awb_number::Awb;
+use ffm_text::{Ffm, FfmLine, Load, read, write_ffm};
+use imp_fields::{
+    Airport, BookTenths, DayMonth, Flight, Goods, Lines, Pieces, TextFault, Why, normal_text,
+};
+use std::alloc::Global;
+
+/// What comes of what is asked.
+pub fn answer(alloc: Global, asked: &str, text: &[u8]) -> Option<String> {
+    match asked {
+        "head" => head(alloc, &part(alloc, text)?),
+        "cargo" => cargo(alloc, &part(alloc, text)?),
+        "unloaded" => unloaded(alloc, &part(alloc, text)?),
+        "goods" => goods(alloc, &part(alloc, text)?),
+        "fault" => fault_said(alloc, fault(alloc, text)),
+        "beginnings" => beginnings(alloc, text),
+        "written" => written(alloc, text),
+        _ => None,
+    }
+}
+
+/// The part of a manifest that a text is.
+fn part<'a>(alloc: Global, text: &'a [u8]) -> Option<Ffm<'a>> {
+    let Ok(lines) = normal_text(alloc, text) else {
+        return None;
+    };
+    match read(alloc, &lines) {
+        Ok(read) => Some(read),
+        Err(_) => None,
+    }
+}
+
+/// The part's number, the flight, its date and where it was loaded.
+fn head(alloc: Global, part: &Ffm<'_>) -> Option<String> {
+    let mut flight = [0; 7];
+    let end = part.flight.write(&mut flight);
+    let flight = shown(&flight[..end]);
+    let loaded = part.loaded.letters();
+    let (number, date) = (part.sequence.number(), part.date);
+    format!(in alloc;
+        "{number} {flight} {} {} {}",
+        date.day,
+        date.month,
+        shown(&loaded)
+    )
+    .ok()
+}
+
+/// Where a line's goods are unloaded, its number, its pieces, tenths and total, and its goods.
+fn line_said(alloc: Global, line: &FfmLine<'_>) -> Option<String> {
+    let unload = line.unload.letters();
+    let consignment = &line.consignment;
+    let quantity = quantity_said(alloc, &consignment.quantity)?;
+    let (number, goods) = (consignment.awb, shown(consignment.goods.text));
+    format!(in alloc; "; {} {number} {quantity} [{goods}]", shown(&unload)).ok()
+}
+
+/// How many lines of cargo there are, and each.
+fn cargo(alloc: Global, part: &Ffm<'_>) -> Option<String> {
+    let mut said = format!(in alloc; "{}", part.cargo.len()).ok()?;
+    for line in &part.cargo {
+        said.push_str(line_said(alloc, line)?.as_str()).ok()?;
+    }
+    Some(said)
+}
+
+/// How many lines of cargo there are, and where each is unloaded, with how many pieces.
+fn unloaded(alloc: Global, part: &Ffm<'_>) -> Option<String> {
+    let mut said = format!(in alloc; "{}", part.cargo.len()).ok()?;
+    for line in &part.cargo {
+        let unload = line.unload.letters();
+        let pieces = line.consignment.quantity.pieces.number();
+        let line = format!(in alloc; "; {} {pieces}", shown(&unload)).ok()?;
+        said.push_str(line.as_str()).ok()?;
+    }
+    Some(said)
+}
+
+/// Where the goods of the first line of cargo stand.
+fn goods(alloc: Global, part: &Ffm<'_>) -> Option<String> {
+    token_said(alloc, &part.cargo.first()?.consignment.goods)
+}
+
+fn fault(alloc: Global, text: &[u8]) -> Option<TextFault> {
+    let lines: Lines<'_> = match normal_text(alloc, text) {
+        Ok(lines) => lines,
+        Err(fault) => return Some(fault),
+    };
+    match read(alloc, &lines) {
+        Ok(_) => None,
+        Err(fault) => Some(fault),
+    }
+}
+
+/// What is told of each beginning of a text, from the empty one on.
+fn beginnings(alloc: Global, text: &[u8]) -> Option<String> {
+    let mut runs = Runs::new(alloc, 0);
+    for len in 0..text.len() {
+        let (front, _) = text.split_at_checked(len)?;
+        runs.push(told_of(fault(alloc, front)))?;
+    }
+    runs.push(told_of(fault(alloc, text)))?;
+    runs.said()
+}
+
+fn told_of(fault: Option<TextFault>) -> &'static str {
+    match fault {
+        None => "read",
+        Some(TextFault { why: Why::Kind, .. }) => "of no kind",
+        Some(_) => "faulty",
+    }
+}
+
+/// A load of a waybill from FRA to JFK that weighs 40.0 kg: its number, its pieces, those declared, and perhaps its goods.
+fn load(text: &str) -> Option<Load> {
+    let mut words = text.split_whitespace();
+    Some(Load {
+        awb: Awb::read(words.next()?.as_bytes().first_chunk()?).ok()?,
+        origin: Airport::read(b"FRA")?,
+        destination: Airport::read(b"JFK")?,
+        pieces: Pieces::read(words.next()?.as_bytes())?,
+        tenths: BookTenths::new(400)?,
+        declared: Pieces::read(words.next()?.as_bytes())?,
+        goods: Goods::read(words.next().unwrap_or("").as_bytes())?,
+    })
+}
+
+/// The manifest of a flight from FRA to JFK on 12 January, behind a letter X: a flight, and its loads line by line.
+fn written(alloc: Global, text: &[u8]) -> Option<String> {
+    let mut lines = shown(text).lines();
+    let flight = Flight::read(lines.next()?.as_bytes())?;
+    let mut loads = Vec::new(alloc);
+    for line in lines {
+        loads.push(load(line)?).ok()?;
+    }
+    if loads.len() > 500 {
+        return None;
+    }
+    let (here, unload) = (Airport::read(b"FRA")?, Airport::read(b"JFK")?);
+    let mut out = b"X".to_vec(alloc).ok()?;
+    write_ffm(
+        &mut out,
+        flight,
+        DayMonth::read(b"12JAN")?,
+        here,
+        unload,
+        &loads,
+    )
+    .ok()?;
+    String::from_utf8(out).ok()
+}

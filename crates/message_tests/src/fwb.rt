@@ -1,0 +1,42 @@
+//! Waybill data messages.
+use crate::said::{fault_said, shown, told};
+use fwb_text::read;
+use imp_fields::{TextFault, normal_text};
+use std::alloc::Global;
+
+/// What comes of what is asked.
+pub fn answer(alloc: Global, asked: &str, text: &[u8]) -> Option<String> {
+    match asked {
+        "meaning" => meaning(alloc, text),
+        "fault" => fault_said(alloc, fault(alloc, text)),
+        _ => None,
+    }
+}
+
+/// The number, the origin, the pieces, the tenths and the place of the quantity.
+fn meaning(alloc: Global, text: &[u8]) -> Option<String> {
+    let Ok(lines) = normal_text(alloc, text) else {
+        return None;
+    };
+    let Ok(message) = read(&lines) else {
+        return None;
+    };
+    let line = &message.consignment;
+    let origin = line.origin.letters();
+    let origin = shown(&origin);
+    let pieces = line.quantity.pieces.number();
+    let tenths = told(alloc, line.quantity.weight.map(|tenths| tenths.number()))?;
+    let (start, end) = (line.quantity_text.start, line.quantity_text.end);
+    format!(in alloc; "{} {origin} {pieces} {tenths} {start}-{end}", line.awb).ok()
+}
+
+fn fault(alloc: Global, text: &[u8]) -> Option<TextFault> {
+    let lines = match normal_text(alloc, text) {
+        Ok(lines) => lines,
+        Err(fault) => return Some(fault),
+    };
+    match read(&lines) {
+        Ok(_) => None,
+        Err(fault) => Some(fault),
+    }
+}

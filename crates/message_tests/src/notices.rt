@@ -1,0 +1,109 @@
+//! The texts of notices.
+use crate::said::{next_number, next_small_number, words};
+use awb_number::Awb;
+use imp_fields::{
+    Airport, BookTenths, Consigned, Discrepancy, Flight, Goods, LocalDay, Moment, Name, Pieces,
+};
+use shipment_machine::{Event, FlightDate, ManifestLine, ManifestLines, Notice};
+use std::alloc::Global;
+use std::slice;
+use std::str::SplitWhitespace;
+use telegrams::notice_text;
+
+/// What comes of what is asked: the text of a notice on ten pieces of 100 kilograms from FRA to JFK. It is told by the airport
+/// here, its pieces, their tenths and what happened. A flight is LH400 on 2026-01-12, which has the number 20465.
+pub fn answer(alloc: Global, asked: &str, text: &[u8]) -> Option<String> {
+    let mut words = words(text)?;
+    let here = Airport::read(words.next()?.as_bytes())?;
+    let pieces = Pieces::new(next_number(&mut words)?)?;
+    let tenths = BookTenths::new(next_number(&mut words)?)?;
+    let notice = if asked == "FFM" {
+        manifest(alloc, here, pieces, tenths)?
+    } else {
+        Notice::Status {
+            here,
+            consigned: consigned()?,
+            event: event(asked, &mut words)?,
+            pieces,
+            tenths,
+        }
+    };
+    String::from_utf8(notice_text(alloc, &notice).ok()?).ok()
+}
+
+fn consigned() -> Option<Consigned> {
+    Some(Consigned {
+        awb: Awb::read(b"020-12345675").ok()?,
+        origin: Airport::read(b"FRA")?,
+        destination: Airport::read(b"JFK")?,
+        pieces: Pieces::new(10)?,
+        tenths: BookTenths::new(1000)?,
+    })
+}
+
+fn lh400() -> Option<FlightDate> {
+    Some(FlightDate {
+        flight: Flight::read(b"LH400")?,
+        day: LocalDay::new(20465)?,
+    })
+}
+
+/// What happened at a moment, which is told by its day and its minute, perhaps with a name.
+fn event(asked: &str, words: &mut SplitWhitespace<'_>) -> Option<Event> {
+    if asked == "MAN" || asked == "DEP" {
+        return carried(asked == "MAN");
+    }
+    let at = Moment::new(next_number(words)?, next_small_number(words)?)?;
+    let name = Name::read(words.next().unwrap_or("").as_bytes())?;
+    match asked {
+        "RCS" => Some(Event::ReceivedFromShipper { name, at }),
+        "NFD" => Some(Event::Notified { name, at }),
+        "DLV" => Some(Event::Delivered { name, at }),
+        "RCF" => Some(Event::ReceivedFromFlight {
+            flight: lh400()?,
+            at,
+        }),
+        _ => Some(Event::Differs {
+            flight: lh400()?,
+            at,
+            discrepancy: discrepancy(asked)?,
+        }),
+    }
+}
+
+/// LH400 leaves for JFK.
+fn carried(is_manifested: bool) -> Option<Event> {
+    let (flight, unload) = (lh400()?, Airport::read(b"JFK")?);
+    Some(if is_manifested {
+        Event::Manifested { flight, unload }
+    } else {
+        Event::Departed { flight, unload }
+    })
+}
+
+fn discrepancy(word: &str) -> Option<Discrepancy> {
+    match word {
+        "OFLD" => Some(Discrepancy::Offloaded),
+        "MSCA" => Some(Discrepancy::Missing),
+        "FDCA" => Some(Discrepancy::Found),
+        _ => None,
+    }
+}
+
+/// LH400 leaves for JFK with pieces of the waybill.
+fn manifest(alloc: Global, here: Airport, pieces: Pieces, tenths: BookTenths) -> Option<Notice> {
+    let line = ManifestLine {
+        consigned: consigned()?,
+        pieces,
+        tenths,
+        goods: Goods::read(b"CARGO")?,
+    };
+    let mut lines = Vec::new(alloc);
+    lines.extend_from_slice(slice::from_ref(&line)).ok()?;
+    Some(Notice::Manifest {
+        here,
+        flight: lh400()?,
+        unload: Airport::read(b"JFK")?,
+        lines: ManifestLines::new(lines)?,
+    })
+}

@@ -1,0 +1,118 @@
+//! Orders on a stock in memory.
+use crate::said::{next_number, say, shown, yes_or_no};
+use agent_stock::{
+    AgentCode, Held, Holder, Order, PlainRows, Run, StockFault, StockRows, StockRun, carry_out,
+    give_back, issue, runs_of, take_in, void_run,
+};
+use awb_number::Awb;
+use std::alloc::{AllocError, Global};
+use std::str::SplitWhitespace;
+
+/// What comes of what is asked of the stock on which a file's orders act.
+pub fn answer(alloc: Global, stock: &mut PlainRows, asked: &str, text: &[u8]) -> Option<String> {
+    let mut words = shown(text).split_whitespace();
+    match asked {
+        "new" => {
+            *stock = PlainRows::new(alloc);
+            say(alloc, "ok")
+        }
+        "copy" => {
+            *stock = stock.try_clone().ok()?;
+            say(alloc, "ok")
+        }
+        "holder" => holder(alloc, stock, &mut words),
+        "runs" => runs_said(alloc, stock.runs(alloc).ok()?.as_slice()),
+        "runs-of" => runs_said(
+            alloc,
+            runs_of(alloc, &all_held(alloc, &mut words)?)
+                .ok()?
+                .as_slice(),
+        ),
+        "is-agent" => yes_or_no(alloc, AgentCode::read(text).is_some()),
+        _ => ordered(alloc, order(stock, asked, &mut words)?),
+    }
+}
+
+fn run(words: &mut SplitWhitespace<'_>) -> Option<Run> {
+    let first = Awb::read(words.next()?.as_bytes().first_chunk()?).ok()?;
+    let count = next_number(words)?;
+    Some(Run { first, count })
+}
+
+/// What an order on a run, and perhaps an agent, comes to.
+fn order(
+    stock: &mut PlainRows,
+    asked: &str,
+    words: &mut SplitWhitespace<'_>,
+) -> Option<Result<(), StockFault<AllocError>>> {
+    let run = run(words)?;
+    match asked {
+        "take-in" => Some(take_in(stock, &run)),
+        "take-in-order" => Some(carry_out(stock, &Order::TakeIn(run))),
+        "void" => Some(void_run(stock, &run)),
+        "issue" => Some(issue(stock, &run, agent(words)?)),
+        "return" => Some(give_back(stock, &run, agent(words)?)),
+        _ => None,
+    }
+}
+
+fn agent(words: &mut SplitWhitespace<'_>) -> Option<AgentCode> {
+    AgentCode::read(words.next()?.as_bytes())
+}
+
+fn ordered(alloc: Global, done: Result<(), StockFault<AllocError>>) -> Option<String> {
+    match done {
+        Ok(()) => say(alloc, "ok"),
+        Err(StockFault::Rows(_)) => None,
+        Err(StockFault::Refused(number, None)) => format!(in alloc; "refused {number}").ok(),
+        Err(StockFault::Refused(number, Some(lowest))) => {
+            format!(in alloc; "refused {number} {lowest}").ok()
+        }
+    }
+}
+
+fn holder(alloc: Global, stock: &mut PlainRows, words: &mut SplitWhitespace<'_>) -> Option<String> {
+    let number = Awb::read(words.next()?.as_bytes().first_chunk()?).ok()?;
+    match stock.holder(&number).ok()? {
+        Some(holder) => holder_said(alloc, &holder),
+        None => say(alloc, "nobody"),
+    }
+}
+
+fn holder_said(alloc: Global, holder: &Holder) -> Option<String> {
+    match holder {
+        Holder::Desk => say(alloc, "the desk"),
+        Holder::Agent(code) => say(alloc, code.as_str()),
+        Holder::Used => say(alloc, "used"),
+        Holder::Void => say(alloc, "void"),
+    }
+}
+
+/// How many runs there are, and each: its first number, its count and its holder.
+fn runs_said(alloc: Global, runs: &[StockRun]) -> Option<String> {
+    let mut said = format!(in alloc; "{}", runs.len()).ok()?;
+    for run in runs {
+        let holder = holder_said(alloc, &run.holder)?;
+        let run = format!(in alloc; "; {} {} {holder}", run.run.first, run.run.count).ok()?;
+        said.push_str(run.as_str()).ok()?;
+    }
+    Some(said)
+}
+
+/// Numbers with their holders, each told by a serial of prefix 020 and a word.
+fn all_held(alloc: Global, words: &mut SplitWhitespace<'_>) -> Option<Vec<Held>> {
+    let mut all = Vec::new(alloc);
+    for _ in 0..100 {
+        let Some(number) = words.next() else {
+            return Some(all);
+        };
+        let number = Awb::new(20, number.parse::<u32>().ok()?)?;
+        let holder = match words.next()? {
+            "used" => Holder::Used,
+            "void" => Holder::Void,
+            code => Holder::Agent(AgentCode::read(code.as_bytes())?),
+        };
+        all.push(Held { number, holder }).ok()?;
+    }
+    None
+}

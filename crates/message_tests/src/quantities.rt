@@ -1,0 +1,48 @@
+//! Weights and quantities.
+use crate::said::{next_number, number_or_none, quantity_said, say, shown, words};
+use imp_fields::{BookTenths, Pieces, ShipmentCode, put_quantity, read_quantity, weight_of};
+use std::alloc::Global;
+
+/// What comes of what is asked.
+pub fn answer(alloc: Global, asked: &str, text: &[u8]) -> Option<String> {
+    match asked {
+        "weight" => number_or_none(alloc, weight_of(text).map(|tenths| tenths.number())),
+        "read" => read(alloc, text),
+        "write" => write(alloc, text),
+        _ => None,
+    }
+}
+
+/// The pieces, the tenths and the total of a quantity that is read.
+fn read(alloc: Global, text: &[u8]) -> Option<String> {
+    match read_quantity(text) {
+        Some(quantity) => quantity_said(alloc, &quantity),
+        None => say(alloc, "none"),
+    }
+}
+
+fn code(word: &str) -> Option<ShipmentCode> {
+    match word {
+        "T" => Some(ShipmentCode::Total),
+        "P" => Some(ShipmentCode::Part),
+        "S" => Some(ShipmentCode::Split),
+        "D" => Some(ShipmentCode::Divided),
+        "M" => Some(ShipmentCode::Multi),
+        _ => None,
+    }
+}
+
+/// How a quantity is written: its code, its pieces and its tenths, and perhaps its total.
+fn write(alloc: Global, text: &[u8]) -> Option<String> {
+    let mut words = words(text)?;
+    let code = code(words.next()?)?;
+    let pieces = Pieces::new(next_number(&mut words)?)?;
+    let tenths = BookTenths::new(next_number(&mut words)?)?;
+    let total = match next_number(&mut words) {
+        Some(total) => Some(Pieces::new(total)?),
+        None => None,
+    };
+    let mut out = [0; 18];
+    let end = put_quantity(&mut out, code, pieces, tenths, total);
+    say(alloc, shown(&out[..end]))
+}

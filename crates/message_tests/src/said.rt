@@ -1,0 +1,123 @@
+//! What answers are made of.
+use imp_fields::{Quantity, TextFault, Token};
+use std::alloc::Global;
+use std::str::SplitWhitespace;
+
+/// A text as an answer.
+pub fn say(alloc: Global, text: &str) -> Option<String> {
+    String::from_str(alloc, text).ok()
+}
+
+/// The answer to whether something is so.
+pub fn yes_or_no(alloc: Global, is_so: bool) -> Option<String> {
+    say(alloc, if is_so { "yes" } else { "no" })
+}
+
+/// A number as an answer, or `none`.
+pub fn number_or_none(alloc: Global, number: Option<u32>) -> Option<String> {
+    match number {
+        Some(number) => format!(in alloc; "{number}").ok(),
+        None => say(alloc, "none"),
+    }
+}
+
+/// Bytes as a text, where they are one.
+pub fn shown(bytes: &[u8]) -> &str {
+    std::str::from_utf8(bytes).unwrap_or("?")
+}
+
+/// A number, or `-`.
+pub fn told(alloc: Global, number: Option<u32>) -> Option<String> {
+    match number {
+        Some(number) => format!(in alloc; "{number}").ok(),
+        None => say(alloc, "-"),
+    }
+}
+
+/// A quantity: its pieces, its tenths and its total.
+pub fn quantity_said(alloc: Global, quantity: &Quantity) -> Option<String> {
+    let pieces = quantity.pieces.number();
+    let tenths = told(alloc, quantity.weight.map(|tenths| tenths.number()))?;
+    let total = told(alloc, quantity.total.map(|total| total.number()))?;
+    format!(in alloc; "{pieces} {tenths} {total}").ok()
+}
+
+/// A part of a text: where it stands, and its bytes.
+pub fn token_said(alloc: Global, token: &Token<'_>) -> Option<String> {
+    let (start, end, text) = (token.start, token.end, shown(token.text));
+    format!(in alloc; "{start}-{end} [{text}]").ok()
+}
+
+/// The fault of a text, or `none`.
+pub fn fault_said(alloc: Global, fault: Option<TextFault>) -> Option<String> {
+    match fault {
+        Some(TextFault { line, why }) => format!(in alloc; "{line} {why:?}").ok(),
+        None => say(alloc, "none"),
+    }
+}
+
+/// The words of a text.
+pub fn words(text: &[u8]) -> Option<SplitWhitespace<'_>> {
+    Some(std::str::from_utf8(text).ok()?.split_whitespace())
+}
+
+/// The number that the next word is.
+pub fn next_number(words: &mut SplitWhitespace<'_>) -> Option<u32> {
+    words.next()?.parse::<u32>().ok()
+}
+
+/// The small number that the next word is.
+pub fn next_small_number(words: &mut SplitWhitespace<'_>) -> Option<u16> {
+    words.next()?.parse::<u16>().ok()
+}
+
+/// What came in turn, where equal answers beside one another are one: `6 Byte, 7-29 Long`.
+#[derive(Drop)]
+pub struct Runs {
+    alloc: Global,
+    said: String,
+    last: String,
+    first: usize,
+    end: usize,
+}
+
+impl Runs {
+    /// Nothing yet.
+    pub fn new(alloc: Global, first: usize) -> Runs {
+        Runs {
+            alloc,
+            said: String::new(alloc),
+            last: String::new(alloc),
+            first,
+            end: first,
+        }
+    }
+
+    /// Ends the run.
+    fn close(&mut self) -> Option<()> {
+        if self.first == self.end {
+            return Some(());
+        }
+        let (first, last) = (self.first, self.end.saturating_sub(1));
+        let comma = if self.said.is_empty() { "" } else { ", " };
+        let said = format!(in self.alloc; "{comma}{first}-{last} {}", self.last).ok()?;
+        self.said.push_str(said.as_str()).ok()
+    }
+
+    /// What came next.
+    pub fn push(&mut self, came: &str) -> Option<()> {
+        if self.last.as_str() != came {
+            self.close()?;
+            self.first = self.end;
+            self.last = String::from_str(self.alloc, came).ok()?;
+        }
+        self.end = self.end.saturating_add(1);
+        Some(())
+    }
+
+    /// All runs.
+    pub fn said(mut self) -> Option<String> {
+        self.close()?;
+        Some(self.said)
+    }
+}

@@ -1,0 +1,99 @@
+//! Readers and writers that count, some of which fail.
+use crate::said::{say, shown};
+use station_core::{ByteIn, ByteOut, Counted, ReadFault, WriteFault, send};
+use std::alloc::Global;
+use std::io;
+use std::io::{Read, Write};
+
+/// What comes of what is asked.
+pub fn answer(alloc: Global, asked: &str, text: &[u8]) -> Option<String> {
+    match asked {
+        "sent" => sent(alloc, shown(text)),
+        "sent-to-four-bytes" => sent_to_four_bytes(alloc, text),
+        "read-haltingly" => read_haltingly(alloc, text),
+        "sent-in-vain" => sent_in_vain(alloc, text),
+        _ => None,
+    }
+}
+
+/// What a buffer holds after each line of a text was sent, with an empty text behind each.
+fn sent(alloc: Global, text: &str) -> Option<String> {
+    let mut writer = Counted::new(Vec::new(alloc));
+    for line in text.split_inclusive('\n') {
+        send(&mut writer, line.as_bytes()).ok()?;
+        send(&mut writer, b"").ok()?;
+    }
+    say(alloc, shown(writer.into_inner().as_slice()))
+}
+
+/// What is told where not all bytes went out.
+fn sent_said(alloc: Global, sent: Result<(), usize>) -> Option<String> {
+    match sent {
+        Ok(()) => say(alloc, "all went out"),
+        Err(count) => format!(in alloc; "{count} went out").ok(),
+    }
+}
+
+fn sent_to_four_bytes(alloc: Global, text: &[u8]) -> Option<String> {
+    let mut room = [0u8; 4];
+    let mut writer = Counted::new(room.as_mut_slice());
+    sent_said(alloc, send(&mut writer, text))
+}
+
+/// A reader that is interrupted, then gives what it has, and then fails.
+#[derive(Drop)]
+struct Halting<'a> {
+    calls: u8,
+    bytes: &'a [u8],
+}
+
+impl Read for Halting<'_> {
+    fn read(&mut self, buf: &mut [u8]) -> io::Result<usize> {
+        self.calls = self.calls.saturating_add(1);
+        match self.calls {
+            1 => Err(io::Error::from(io::ErrorKind::Interrupted)),
+            2 => self.bytes.read(buf),
+            _ => Err(io::Error::from(io::ErrorKind::Other)),
+        }
+    }
+}
+
+fn read_said(alloc: Global, read: Result<usize, ReadFault>) -> Option<String> {
+    match read {
+        Ok(count) => format!(in alloc; "{count}").ok(),
+        Err(ReadFault::Interrupted) => say(alloc, "interrupted"),
+        Err(ReadFault::Failed) => say(alloc, "failed"),
+    }
+}
+
+/// What three reads into eight bytes give, and the bytes.
+fn read_haltingly(alloc: Global, bytes: &[u8]) -> Option<String> {
+    let mut reader = Counted::new(Halting { calls: 0, bytes });
+    let mut buf = [b'-'; 8];
+    let first = read_said(alloc, ByteIn::read(&mut reader, &mut buf))?;
+    let second = read_said(alloc, ByteIn::read(&mut reader, &mut buf))?;
+    let third = read_said(alloc, ByteIn::read(&mut reader, &mut buf))?;
+    format!(in alloc; "{first} {second} {third} [{}]", shown(&buf)).ok()
+}
+
+/// A writer that fails.
+#[derive(Drop)]
+struct Failing;
+
+impl Write for Failing {
+    fn write(&mut self, _: &[u8]) -> io::Result<usize> {
+        Err(io::Error::from(io::ErrorKind::Other))
+    }
+
+    fn flush(&mut self) -> io::Result<()> {
+        Ok(())
+    }
+}
+
+fn sent_in_vain(alloc: Global, text: &[u8]) -> Option<String> {
+    let mut writer = Counted::new(Failing);
+    match ByteOut::write(&mut writer, text) {
+        Ok(_) => None,
+        Err(WriteFault) => sent_said(alloc, send(&mut writer, text)),
+    }
+}

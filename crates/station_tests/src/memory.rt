@@ -1,0 +1,199 @@
+//! Messages that are written and read where memory may be wanted: that is told, and leaves the buffer as it was.
+use awb_number::Awb;
+use ffm_text::{Load, write_ffm};
+use fsu_text::{Handling, SentStatus, Update, write_fsu};
+use imp_fields::{
+    Airport, BookTenths, Consigned, DayMonth, DayTime, Flight, Goods, LocalDay, Moment, Name,
+    Pieces, TextFault, Why, normal_text,
+};
+use shipment_machine::{Event, FlightDate, ManifestLine, ManifestLines, Notice};
+use std::alloc::Global;
+use std::slice;
+use telegrams::{TelegramFault, notice_text, read_telegram};
+
+fn fault(line: u32, why: Why) -> TextFault {
+    TextFault { line, why }
+}
+
+/// A load of a waybill from FRA to JFK that weighs 40.0 kg.
+fn load(serial: u32, pieces: u32, declared: u32, goods: &[u8]) -> Option<Load> {
+    Some(Load {
+        awb: Awb::new(20, serial)?,
+        origin: Airport::read(b"FRA")?,
+        destination: Airport::read(b"JFK")?,
+        pieces: Pieces::new(pieces)?,
+        tenths: BookTenths::new(400)?,
+        declared: Pieces::new(declared)?,
+        goods: Goods::read(goods)?,
+    })
+}
+
+/// Appends the manifest of a flight from FRA to JFK on 12 January; whether there was memory for it.
+fn is_written(out: &mut Vec<u8>, flight: &[u8], loads: &[Load]) -> Option<bool> {
+    let (here, unload) = (Airport::read(b"FRA")?, Airport::read(b"JFK")?);
+    if loads.len() > 500 {
+        return None;
+    }
+    let date = DayMonth::read(b"12JAN")?;
+    Some(write_ffm(out, Flight::read(flight)?, date, here, unload, loads).is_ok())
+}
+
+/// A load, three times.
+fn three_loads() -> Option<[Load; 3]> {
+    Some([load(1_234_567, 4, 10, b"CARGO")?; 3])
+}
+
+/// Whether three loads are written and read, or want of memory is told.
+pub fn is_manifest_told(alloc: Global) -> bool {
+    let Some(loads) = three_loads() else {
+        return false;
+    };
+    let mut text = Vec::new(alloc);
+    match is_written(&mut text, b"LH400", &loads) {
+        None => false,
+        Some(false) => text.is_empty(),
+        Some(true) => is_manifest_read(alloc, &text),
+    }
+}
+
+/// Whether the three loads are read again, or want of memory is told.
+fn is_manifest_read(alloc: Global, text: &[u8]) -> bool {
+    let lines = match normal_text(alloc, text) {
+        Ok(lines) => lines,
+        Err(told) => return told == fault(0, Why::Memory),
+    };
+    match ffm_text::read(alloc, &lines) {
+        Ok(part) => part.cargo.len() == 3,
+        Err(told) => told == fault(0, Why::Memory),
+    }
+}
+
+/// Ten pieces of 100 kilograms from FRA to JFK.
+fn consigned() -> Option<Consigned> {
+    Some(Consigned {
+        awb: Awb::read(b"020-12345675").ok()?,
+        origin: Airport::read(b"FRA")?,
+        destination: Airport::read(b"JFK")?,
+        pieces: Pieces::new(10)?,
+        tenths: BookTenths::new(1000)?,
+    })
+}
+
+/// A receipt of the ten pieces from a shipper.
+fn receipt() -> Option<Update> {
+    let status = SentStatus::Handled {
+        event: Handling::ReceivedFromShipper,
+        at: DayTime::read(b"12JAN1030")?,
+        name: Name::read(b"ACME")?,
+    };
+    Some(Update {
+        of: consigned()?,
+        status,
+        here: Airport::read(b"FRA")?,
+        pieces: Pieces::new(10)?,
+        tenths: BookTenths::new(1000)?,
+    })
+}
+
+/// Whether a receipt is written and read, or want of memory is told.
+pub fn is_update_told(alloc: Global) -> bool {
+    let Some(update) = receipt() else {
+        return false;
+    };
+    let mut text = Vec::new(alloc);
+    if write_fsu(&mut text, &update).is_err() {
+        return text.is_empty();
+    }
+    let lines = match normal_text(alloc, &text) {
+        Ok(lines) => lines,
+        Err(told) => return told == fault(0, Why::Memory),
+    };
+    match fsu_text::read(alloc, &lines) {
+        Ok(message) => message.trail.len() == 1,
+        Err(told) => told == fault(0, Why::Memory),
+    }
+}
+
+/// LH400 on 2026-01-12.
+fn lh400() -> Option<FlightDate> {
+    Some(FlightDate {
+        flight: Flight::read(b"LH400")?,
+        day: LocalDay::new(20465)?,
+    })
+}
+
+/// The text of a manifest of four of the ten pieces.
+fn manifest(alloc: Global) -> Option<Vec<u8>> {
+    let line = ManifestLine {
+        consigned: consigned()?,
+        pieces: Pieces::new(4)?,
+        tenths: BookTenths::new(400)?,
+        goods: Goods::read(b"CARGO")?,
+    };
+    let mut lines = Vec::new(alloc);
+    lines.extend_from_slice(slice::from_ref(&line)).ok()?;
+    let notice = Notice::Manifest {
+        here: Airport::read(b"FRA")?,
+        flight: lh400()?,
+        unload: Airport::read(b"JFK")?,
+        lines: ManifestLines::new(lines)?,
+    };
+    notice_text(alloc, &notice).ok()
+}
+
+/// The text of a receipt of the ten pieces.
+fn receipt_text(alloc: Global) -> Option<Vec<u8>> {
+    let event = Event::ReceivedFromShipper {
+        name: Name::read(b"ACME")?,
+        at: Moment::new(20465, 630)?,
+    };
+    let notice = Notice::Status {
+        here: Airport::read(b"FRA")?,
+        consigned: consigned()?,
+        event,
+        pieces: Pieces::new(10)?,
+        tenths: BookTenths::new(1000)?,
+    };
+    notice_text(alloc, &notice).ok()
+}
+
+/// Whether a telegram is read, where there is memory for it.
+fn is_read_or_unheard(alloc: Global, text: &[u8]) -> bool {
+    let read = read_telegram(alloc, text);
+    match &read {
+        Ok(_) => true,
+        Err(fault) => *fault == TelegramFault::Memory,
+    }
+}
+
+/// Whether a telegram with a waybill's data is read, or want of memory is told.
+pub fn is_waybill_told(alloc: Global) -> bool {
+    is_read_or_unheard(
+        alloc,
+        b"QK FRACGXX\r\nFWB/16\r\n020-12345675FRAJFK/T10K100MC0.5\r\nSHP\r\n/ACME TOOLS\r\n",
+    )
+}
+
+/// The same of a manifest.
+pub fn is_arrival_told(alloc: Global) -> bool {
+    is_read_or_unheard(
+        alloc,
+        b"FFM/8\r\n1/LH0400/12JAN1030/FRA\r\nJFK\r\n020-12345675FRAJFK/T10K100.0/CARGO\r\nLAST\r\n",
+    )
+}
+
+/// Whether the notice of a manifest has its length, or there was no memory for it.
+pub fn is_manifest_notice_told(alloc: Global) -> bool {
+    match manifest(alloc) {
+        Some(text) => text.len() == 74,
+        None => true,
+    }
+}
+
+/// The same of the notice of a receipt.
+pub fn is_receipt_notice_told(alloc: Global) -> bool {
+    match receipt_text(alloc) {
+        Some(text) => text.len() == 72,
+        None => true,
+    }
+}

@@ -1,0 +1,188 @@
+//! The rows of a station's tables in memory.
+use crate::said::{count_said, next_whole, say, shown};
+use sqlite::{Connection, MemStore};
+use station_rows::{CreateFault, Rows, StockRow, StoreFault, TableStore, open_memory};
+use std::alloc::Global;
+use std::str::SplitWhitespace;
+
+/// The tables on which the calls of a file act.
+#[derive(Drop)]
+pub struct RowAnswers {
+    alloc: Global,
+    rows: Option<Rows<MemStore>>,
+}
+
+impl RowAnswers {
+    /// No tables yet.
+    pub fn new(alloc: Global) -> RowAnswers {
+        RowAnswers { alloc, rows: None }
+    }
+
+    /// What comes of what is asked.
+    pub fn answer(&mut self, asked: &str, text: &[u8]) -> Option<String> {
+        let alloc = self.alloc;
+        match asked {
+            "new" => self.start(),
+            "made-over" => made_over(alloc, shown(text)),
+            "made-again" => fault_of(alloc, self.rows.take()?.release()),
+            "station-row" => station_row(alloc, self.rows.take()?.release()),
+            "stock-summed" => stock_summed(alloc, self.rows.take()?.release()),
+            _ => called(alloc, self.rows.as_mut()?, asked, shown(text)),
+        }
+    }
+
+    fn start(&mut self) -> Option<String> {
+        let conn = open_memory(self.alloc).ok()?;
+        match Rows::create(conn, "FRA") {
+            Ok(rows) => self.rows = Some(rows),
+            Err(_) => return None,
+        }
+        say(self.alloc, "ok")
+    }
+}
+
+/// Why no tables are made over a connection, and whether it is outside a transaction.
+fn fault_of(alloc: Global, conn: Connection<MemStore>) -> Option<String> {
+    match Rows::create(conn, "FRA") {
+        Ok(_) => None,
+        Err((conn, fault)) => {
+            let word = match fault {
+                CreateFault::Occupied => "occupied",
+                CreateFault::Store => "store",
+            };
+            let place = if conn.is_autocommit() {
+                "outside"
+            } else {
+                "inside"
+            };
+            format!(in alloc; "{word}, {place} a transaction").ok()
+        }
+    }
+}
+
+/// The same after a statement.
+fn made_over(alloc: Global, statement: &str) -> Option<String> {
+    let mut conn = open_memory(alloc).ok()?;
+    conn.execute(statement, &[]).ok()?;
+    fault_of(alloc, conn)
+}
+
+/// What a new station says of itself: its number, its airport, its version and its mark.
+fn station_row(alloc: Global, mut conn: Connection<MemStore>) -> Option<String> {
+    let row = conn
+        .query_row("SELECT id, airport, version, confirmed FROM station", &[])
+        .ok()?;
+    let id = row.get::<i64>(0).ok()?;
+    let airport: String = row.get(1).ok()?;
+    let version = row.get::<i64>(2).ok()?;
+    let confirmed = row.get::<i64>(3).ok()?;
+    format!(in alloc; "{id} {airport} {version} {confirmed}").ok()
+}
+
+/// How many rows of stock there are, the least number and the least holder, where the connection is outside a transaction.
+fn stock_summed(alloc: Global, mut conn: Connection<MemStore>) -> Option<String> {
+    if !conn.is_autocommit() {
+        return None;
+    }
+    let row = conn
+        .query_row("SELECT count(*), min(low), min(holder) FROM stock", &[])
+        .ok()?;
+    let count = row.get::<i64>(0).ok()?;
+    let low = row.get::<i64>(1).ok()?;
+    let holder = row.get::<i64>(2).ok()?;
+    format!(in alloc; "{count} {low} {holder}").ok()
+}
+
+fn called(alloc: Global, rows: &mut Rows<MemStore>, asked: &str, text: &str) -> Option<String> {
+    let mut words = text.split_whitespace();
+    match asked {
+        "begin" => done(alloc, rows.begin()),
+        "commit" => done(alloc, rows.commit()),
+        "is-autocommit" => say(alloc, if rows.is_autocommit() { "yes" } else { "no" }),
+        "insert" => done(alloc, rows.insert_stock(&stock_row(alloc, &mut words)?)),
+        "update" => done(alloc, rows.update_stock(&stock_row(alloc, &mut words)?)),
+        "insert-kept" => insert_kept(alloc, rows, &mut words),
+        "kept" => kept(alloc, rows, text),
+        "between" => between(alloc, rows, &mut words),
+        "all" => rows_said(alloc, rows.all_stock()),
+        "how-many" => match rows.all_stock() {
+            Ok(all) => count_said(alloc, true, all.len()),
+            Err(_) => count_said(alloc, false, 0),
+        },
+        _ => None,
+    }
+}
+
+fn done(alloc: Global, done: Result<(), StoreFault>) -> Option<String> {
+    match done {
+        Ok(()) => say(alloc, "ok"),
+        Err(StoreFault) => say(alloc, "fault"),
+    }
+}
+
+/// The row of one number, told by its prefix, its serial, its holder and perhaps an agent.
+fn stock_row(alloc: Global, words: &mut SplitWhitespace<'_>) -> Option<StockRow> {
+    let prefix = next_whole(words)?;
+    let low = next_whole(words)?;
+    let holder = next_whole(words)?;
+    let agent = String::from_str(alloc, words.next().unwrap_or("")).ok()?;
+    Some(StockRow {
+        prefix,
+        low,
+        high: low,
+        holder,
+        agent,
+    })
+}
+
+fn insert_kept(
+    alloc: Global,
+    rows: &mut Rows<MemStore>,
+    words: &mut SplitWhitespace<'_>,
+) -> Option<String> {
+    let (key, count) = (words.next()?, next_whole(words)?);
+    done(
+        alloc,
+        rows.insert_kept(key, words.next().unwrap_or(""), count),
+    )
+}
+
+/// The command and the count of a key.
+fn kept(alloc: Global, rows: &mut Rows<MemStore>, key: &str) -> Option<String> {
+    match rows.kept_row(key) {
+        Ok(Some(kept)) => format!(in alloc; "{} {}", kept.command, kept.count).ok(),
+        Ok(None) => say(alloc, "none"),
+        Err(_) => say(alloc, "fault"),
+    }
+}
+
+/// The rows of a prefix from one serial to another.
+fn between(
+    alloc: Global,
+    rows: &mut Rows<MemStore>,
+    words: &mut SplitWhitespace<'_>,
+) -> Option<String> {
+    let prefix = next_whole(words)?;
+    let first = next_whole(words)?;
+    let last = next_whole(words)?;
+    rows_said(alloc, rows.stock_between(prefix, first, last))
+}
+
+/// How many rows there are, and each.
+fn rows_said(alloc: Global, rows: Result<Vec<StockRow>, StoreFault>) -> Option<String> {
+    let Ok(rows) = rows else {
+        return say(alloc, "fault");
+    };
+    let mut said = format!(in alloc; "{}", rows.len()).ok()?;
+    for row in &rows {
+        said.push_str(row_said(alloc, row)?.as_str()).ok()?;
+    }
+    Some(said)
+}
+
+/// A row: its prefix, its first and its last serial, its holder and its agent.
+fn row_said(alloc: Global, row: &StockRow) -> Option<String> {
+    let (prefix, low, high) = (row.prefix, row.low, row.high);
+    let (holder, agent) = (row.holder, row.agent.as_str());
+    format!(in alloc; "; {prefix} {low}-{high} {holder} [{agent}]").ok()
+}

@@ -1,0 +1,49 @@
+//! What answers are made of.
+use agent_stock::{Holder, StockRun};
+use std::alloc::Global;
+use std::str::SplitWhitespace;
+
+/// A text as an answer.
+pub fn say(alloc: Global, text: &str) -> Option<String> {
+    String::from_str(alloc, text).ok()
+}
+
+/// Bytes as a text, where they are one.
+pub fn shown(bytes: &[u8]) -> &str {
+    std::str::from_utf8(bytes).unwrap_or("?")
+}
+
+/// The whole number that the next word is.
+pub fn next_whole(words: &mut SplitWhitespace<'_>) -> Option<i64> {
+    words.next()?.parse::<i64>().ok()
+}
+
+/// How many there are, and whether the call gave them.
+pub fn count_said(alloc: Global, is_given: bool, count: usize) -> Option<String> {
+    if is_given {
+        format!(in alloc; "{count}").ok()
+    } else {
+        say(alloc, "fault")
+    }
+}
+
+/// A holder of a number.
+pub fn holder_said(alloc: Global, holder: &Holder) -> Option<String> {
+    match holder {
+        Holder::Desk => say(alloc, "the desk"),
+        Holder::Agent(code) => say(alloc, code.as_str()),
+        Holder::Used => say(alloc, "used"),
+        Holder::Void => say(alloc, "void"),
+    }
+}
+
+/// How many runs there are, and each: its first number, its count and its holder.
+pub fn runs_said(alloc: Global, runs: &[StockRun]) -> Option<String> {
+    let mut said = format!(in alloc; "{}", runs.len()).ok()?;
+    for run in runs {
+        let holder = holder_said(alloc, &run.holder)?;
+        let run = format!(in alloc; "; {} {} {holder}", run.run.first, run.run.count).ok()?;
+        said.push_str(run.as_str()).ok()?;
+    }
+    Some(said)
+}

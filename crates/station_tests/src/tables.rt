@@ -1,0 +1,276 @@
+//! A station over the tables of a database in memory.
+use crate::said::{holder_said, next_whole, runs_said, say, shown};
+use agent_stock::{AgentCode, Held, Order, Run, StockRun};
+use awb_number::Awb;
+use desk_commands::Command;
+use imp_fields::Moment;
+use sqlite::{Connection, MemStore};
+use station_core::{
+    Answer, Input, Keeper, Key, Sink, act_all, answer_one, refusal_text, reply_text,
+};
+use station_rows::{Rows, StockRow, TableStore, open_memory};
+use station_tables::{AttachFault, Desk, Station, create};
+use std::alloc::Global;
+use std::slice;
+use std::str::SplitWhitespace;
+
+/// The station on which the calls of a file act.
+#[derive(Drop)]
+pub struct TableAnswers {
+    alloc: Global,
+    station: Option<Station<Rows<MemStore>>>,
+}
+
+impl TableAnswers {
+    /// No station yet.
+    pub fn new(alloc: Global) -> TableAnswers {
+        TableAnswers {
+            alloc,
+            station: None,
+        }
+    }
+
+    /// What comes of what is asked.
+    pub fn answer(&mut self, asked: &str, text: &[u8]) -> Option<String> {
+        let alloc = self.alloc;
+        match asked {
+            "new" => {
+                self.station = Some(station(alloc)?);
+                say(alloc, "ok")
+            }
+            "made-inside" => made_inside(alloc),
+            "made-again" => fault_of(alloc, self.station.take()?.release()),
+            "numbers-of-row" => numbers_of_row(alloc, shown(text)),
+            "list" => list(alloc, self.station.as_mut()?),
+            "act" => told(alloc, self.station.as_mut()?, &asked_by(shown(text))?),
+            "holder" => holder(alloc, self.station.as_mut()?, text),
+            "stock" => stock(alloc, self.station.as_mut()?, shown(text)),
+            "waybill" => waybill(alloc, self.station.as_mut()?, text),
+            "cargo-rows" => cargo_rows(alloc, self.station.as_mut()?),
+            _ => None,
+        }
+    }
+}
+
+fn station(alloc: Global) -> Option<Station<Rows<MemStore>>> {
+    match create(alloc, open_memory(alloc).ok()?) {
+        Ok(station) => Some(station),
+        Err(_) => None,
+    }
+}
+
+/// Why no station is made over a connection, and whether it is outside a transaction.
+fn fault_of(alloc: Global, conn: Connection<MemStore>) -> Option<String> {
+    match create(alloc, conn) {
+        Ok(_) => None,
+        Err((conn, fault)) => {
+            let word = match fault {
+                AttachFault::Occupied => "occupied",
+                AttachFault::Store => "store",
+            };
+            let place = if conn.is_autocommit() {
+                "outside"
+            } else {
+                "inside"
+            };
+            format!(in alloc; "{word}, {place} a transaction").ok()
+        }
+    }
+}
+
+fn made_inside(alloc: Global) -> Option<String> {
+    let mut conn = open_memory(alloc).ok()?;
+    conn.execute("BEGIN", &[]).ok()?;
+    fault_of(alloc, conn)
+}
+
+/// An order, under a key of the caller's own.
+type Asked = (Key, Order);
+
+/// The order that a text asks for: a key, a verb, the first number, the count, and perhaps an agent.
+fn asked_by(text: &str) -> Option<Asked> {
+    let mut words = text.split_whitespace();
+    let key = Key::read(words.next()?.as_bytes())?;
+    let order = order(words.next()?, &mut words)?;
+    Some((key, order))
+}
+
+fn order(verb: &str, words: &mut SplitWhitespace<'_>) -> Option<Order> {
+    let first = Awb::read(words.next()?.as_bytes().first_chunk()?).ok()?;
+    let count = words.next()?.parse::<u32>().ok()?;
+    let run = Run { first, count };
+    match verb {
+        "take-in" => Some(Order::TakeIn(run)),
+        "void" => Some(Order::Void(run)),
+        "issue" => Some(Order::Issue(run, agent(words)?)),
+        "return" => Some(Order::GiveBack(run, agent(words)?)),
+        _ => None,
+    }
+}
+
+fn agent(words: &mut SplitWhitespace<'_>) -> Option<AgentCode> {
+    AgentCode::read(words.next()?.as_bytes())
+}
+
+/// Noon of 12 January 2026.
+fn noon() -> Option<Moment> {
+    Moment::new(20465, 720)
+}
+
+/// What is told of an order at noon.
+fn told(alloc: Global, keeper: &mut impl Keeper, asked: &Asked) -> Option<String> {
+    let input = Input::Keyed(asked.0, Command::Stock(asked.1));
+    answer_said(alloc, &answer_one(keeper, &input, noon()?).ok()?)
+}
+
+fn answer_said(alloc: Global, answer: &Answer) -> Option<String> {
+    match answer {
+        Answer::Done(reply) => reply_text(alloc, reply).ok(),
+        Answer::Refused(refusal) => refusal_text(alloc, refusal).ok(),
+    }
+}
+
+/// What is told of five orders that come as one list.
+fn list(alloc: Global, keeper: &mut impl Keeper) -> Option<String> {
+    let ten = asked_by("k1 take-in 020-12345675 10")?;
+    let three = asked_by("k2 issue 020-12345701 3 ACME")?;
+    let four = asked_by("k2 issue 020-12345701 4 ACME")?;
+    let two = asked_by("k3 issue 020-12345723 2 BETA")?;
+    let at = noon()?;
+    let inputs = [
+        (Input::Keyed(ten.0, Command::Stock(ten.1)), at),
+        (Input::Keyed(three.0, Command::Stock(three.1)), at),
+        (Input::Keyed(three.0, Command::Stock(three.1)), at),
+        (Input::Keyed(four.0, Command::Stock(four.1)), at),
+        (Input::Keyed(two.0, Command::Stock(two.1)), at),
+    ];
+    let all = act_all(alloc, keeper, inputs.as_slice());
+    if all.fault.is_some() {
+        return None;
+    }
+    answers_said(alloc, &all.answers)
+}
+
+/// Answers, each after a bar.
+pub fn answers_said(alloc: Global, answers: &[Answer]) -> Option<String> {
+    let mut said = String::new(alloc);
+    for answer in answers {
+        said.push_str("| ").ok()?;
+        said.push_str(answer_said(alloc, answer)?.as_str()).ok()?;
+        said.push_str(" ").ok()?;
+    }
+    say(alloc, said.as_str().trim_end())
+}
+
+fn number(text: &[u8]) -> Option<Awb> {
+    Awb::read(text.first_chunk()?).ok()
+}
+
+fn holder(alloc: Global, keeper: &mut impl Keeper, text: &[u8]) -> Option<String> {
+    match keeper.holder(&number(text)?).ok()? {
+        Some(holder) => holder_said(alloc, &holder),
+        None => say(alloc, "nobody"),
+    }
+}
+
+/// A sink that wants so many rows at most.
+#[derive(Drop)]
+struct Taken {
+    rows: Vec<StockRun>,
+    most: usize,
+}
+
+impl Sink<StockRun> for Taken {
+    ghost takes = { λ old row go new. Unit {0} };
+
+    fn take(&mut self, row: StockRun) -> bool {
+        let taken = self.rows.extend_from_slice(slice::from_ref(&row));
+        taken.is_ok() && self.rows.len() < self.most
+    }
+}
+
+/// The runs of the stock that a sink of so many rows is handed.
+fn stock(alloc: Global, keeper: &mut impl Keeper, most: &str) -> Option<String> {
+    let mut taken = Taken {
+        rows: Vec::new(alloc),
+        most: most.parse::<usize>().ok()?,
+    };
+    keeper.stock(&mut taken).ok()?;
+    runs_said(alloc, &taken.rows)
+}
+
+fn waybill(alloc: Global, keeper: &mut impl Keeper, text: &[u8]) -> Option<String> {
+    match keeper.waybill(&number(text)?).ok()? {
+        Some(_) => say(alloc, "known"),
+        None => say(alloc, "none"),
+    }
+}
+
+/// A sink that counts its rows.
+#[derive(Drop)]
+struct RowCount {
+    rows: u64,
+}
+
+impl<Row: Drop> Sink<Row> for RowCount {
+    ghost takes = { λ old row go new. Unit {0} };
+
+    fn take(&mut self, _row: Row) -> bool {
+        self.rows = self.rows.saturating_add(1);
+        true
+    }
+}
+
+/// How many rows of cargo the readers hand out in all.
+fn cargo_rows(alloc: Global, keeper: &mut impl Keeper) -> Option<String> {
+    let mut seen = RowCount { rows: 0 };
+    keeper.irregular(&mut seen).ok()?;
+    keeper.book(&mut seen).ok()?;
+    keeper.pending(&mut seen).ok()?;
+    keeper.trail(&mut seen).ok()?;
+    format!(in alloc; "{}", seen.rows).ok()
+}
+
+/// The numbers of a stock of one row, which is told by its prefix, its serial, its holder and perhaps an agent.
+fn numbers_of_row(alloc: Global, text: &str) -> Option<String> {
+    let mut words = text.split_whitespace();
+    let prefix = next_whole(&mut words)?;
+    let low = next_whole(&mut words)?;
+    let row = StockRow {
+        prefix,
+        low,
+        high: low,
+        holder: next_whole(&mut words)?,
+        agent: String::from_str(alloc, words.next().unwrap_or("")).ok()?,
+    };
+    let mut desk = Desk {
+        alloc,
+        store: store_of(alloc, &row)?,
+    };
+    match desk.numbers() {
+        Ok(numbers) => numbers_said(alloc, &numbers),
+        Err(_) => say(alloc, "fault"),
+    }
+}
+
+/// Tables with one row of stock.
+fn store_of(alloc: Global, row: &StockRow) -> Option<Rows<MemStore>> {
+    let mut store = match Rows::create(open_memory(alloc).ok()?, "XXX") {
+        Ok(rows) => rows,
+        Err(_) => return None,
+    };
+    store.begin().ok()?;
+    store.insert_stock(row).ok()?;
+    store.commit().ok()?;
+    Some(store)
+}
+
+fn numbers_said(alloc: Global, numbers: &[Held]) -> Option<String> {
+    let mut said = format!(in alloc; "{}", numbers.len()).ok()?;
+    for held in numbers {
+        let holder = holder_said(alloc, &held.holder)?;
+        let held = format!(in alloc; "; {} {holder}", held.number).ok()?;
+        said.push_str(held.as_str()).ok()?;
+    }
+    Some(said)
+}
