@@ -1,2 +1,0 @@
-pub mod CrowdLaws
-pub mod Shown
