@@ -1,0 +1,67 @@
+//! The two ends of a connection.
+use std::io;
+use std::io::{Read, Write};
+
+/// A reader of some bytes.
+#[derive(Drop)]
+pub struct Sent<'a> {
+    /// The bytes that weren't read yet.
+    pub rest: &'a [u8],
+    /// The most that it gives in one read.
+    pub most: usize,
+    /// How many interrupted reads come first.
+    pub pauses: u32,
+    /// How many come behind each one that gave bytes.
+    pub pauses_between: u32,
+}
+
+impl Read for Sent<'_> {
+    fn read(&mut self, buf: &mut [u8]) -> io::Result<usize> {
+        if self.pauses > 0 {
+            self.pauses = self.pauses.saturating_sub(1);
+            return Err(io::Error::from(io::ErrorKind::Interrupted));
+        }
+        self.pauses = self.pauses_between;
+        let count = self.most.min(buf.len()).min(self.rest.len());
+        let (now, later) = self.rest.split_at(count);
+        buf[..count].copy_from_slice(now);
+        self.rest = later;
+        Ok(count)
+    }
+}
+
+/// What a writer does that has no room left.
+#[derive(Clone, Copy, Debug, PartialEq, Eq)]
+pub enum Stop {
+    Fails,
+    TakesNone,
+}
+
+/// A writer of so many bytes.
+#[derive(Drop)]
+pub struct Taken {
+    pub bytes: Vec<u8>,
+    /// How many more it takes.
+    pub room: usize,
+    /// The most that it takes in one write.
+    pub most: usize,
+    pub stop: Stop,
+}
+
+impl Write for Taken {
+    fn write(&mut self, buf: &[u8]) -> io::Result<usize> {
+        if self.room == 0 && self.stop == Stop::Fails {
+            return Err(io::Error::from(io::ErrorKind::Other));
+        }
+        let count = self.most.min(buf.len()).min(self.room);
+        if self.bytes.extend_from_slice(&buf[..count]).is_err() {
+            return Err(io::Error::from(io::ErrorKind::OutOfMemory));
+        }
+        self.room = self.room.saturating_sub(count);
+        Ok(count)
+    }
+
+    fn flush(&mut self) -> io::Result<()> {
+        Ok(())
+    }
+}

@@ -1,0 +1,89 @@
+//! Requests at the desk of a station over HTTP, as scripts. Each answer is compared byte for byte with the one that the script says.
+//!
+//! A script is plain text. Its statements, one a line:
+//!
+//! - `station FRA`: a new station with nothing in it;
+//! - `at 2026-01-12 10:30`: the moment of all that follows;
+//! - `act VERB KEY BODY`: a command, its body one line of JSON. The station must do it;
+//! - `request`: a connection. Its bytes are the `|` and `>` lines below, and its answer the `=` lines. With no `=` line it is answered
+//!   by nothing.
+//!
+//! `| TEXT` sends a text with CR and LF behind it, `|/ TEXT` with LF alone, and `|+ TEXT` with nothing. `|x DIGITS` sends the bytes
+//! that their digits tell. A number behind the sign, as in `|64 A: 1` or `|+300 x`, sends it so many times. `> TEXT` sends bytes in the
+//! same way that stand behind the request: it is answered without them. `= TEXT` is part of the answer in the same way. Empty lines
+//! and those that begin with `#` are for the reader.
+//!
+//! What was asked before stays. A request is played many times, each time on a station to which the same was done. Only what is posted
+//! and answered by 200 changes it:
+//!
+//! - its bytes in one piece, one byte a read and one byte a write, and with an interrupted read before each byte;
+//! - beginnings of it: where the request isn't whole nothing is written and the station stays as it was;
+//! - for beginnings of the answer, with a writer that takes these bytes and then fails, or takes none. These bytes went out, the
+//!   station is as after the whole answer, and the same request again is answered in the same way.
+//!
+//! Of the beginnings the empty one, half of it, and all but a byte are played, and each one of a `request every`. `request early` may be
+//! answered before all of its `|` bytes came, since nothing can follow that makes it good. `request long` is played in one piece and in
+//! reads of 64 bytes alone. `request after 9` is played once, behind nine interrupted reads.
+#![tactic(auto)]
+
+mod desk;
+mod ends;
+mod line;
+mod log;
+mod play;
+mod reading;
+mod script;
+
+use log::Log;
+use script::ScriptFault;
+use std::alloc::{AllocError, Global};
+use std::process::ExitCode;
+use std::{env, fs, io};
+
+/// Why a script wasn't played.
+fn fault_text(alloc: Global, name: &str, fault: &ScriptFault) -> Result<String, AllocError> {
+    match fault {
+        ScriptFault::Bad { line, why } => format!(in alloc; "{name}:{line}: {why}\n"),
+        ScriptFault::Memory => format!(in alloc; "{name}: out of memory\n"),
+    }
+}
+
+/// What is printed of a script, and the exit status for it.
+fn run(alloc: Global, name: &str, text: &str) -> Result<(u8, String), AllocError> {
+    let mut log = Log::new(alloc);
+    let played = match reading::read_script(alloc, text) {
+        Ok(stories) => play::play(alloc, &stories, &mut log),
+        Err(fault) => Err(fault),
+    };
+    if let Err(fault) = played {
+        return Ok((2, fault_text(alloc, name, &fault)?));
+    }
+    let (answers, differences, differing) = (log.answers, log.differences, &log.text);
+    if differences > 0 {
+        let text = format!(in alloc; "{differing}{name}: answers that differ: {differences}\n")?;
+        return Ok((1, text));
+    }
+    let text = format!(in alloc; "{name}: {answers} answers as told\n")?;
+    Ok((0, text))
+}
+
+/// Status 0: all went as told; 1: an answer differed; 2: a script can't be read or played, or none was named.
+fn main(rt: HostRuntime) -> Result<ExitCode, io::Error> {
+    let words: Vec<String> = env::args(&rt)?.collect(rt.alloc())?;
+    let mut status = 0;
+    if words.len() < 2 {
+        eprintln!(rt; "usage: http_tests SCRIPT..")?;
+        status = 2;
+    }
+    for name in words.iter().skip(1) {
+        let Ok(script) = fs::read_to_string(&rt, name.as_str()) else {
+            println!(rt; "{name}: can't be read")?;
+            status = 2;
+            continue;
+        };
+        let (own, text) = run(rt.alloc(), name.as_str(), script.as_str())?;
+        print!(rt; "{text}")?;
+        status = own.max(status);
+    }
+    Ok(ExitCode::from(status))
+}
