@@ -1,14 +1,4 @@
-pub mod Shared
-pub mod Keyed
-pub mod Maps
-pub mod Columns
-pub mod Keys
 pub mod Texts
-pub mod Inside
-pub mod Stored
-pub mod StationLemmas
 pub mod StockLemmas
-pub mod KeptLemmas
-pub mod Turns
-pub mod Creating
+pub mod StationLemmas
 pub mod Views

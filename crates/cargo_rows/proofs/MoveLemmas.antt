@@ -1,0 +1,55 @@
+-- What the statements on `moves` do.
+use Rattle.std.proofs.Common.{List, Ok, [], ap, false, filter, map, refl, true, ℕ, ℤ, ◌∙◌, ◌∷◌, ◌≡◌}
+use Rattle.sqlite.proofs.Callers.{reads_as}
+use Rattle.sqlite.specs.Command.TheVariants.{Select}
+use Rattle.sqlite.specs.Effect.{value_rows}
+use Rattle.sqlite.specs.Order.{Row}
+use Rattle.sqlite.specs.State.{CommitsBy, Executes, Shown, State, Survives}
+use Rattle.sqlite.specs.declared.types.Value.TheVariants.{Int, Text}
+use Rattle.sqlite_sql.specs.declared.ops.CompareOp.TheVariants.{Eq}
+use Rattle.sqlite_keyed.proofs.KeyedLemmas.{IsKeyedBy-insert_by}
+use Rattle.sqlite_keyed.specs.Keyed.{insert_by}
+use Rattle.sqlite_typed.proofs.AnswerLemmas.{unfiltered}
+use Rattle.sqlite_typed.proofs.TestLemmas.{at_ints, last_term}
+use Rattle.row_laws.proofs.Keyed.{one_table, puts}
+use Rattle.row_laws.proofs.Listed.{rows_by_key}
+use Rattle.row_laws.proofs.Ran.{IsPlaced, insert_ran}
+use Rattle.row_laws.proofs.Shared.{cast_int, cast_null}
+use Rattle.row_laws.proofs.Texts.{asks, by_column}
+use Rattle.row_schema.proofs.Statements.{execute_survives}
+use Rattle.row_schema.proofs.Stored.{edits_moves}
+use Rattle.row_schema.specs.Calls.{Edits, IsInside}
+use Rattle.row_schema.specs.Schema.{moves, station_schema}
+use Rattle.row_schema.specs.Tables.{IsStation, Move, move_id, move_in, move_row, tables_of, typed_moves}
+use Rattle.cargo_rows.proofs.Texts.{all_move_is, all_move_text, insert_move_is, insert_move_text, list_move_is, list_move_text, list_move_where, move_columns, move_names, move_terms}
+use Rattle.cargo_rows.specs.Meant.{is_of, with_move}
+use Rattle.cargo_rows.specs.Shown.{move_shown}
+
+move_placed : IsPlaced station_schema 4 moves
+move_placed = record { there = refl; uncounted = refl; unstamped = refl; idle = λ _ _ _. refl }
+
+abbrev pub params_of : Move → Row
+params_of m = Int m.number ∷ Int m.awb ∷ Int m.src ∷ Int m.dst ∷ Int m.pieces ∷ Int m.tenths ∷ Text m.flight ∷ Int m.fday ∷ Int m.day ∷ Int m.minute ∷ []
+
+pub inserts_move : (old new : State) (m : Move) (count : ℕ) → IsInside old → Executes insert_move_text (params_of m) old new (Ok count) → Edits old new (with_move m)
+inserts_move old new m count inside h =
+    let was = typed_moves old.now inside.station in
+    let ran = insert_ran station_schema old new inside.station.schema 4 moves move_placed insert_move_text (params_of m) count h move_terms 11 insert_move_is in
+    let put = puts move_id move_row (λ _. refl) station_schema _ moves old.now.trees new.now.trees (tables_of old.now.trees).moves was.rows (value_rows (params_of m) 11 1 move_terms) m
+    (rw (cast_null, cast_int m.number, cast_int m.awb, cast_int m.src, cast_int m.dst, cast_int m.pieces, cast_int m.tenths, cast_int m.fday, cast_int m.day, cast_int m.minute)) ran.applies in
+    edits_moves old new inside ran.kept ran.applies.tables ran.shown (λ xs. insert_by move_id xs m) put.rows (IsKeyedBy-insert_by move_id _ m was.keyed)
+
+pub insert_survives : (old new : State) (params : Row) → Survives old new (CommitsBy insert_move_text params old) → Survives old new (λ _. ¬ IsInside old)
+insert_survives old new params = execute_survives insert_move_text params old new _ insert_move_is.0 ((λ e. cc), λ _ e. cc)
+
+pub lists_move : (old new : State) (awb : ℤ) (rows : List Row) → IsStation old.now → Shown list_move_text (Int awb ∷ []) old new rows
+    → rows ≡ map move_shown (filter (is_of awb) (tables_of old.now.trees).moves)
+lists_move old new awb rows was h =
+    let read = reads_as list_move_text (Int awb ∷ []) old new station_schema was.schema (Select (asks (one_table 6 list_move_where move_columns (by_column 0 ∷ []))) move_names) list_move_is.0 list_move_is.1 list_move_is.2 rows h in
+    rows_by_key move_id move_row (λ _. refl) move_in old.now.schema old.now.trees 6 (typed_moves old.now was) (Int awb ∷ []) list_move_where move_columns (is_of awb) (λ m. last_term (at_ints false Eq m.awb awb)) move_shown (λ _. refl) rows read
+
+pub lists_all_moves : (old new : State) (rows : List Row) → IsStation old.now → Shown all_move_text ([]) old new rows
+    → rows ≡ map move_shown (tables_of old.now.trees).moves
+lists_all_moves old new rows was h =
+    let read = reads_as all_move_text ([]) old new station_schema was.schema (Select (asks (one_table 6 [] move_columns (by_column 0 ∷ []))) move_names) all_move_is.0 all_move_is.1 all_move_is.2 rows h in
+    rows_by_key move_id move_row (λ _. refl) move_in old.now.schema old.now.trees 6 (typed_moves old.now was) [] [] move_columns (λ _. true) (λ _. refl) move_shown (λ _. refl) rows read ∙ ap (map move_shown) (unfiltered (tables_of old.now.trees).moves refl)

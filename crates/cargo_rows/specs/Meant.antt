@@ -1,0 +1,124 @@
+-- What the rows of the code stand for, and the changes of the calls.
+use Rattle.std.specs.Prelude.{string_bytes, ℕ, ℤ, List, Bool, ◌&&◌}
+use Rattle.std.specs.Ordering.{int_eq, eq_by_cmp}
+use Rattle.std.specs.FinMap.{insert, remove}
+use Rattle.sqlite_typed.specs.Tests.{bytes_cmp}
+use Rattle.sqlite_keyed.specs.Keyed.{insert_by}
+use Rattle.sqlite_keyed.specs.Lists.{update_where}
+use Rattle.row_laws.specs.Columns.{adjust}
+use Rattle.cargo_rows.specs.declared.waybills.WaybillRow.{WaybillRow}
+use Rattle.cargo_rows.specs.declared.flights.FlightRow.{FlightRow}
+use Rattle.cargo_rows.specs.declared.moves.MoveRow.{MoveRow}
+use Rattle.cargo_rows.specs.declared.expected.ExpectedRow.{ExpectedRow}
+use Rattle.cargo_rows.specs.declared.counts.CountRow.{CountRow}
+use Rattle.cargo_rows.specs.declared.builds.BuildRow.{BuildRow}
+use Rattle.row_schema.specs.Tables.{Tables, Waybill, waybill_id, Flight, FlightKey, Move, move_id, Expected, ExpectedKey, Count, CountKey, Build, BuildKey}
+
+-- ---- waybill
+
+abbrev pub waybill_meant : WaybillRow → Waybill
+waybill_meant row = record {
+  awb = row.awb;
+  origin = string_bytes row.origin;
+  destination = string_bytes row.destination;
+  pieces = row.pieces;
+  tenths = row.tenths;
+  goods = string_bytes row.goods;
+  notified = row.notified;
+}
+
+abbrev pub with_waybill : Waybill → Tables → Tables
+with_waybill new tables = record tables { waybills = insert_by waybill_id tables.waybills new }
+
+-- the row of the waybill is this one, if there is one
+abbrev pub changing_waybill : Waybill → Tables → Tables
+changing_waybill new tables = record tables {
+  waybills = update_where (λ w. int_eq (waybill_id w) new.awb) (λ w. record new { awb = w.awb }) tables.waybills;
+}
+
+-- ---- flight
+
+abbrev pub flight_meant : FlightRow → Flight
+flight_meant row = record { unload = string_bytes row.unload; closed = row.closed }
+
+abbrev pub with_flight : FlightKey → Flight → Tables → Tables
+with_flight key new tables = record tables { flights = insert tables.flights key new }
+
+-- the row of the key is this one, if there is one
+abbrev pub changing_flight : FlightKey → Flight → Tables → Tables
+changing_flight key new tables = record tables { flights = adjust tables.flights key (λ _. new) }
+
+-- ---- moves
+
+abbrev pub move_meant : MoveRow → Move
+move_meant row = record {
+  number = row.number;
+  awb = row.awb;
+  src = row.src;
+  dst = row.dst;
+  pieces = row.pieces;
+  tenths = row.tenths;
+  flight = string_bytes row.flight;
+  fday = row.fday;
+  day = row.day;
+  minute = row.minute;
+}
+
+abbrev pub with_move : Move → Tables → Tables
+with_move new tables = record tables { moves = insert_by move_id tables.moves new }
+
+-- the move is of this waybill
+abbrev pub is_of : ℤ → Move → Bool
+is_of awb m = int_eq m.awb awb
+
+-- ---- expected
+
+abbrev pub expected_meant : ExpectedRow → Expected
+expected_meant row = record { pieces = row.pieces; tenths = row.tenths; checked = row.checked }
+
+abbrev pub with_expected : ExpectedKey → Expected → Tables → Tables
+with_expected key new tables = record tables { expected = insert tables.expected key new }
+
+-- the row of the key is this one, if there is one
+abbrev pub changing_expected : ExpectedKey → Expected → Tables → Tables
+changing_expected key new tables = record tables { expected = adjust tables.expected key (λ _. new) }
+
+-- ---- counts
+
+-- a row and its key
+abbrev pub count_meant : CountRow → CountKey × Count
+count_meant row = ((row.awb, row.place), record { pieces = row.pieces; tenths = row.tenths })
+
+abbrev pub with_count : CountKey × Count → Tables → Tables
+with_count new tables = record tables { counts = insert tables.counts new.0 new.1 }
+
+-- the row of the key is this one, if there is one
+abbrev pub changing_count : CountKey × Count → Tables → Tables
+changing_count new tables = record tables { counts = adjust tables.counts new.0 (λ _. new.1) }
+
+abbrev pub without_count : CountKey → Tables → Tables
+without_count key tables = record tables { counts = remove tables.counts key }
+
+-- the row is of this waybill
+abbrev pub counts_for : ℤ → CountKey × Count → Bool
+counts_for awb e = int_eq e.0.0 awb
+
+-- ---- build
+
+-- a row and its key
+abbrev pub build_meant : BuildRow → BuildKey × Build
+build_meant row = ((string_bytes row.flight, (row.day, row.awb)), record { pieces = row.pieces; tenths = row.tenths })
+
+abbrev pub with_build : BuildKey × Build → Tables → Tables
+with_build new tables = record tables { builds = insert tables.builds new.0 new.1 }
+
+-- the row of the key is this one, if there is one
+abbrev pub changing_build : BuildKey × Build → Tables → Tables
+changing_build new tables = record tables { builds = adjust tables.builds new.0 (λ _. new.1) }
+
+abbrev pub without_build : BuildKey → Tables → Tables
+without_build key tables = record tables { builds = remove tables.builds key }
+
+-- the row is of this flight and day
+abbrev pub is_on : List ℕ → ℤ → BuildKey × Build → Bool
+is_on flight day e = eq_by_cmp bytes_cmp e.0.0 flight && int_eq e.0.1.0 day

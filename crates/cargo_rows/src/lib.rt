@@ -1,0 +1,18 @@
+//! The tables of the cargo in `sqlite`: waybills, flights, moves, what is expected, and the running counts.
+//! One short typed call for
+//! each SQL statement.
+#![tactic(auto)]
+
+mod builds;
+mod counts;
+mod expected;
+mod flights;
+mod moves;
+mod waybills;
+
+pub use builds::{BuildRow, build_row, builds_on, delete_build, insert_build, update_build};
+pub use counts::{CountRow, counts_of, delete_count, insert_count, update_count};
+pub use expected::{ExpectedRow, expected_row, insert_expected, update_expected};
+pub use flights::{FlightRow, flight_row, insert_flight, update_flight};
+pub use moves::{MoveRow, all_moves, insert_move, moves_of};
+pub use waybills::{WaybillRow, insert_waybill, update_waybill, waybill_row};

@@ -1,0 +1,124 @@
+ghost use Rattle.std.specs.Prelude.{◌≡◌, map, filter, IfOk};
+ghost use Rattle.row_schema.specs.Calls.{Alters, CommitsNothing, LeavesAll, Tells};
+ghost use Rattle.cargo_rows.specs.Shown.{move_read, move_shown};
+ghost use Rattle.cargo_rows.specs.Meant.{is_of, move_meant, with_move};
+
+use sqlite::{Alter, Connection, Error, Row, params};
+use std::alloc::Global;
+
+/// A row of `moves`: pieces of a waybill that went from one place to another.
+#[derive(Debug, Drop)]
+pub struct MoveRow {
+    /// Its number in the book, from 1. It is the key.
+    pub number: i64,
+    /// The waybill's number.
+    pub awb: i64,
+    /// The place that the pieces left, by its number.
+    pub src: i64,
+    /// The place that they came to, by its number.
+    pub dst: i64,
+    /// How many pieces.
+    pub pieces: i64,
+    /// Their weight in tenths of a kilogram.
+    pub tenths: i64,
+    /// The flight, or an empty text.
+    pub flight: String,
+    /// The day of the flight, or 0.
+    pub fday: i64,
+    /// The day of the move.
+    pub day: i64,
+    /// The minute of that day.
+    pub minute: i64,
+}
+
+/// Adds a move, whose number must be free. It fails where the key is taken or the database call fails, and
+/// then the transaction may be undone.
+pub fn insert_move<S: Alter>(conn: &mut Connection<S>, row: &MoveRow) -> Result<usize, Error>
+    ensures made { Alters S.Store conn.old conn.new result (with_move (move_meant row.now)) }
+    ensures survives { CommitsNothing S.Store conn.old conn.new }
+{
+    conn.execute(
+        "INSERT INTO moves (number, awb, src, dst, pieces, tenths, flight, fday, day, minute) VALUES (?1, ?2, ?3, ?4, ?5, ?6, ?7, ?8, ?9, ?10)",
+        params![
+            &row.number,
+            &row.awb,
+            &row.src,
+            &row.dst,
+            &row.pieces,
+            &row.tenths,
+            &row.flight,
+            &row.fday,
+            &row.day,
+            &row.minute
+        ],
+    )
+}
+
+fn shown_moves_of<S: Alter>(conn: &mut Connection<S>, awb: i64) -> Result<Vec<Row>, Error>
+    ensures read { Tells S.Store conn.old conn.new result
+        (λ tables rows. rows.items ≡ map move_shown (filter (is_of awb) tables.moves)) }
+    ensures survives { LeavesAll S.Store conn.old conn.new }
+{
+    conn.query_all(
+        "SELECT number, awb, src, dst, pieces, tenths, flight, fday, day, minute FROM moves WHERE awb = ?1 ORDER BY number",
+        params![&awb],
+    )
+}
+
+fn read_move(row: &Row) -> Result<MoveRow, Error>
+    ensures { IfOk result (λ r. move_meant r ≡ move_read row.now) }
+{
+    Ok(MoveRow {
+        number: row.get(0)?,
+        awb: row.get(1)?,
+        src: row.get(2)?,
+        dst: row.get(3)?,
+        pieces: row.get(4)?,
+        tenths: row.get(5)?,
+        flight: row.get(6)?,
+        fday: row.get(7)?,
+        day: row.get(8)?,
+        minute: row.get(9)?,
+    })
+}
+
+fn read_moves(alloc: Global, rows: &[Row]) -> Result<Vec<MoveRow>, Error>
+    ensures { IfOk result (λ all. map move_meant all.items ≡ map move_read rows.now) }
+{
+    let mut all = Vec::new(alloc);
+    for row in rows {
+        all.push(read_move(row)?)?;
+    }
+    Ok(all)
+}
+
+/// The moves of a waybill, in order. It fails where the database call fails or memory runs out.
+pub fn moves_of<S: Alter>(conn: &mut Connection<S>, awb: i64) -> Result<Vec<MoveRow>, Error>
+    ensures read { Tells S.Store conn.old conn.new result
+        (λ tables all. map move_meant all.items ≡ filter (is_of awb) tables.moves) }
+    ensures survives { LeavesAll S.Store conn.old conn.new }
+{
+    let rows = shown_moves_of(conn, awb)?;
+    read_moves(*rows.allocator(), &rows)
+}
+
+fn shown_all_moves<S: Alter>(conn: &mut Connection<S>) -> Result<Vec<Row>, Error>
+    ensures read { Tells S.Store conn.old conn.new result
+        (λ tables rows. rows.items ≡ map move_shown tables.moves) }
+    ensures survives { LeavesAll S.Store conn.old conn.new }
+{
+    conn.query_all(
+        "SELECT number, awb, src, dst, pieces, tenths, flight, fday, day, minute FROM moves ORDER BY number",
+        &[],
+    )
+}
+
+/// All moves, in order. It fails where the database call fails or memory runs out.
+pub fn all_moves<S: Alter>(conn: &mut Connection<S>) -> Result<Vec<MoveRow>, Error>
+    ensures read { Tells S.Store conn.old conn.new result
+        (λ tables all. map move_meant all.items ≡ tables.moves) }
+    ensures survives { LeavesAll S.Store conn.old conn.new }
+{
+    let rows = shown_all_moves(conn)?;
+    read_moves(*rows.allocator(), &rows)
+}

@@ -1,0 +1,12 @@
+pub mod Shared
+pub mod Many
+pub mod Keyed
+pub mod Maps
+pub mod Columns
+pub mod Keys
+pub mod Listed
+pub mod Texts
+pub mod Inside
+pub mod Ran
+pub mod Turns
+pub mod Creating

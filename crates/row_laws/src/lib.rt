@@ -1,0 +1,8 @@
+//! What the statements of SQL do to a connection of `sqlite`, under any schema: the lemmas that each typed
+//! call rests on, and the
+//! calls that begin, end and undo a transaction.
+#![tactic(auto)]
+
+mod transaction;
+
+pub use transaction::{begin, commit, is_live, roll_back};

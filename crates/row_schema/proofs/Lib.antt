@@ -1,0 +1,7 @@
+pub mod Keys
+pub mod Stored
+pub mod Texts
+pub mod Statements
+pub mod StationLemmas
+pub mod Creating
+pub mod Opened

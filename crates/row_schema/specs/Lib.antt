@@ -1,0 +1,7 @@
+pub mod Schema
+pub mod Tables
+pub mod Store
+pub mod Connection
+pub mod Calls
+pub mod Once
+pub mod Code

@@ -1,0 +1,273 @@
+ghost use Rattle.std.specs.Prelude.{◌≡◌, OnOk, OnErr};
+ghost use Rattle.sqlite.specs.State.{HasCleanDisk, Survives};
+ghost use Rattle.sqlite.specs.Held.{state};
+ghost use Rattle.row_laws.specs.Calls.{IsMade, IsSettled, IsUndone, Makes};
+ghost use Rattle.row_schema.specs.Schema.{no_schema, station_made, waybill_made, stock_made, flight_made, moves_made, moves_indexed, expected_made, part_made, trail_made, outbox_made, kept_key_made, kept_text_made, counts_made, station_schema};
+ghost use Rattle.row_schema.specs.Tables.{tables_of};
+ghost use Rattle.row_schema.specs.Connection.{IsVacant, opening};
+ghost use Rattle.row_schema.specs.Calls.{IsInside, Changes, Fills, Founds, IsFounded, with_station};
+
+use row_laws::{begin, commit, roll_back};
+use sqlite::{Alter, Connection, Error, params};
+
+fn create_station<S: Alter>(conn: &mut Connection<S>) -> Result<usize, Error>
+    ensures made { HasCleanDisk (state S.Store conn.new) → IsMade no_schema (state S.Store conn.old) → Makes (state S.Store conn.old) (state S.Store conn.new) result station_made }
+    ensures survives { Survives (state S.Store conn.old) (state S.Store conn.new) (λ _. ¬ IsMade no_schema (state S.Store conn.old)) }
+{
+    conn.execute(
+        "CREATE TABLE station (id INTEGER PRIMARY KEY, airport TEXT NOT NULL, version INTEGER NOT NULL, confirmed INTEGER NOT NULL) STRICT",
+        &[],
+    )
+}
+
+fn create_waybill<S: Alter>(conn: &mut Connection<S>) -> Result<usize, Error>
+    ensures made { HasCleanDisk (state S.Store conn.new) → IsMade station_made (state S.Store conn.old) → Makes (state S.Store conn.old) (state S.Store conn.new) result waybill_made }
+    ensures survives { Survives (state S.Store conn.old) (state S.Store conn.new) (λ _. ¬ IsMade station_made (state S.Store conn.old)) }
+{
+    conn.execute(
+        "CREATE TABLE waybill (awb INTEGER PRIMARY KEY, origin TEXT NOT NULL, destination TEXT NOT NULL, pieces INTEGER NOT NULL, tenths INTEGER NOT NULL, goods TEXT NOT NULL, notified INTEGER NOT NULL) STRICT",
+        &[],
+    )
+}
+
+fn create_stock<S: Alter>(conn: &mut Connection<S>) -> Result<usize, Error>
+    ensures made { HasCleanDisk (state S.Store conn.new) → IsMade waybill_made (state S.Store conn.old) → Makes (state S.Store conn.old) (state S.Store conn.new) result stock_made }
+    ensures survives { Survives (state S.Store conn.old) (state S.Store conn.new) (λ _. ¬ IsMade waybill_made (state S.Store conn.old)) }
+{
+    conn.execute(
+        "CREATE TABLE stock (prefix INTEGER NOT NULL, low INTEGER NOT NULL, high INTEGER NOT NULL, holder INTEGER NOT NULL, agent TEXT NOT NULL, PRIMARY KEY (prefix, low)) STRICT",
+        &[],
+    )
+}
+
+fn create_flight<S: Alter>(conn: &mut Connection<S>) -> Result<usize, Error>
+    ensures made { HasCleanDisk (state S.Store conn.new) → IsMade stock_made (state S.Store conn.old) → Makes (state S.Store conn.old) (state S.Store conn.new) result flight_made }
+    ensures survives { Survives (state S.Store conn.old) (state S.Store conn.new) (λ _. ¬ IsMade stock_made (state S.Store conn.old)) }
+{
+    conn.execute(
+        "CREATE TABLE flight (flight TEXT NOT NULL, day INTEGER NOT NULL, unload TEXT NOT NULL, closed INTEGER NOT NULL, PRIMARY KEY (flight, day)) STRICT",
+        &[],
+    )
+}
+
+fn create_moves<S: Alter>(conn: &mut Connection<S>) -> Result<usize, Error>
+    ensures made { HasCleanDisk (state S.Store conn.new) → IsMade flight_made (state S.Store conn.old) → Makes (state S.Store conn.old) (state S.Store conn.new) result moves_made }
+    ensures survives { Survives (state S.Store conn.old) (state S.Store conn.new) (λ _. ¬ IsMade flight_made (state S.Store conn.old)) }
+{
+    conn.execute(
+        "CREATE TABLE moves (number INTEGER PRIMARY KEY, awb INTEGER NOT NULL, src INTEGER NOT NULL, dst INTEGER NOT NULL, pieces INTEGER NOT NULL, tenths INTEGER NOT NULL, flight TEXT NOT NULL, fday INTEGER NOT NULL, day INTEGER NOT NULL, minute INTEGER NOT NULL) STRICT",
+        &[],
+    )
+}
+
+fn index_moves<S: Alter>(conn: &mut Connection<S>) -> Result<usize, Error>
+    ensures made { HasCleanDisk (state S.Store conn.new) → IsMade moves_made (state S.Store conn.old) → Makes (state S.Store conn.old) (state S.Store conn.new) result moves_indexed }
+    ensures survives { Survives (state S.Store conn.old) (state S.Store conn.new) (λ _. ¬ IsMade moves_made (state S.Store conn.old)) }
+{
+    conn.execute("CREATE INDEX moves_awb ON moves (awb)", &[])
+}
+
+fn create_expected<S: Alter>(conn: &mut Connection<S>) -> Result<usize, Error>
+    ensures made { HasCleanDisk (state S.Store conn.new) → IsMade moves_indexed (state S.Store conn.old) → Makes (state S.Store conn.old) (state S.Store conn.new) result expected_made }
+    ensures survives { Survives (state S.Store conn.old) (state S.Store conn.new) (λ _. ¬ IsMade moves_indexed (state S.Store conn.old)) }
+{
+    conn.execute(
+        "CREATE TABLE expected (flight TEXT NOT NULL, day INTEGER NOT NULL, awb INTEGER NOT NULL, pieces INTEGER NOT NULL, tenths INTEGER NOT NULL, checked INTEGER NOT NULL, PRIMARY KEY (flight, day, awb)) STRICT",
+        &[],
+    )
+}
+
+fn create_part<S: Alter>(conn: &mut Connection<S>) -> Result<usize, Error>
+    ensures made { HasCleanDisk (state S.Store conn.new) → IsMade expected_made (state S.Store conn.old) → Makes (state S.Store conn.old) (state S.Store conn.new) result part_made }
+    ensures survives { Survives (state S.Store conn.old) (state S.Store conn.new) (λ _. ¬ IsMade expected_made (state S.Store conn.old)) }
+{
+    conn.execute(
+        "CREATE TABLE part (flight TEXT NOT NULL, day INTEGER NOT NULL, airport TEXT NOT NULL, seq INTEGER NOT NULL, body TEXT NOT NULL, PRIMARY KEY (flight, day, airport, seq)) STRICT",
+        &[],
+    )
+}
+
+fn create_trail<S: Alter>(conn: &mut Connection<S>) -> Result<usize, Error>
+    ensures made { HasCleanDisk (state S.Store conn.new) → IsMade part_made (state S.Store conn.old) → Makes (state S.Store conn.old) (state S.Store conn.new) result trail_made }
+    ensures survives { Survives (state S.Store conn.old) (state S.Store conn.new) (λ _. ¬ IsMade part_made (state S.Store conn.old)) }
+{
+    conn.execute(
+        "CREATE TABLE trail (number INTEGER PRIMARY KEY, awb INTEGER NOT NULL, line TEXT NOT NULL) STRICT",
+        &[],
+    )
+}
+
+fn create_outbox<S: Alter>(conn: &mut Connection<S>) -> Result<usize, Error>
+    ensures made { HasCleanDisk (state S.Store conn.new) → IsMade trail_made (state S.Store conn.old) → Makes (state S.Store conn.old) (state S.Store conn.new) result outbox_made }
+    ensures survives { Survives (state S.Store conn.old) (state S.Store conn.new) (λ _. ¬ IsMade trail_made (state S.Store conn.old)) }
+{
+    conn.execute(
+        "CREATE TABLE outbox (number INTEGER PRIMARY KEY, body TEXT NOT NULL) STRICT",
+        &[],
+    )
+}
+
+fn create_kept_key<S: Alter>(conn: &mut Connection<S>) -> Result<usize, Error>
+    ensures made { HasCleanDisk (state S.Store conn.new) → IsMade outbox_made (state S.Store conn.old) → Makes (state S.Store conn.old) (state S.Store conn.new) result kept_key_made }
+    ensures survives { Survives (state S.Store conn.old) (state S.Store conn.new) (λ _. ¬ IsMade outbox_made (state S.Store conn.old)) }
+{
+    conn.execute(
+        "CREATE TABLE kept_key (id TEXT NOT NULL, command TEXT NOT NULL, count INTEGER NOT NULL, PRIMARY KEY (id)) STRICT",
+        &[],
+    )
+}
+
+fn create_kept_text<S: Alter>(conn: &mut Connection<S>) -> Result<usize, Error>
+    ensures made { HasCleanDisk (state S.Store conn.new) → IsMade kept_key_made (state S.Store conn.old) → Makes (state S.Store conn.old) (state S.Store conn.new) result kept_text_made }
+    ensures survives { Survives (state S.Store conn.old) (state S.Store conn.new) (λ _. ¬ IsMade kept_key_made (state S.Store conn.old)) }
+{
+    conn.execute(
+        "CREATE TABLE kept_text (body TEXT NOT NULL, count INTEGER NOT NULL, PRIMARY KEY (body)) STRICT",
+        &[],
+    )
+}
+
+fn create_counts<S: Alter>(conn: &mut Connection<S>) -> Result<usize, Error>
+    ensures made { HasCleanDisk (state S.Store conn.new) → IsMade kept_text_made (state S.Store conn.old) → Makes (state S.Store conn.old) (state S.Store conn.new) result counts_made }
+    ensures survives { Survives (state S.Store conn.old) (state S.Store conn.new) (λ _. ¬ IsMade kept_text_made (state S.Store conn.old)) }
+{
+    conn.execute(
+        "CREATE TABLE counts (awb INTEGER NOT NULL, place INTEGER NOT NULL, pieces INTEGER NOT NULL, tenths INTEGER NOT NULL, PRIMARY KEY (awb, place)) STRICT",
+        &[],
+    )
+}
+
+fn create_build<S: Alter>(conn: &mut Connection<S>) -> Result<usize, Error>
+    ensures made { HasCleanDisk (state S.Store conn.new) → IsMade counts_made (state S.Store conn.old) → Makes (state S.Store conn.old) (state S.Store conn.new) result station_schema }
+    ensures survives { Survives (state S.Store conn.old) (state S.Store conn.new) (λ _. ¬ IsMade counts_made (state S.Store conn.old)) }
+{
+    conn.execute(
+        "CREATE TABLE build (flight TEXT NOT NULL, day INTEGER NOT NULL, awb INTEGER NOT NULL, pieces INTEGER NOT NULL, tenths INTEGER NOT NULL, PRIMARY KEY (flight, day, awb)) STRICT",
+        &[],
+    )
+}
+
+fn insert_station<S: Alter>(conn: &mut Connection<S>, airport: &str) -> Result<usize, Error>
+    ensures made { HasCleanDisk (state S.Store conn.new) → IsInside (state S.Store conn.old) → Changes (state S.Store conn.old) (state S.Store conn.new) result (with_station airport.now) }
+    ensures survives { Survives (state S.Store conn.old) (state S.Store conn.new) (λ _. ¬ IsInside (state S.Store conn.old)) }
+{
+    conn.execute(
+        "INSERT INTO station (id, airport, version, confirmed) VALUES (1, ?1, 1, 0)",
+        params![airport],
+    )
+}
+
+/// Makes the station, the waybills and the stock, in a transaction.
+fn create_desk<S: Alter>(conn: &mut Connection<S>) -> Result<(), Error>
+    ensures made { HasCleanDisk (state S.Store conn.new) → IsMade no_schema (state S.Store conn.old) → Makes (state S.Store conn.old) (state S.Store conn.new) result stock_made }
+    ensures survives { Survives (state S.Store conn.old) (state S.Store conn.new) (λ _. ¬ IsMade no_schema (state S.Store conn.old)) }
+{
+    create_station(conn)?;
+    create_waybill(conn)?;
+    create_stock(conn)?;
+    Ok(())
+}
+
+/// Makes the flights and the moves, in a transaction.
+fn create_book<S: Alter>(conn: &mut Connection<S>) -> Result<(), Error>
+    ensures made { HasCleanDisk (state S.Store conn.new) → IsMade stock_made (state S.Store conn.old) → Makes (state S.Store conn.old) (state S.Store conn.new) result moves_indexed }
+    ensures survives { Survives (state S.Store conn.old) (state S.Store conn.new) (λ _. ¬ IsMade stock_made (state S.Store conn.old)) }
+{
+    create_flight(conn)?;
+    create_moves(conn)?;
+    index_moves(conn)?;
+    Ok(())
+}
+
+/// Makes what manifests and status messages tell, in a transaction.
+fn create_notices<S: Alter>(conn: &mut Connection<S>) -> Result<(), Error>
+    ensures made { HasCleanDisk (state S.Store conn.new) → IsMade moves_indexed (state S.Store conn.old) → Makes (state S.Store conn.old) (state S.Store conn.new) result trail_made }
+    ensures survives { Survives (state S.Store conn.old) (state S.Store conn.new) (λ _. ¬ IsMade moves_indexed (state S.Store conn.old)) }
+{
+    create_expected(conn)?;
+    create_part(conn)?;
+    create_trail(conn)?;
+    Ok(())
+}
+
+/// Makes the outbox and what was accepted, in a transaction.
+fn create_replies<S: Alter>(conn: &mut Connection<S>) -> Result<(), Error>
+    ensures made { HasCleanDisk (state S.Store conn.new) → IsMade trail_made (state S.Store conn.old) → Makes (state S.Store conn.old) (state S.Store conn.new) result kept_text_made }
+    ensures survives { Survives (state S.Store conn.old) (state S.Store conn.new) (λ _. ¬ IsMade trail_made (state S.Store conn.old)) }
+{
+    create_outbox(conn)?;
+    create_kept_key(conn)?;
+    create_kept_text(conn)?;
+    Ok(())
+}
+
+/// Makes the running counts, in a transaction.
+fn create_sums<S: Alter>(conn: &mut Connection<S>) -> Result<(), Error>
+    ensures made { HasCleanDisk (state S.Store conn.new) → IsMade kept_text_made (state S.Store conn.old) → Makes (state S.Store conn.old) (state S.Store conn.new) result station_schema }
+    ensures survives { Survives (state S.Store conn.old) (state S.Store conn.new) (λ _. ¬ IsMade kept_text_made (state S.Store conn.old)) }
+{
+    create_counts(conn)?;
+    create_build(conn)?;
+    Ok(())
+}
+
+/// Makes the tables of the cargo, in a transaction.
+fn create_cargo<S: Alter>(conn: &mut Connection<S>) -> Result<(), Error>
+    ensures made { HasCleanDisk (state S.Store conn.new) → IsMade no_schema (state S.Store conn.old) → Makes (state S.Store conn.old) (state S.Store conn.new) result trail_made }
+    ensures survives { Survives (state S.Store conn.old) (state S.Store conn.new) (λ _. ¬ IsMade no_schema (state S.Store conn.old)) }
+{
+    create_desk(conn)?;
+    create_book(conn)?;
+    create_notices(conn)?;
+    Ok(())
+}
+
+/// Makes all tables, in a transaction.
+fn create_tables<S: Alter>(conn: &mut Connection<S>) -> Result<(), Error>
+    ensures made { HasCleanDisk (state S.Store conn.new) → IsMade no_schema (state S.Store conn.old) → Makes (state S.Store conn.old) (state S.Store conn.new) result station_schema }
+    ensures survives { Survives (state S.Store conn.old) (state S.Store conn.new) (λ _. ¬ IsMade no_schema (state S.Store conn.old)) }
+{
+    create_cargo(conn)?;
+    create_replies(conn)?;
+    create_sums(conn)?;
+    Ok(())
+}
+
+/// Makes the tables and the one row of `station`, in a transaction.
+fn fill_tables<S: Alter>(conn: &mut Connection<S>, airport: &str) -> Result<(), Error>
+    ensures made { HasCleanDisk (state S.Store conn.new) → IsMade no_schema (state S.Store conn.old) → Fills (state S.Store conn.old) (state S.Store conn.new) result airport.now }
+    ensures survives { Survives (state S.Store conn.old) (state S.Store conn.new) (λ _. ¬ IsMade no_schema (state S.Store conn.old)) }
+{
+    create_tables(conn)?;
+    insert_station(conn, airport)?;
+    Ok(())
+}
+
+/// Makes the tables of a new station and commits them.
+fn commit_tables<S: Alter>(conn: &mut Connection<S>, airport: &str) -> Result<(), Error>
+    ensures made { HasCleanDisk (state S.Store conn.new) → IsMade no_schema (state S.Store conn.old) → Founds (state S.Store conn.old) (state S.Store conn.new) result airport.now }
+    ensures survives { Survives (state S.Store conn.old) (state S.Store conn.new) (λ db. IsMade no_schema (state S.Store conn.old) → tables_of db ≡ opening airport.now) }
+{
+    fill_tables(conn, airport)?;
+    commit(conn)?;
+    Ok(())
+}
+
+/// Makes the tables of a new station in a store that has none, in one transaction. On error the connection is
+/// back outside a
+/// transaction and, while it is open, at the last commit. It fails where a transaction is open, and where the
+/// store fails.
+pub fn create_schema<S: Alter>(conn: &mut Connection<S>, airport: &str) -> Result<(), Error>
+    ensures made { HasCleanDisk (state S.Store conn.new) → IsVacant S.Store conn.old → OnOk result (IsFounded (state S.Store conn.new) airport.now) }
+    ensures undone { HasCleanDisk (state S.Store conn.new) → IsVacant S.Store conn.old → IsSettled (state S.Store conn.old) → OnErr result (IsUndone (state S.Store conn.old) (state S.Store conn.new)) }
+    ensures survives { Survives (state S.Store conn.old) (state S.Store conn.new) (λ db. IsVacant S.Store conn.old → tables_of db ≡ opening airport.now) }
+{
+    begin(conn)?;
+    match commit_tables(conn, airport) {
+        Ok(()) => Ok(()),
+        Err(error) => {
+            roll_back(conn);
+            Err(error)
+        }
+    }
+}

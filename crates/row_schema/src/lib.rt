@@ -1,0 +1,10 @@
+//! The tables of a station in `sqlite`: their schema, their rows as typed values, and the call that makes them.
+//!
+//! The crates that read and write a table stand on this one, beside each other.
+#![tactic(auto)]
+
+mod creation;
+mod memory;
+
+pub use creation::create_schema;
+pub use memory::open_memory;

@@ -1,0 +1,14 @@
+use Rattle.std.proofs.Common.{w64}
+use Rattle.std.proofs.lemmas.Int.{to_z-of_z}
+use Rattle.sqlite.specs.Held.{state}
+use Rattle.row_schema.proofs.Statements.{changes}
+use Rattle.station_rows.proofs.StationLemmas.{confirms, confirm_survives}
+use Rattle.station_rows.proofs.station.update_confirmed.Goals as goal
+
+pub returns-clause-made : goal.returns-clause-made
+returns-clause-made g c clean inside =
+    changes _ _ (state g.S.Store c.args.conn.now) (state g.S.Store c.execute.new.self) _ (λ made h. confirms (state g.S.Store c.args.conn.now) (state g.S.Store c.execute.new.self) c.args.confirmed made inside h) _
+    (rw (c.params-to_sql.ensures, to_z-of_z w64 c.args.confirmed c.ranges.confirmed) at (c.execute.ensures.runs clean))
+
+pub returns-clause-survives : goal.returns-clause-survives
+returns-clause-survives g c = confirm_survives _ _ _ c.execute.ensures.survives

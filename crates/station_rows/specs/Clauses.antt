@@ -1,0 +1,17 @@
+-- The forms of the clauses of `TableStore`: what the store showed before, and what it shows now.
+use Rattle.std.specs.Prelude.{OnOk, IfOk, Result}
+use Rattle.row_schema.specs.Tables.{Tables}
+use Rattle.row_schema.specs.Store.{View, Seen, inside, IsShowing}
+
+-- a write in a transaction: whatever it showed, it now shows this with one change
+abbrev pub ShowsChange : {X E : Type 0} → View → View → Result X E → (Tables → Tables) → Type 0
+ShowsChange old new result change =
+    (before now : Tables) → IsShowing old (inside before now) → OnOk result (IsShowing new (inside before (change now)))
+
+-- a read: whatever it showed, this holds of it and of what was read
+abbrev pub TellsOf : {X E : Type 0} → View → View → Result X E → (Tables → X → Type 0) → Type 0
+TellsOf old new result Is = (seen : Seen) → IsShowing old seen → new.IsSound → IfOk result (Is seen.now)
+
+-- whatever it showed, it still shows
+abbrev pub ShowsStill : {X E : Type 0} → View → View → Result X E → Type 0
+ShowsStill old new result = (seen : Seen) → IsShowing old seen → OnOk result (IsShowing new seen)

@@ -1,0 +1,16 @@
+//! The tables of texts in `sqlite`: parts of manifests, trails, the outbox, and what was accepted. One short
+//! typed call for each SQL
+//! statement.
+#![tactic(auto)]
+
+mod kept;
+mod kept_texts;
+mod outbox;
+mod parts;
+mod trail;
+
+pub use kept::{KeptRow, insert_kept, kept_row};
+pub use kept_texts::{insert_kept_text, kept_text_count};
+pub use outbox::{MessageRow, insert_message, messages_after};
+pub use parts::{insert_part, part_body};
+pub use trail::{TrailRow, all_trail_lines, insert_trail_line};
