@@ -9,7 +9,7 @@ use Rattle.awb_number.specs.Number.{prefix_of, serial_of}
 use Rattle.agent_stock.specs.Stock.{is_run, covers, assigned}
 use Rattle.agent_stock.specs.declared.stock.Run.{Run}
 use Rattle.agent_stock.specs.declared.stock.Holder.{Holder}
-use Rattle.station_rows.specs.Tables.{Stock, StockKey, stock_cmp}
+use Rattle.row_schema.specs.Tables.{Stock, StockKey, stock_cmp}
 use Rattle.station_tables.specs.Meaning.{holder_in, holders_in, is_stock_row}
 use Rattle.station_tables.specs.Ahead.{row_at, run_rows, key_of, AreAhead}
 use Rattle.station_tables.proofs.Reading.{ahead_between, holder_of_run}

@@ -14,11 +14,11 @@ use Rattle.awb_number.proofs.Keys.{before_rises}
 use Rattle.agent_stock.specs.Runs.{AreRising, holders_among}
 use Rattle.agent_stock.specs.declared.runs.Held.{Held}
 use Rattle.agent_stock.specs.declared.stock.Holder.{Holder}
-use Rattle.station_rows.proofs.Keys.{stock_total}
-use Rattle.station_rows.proofs.Maps.{entries_rise}
+use Rattle.row_schema.proofs.Keys.{stock_total}
+use Rattle.row_laws.proofs.Maps.{entries_rise}
 use Rattle.station_rows.specs.Meant.{stock_meant}
-use Rattle.station_rows.specs.declared.store.StockRow.{StockRow}
-use Rattle.station_rows.specs.Tables.{Stock, StockKey, stock_cmp}
+use Rattle.station_rows.specs.declared.stock.StockRow.{StockRow}
+use Rattle.row_schema.specs.Tables.{Stock, StockKey, stock_cmp}
 use Rattle.station_tables.specs.Ahead.{key_of}
 use Rattle.station_tables.specs.Meaning.{holder_in, holders_in, is_stock_row}
 use Rattle.station_tables.specs.Listed.{said_in, said_of}

@@ -8,9 +8,9 @@ use Rattle.agent_stock.specs.declared.stock.Holder.{Holder}
 use Rattle.agent_stock.specs.declared.stock.Holder.TheVariants.{Used}
 use Rattle.station_core.specs.Step as step
 use Rattle.station_core.specs.Step.{State}
-use Rattle.station_rows.specs.Connection.{opening, IsOpening}
-use Rattle.station_rows.specs.Store.{View}
-use Rattle.station_rows.specs.Tables.{Tables, Stock, StockKey, stock_cmp, Kept, kept_cmp}
+use Rattle.row_schema.specs.Connection.{opening, IsOpening}
+use Rattle.row_schema.specs.Store.{View}
+use Rattle.row_schema.specs.Tables.{Tables, Stock, StockKey, stock_cmp, Kept, kept_cmp}
 use Rattle.station_tables.specs.Meaning.{meaning_of, IsLawful, HasNoUsed, Means, holders_in, holder_in, stands_for, keeping_in}
 use Rattle.station_tables.specs.Laws.{means_once}
 use Rattle.station_tables.specs.Steady.{IsSteady}

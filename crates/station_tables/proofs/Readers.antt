@@ -2,7 +2,7 @@
 use Rattle.std.proofs.Common.{◌≡◌, ◌∙◌, Bool, true, ap}
 use Rattle.station_core.specs.Keeping.{OnlyReads}
 use Rattle.station_core.specs.Step.{State}
-use Rattle.station_rows.specs.Store.{View, Rests, Survives}
+use Rattle.row_schema.specs.Store.{View, Rests, Survives}
 use Rattle.station_tables.specs.Found.{Keeps, Finds}
 use Rattle.station_tables.specs.Meaning.{meaning_of}
 use Rattle.station_tables.specs.Steady.{IsSteady}

@@ -14,10 +14,10 @@ use Rattle.agent_stock.specs.declared.stock.Run.{Run}
 use Rattle.agent_stock.specs.declared.stock.Test.{Test}
 use Rattle.agent_stock.specs.declared.stock.Holder.{Holder}
 use Rattle.agent_stock.proofs.Serials.{serial_along, prefix_along}
-use Rattle.station_rows.proofs.Maps.{entries_rise, all_passed, ascending_where}
-use Rattle.station_rows.proofs.Keys.{stock_total}
+use Rattle.row_laws.proofs.Maps.{entries_rise, all_passed, ascending_where}
+use Rattle.row_schema.proofs.Keys.{stock_total}
 use Rattle.station_rows.specs.Meant.{is_between}
-use Rattle.station_rows.specs.Tables.{Stock, StockKey, stock_cmp}
+use Rattle.row_schema.specs.Tables.{Stock, StockKey, stock_cmp}
 use Rattle.station_tables.specs.Meaning.{holder_in, holders_in, is_stock_row}
 use Rattle.station_tables.specs.Ahead.{row_at, run_rows, AreAhead}
 use Rattle.station_tables.proofs.Rows.{holder_between}

@@ -6,8 +6,8 @@ use Rattle.station_core.specs.declared.answer.Answer.{Answer}
 use Rattle.station_core.specs.declared.answer.Answer.TheVariants.{Refused}
 use Rattle.station_core.specs.declared.input.Input.{Input}
 use Rattle.station_core.specs.Step.{State, Acted, step, answered, repeated, acted, first_time, stepped, accepted, refused, has_room, with_notices}
-use Rattle.station_rows.specs.Store.{View}
-use Rattle.station_rows.specs.Tables.{Tables}
+use Rattle.row_schema.specs.Store.{View}
+use Rattle.row_schema.specs.Tables.{Tables}
 use Rattle.station_tables.specs.Found.{Keeps}
 use Rattle.station_tables.specs.Laws.{steady_keeps}
 use Rattle.station_tables.specs.Meaning.{meaning_of}

@@ -9,8 +9,8 @@ use Rattle.std.specs.FinMap as map
 use Rattle.std.proofs.lemmas.Int.{ints}
 use Rattle.std.proofs.lemmas.Bool.Decides.{nat_tests}
 use Rattle.awb_number.specs.Number.{prefix_of, serial_of}
-use Rattle.station_rows.proofs.Keys.{pair_eq, int_tied}
-use Rattle.station_rows.specs.Tables.{Stock, StockKey, stock_cmp}
+use Rattle.row_laws.proofs.Keys.{pair_eq, int_tied}
+use Rattle.row_schema.specs.Tables.{Stock, StockKey, stock_cmp}
 use Rattle.station_rows.specs.Meant.{is_between}
 use Rattle.station_tables.specs.Ahead.{row_at, key_of}
 use Rattle.station_tables.specs.Meaning.{holder_in, stands_for, holders_in, is_stock_row}

@@ -18,11 +18,11 @@ use Rattle.station_core.specs.declared.input.Input.TheVariants.{Keyed}
 use Rattle.station_core.specs.Key.{is_key}
 use Rattle.station_core.proofs.StepLaw.{never_used}
 use Rattle.station_core.specs.Step.{State, step, answered, key_answer, stock_acted, first_time, keeping, accepted}
-use Rattle.station_rows.proofs.Keys.{kept_total, kept_same}
-use Rattle.station_rows.specs.Meant.{with_kept}
-use Rattle.station_rows.specs.Store.{View, Survives}
-use Rattle.station_rows.specs.Tables.{Tables, kept_cmp}
-use Rattle.station_rows.specs.Tables as table
+use Rattle.row_schema.proofs.Keys.{kept_total, kept_same}
+use Rattle.text_rows.specs.Meant.{with_kept}
+use Rattle.row_schema.specs.Store.{View, Survives}
+use Rattle.row_schema.specs.Tables.{Tables, kept_cmp}
+use Rattle.row_schema.specs.Tables as table
 use Rattle.station_tables.specs.Meaning.{meaning_of, holders_in, keeping_in, airport_in, is_kept_row, IsLawful, HasNoUsed}
 use Rattle.station_tables.specs.Steady.{IsAfter, MayEndBy}
 use Rattle.station_tables.proofs.MapLaws.{all-insert}

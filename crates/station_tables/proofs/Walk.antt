@@ -6,9 +6,9 @@ use Rattle.std.specs.Ordering.{int_eq}
 use Rattle.std.proofs.lemmas.Int.{ints}
 use Rattle.std.proofs.Math.Seq.{take-length}
 use Rattle.station_rows.specs.Meant.{stock_meant}
-use Rattle.station_rows.specs.declared.store.StockRow.{StockRow}
+use Rattle.station_rows.specs.declared.stock.StockRow.{StockRow}
 use Rattle.sqlite_keyed.proofs.ListLemmas.{all_weaker}
-use Rattle.station_rows.specs.Tables.{Stock, StockKey}
+use Rattle.row_schema.specs.Tables.{Stock, StockKey}
 use Rattle.station_tables.specs.Ahead.{row_with, AreAhead, Remains}
 
 pub remains_all : (serial : ℕ) (rows : List (StockKey × Stock)) → AreAhead serial rows → Remains serial rows rows

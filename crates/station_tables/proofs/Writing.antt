@@ -9,11 +9,11 @@ use Rattle.std.proofs.lemmas.Int.{ints}
 use Rattle.std.proofs.lemmas.Bool.Decides.{nat_tests}
 use Rattle.awb_number.specs.Number.{IsNumber, prefix_of, serial_of}
 use Rattle.agent_stock.specs.declared.stock.Holder.{Holder}
-use Rattle.station_rows.proofs.Keys.{stock_total, stock_same}
-use Rattle.station_rows.specs.declared.store.StockRow.{StockRow}
+use Rattle.row_schema.proofs.Keys.{stock_total, stock_same}
+use Rattle.station_rows.specs.declared.stock.StockRow.{StockRow}
 use Rattle.station_rows.specs.Meant.{stock_meant, with_stock}
-use Rattle.station_rows.specs.Store.{View, Writes}
-use Rattle.station_rows.specs.Tables.{Stock, StockKey, stock_cmp, Tables}
+use Rattle.row_schema.specs.Store.{View, Writes}
+use Rattle.row_schema.specs.Tables.{Stock, StockKey, stock_cmp, Tables}
 use Rattle.station_tables.specs.Meaning.{holder_in, is_stock_row, is_station, is_kept_row, IsLawful}
 use Rattle.station_tables.specs.Ahead.{key_of}
 use Rattle.station_tables.specs.Steady.{IsBeside}
@@ -43,20 +43,18 @@ pub beside_then : (a b c : View) → IsBeside a b → IsBeside b c → IsBeside 
 beside_then a b c h k = record {
   is_open = λ was. k.is_open (h.is_open was);
   committed = k.committed ∙ h.committed;
-  stations = k.stations ∙ h.stations;
-  kept = k.kept ∙ h.kept;
+  others = k.others ∙ ap (λ (t : Tables). record t { stock = c.now.stock }) h.others;
   lawful = λ lawful. k.lawful (h.lawful lawful);
 }
 
 pub beside_itself : (a : View) → IsBeside a a
-beside_itself a = record { is_open = λ was. was; committed = refl; stations = refl; kept = refl; lawful = λ lawful. lawful }
+beside_itself a = record { is_open = λ was. was; committed = refl; others = refl; lawful = λ lawful. lawful }
 
 pub inserted_beside : (a b : View) (k : StockKey) (v : Stock) → is_stock_row (k, v) ≡ true → Writes a b (with_stock (k, v) a.now) → IsBeside a b
 inserted_beside a b k v fits h = record {
   is_open = λ was. h.is_open;
   committed = h.committed_is;
-  stations = ap (λ t. t.stations) h.now_is;
-  kept = ap (λ t. t.kept) h.now_is;
+  others = h.now_is ∙ ap (λ s. record a.now { stock = s }) (sym (ap (λ (t : Tables). t.stock) h.now_is));
   lawful = λ lawful. subst IsLawful (sym h.now_is) (lawful_of (with_stock (k, v) a.now) (lawful_stations a.now lawful)
       (all-insert stock_cmp stock_total stock_same is_stock_row a.now.stock k v (lawful_stock a.now lawful) fits) (lawful_kept a.now lawful));
 }

@@ -7,7 +7,7 @@ use Rattle.std.specs.FinMap.{FinMap, entries}
 use Rattle.awb_number.specs.Number.{prefix_of, serial_of}
 use Rattle.agent_stock.specs.declared.stock.Run.{Run}
 use Rattle.station_rows.specs.Meant.{is_between}
-use Rattle.station_rows.specs.Tables.{Stock, StockKey, stock_cmp}
+use Rattle.row_schema.specs.Tables.{Stock, StockKey, stock_cmp}
 
 -- the row with this serial
 abbrev pub row_with : ℕ → List (StockKey × Stock) → Option (StockKey × Stock)

@@ -1,8 +1,8 @@
 -- What a station keeps, and what a reopening may find.
 use Rattle.std.specs.Prelude.{◌≡◌, true, Option, Some}
 use Rattle.station_core.specs.Step.{State}
-use Rattle.station_rows.specs.Tables.{Tables}
-use Rattle.station_rows.specs.Store.{View}
+use Rattle.row_schema.specs.Tables.{Tables}
+use Rattle.row_schema.specs.Store.{View}
 use Rattle.station_tables.specs.Meaning.{meaning_of, Means}
 
 -- some tables that a crash may leave mean this state, or none

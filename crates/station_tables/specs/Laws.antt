@@ -6,8 +6,8 @@ use Rattle.shipment_machine.specs.Lawful as cargo
 use Rattle.shipment_machine.proofs.Opening.{opening_lawful}
 use Rattle.station_core.proofs.StepLaw.{still_lawful}
 use Rattle.station_core.specs.Step.{State, IsLawfulState}
-use Rattle.station_rows.specs.Tables.{Tables}
-use Rattle.station_rows.specs.Store.{View, Survives}
+use Rattle.row_schema.specs.Tables.{Tables}
+use Rattle.row_schema.specs.Store.{View, Survives}
 use Rattle.station_tables.specs.Meaning.{IsLawful, HasNoUsed, Means, airport_in, holders_in, meaning_of}
 use Rattle.station_tables.specs.Steady.{IsReady, IsSteady, IsAsBefore, IsBeside}
 use Rattle.station_tables.specs.Found.{Keeps, Finds}
@@ -28,8 +28,7 @@ pub beside_goes_on : (a b c : View) → IsAsBefore a b → IsBeside b c → IsBe
 beside_goes_on a b c same beside = record {
   is_open = λ was. beside.is_open (same.is_open ∙ was);
   committed = beside.committed ∙ same.committed;
-  stations = beside.stations ∙ ap (λ t. t.stations) same.now_is;
-  kept = beside.kept ∙ ap (λ t. t.kept) same.now_is;
+  others = beside.others ∙ ap (λ (t : Tables). record t { stock = c.now.stock }) same.now_is;
   lawful = λ lawful. beside.lawful (as_before_lawful a b same lawful);
 }
 

@@ -1,6 +1,5 @@
 pub mod Ahead
 pub mod Listed
-pub mod Code
 pub mod Meaning
 pub mod Orders
 pub mod Steady

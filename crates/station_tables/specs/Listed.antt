@@ -2,7 +2,7 @@
 use Rattle.std.specs.Prelude.{Option, Some}
 use Rattle.agent_stock.specs.declared.runs.Held.{Held}
 use Rattle.agent_stock.specs.declared.stock.Holder.{Holder}
-use Rattle.station_rows.specs.Tables.{Stock, StockKey}
+use Rattle.row_schema.specs.Tables.{Stock, StockKey}
 use Rattle.station_tables.specs.Ahead.{key_of}
 use Rattle.station_tables.specs.Meaning.{holder_in}
 

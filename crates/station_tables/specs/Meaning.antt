@@ -13,7 +13,7 @@ use Rattle.agent_stock.specs.declared.stock.Holder.TheVariants as holder
 use Rattle.station_core.specs.Key.{is_key}
 use Rattle.shipment_machine.specs.Cargo.{opening_cargo}
 use Rattle.station_core.specs.Step.{Kept as Keeping, State}
-use Rattle.station_rows.specs.Tables.{Tables, Station, Stock, StockKey, stock_cmp, Kept}
+use Rattle.row_schema.specs.Tables.{Tables, Station, Stock, StockKey, stock_cmp, Kept}
 
 -- 0 the desk, 2 used, 3 void
 abbrev pub unnamed_holder : ℤ → Option Holder

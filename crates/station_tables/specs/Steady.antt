@@ -4,8 +4,8 @@ use Rattle.station_core.specs.declared.answer.Answer.{Answer}
 use Rattle.imp_fields.specs.Date.{LocalMinute}
 use Rattle.station_core.specs.declared.input.Input.{Input}
 use Rattle.station_core.specs.Step.{State, step}
-use Rattle.station_rows.specs.Tables.{Tables}
-use Rattle.station_rows.specs.Store.{View, IsAtRest}
+use Rattle.row_schema.specs.Tables.{Tables}
+use Rattle.row_schema.specs.Store.{View, IsAtRest}
 use Rattle.station_tables.specs.Meaning.{meaning_of, IsLawful, HasNoUsed}
 
 -- no transaction is open, and the tables mean a state
@@ -31,8 +31,7 @@ pub record IsAsBefore (old new : View) : Type 0 where
 pub record IsBeside (old new : View) : Type 0 where
   pub is_open : old.is_open ≡ true → new.is_open ≡ true
   pub committed : new.committed ≡ old.committed
-  pub stations : new.now.stations ≡ old.now.stations
-  pub kept : new.now.kept ≡ old.now.kept
+  pub others : new.now ≡ record old.now { stock = new.now.stock }
   pub lawful : IsLawful old.now → IsLawful new.now
 
 -- at any moment the answer is that of the step, and the state the one after it

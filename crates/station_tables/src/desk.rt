@@ -5,8 +5,8 @@ ghost use Rattle.std.specs.Option.{option_and_then};
 ghost use Rattle.awb_number.specs.Number.{serial_of};
 ghost use Rattle.agent_stock.specs.Stock.{is_run, passes, covers};
 ghost use Rattle.station_rows.specs.Meant.{stock_meant, with_stock};
-ghost use Rattle.station_rows.specs.Store.{IsUnchanged, Rests, Survives, Writes};
-ghost use Rattle.station_rows.specs.Tables.{Stock, StockKey};
+ghost use Rattle.row_schema.specs.Store.{IsUnchanged, Rests, Survives, Writes};
+ghost use Rattle.row_schema.specs.Tables.{Stock, StockKey};
 ghost use Rattle.station_tables.specs.Meaning.{IsLawful, holder_in, holders_in};
 ghost use Rattle.station_tables.specs.Ahead.{row_at, row_with, run_rows, key_of, AreAhead, Remains};
 ghost use Rattle.station_tables.specs.Steady.{IsReady, IsAsBefore, IsBeside};
@@ -71,7 +71,7 @@ fn first_failing(rows: &[StockRow], run: &Run, test: &Test) -> Option<Awb>
         → result ≡ find (λ n. not (passes test.now (option_and_then (λ row. holder_in row.1) (row_at n (map stock_meant rows.now))))) (range_with_len run.now.first run.now.count) }
 {
     let mut rest = rows;
-    for key in run.first.key()..run.first.key() + u64::from(run.count) {
+    for key in run.first.key()..run.first.key() + u64::from(run.count.number()) {
         let serial = (key % SERIALS) as i64;
         let (holder, more) = take_row(rest, serial);
         rest = more;
@@ -104,7 +104,7 @@ impl<S: TableStore> Desk<S> {
         ensures survives { Survives (S.view self.old.store) (S.view self.new.store) }
     {
         let first = i64::from(run.first.serial());
-        let last = i64::from(run.first.serial() + run.count - 1);
+        let last = i64::from(run.first.serial() + run.count.number() - 1);
         self.store
             .stock_between(i64::from(run.first.prefix()), first, last)
     }
@@ -116,10 +116,7 @@ impl<S: TableStore> Desk<S> {
         ensures rests { (S.view self.new.store).IsSound → Rests (S.view self.old.store) (S.view self.new.store) }
         ensures survives { Survives (S.view self.old.store) (S.view self.new.store) }
     {
-        let rows = self.rows_of(&Run {
-            first: *number,
-            count: 1,
-        })?;
+        let rows = self.rows_of(&Run::of_one(*number))?;
         let (holder, _more) = take_row(&rows, i64::from(number.serial()));
         Ok(holder)
     }
@@ -170,7 +167,7 @@ impl<S: TableStore> Desk<S> {
             agent,
         };
         let mut rest = rows;
-        for key in run.first.key()..run.first.key() + u64::from(run.count) {
+        for key in run.first.key()..run.first.key() + u64::from(run.count.number()) {
             row.low = (key % SERIALS) as i64;
             row.high = row.low;
             let (held, more) = take_row(rest, row.low);

@@ -1,7 +1,7 @@
 ghost use Rattle.std.specs.Prelude.{◌≡◌, map, IfSome, IfOk, OnOk};
 ghost use Rattle.agent_stock.specs.Runs.{AreRising, holders_among};
 ghost use Rattle.station_rows.specs.Meant.{stock_meant};
-ghost use Rattle.station_rows.specs.Store.{IsUnchanged, Rests, Survives};
+ghost use Rattle.row_schema.specs.Store.{IsUnchanged, Rests, Survives};
 ghost use Rattle.station_tables.specs.Meaning.{IsLawful, holders_in};
 ghost use Rattle.station_tables.specs.Listed.{said_in, said_of};
 

@@ -1,7 +1,7 @@
 ghost use Rattle.std.specs.Prelude.{◌≡◌, ◌⊎◌, true, false, Some, Option, IfOk, IfErr, OnOk};
 ghost use Rattle.station_core.specs.Step.{State};
 ghost use Rattle.station_core.specs.Step as step;
-ghost use Rattle.station_rows.specs.Connection.{connection_view, IsVacant};
+ghost use Rattle.row_schema.specs.Connection.{connection_view, IsVacant};
 ghost use Rattle.station_tables.specs.Opening.{here};
 ghost use Rattle.station_tables.specs.Found.{Finds};
 

@@ -5,9 +5,9 @@ ghost use Rattle.desk_commands.specs.Command.{command_text};
 ghost use Rattle.desk_commands.specs.declared.command.Command.TheVariants.{Stock};
 ghost use Rattle.station_core.specs.Step.{repeated_key};
 ghost use Rattle.station_core.specs.declared.input.Input.TheVariants.{Keyed};
-ghost use Rattle.station_rows.specs.Meant.{kept_meant, with_kept};
-ghost use Rattle.station_rows.specs.Store.{IsAtRest};
-ghost use Rattle.station_rows.specs.Tables.{Tables};
+ghost use Rattle.text_rows.specs.Meant.{kept_meant, with_kept};
+ghost use Rattle.row_schema.specs.Store.{IsAtRest};
+ghost use Rattle.row_schema.specs.Tables.{Tables};
 ghost use Rattle.station_tables.specs.Meaning.{meaning_of, keeping_in};
 ghost use Rattle.station_tables.specs.Steady.{IsSteady, Serves, IsAfter, MayEndBy};
 

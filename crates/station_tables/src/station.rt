@@ -3,7 +3,7 @@ ghost use Rattle.std.proofs.Props.{props};
 ghost use Rattle.agent_stock.specs.Runs.{AreStockRuns};
 ghost use Rattle.station_core.specs.Keeping.{IsReadersFault, OnlyReads};
 ghost use Rattle.station_core.specs.Step.{State};
-ghost use Rattle.station_tables.specs.Code.{tables_code};
+ghost use Rattle.row_schema.specs.Code.{tables_code};
 ghost use Rattle.station_tables.specs.Meaning.{meaning_of};
 ghost use Rattle.station_tables.specs.Steady.{IsSteady};
 ghost use Rattle.station_tables.specs.Found.{Keeps, Finds};

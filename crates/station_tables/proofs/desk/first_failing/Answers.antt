@@ -7,7 +7,7 @@ use Rattle.agent_stock.specs.Stock.{passes}
 use Rattle.agent_stock.specs.declared.stock.Holder.{Holder}
 use Rattle.agent_stock.proofs.Serials.{find_next, find_here, given_as, IsNumber-covered, serial_along}
 use Rattle.station_rows.specs.Meant.{stock_meant}
-use Rattle.station_rows.specs.Tables.{Stock, StockKey}
+use Rattle.row_schema.specs.Tables.{Stock, StockKey}
 use Rattle.station_tables.specs.Meaning.{holder_in}
 use Rattle.station_tables.specs.Ahead.{row_at, row_with, Remains}
 use Rattle.station_tables.proofs.Walk.{remains_all}

@@ -4,7 +4,7 @@ use Rattle.std.specs.Option.{option_and_then}
 use Rattle.std.specs.Prelude.{Option}
 use Rattle.agent_stock.specs.declared.stock.Holder.{Holder}
 use Rattle.std.specs.Ordering.{int_eq}
-use Rattle.station_rows.specs.Tables.{Stock, StockKey}
+use Rattle.row_schema.specs.Tables.{Stock, StockKey}
 use Rattle.station_tables.specs.Meaning.{holder_in}
 use Rattle.station_tables.proofs.Walk.{taken, left, ended, differ}
 use Rattle.station_tables.proofs.desk.take_row.Goals as goal

@@ -1,7 +1,7 @@
 use Rattle.std.proofs.Common.{◌∙◌, ap, subst, inl, inr, ⊎_elim}
 use Rattle.station_core.specs.Step.{State}
 use Rattle.station_rows.specs.declared.rows.Rows.{Rows}
-use Rattle.station_rows.specs.Connection.{connection_view}
+use Rattle.row_schema.specs.Connection.{connection_view}
 use Rattle.station_tables.specs.Found.{Keeps}
 use Rattle.station_tables.specs.Meaning.{meaning_of}
 use Rattle.station_tables.proofs.NewStation.{opening-steady, meaning-opening, opening-found}

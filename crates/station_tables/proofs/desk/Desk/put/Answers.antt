@@ -7,9 +7,9 @@ use Rattle.awb_number.specs.Number.{IsNumber, prefix_of, serial_of}
 use Rattle.agent_stock.proofs.Serials.{IsNumber-covered, prefix_along, serial_along}
 use Rattle.agent_stock.specs.declared.stock.Holder.{Holder}
 use Rattle.station_rows.specs.Meant.{stock_meant, with_stock}
-use Rattle.station_rows.specs.Store.{Writes}
-use Rattle.station_rows.specs.Tables.{Stock, StockKey}
-use Rattle.station_rows.specs.declared.store.StockRow.{StockRow}
+use Rattle.row_schema.specs.Store.{Writes}
+use Rattle.row_schema.specs.Tables.{Stock, StockKey}
+use Rattle.station_rows.specs.declared.stock.StockRow.{StockRow}
 use Rattle.station_tables.specs.Ahead.{key_of, row_with, Remains}
 use Rattle.station_tables.specs.Meaning.{holder_in}
 use Rattle.station_tables.specs.Laws.{survives_itself, survives_goes_on}

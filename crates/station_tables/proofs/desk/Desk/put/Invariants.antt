@@ -4,7 +4,7 @@ use Rattle.std.specs.FinMap.{get}
 use Rattle.std.specs.Option.{option_and_then}
 use Rattle.awb_number.specs.Number.{prefix_of, serial_of}
 use Rattle.station_rows.specs.Meant.{stock_meant}
-use Rattle.station_rows.specs.Store.{Survives}
+use Rattle.row_schema.specs.Store.{Survives}
 use Rattle.station_tables.specs.Ahead.{key_of, Remains}
 use Rattle.station_tables.specs.Meaning.{holder_in}
 use Rattle.station_tables.specs.Steady.{IsBeside}

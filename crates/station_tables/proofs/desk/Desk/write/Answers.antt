@@ -1,9 +1,9 @@
 use Rattle.std.proofs.Common.{ap, subst}
 use Rattle.std.specs.FinMap.{FinMap}
-use Rattle.station_rows.specs.Laws.{adjust_there}
+use Rattle.row_laws.specs.Laws.{adjust_there}
 use Rattle.station_rows.specs.Meant.{stock_meant}
-use Rattle.station_rows.specs.Store.{Writes}
-use Rattle.station_rows.specs.Tables.{Stock, Tables, stock_cmp}
+use Rattle.row_schema.specs.Store.{Writes}
+use Rattle.row_schema.specs.Tables.{Stock, Tables, stock_cmp}
 use Rattle.station_tables.proofs.desk.Desk.write.Goals as goal
 
 pub returns-in_ok-update_stock-clause-written : goal.returns-in_ok-update_stock-clause-written

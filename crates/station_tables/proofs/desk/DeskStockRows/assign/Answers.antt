@@ -1,7 +1,7 @@
 use Rattle.std.proofs.Common.{◌∙◌, map, sym, ap, subst}
 use Rattle.agent_stock.specs.Stock.{assigned}
 use Rattle.station_rows.specs.Meant.{stock_meant}
-use Rattle.station_rows.specs.Tables.{Tables}
+use Rattle.row_schema.specs.Tables.{Tables}
 use Rattle.station_tables.specs.Meaning.{IsLawful, holders_in}
 use Rattle.station_tables.specs.Ahead.{run_rows}
 use Rattle.station_tables.proofs.Assigning.{run_assigned}

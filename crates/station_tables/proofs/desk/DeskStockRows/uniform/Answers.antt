@@ -4,7 +4,7 @@ use Rattle.std.specs.Option.{option_and_then}
 use Rattle.awb_number.specs.Number.{prefix_of, serial_of}
 use Rattle.agent_stock.specs.Stock.{passes}
 use Rattle.station_rows.specs.Meant.{stock_meant}
-use Rattle.station_rows.specs.Tables.{Stock, StockKey}
+use Rattle.row_schema.specs.Tables.{Stock, StockKey}
 use Rattle.station_tables.specs.Meaning.{holder_in}
 use Rattle.station_tables.specs.Ahead.{row_at, run_rows, AreAhead}
 use Rattle.station_tables.proofs.Reading.{ahead_between, lowest_by_rows}

@@ -1,5 +1,5 @@
 use Rattle.std.proofs.Common.{subst}
-use Rattle.station_rows.specs.Connection.{connection_view}
+use Rattle.row_schema.specs.Connection.{connection_view}
 use Rattle.station_rows.specs.declared.rows.Rows.{Rows}
 use Rattle.station_tables.proofs.opening.Station+Rows+S.release.Goals as goal
 
