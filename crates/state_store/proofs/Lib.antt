@@ -1,0 +1,2 @@
+mod Meant
+pub mod Walks

@@ -1,0 +1,39 @@
+-- What a store of a station's state shows, and what a call leaves.
+use Rattle.std.specs.Prelude.{◌≡◌, ◌⊎◌, ℕ, Bool, true, false, Result, Err, Option, Some}
+use Rattle.agent_stock.specs.declared.stock.StockFault.{StockFault}
+use Rattle.agent_stock.specs.declared.stock.StockFault.TheVariants as fault
+use Rattle.station_core.specs.Step.{State}
+
+-- what the transaction sees, and what the last commit left
+pub record Seen : Type 0 where
+  pub now : State
+  pub committed : State
+  pub in_transaction : Bool
+
+-- between two transactions
+abbrev pub at_rest : State → Seen
+at_rest s = record { now = s; committed = s; in_transaction = false }
+
+-- in a transaction that has come so far
+abbrev pub inside : State → State → Seen
+inside before s = record { now = s; committed = before; in_transaction = true }
+
+-- whatever a call answers: no fault is forgotten, and a reopening finds what it found before
+pub record Survives {K : Type 0} (is_sound : K → Type 0) (may_find : K → Option State → Type 0) (old new : K) : Type 0 where
+  pub sound : is_sound new → is_sound old
+  pub leaves : is_sound new → (found : Option State) → may_find new found → may_find old found
+
+-- the same, but that a commit may have left this state
+pub record MayLeave {K : Type 0} (is_sound : K → Type 0) (may_find : K → Option State → Type 0) (after : State) (old new : K) : Type 0 where
+  pub sound : is_sound new → is_sound old
+  pub leaves : is_sound new → (found : Option State) → may_find new found → may_find old found ⊎ (found ≡ Some after)
+
+-- a refusal of an order that is told is the one that is due
+abbrev pub RefusesBy : {F : Type 0} → Option (ℕ × Option ℕ) → StockFault F → Type 0
+RefusesBy due (fault.Refused number lowest) = due ≡ Some (number, lowest)
+RefusesBy due (fault.Rows _) = Unit {0}
+
+-- it holds where an order was refused
+abbrev pub OnRefused : {A F : Type 0} → Result A (StockFault F) → Type 0 → Type 0
+OnRefused (Err (fault.Refused number lowest)) P = P
+OnRefused _ P = Unit {0}

@@ -1,0 +1,11 @@
+//! The state of a station in a store, and what is read from it: what a command is planned from, and what is told.
+#![tactic(auto)]
+
+mod lines;
+mod store;
+mod telling;
+mod viewing;
+
+pub use store::{KeptReply, Load, Sizes, StateStore, StoreFault};
+pub use telling::{irregular_rows, waybill_in};
+pub use viewing::view;

@@ -1,0 +1,267 @@
+use agent_stock::{Holder, Order, StockFault, StockRun};
+use awb_number::Awb;
+use imp_fields::Airport;
+use shipment_machine::{
+    Amount, Balances, Change, Declared, Expected, FlightDate, Move, Outbound, Part,
+};
+use station_core::{BookRow, Key, Message, TrailRow};
+use std::alloc::{AllocError, AllocFailed};
+
+/// A call of the store failed: the store itself, or memory was wanting once it had been asked.
+#[derive(Clone, Copy, Debug, PartialEq, Eq)]
+pub struct StoreFault;
+
+impl From<AllocError> for StoreFault {
+    fn from(_: AllocError) -> StoreFault {
+        StoreFault
+    }
+}
+
+impl<T: Drop> From<AllocFailed<T>> for StoreFault {
+    fn from(_: AllocFailed<T>) -> StoreFault {
+        StoreFault
+    }
+}
+
+/// What was accepted under a key.
+#[derive(Debug, Drop)]
+pub struct KeptReply {
+    /// The command's text.
+    pub request: String,
+    /// What was told of it.
+    pub count: u32,
+}
+
+/// What of a waybill is built on a flight.
+#[derive(Clone, Copy, Debug, PartialEq, Eq)]
+pub struct Load {
+    pub awb: Awb,
+    pub amount: Amount,
+}
+
+/// How many moves, lines of the trail and messages there are. Each is numbered from 1.
+#[derive(Clone, Copy, Debug, PartialEq, Eq)]
+pub struct Sizes {
+    pub moves: u32,
+    pub lines: u32,
+    pub messages: u32,
+}
+
+/// The state of a station in a store, by what short calls read of it and do to it.
+///
+/// A call's clauses hand on what the store showed: whatever it showed before, it shows this now. Where a call answers a
+/// fault inside a transaction nothing is said of what the store shows; a reader's fault outside changes nothing.
+pub trait StateStore {
+    ghost use Rattle.std.specs.Prelude.{◌≡◌, ◌∷◌, [], true, List, ℕ, Option, Some, None, OnOk, IfOk, IfErr, is_some};
+    ghost use Rattle.std.specs.Option.{option_map};
+    ghost use Rattle.agent_stock.specs.Runs.{AreStockRuns};
+    ghost use Rattle.agent_stock.specs.Stock.{order_refusal};
+    ghost use Rattle.shipment_machine.specs.Book.{balances_of, built, has_moves as is_moved, waybills_of};
+    ghost use Rattle.shipment_machine.specs.Cargo.{written};
+    ghost use Rattle.station_core.specs.Readers.{book_rows, pending_messages, trail_rows};
+    ghost use Rattle.station_core.specs.Step.{State, has_room};
+    ghost use Rattle.state_store.specs.Store.{Seen, at_rest, inside, Survives, MayLeave, OnRefused, RefusesBy};
+    ghost use Rattle.state_store.specs.Told.{kept_of, sizes_of, loads_on, on_cargo, with_moves, with_messages, with_key, with_text, with_order};
+
+    /// It shows this, as long as the disk returned what was written.
+    ghost shows: { Self → Seen → Type 0 };
+
+    /// The premise of what the calls say: the disk has returned what was written, and kept what it confirmed.
+    ghost is_sound: { Self → Type 0 };
+
+    /// What a reopening after a crash at this moment may find: a state, or what means none.
+    ghost may_find: { Self → Option State → Type 0 };
+
+    /// Begins a transaction.
+    fn begin(&mut self) -> Result<(), StoreFault>
+        ensures begun { (s : State) → shows self.old (at_rest s)
+            → OnOk result (shows self.new (inside s s)) }
+        ensures survives { Survives is_sound may_find self.old self.new };
+
+    /// Ends the transaction and keeps what it wrote.
+    fn commit(&mut self) -> Result<(), StoreFault>
+        ensures done { (before s : State) → shows self.old (inside before s)
+            → OnOk result (shows self.new (at_rest s)) }
+        ensures sound { is_sound self.new → is_sound self.old }
+        ensures leaves { (before s : State) → shows self.old (inside before s)
+            → MayLeave is_sound may_find s self.old self.new };
+
+    /// What is kept under a key.
+    fn kept_key(&mut self, key: &Key) -> Result<Option<KeptReply>, StoreFault>
+        ensures value { (x : Seen) → shows self.old x → is_sound self.new
+            → IfOk result (λ kept. option_map kept_of kept ≡ x.now.kept_keys key.now) }
+        ensures same { (x : Seen) → shows self.old x → OnOk result (shows self.new x) }
+        ensures survives { Survives is_sound may_find self.old self.new };
+
+    /// The count that was told of the telegram with this normal text, if it was taken.
+    fn kept_text(&mut self, text: &[u8]) -> Result<Option<u32>, StoreFault>
+        ensures value { (x : Seen) → shows self.old x → is_sound self.new
+            → IfOk result (λ kept. kept ≡ x.now.kept_texts text.now) }
+        ensures same { (x : Seen) → shows self.old x → OnOk result (shows self.new x) }
+        ensures survives { Survives is_sound may_find self.old self.new };
+
+    /// What is declared of a waybill.
+    fn declared(&mut self, awb: &Awb) -> Result<Option<Declared>, StoreFault>
+        ensures value { (x : Seen) → shows self.old x → is_sound self.new
+            → IfOk result (λ declared. declared ≡ x.now.cargo.declared awb.now) }
+        ensures same { (x : Seen) → shows self.old x → OnOk result (shows self.new x) }
+        ensures rests { (s : State) → shows self.old (at_rest s) → shows self.new (at_rest s) }
+        ensures survives { Survives is_sound may_find self.old self.new };
+
+    /// Who holds a number.
+    fn holder(&mut self, awb: &Awb) -> Result<Option<Holder>, StoreFault>
+        ensures value { (x : Seen) → shows self.old x → is_sound self.new
+            → IfOk result (λ holder. holder ≡ x.now.cargo.holders awb.now) }
+        ensures same { (x : Seen) → shows self.old x → OnOk result (shows self.new x) }
+        ensures rests { (s : State) → shows self.old (at_rest s) → shows self.new (at_rest s) }
+        ensures survives { Survives is_sound may_find self.old self.new };
+
+    /// Whether the book has a move of a waybill.
+    fn has_moves(&mut self, awb: &Awb) -> Result<bool, StoreFault>
+        ensures value { (x : Seen) → shows self.old x → is_sound self.new
+            → IfOk result (λ moved. moved ≡ is_moved x.now.cargo.book awb.now) }
+        ensures same { (x : Seen) → shows self.old x → OnOk result (shows self.new x) }
+        ensures survives { Survives is_sound may_find self.old self.new };
+
+    /// What the moves of a waybill add up to.
+    fn balances(&mut self, awb: &Awb) -> Result<Balances, StoreFault>
+        ensures value { (x : Seen) → shows self.old x → is_sound self.new
+            → IfOk result (λ balances. balances ≡ balances_of x.now.cargo.book awb.now) }
+        ensures same { (x : Seen) → shows self.old x → OnOk result (shows self.new x) }
+        ensures rests { (s : State) → shows self.old (at_rest s) → shows self.new (at_rest s) }
+        ensures survives { Survives is_sound may_find self.old self.new };
+
+    /// What of a waybill is built on a flight.
+    fn load(&mut self, awb: &Awb, flight: &FlightDate) -> Result<Amount, StoreFault>
+        ensures value { (x : Seen) → shows self.old x → is_sound self.new
+            → IfOk result (λ load. load ≡ built x.now.cargo.book awb.now flight.now) }
+        ensures same { (x : Seen) → shows self.old x → OnOk result (shows self.new x) }
+        ensures survives { Survives is_sound may_find self.old self.new };
+
+    /// The waybills of which something is built on a flight, rising, each with its load.
+    fn aboard(&mut self, flight: &FlightDate) -> Result<Vec<Load>, StoreFault>
+        ensures value { (x : Seen) → shows self.old x → is_sound self.new
+            → IfOk result (λ loads. loads.items ≡ loads_on x.now.cargo.book flight.now) }
+        ensures same { (x : Seen) → shows self.old x → OnOk result (shows self.new x) }
+        ensures survives { Survives is_sound may_find self.old self.new };
+
+    /// What is noted of an outbound flight.
+    fn outbound(&mut self, flight: &FlightDate) -> Result<Option<Outbound>, StoreFault>
+        ensures value { (x : Seen) → shows self.old x → is_sound self.new
+            → IfOk result (λ outbound. outbound ≡ x.now.cargo.flights flight.now) }
+        ensures same { (x : Seen) → shows self.old x → OnOk result (shows self.new x) }
+        ensures survives { Survives is_sound may_find self.old self.new };
+
+    /// What a flight brings of a waybill.
+    fn expected(&mut self, flight: &FlightDate, awb: &Awb) -> Result<Option<Expected>, StoreFault>
+        ensures value { (x : Seen) → shows self.old x → is_sound self.new
+            → IfOk result (λ expected. expected ≡ x.now.cargo.expected flight.now awb.now) }
+        ensures same { (x : Seen) → shows self.old x → OnOk result (shows self.new x) }
+        ensures survives { Survives is_sound may_find self.old self.new };
+
+    /// Whether a part of a manifest was taken.
+    fn has_part(&mut self, part: &Part) -> Result<bool, StoreFault>
+        ensures value { (x : Seen) → shows self.old x → is_sound self.new
+            → IfOk result (λ taken. taken ≡ is_some (x.now.cargo.parts part.now)) }
+        ensures same { (x : Seen) → shows self.old x → OnOk result (shows self.new x) }
+        ensures survives { Survives is_sound may_find self.old self.new };
+
+    /// The station's airport.
+    fn here(&self) -> Airport
+        ensures { (x : Seen) → shows self.now x → is_sound self.now → result ≡ x.now.cargo.here };
+
+    /// How many rows there are that are numbered.
+    fn sizes(&self) -> Sizes
+        ensures { (x : Seen) → shows self.now x → is_sound self.now
+            → result ≡ sizes_of x.now.cargo };
+
+    /// The messages up to this one are confirmed.
+    fn confirmed(&self) -> u32
+        ensures { (x : Seen) → shows self.now x → is_sound self.now
+            → result ≡ x.now.cargo.confirmed };
+
+    /// Adds a move to the book, in a transaction.
+    fn add_move(&mut self, movement: &Move) -> Result<(), StoreFault>
+        ensures done { (before s : State) → shows self.old (inside before s)
+            → OnOk result (shows self.new (inside before (with_moves (movement.now ∷ []) s))) }
+        ensures survives { Survives is_sound may_find self.old self.new };
+
+    /// Writes a row, where the telegram in work has this text, in a transaction.
+    fn write(&mut self, text: &[u8], change: &Change<'_>) -> Result<(), StoreFault>
+        ensures done { (before s : State) → shows self.old (inside before s)
+            → OnOk result (shows self.new (inside before (on_cargo
+            (written text.now change.now) s))) }
+        ensures survives { Survives is_sound may_find self.old self.new };
+
+    /// Adds a message to the outbox, in a transaction.
+    fn add_message(&mut self, text: &[u8]) -> Result<(), StoreFault>
+        ensures done { (before s : State) → shows self.old (inside before s)
+            → OnOk result (shows self.new (inside before (with_messages (text.now ∷ []) s))) }
+        ensures survives { Survives is_sound may_find self.old self.new };
+
+    /// Keeps what was accepted under a key, and its count, in a transaction.
+    fn keep_key(&mut self, key: &Key, request: &str, count: u32) -> Result<(), StoreFault>
+        ensures done { (before s : State) → shows self.old (inside before s)
+            → OnOk result (shows self.new (inside before (with_key key.now
+            (record { request = request.now; count = count }) s))) }
+        ensures survives { Survives is_sound may_find self.old self.new };
+
+    /// Keeps the count that is told of a telegram with this normal text, in a transaction.
+    fn keep_text(&mut self, text: &[u8], count: u32) -> Result<(), StoreFault>
+        ensures done { (before s : State) → shows self.old (inside before s)
+            → OnOk result (shows self.new (inside before (with_text text.now count s))) }
+        ensures survives { Survives is_sound may_find self.old self.new };
+
+    /// Does an order on the stock in a transaction that it begins; where the order is refused, none is begun.
+    fn carry_out_order(&mut self, order: &Order) -> Result<(), StockFault<StoreFault>>
+        ensures accepted { (s : State) → shows self.old (at_rest s) → is_sound self.new
+            → OnOk result (order_refusal s.cargo.holders order.now ≡ None) }
+        ensures done { (s : State) → shows self.old (at_rest s)
+            → OnOk result (shows self.new (inside s (with_order order.now s))) }
+        ensures refused { (s : State) → shows self.old (at_rest s) → is_sound self.new
+            → IfErr result (RefusesBy (order_refusal s.cargo.holders order.now)) }
+        ensures same { (s : State) → shows self.old (at_rest s)
+            → OnRefused result (shows self.new (at_rest s)) }
+        ensures survives { Survives is_sound may_find self.old self.new };
+
+    /// The stock, as its maximal runs of one holder, rising.
+    fn runs(&mut self) -> Result<Vec<StockRun>, StoreFault>
+        ensures value { (s : State) → shows self.old (at_rest s) → is_sound self.new
+            → IfOk result (λ runs. AreStockRuns s.cargo.holders runs.items) }
+        ensures rests { (s : State) → shows self.old (at_rest s) → shows self.new (at_rest s) }
+        ensures survives { Survives is_sound may_find self.old self.new };
+
+    /// The waybills that have a move, rising.
+    fn moved(&mut self) -> Result<Vec<Awb>, StoreFault>
+        ensures value { (s : State) → shows self.old (at_rest s) → is_sound self.new
+            → IfOk result (λ numbers. numbers.items ≡ waybills_of s.cargo.book) }
+        ensures rests { (s : State) → shows self.old (at_rest s) → shows self.new (at_rest s) }
+        ensures survives { Survives is_sound may_find self.old self.new };
+
+    /// The movement book, in order.
+    fn book(&mut self) -> Result<Vec<BookRow>, StoreFault>
+        ensures value { (s : State) → shows self.old (at_rest s) → is_sound self.new
+            → IfOk result (λ rows. rows.items ≡ book_rows s.cargo) }
+        ensures rests { (s : State) → shows self.old (at_rest s) → shows self.new (at_rest s) }
+        ensures survives { Survives is_sound may_find self.old self.new };
+
+    /// The messages that weren't confirmed yet, in order.
+    fn pending(&mut self) -> Result<Vec<Message>, StoreFault>
+        ensures value { (s : State) → shows self.old (at_rest s) → is_sound self.new
+            → IfOk result (λ rows. rows.items ≡ pending_messages s.cargo) }
+        ensures rests { (s : State) → shows self.old (at_rest s) → shows self.new (at_rest s) }
+        ensures survives { Survives is_sound may_find self.old self.new };
+
+    /// The trail, in order.
+    fn trail(&mut self) -> Result<Vec<TrailRow>, StoreFault>
+        ensures value { (s : State) → shows self.old (at_rest s) → is_sound self.new
+            → IfOk result (λ rows. rows.items ≡ trail_rows s.cargo) }
+        ensures rests { (s : State) → shows self.old (at_rest s) → shows self.new (at_rest s) }
+        ensures survives { Survives is_sound may_find self.old self.new };
+
+    /// A reopening finds what it shows between two transactions.
+    ghost settled: { (k : Self) (s : State) → shows k (at_rest s) → is_sound k → (found : Option State) → may_find k found → found ≡ Some s };
+
+    /// All rows that it shows are numbered.
+    ghost numbered: { (k : Self) (x : Seen) → shows k x → is_sound k → has_room x.now.cargo ≡ true };
+}

@@ -1,0 +1,263 @@
+//! What a command is planned from: each view asks the store for what its command reads, and no more.
+ghost use Rattle.std.specs.Prelude.{◌≡◌, OnOk, IfOk, length};
+ghost use Rattle.shipment_machine.specs.Agreement.{rows_for, view_of};
+ghost use Rattle.shipment_machine.specs.Book.{built};
+ghost use Rattle.shipment_machine.specs.Views.{declaration_view, waybill_view, flight_view, loads_of};
+ghost use Rattle.shipment_machine.specs.declared.command.ShipmentCommand.TheVariants as order;
+ghost use Rattle.shipment_machine.specs.declared.view.Rows.TheVariants as rows;
+ghost use Rattle.state_store.specs.Store.{Seen, Survives};
+
+use crate::lines::{loads_of, part_rows};
+use crate::store::{StateStore, StoreFault};
+use awb_number::Awb;
+use imp_fields::Moment;
+use shipment_machine::{
+    DeclarationView, DeskCommand, FlightDate, FlightView, Rows, ShipmentCommand, View, WaybillView,
+};
+use std::alloc::Global;
+
+/// What a booking, or an FWB, is planned from.
+fn declaration_rows<S: StateStore>(store: &mut S, awb: &Awb) -> Result<Rows, StoreFault>
+    ensures value { (x : Seen) → S.shows store.old x → S.is_sound store.new
+        → IfOk result (λ made. made ≡ rows.Declaration (declaration_view x.now.cargo awb.now)) }
+    ensures same { (x : Seen) → S.shows store.old x → OnOk result (S.shows store.new x) }
+    ensures survives { Survives S.is_sound S.may_find store.old store.new }
+{
+    let declared = store.declared(awb)?;
+    let has_moves = store.has_moves(awb)?;
+    let holder = store.holder(awb)?;
+    Ok(Rows::Declaration {
+        waybill: DeclarationView {
+            declared,
+            has_moves,
+            holder,
+        },
+    })
+}
+
+/// A waybill with its balances.
+fn waybill_view<S: StateStore>(store: &mut S, awb: &Awb) -> Result<WaybillView, StoreFault>
+    ensures value { (x : Seen) → S.shows store.old x → S.is_sound store.new
+        → IfOk result (λ view. view ≡ waybill_view x.now.cargo awb.now) }
+    ensures same { (x : Seen) → S.shows store.old x → OnOk result (S.shows store.new x) }
+    ensures survives { Survives S.is_sound S.may_find store.old store.new }
+{
+    let declared = store.declared(awb)?;
+    let balances = store.balances(awb)?;
+    Ok(WaybillView { declared, balances })
+}
+
+/// What a receipt, a notice, a delivery, missing or found pieces are planned from.
+fn waybill_rows<S: StateStore>(store: &mut S, awb: &Awb) -> Result<Rows, StoreFault>
+    ensures value { (x : Seen) → S.shows store.old x → S.is_sound store.new
+        → IfOk result (λ made. made ≡ rows.Waybill (waybill_view x.now.cargo awb.now)) }
+    ensures same { (x : Seen) → S.shows store.old x → OnOk result (S.shows store.new x) }
+    ensures survives { Survives S.is_sound S.may_find store.old store.new }
+{
+    let waybill = waybill_view(store, awb)?;
+    Ok(Rows::Waybill { waybill })
+}
+
+/// A number of waybills that a flight may have.
+fn few(count: usize) -> Result<u16, StoreFault>
+    ensures { IfOk result (λ number. number ≡ count) }
+{
+    match u16::try_from(count) {
+        Ok(number) => Ok(number),
+        Err(_) => Err(StoreFault),
+    }
+}
+
+/// A flight, seen from a waybill that is to be built on it.
+fn flight_view<S: StateStore>(
+    store: &mut S,
+    awb: &Awb,
+    flight: &FlightDate,
+) -> Result<FlightView, StoreFault>
+    ensures value { (x : Seen) → S.shows store.old x → S.is_sound store.new
+        → IfOk result (λ view. view ≡ flight_view x.now.cargo awb.now flight.now) }
+    ensures same { (x : Seen) → S.shows store.old x → OnOk result (S.shows store.new x) }
+    ensures survives { Survives S.is_sound S.may_find store.old store.new }
+{
+    let outbound = store.outbound(flight)?;
+    let loads = store.aboard(flight)?;
+    let load = store.load(awb, flight)?;
+    Ok(FlightView {
+        outbound,
+        waybills: few(loads.len())?,
+        load,
+    })
+}
+
+/// What the building of a waybill on a flight is planned from.
+fn manifest_rows<S: StateStore>(
+    store: &mut S,
+    awb: &Awb,
+    flight: &FlightDate,
+) -> Result<Rows, StoreFault>
+    ensures value { (x : Seen) → S.shows store.old x → S.is_sound store.new
+        → IfOk result
+        (λ made. made
+        ≡ rows.Manifest (waybill_view x.now.cargo awb.now)
+        (flight_view x.now.cargo awb.now flight.now)) }
+    ensures same { (x : Seen) → S.shows store.old x → OnOk result (S.shows store.new x) }
+    ensures survives { Survives S.is_sound S.may_find store.old store.new }
+{
+    let waybill = waybill_view(store, awb)?;
+    let beside = flight_view(store, awb, flight)?;
+    Ok(Rows::Manifest {
+        waybill,
+        flight: beside,
+    })
+}
+
+/// What taking a waybill off a flight is planned from.
+fn offload_rows<S: StateStore>(
+    store: &mut S,
+    awb: &Awb,
+    flight: &FlightDate,
+) -> Result<Rows, StoreFault>
+    ensures value { (x : Seen) → S.shows store.old x → S.is_sound store.new
+        → IfOk result
+        (λ made. made
+        ≡ rows.Offload (x.now.cargo.declared awb.now) (x.now.cargo.flights flight.now)
+        (built x.now.cargo.book awb.now flight.now)) }
+    ensures same { (x : Seen) → S.shows store.old x → OnOk result (S.shows store.new x) }
+    ensures survives { Survives S.is_sound S.may_find store.old store.new }
+{
+    let declared = store.declared(awb)?;
+    let outbound = store.outbound(flight)?;
+    let load = store.load(awb, flight)?;
+    Ok(Rows::Offload {
+        declared,
+        outbound,
+        load,
+    })
+}
+
+/// What a departure is planned from.
+fn departure_rows<S: StateStore>(
+    alloc: Global,
+    store: &mut S,
+    flight: &FlightDate,
+) -> Result<Rows, StoreFault>
+    ensures value { (x : Seen) → S.shows store.old x → S.is_sound store.new
+        → IfOk result
+        (λ made. made
+        ≡ rows.Departure (x.now.cargo.flights flight.now) (loads_of x.now.cargo flight.now)) }
+    ensures same { (x : Seen) → S.shows store.old x → OnOk result (S.shows store.new x) }
+    ensures survives { Survives S.is_sound S.may_find store.old store.new }
+{
+    let outbound = store.outbound(flight)?;
+    let loads = loads_of(alloc, store, flight)?;
+    Ok(Rows::Departure { outbound, loads })
+}
+
+/// What the check-in of a waybill is planned from.
+fn check_in_rows<S: StateStore>(
+    store: &mut S,
+    awb: &Awb,
+    flight: &FlightDate,
+) -> Result<Rows, StoreFault>
+    ensures value { (x : Seen) → S.shows store.old x → S.is_sound store.new
+        → IfOk result
+        (λ made. made
+        ≡ rows.CheckIn (waybill_view x.now.cargo awb.now)
+        (x.now.cargo.expected flight.now awb.now)) }
+    ensures same { (x : Seen) → S.shows store.old x → OnOk result (S.shows store.new x) }
+    ensures survives { Survives S.is_sound S.may_find store.old store.new }
+{
+    let waybill = waybill_view(store, awb)?;
+    let expected = store.expected(flight, awb)?;
+    Ok(Rows::CheckIn { waybill, expected })
+}
+
+/// What a status update is planned from.
+fn status_rows<S: StateStore>(store: &mut S, awb: &Awb) -> Result<Rows, StoreFault>
+    ensures value { (x : Seen) → S.shows store.old x → S.is_sound store.new
+        → IfOk result (λ made. made ≡ rows.Status (x.now.cargo.declared awb.now)) }
+    ensures same { (x : Seen) → S.shows store.old x → OnOk result (S.shows store.new x) }
+    ensures survives { Survives S.is_sound S.may_find store.old store.new }
+{
+    let declared = store.declared(awb)?;
+    Ok(Rows::Status { declared })
+}
+
+/// What a confirmation is planned from.
+fn message_rows<S: StateStore>(store: &S) -> Rows
+    ensures { (x : Seen) → S.shows store.now x → S.is_sound store.now
+        → result ≡ rows.Messages x.now.cargo.confirmed (length x.now.cargo.outbox) }
+{
+    let sizes = store.sizes();
+    Rows::Messages {
+        confirmed: store.confirmed(),
+        last: sizes.messages,
+    }
+}
+
+/// What a command of the desk is planned from.
+fn desk_rows<S: StateStore>(
+    alloc: Global,
+    store: &mut S,
+    command: &DeskCommand,
+    at: Moment,
+) -> Result<Rows, StoreFault>
+    ensures value { (x : Seen) → S.shows store.old x → S.is_sound store.new
+        → IfOk result (λ made. made ≡ rows_for x.now.cargo (order.Desk command.now) at) }
+    ensures same { (x : Seen) → S.shows store.old x → OnOk result (S.shows store.new x) }
+    ensures survives { Survives S.is_sound S.may_find store.old store.new }
+{
+    match command {
+        DeskCommand::Book { awb, .. } => declaration_rows(store, awb),
+        DeskCommand::Receive { awb, .. } => waybill_rows(store, awb),
+        DeskCommand::Manifest { awb, flight, .. } => manifest_rows(store, awb, flight),
+        DeskCommand::Offload { awb, flight, .. } => offload_rows(store, awb, flight),
+        DeskCommand::Depart { flight } => departure_rows(alloc, store, flight),
+        DeskCommand::CheckIn { awb, flight, .. } => check_in_rows(store, awb, flight),
+        DeskCommand::Notify { awb, .. } => waybill_rows(store, awb),
+        DeskCommand::Deliver { awb, .. } => waybill_rows(store, awb),
+        DeskCommand::Missing { awb, .. } => waybill_rows(store, awb),
+        DeskCommand::Found { awb, .. } => waybill_rows(store, awb),
+        DeskCommand::Confirm { .. } => Ok(message_rows(store)),
+    }
+}
+
+/// The rows that a command reads.
+fn rows_for<S: StateStore>(
+    alloc: Global,
+    store: &mut S,
+    command: &ShipmentCommand<'_>,
+    at: Moment,
+) -> Result<Rows, StoreFault>
+    ensures value { (x : Seen) → S.shows store.old x → S.is_sound store.new
+        → IfOk result (λ made. made ≡ rows_for x.now.cargo command.now at) }
+    ensures same { (x : Seen) → S.shows store.old x → OnOk result (S.shows store.new x) }
+    ensures survives { Survives S.is_sound S.may_find store.old store.new }
+{
+    match command {
+        ShipmentCommand::Desk(desk) => desk_rows(alloc, store, desk.get(), at),
+        ShipmentCommand::Fwb(line) => declaration_rows(store, &line.get().awb),
+        ShipmentCommand::Ffm(part) => part_rows(alloc, store, part, at),
+        ShipmentCommand::Fsu(status) => status_rows(store, &status.awb),
+    }
+}
+
+/// What a command is planned from: all that the state has for it, and what it doesn't read is not asked of the store.
+/// A fault says that a call of the store failed, or that memory was wanting.
+pub fn view<S: StateStore>(
+    alloc: Global,
+    store: &mut S,
+    command: &ShipmentCommand<'_>,
+    at: Moment,
+) -> Result<View, StoreFault>
+    ensures value { (x : Seen) → S.shows store.old x → S.is_sound store.new
+        → IfOk result (λ view. view ≡ view_of x.now.cargo command.now at) }
+    ensures same { (x : Seen) → S.shows store.old x → OnOk result (S.shows store.new x) }
+    ensures survives { Survives S.is_sound S.may_find store.old store.new }
+{
+    let rows = rows_for(alloc, store, command, at)?;
+    Ok(View {
+        here: store.here(),
+        rows,
+    })
+}

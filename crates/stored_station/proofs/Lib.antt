@@ -1,0 +1,4 @@
+mod Numbering
+mod Reading
+mod Steps
+mod Walks

@@ -1,0 +1,5 @@
+pub mod Found
+pub mod Laws
+pub mod Room
+pub mod Serving
+pub mod Written

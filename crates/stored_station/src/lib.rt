@@ -1,0 +1,10 @@
+//! The whole station over any store of its state.
+#![tactic(auto)]
+
+mod acting;
+mod carrying;
+mod replying;
+mod room;
+mod station;
+
+pub use station::Station;
