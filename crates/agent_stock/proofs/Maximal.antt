@@ -5,20 +5,19 @@ use Rattle.std.specs.List.{AllByRecursion, list_any}
 use Rattle.std.proofs.lemmas.Bool.{and_parts, and_from, or_left, or_right, cases_lt, cond-true, cond-false, le-leb, leb-true, lt-ltb, ltb-true, eq-eqb, ne_eqb}
 use Rattle.std.proofs.lemmas.List.{drop_more}
 use Rattle.awb_number.specs.Number.{prefix_of, serial_of}
-use Rattle.agent_stock.specs.Stock.{Holders, covers}
+use Rattle.agent_stock.specs.Stock.{Holders, is_among}
 use Rattle.agent_stock.specs.declared.stock.Holder.{Holder}
-use Rattle.agent_stock.specs.declared.stock.Run.{Run}
 use Rattle.agent_stock.specs.declared.runs.Held.{Held}
 use Rattle.agent_stock.specs.declared.runs.StockRun.{StockRun}
 use Rattle.agent_stock.specs.Runs.{IsMaximalRun, AreApart, AreStockRuns, AreRising, holders_among, GoesOn}
 
 -- the run of one number
 abbrev pub begun : Held → StockRun
-begun held = record { run = record { first = held.number; count = 1 }; holder = held.holder }
+begun held = record { first = held.number; count = 1; holder = held.holder }
 
 -- a run with one number more
 abbrev pub longer : StockRun → StockRun
-longer row = record { run = record { first = row.run.first; count = row.run.count + 1 }; holder = row.holder }
+longer row = record { first = row.first; count = row.count + 1; holder = row.holder }
 
 -- the rows that a begun run and the numbers behind it make
 abbrev pub Makes : StockRun → List Held → List StockRun → Type 0
@@ -53,7 +52,7 @@ RiseFrom low (held ∷ numbers) = (low ≤ held.number) × RiseFrom (held.number
 -- each row begins there at least, and behind the one before it
 abbrev StandFrom : ℕ → List StockRun → Type 0
 StandFrom low [] = Unit {0}
-StandFrom low (row ∷ rows) = (low ≤ row.run.first) × StandFrom (row.run.first + row.run.count) rows
+StandFrom low (row ∷ rows) = (low ≤ row.first) × StandFrom (row.first + row.count) rows
 
 rises : (held : Held) (numbers : List Held) → AreRising (held ∷ numbers) → RiseFrom (held.number + 1) numbers
 rises held [] h = tt
@@ -62,7 +61,7 @@ rises held (next ∷ numbers) h = (omega (arith, h.0), rises next numbers h.1)
 stand_apart : (low : ℕ) (rows : List StockRun) → StandFrom low rows → AreApart rows
 stand_apart low [] h = tt
 stand_apart low (row ∷ []) h = tt
-stand_apart low (row ∷ next ∷ rows) h = (h.1.0, stand_apart (row.run.first + row.run.count) (next ∷ rows) h.1)
+stand_apart low (row ∷ next ∷ rows) h = (h.1.0, stand_apart (row.first + row.count) (next ∷ rows) h.1)
 
 stand_lower : (low lower : ℕ) (rows : List StockRun) → lower ≤ low → StandFrom low rows → StandFrom lower rows
 stand_lower low lower [] le h = tt
@@ -82,13 +81,13 @@ none_below low q (held ∷ numbers) h lt =
     let other : q ≢ held.number = λ e. omega (arith, e, h.0, lt) in
     beside held numbers q other ∙ none_below (held.number + 1) q numbers h.1 (omega (arith, h.0, lt))
 
-covered : (run : Run) (q : ℕ) → IsTrue (covers run q) → (run.first ≤ q) × (q < run.first + run.count)
-covered run q h =
+covered : (row : StockRun) (q : ℕ) → IsTrue (is_among row.first row.count q) → (row.first ≤ q) × (q < row.first + row.count)
+covered row q h =
     let parts = and_parts _ _ h in
     (leb-true _ _ parts.0, ltb-true _ _ parts.1)
 
-covers_from : (run : Run) (q : ℕ) → run.first ≤ q → q < run.first + run.count → covers run q ≡ true
-covers_from run q le lt = and_from _ _ (le-leb _ _ le) (lt-ltb _ _ lt)
+covers_from : (row : StockRun) (q : ℕ) → row.first ≤ q → q < row.first + row.count → is_among row.first row.count q ≡ true
+covers_from row q le lt = and_from _ _ (le-leb _ _ le) (lt-ltb _ _ lt)
 
 not_some : (x : Holder) (held : Holders) (q : ℕ) → held q ≡ None → held q ≢ Some x
 not_some x held q none some = let e : None ≡ Some x = sym none ∙ some in cc
@@ -99,10 +98,10 @@ not_held held q none some = let e : is_some {T = Holder} None ≡ true = ap is_s
 module _ (holders : Holders) where
   -- a run that may go on: nothing is said of the number behind it
   record IsBegun (row : StockRun) : Type 0 where
-    some : 1 ≤ row.run.count
-    one_prefix : serial_of row.run.first + row.run.count ≤ 10_000_000
-    one_holder : (q : ℕ) → IsTrue (covers row.run q) → holders q ≡ Some row.holder
-    none_before : (serial_of row.run.first ≡ 0) ⊎ (holders (row.run.first - 1) ≢ Some row.holder)
+    some : 1 ≤ row.count
+    one_prefix : serial_of row.first + row.count ≤ 10_000_000
+    one_holder : (q : ℕ) → IsTrue (is_among row.first row.count q) → holders q ≡ Some row.holder
+    none_before : (serial_of row.first ≡ 0) ⊎ (holders (row.first - 1) ≢ Some row.holder)
 
   -- from a number on, the stock is what the list says
   abbrev IsAhead : ℕ → List Held → Type 0
@@ -112,14 +111,14 @@ module _ (holders : Holders) where
   record AreDone (low : ℕ) (rows : List StockRun) : Type 0 where
     maximal : AllByRecursion (IsMaximalRun holders) rows
     rising : StandFrom low rows
-    complete : (q : ℕ) → low ≤ q → IsSome (holders q) → IsTrue (list_any (λ row. covers row.run q) rows)
+    complete : (q : ℕ) → low ≤ q → IsSome (holders q) → IsTrue (list_any (λ row. is_among row.first row.count q) rows)
 
   begins : (held : Held) (numbers : List Held) → holders held.number ≡ Some held.holder
       → (serial_of held.number ≡ 0) ⊎ (holders (held.number - 1) ≢ Some held.holder) → IsBegun (begun held)
   begins held numbers at before = record {
     some = omega arith;
     one_prefix = omega arith;
-    one_holder = λ q h. let in_it = covered (begun held).run q h in let e : q ≡ held.number = omega (arith, in_it) in ap holders e ∙ at;
+    one_holder = λ q h. let in_it = covered (begun held) q h in let e : q ≡ held.number = omega (arith, in_it) in ap holders e ∙ at;
     none_before = before;
   }
 
@@ -128,30 +127,30 @@ module _ (holders : Holders) where
     some = omega arith;
     one_prefix = omega (arith, goes.0, goes.1);
     one_holder = λ q in_row.
-        let within = covered (longer row).run q in_row in
-        elim (cases_lt q (row.run.first + row.run.count)) [
-          | inl lt ↦ h.one_holder q (covers_from row.run q within.0 lt)
+        let within = covered (longer row) q in_row in
+        elim (cases_lt q (row.first + row.count)) [
+          | inl lt ↦ h.one_holder q (covers_from row q within.0 lt)
           | inr le ↦ let e : q ≡ held.number = omega (arith, within.1, le, goes.1) in ap holders e ∙ at ∙ ap Some (sym goes.2)
         ];
     none_before = h.none_before;
   }
 
-  closes : (row : StockRun) → IsBegun row → (serial_of row.run.first + row.run.count ≡ 10_000_000) ⊎ (holders (row.run.first + row.run.count) ≢ Some row.holder) → IsMaximalRun holders row
+  closes : (row : StockRun) → IsBegun row → (serial_of row.first + row.count ≡ 10_000_000) ⊎ (holders (row.first + row.count) ≢ Some row.holder) → IsMaximalRun holders row
   closes row h after = record { some = h.some; one_prefix = h.one_prefix; one_holder = h.one_holder; none_before = h.none_before; none_after = after }
 
   -- the last run
-  ends : (row : StockRun) → IsBegun row → IsAhead (row.run.first + row.run.count) [] → AreDone row.run.first (row ∷ [])
+  ends : (row : StockRun) → IsBegun row → IsAhead (row.first + row.count) [] → AreDone row.first (row ∷ [])
   ends row h ahead = record {
-    maximal = (closes row h (inr (not_some row.holder holders (row.run.first + row.run.count) (ahead (row.run.first + row.run.count) (omega arith)))), tt);
+    maximal = (closes row h (inr (not_some row.holder holders (row.first + row.count) (ahead (row.first + row.count) (omega arith)))), tt);
     rising = (omega arith, tt);
     complete = λ q low some.
-        elim (cases_lt q (row.run.first + row.run.count)) [
-          | inl lt ↦ or_left _ _ (covers_from row.run q low lt)
+        elim (cases_lt q (row.first + row.count)) [
+          | inl lt ↦ or_left _ _ (covers_from row q low lt)
           | inr le ↦ absurd (not_held holders q (ahead q le) some)
         ];
   }
 
-  module _ (row : StockRun) (held : Held) (numbers : List Held) (h : IsBegun row) (up : RiseFrom (row.run.first + row.run.count) (held ∷ numbers)) (ahead : IsAhead (row.run.first + row.run.count) (held ∷ numbers)) where
+  module _ (row : StockRun) (held : Held) (numbers : List Held) (h : IsBegun row) (up : RiseFrom (row.first + row.count) (held ∷ numbers)) (ahead : IsAhead (row.first + row.count) (held ∷ numbers)) where
     -- the next number in stock, and what is behind it
     at_next : holders held.number ≡ Some held.holder
     at_next = ahead held.number up.0 ∙ here held numbers held.number refl
@@ -162,19 +161,19 @@ module _ (holders : Holders) where
         ahead q (omega (arith, up.0, le)) ∙ beside held numbers q other
 
     -- nobody has the numbers up to it
-    between : (q : ℕ) → row.run.first + row.run.count ≤ q → q < held.number → holders q ≡ None
+    between : (q : ℕ) → row.first + row.count ≤ q → q < held.number → holders q ≡ None
     between q le lt = ahead q le ∙ none_below held.number q (held ∷ numbers) (omega arith, up.1) lt
 
     module _ (stops : GoesOn row held → ⊥) where
-      none_after : (serial_of row.run.first + row.run.count ≡ 10_000_000) ⊎ (holders (row.run.first + row.run.count) ≢ Some row.holder)
+      none_after : (serial_of row.first + row.count ≡ 10_000_000) ⊎ (holders (row.first + row.count) ≢ Some row.holder)
       none_after =
-          elim (cases_lt (row.run.first + row.run.count) held.number) [
-            | inl lt ↦ inr (not_some row.holder holders (row.run.first + row.run.count) (between (row.run.first + row.run.count) (omega arith) lt))
+          elim (cases_lt (row.first + row.count) held.number) [
+            | inl lt ↦ inr (not_some row.holder holders (row.first + row.count) (between (row.first + row.count) (omega arith) lt))
             | inr le ↦
-                let next : row.run.first + row.run.count ≡ held.number = omega (arith, le, up.0) in
-                elim (cases_lt (serial_of row.run.first + row.run.count) 10_000_000) [
+                let next : row.first + row.count ≡ held.number = omega (arith, le, up.0) in
+                elim (cases_lt (serial_of row.first + row.count) 10_000_000) [
                   | inl lt ↦ inr (λ same.
-                      let prefix : prefix_of row.run.first ≡ prefix_of held.number = omega (arith, lt, next) in
+                      let prefix : prefix_of row.first ≡ prefix_of held.number = omega (arith, lt, next) in
                       let e : Some row.holder ≡ Some held.holder = sym same ∙ ap holders next ∙ at_next in
                       let holder : row.holder ≡ held.holder = cc in
                       stops (prefix, next, holder))
@@ -184,14 +183,14 @@ module _ (holders : Holders) where
 
       none_before : (serial_of held.number ≡ 0) ⊎ (holders (held.number - 1) ≢ Some held.holder)
       none_before =
-          elim (cases_lt (row.run.first + row.run.count) held.number) [
+          elim (cases_lt (row.first + row.count) held.number) [
             | inl lt ↦ inr (not_some held.holder holders (held.number - 1) (between (held.number - 1) (omega (arith, lt)) (omega (arith, lt))))
             | inr le ↦
-                let next : row.run.first + row.run.count ≡ held.number = omega (arith, le, up.0) in
+                let next : row.first + row.count ≡ held.number = omega (arith, le, up.0) in
                 elim (cases_lt 0 (serial_of held.number)) [
                   | inl lt ↦ inr (λ same.
-                      let prefix : prefix_of row.run.first ≡ prefix_of held.number = omega (arith, lt, next, h.one_prefix) in
-                      let last = h.one_holder (held.number - 1) (covers_from row.run (held.number - 1) (omega (arith, next, h.some)) (omega (arith, next, h.some))) in
+                      let prefix : prefix_of row.first ≡ prefix_of held.number = omega (arith, lt, next, h.one_prefix) in
+                      let last = h.one_holder (held.number - 1) (covers_from row (held.number - 1) (omega (arith, next, h.some)) (omega (arith, next, h.some))) in
                       let e : Some row.holder ≡ Some held.holder = sym last ∙ same in
                       let holder : row.holder ≡ held.holder = cc in
                       stops (prefix, next, holder))
@@ -199,13 +198,13 @@ module _ (holders : Holders) where
                 ]
           ]
 
-      then_rows : (others : List StockRun) → AreDone held.number others → AreDone row.run.first (row ∷ others)
+      then_rows : (others : List StockRun) → AreDone held.number others → AreDone row.first (row ∷ others)
       then_rows others done = record {
         maximal = (closes row h none_after, done.maximal);
-        rising = (omega arith, stand_lower held.number (row.run.first + row.run.count) others up.0 done.rising);
+        rising = (omega arith, stand_lower held.number (row.first + row.count) others up.0 done.rising);
         complete = λ q low some.
-            elim (cases_lt q (row.run.first + row.run.count)) [
-              | inl lt ↦ or_left _ _ (covers_from row.run q low lt)
+            elim (cases_lt q (row.first + row.count)) [
+              | inl lt ↦ or_left _ _ (covers_from row q low lt)
               | inr le ↦
                   elim (cases_lt q held.number) [
                     | inl before ↦ absurd (not_held holders q (between q le before) some)
@@ -214,11 +213,11 @@ module _ (holders : Holders) where
             ];
       }
 
-  made : (row : StockRun) (numbers : List Held) (rows : List StockRun) → IsBegun row → RiseFrom (row.run.first + row.run.count) numbers
-      → IsAhead (row.run.first + row.run.count) numbers → Makes row numbers rows → AreDone row.run.first rows
-  made row [] rows h up ahead makes = subst (AreDone row.run.first) (sym makes) (ends row h ahead)
+  made : (row : StockRun) (numbers : List Held) (rows : List StockRun) → IsBegun row → RiseFrom (row.first + row.count) numbers
+      → IsAhead (row.first + row.count) numbers → Makes row numbers rows → AreDone row.first rows
+  made row [] rows h up ahead makes = subst (AreDone row.first) (sym makes) (ends row h ahead)
   made row (held ∷ numbers) rows h up ahead (inl more) =
-      let next : held.number + 1 ≡ row.run.first + (row.run.count + 1) = omega (arith, more.0.1) in
+      let next : held.number + 1 ≡ row.first + (row.count + 1) = omega (arith, more.0.1) in
       made (longer row) numbers rows (grows row held h more.0 (at_next row held numbers h up ahead))
       (subst (λ low. RiseFrom low numbers) next up.1)
       (subst (λ low. IsAhead low numbers) next (behind_next row held numbers h up ahead))
@@ -226,7 +225,7 @@ module _ (holders : Holders) where
   made row (held ∷ numbers) rows h up ahead (inr other) =
       let done = made (begun held) numbers other.1.0 (begins held numbers (at_next row held numbers h up ahead) (none_before row held numbers h up ahead other.0))
       up.1 (behind_next row held numbers h up ahead) other.1.1.1 in
-      subst (AreDone row.run.first) (sym other.1.1.0) (then_rows row held numbers h up ahead other.0 other.1.0 done)
+      subst (AreDone row.first) (sym other.1.1.0) (then_rows row held numbers h up ahead other.0 other.1.0 done)
 
 -- the rows that a number and those behind it make
 pub are_stock_runs : (held : Held) (numbers : List Held) (rows : List StockRun) → Makes (begun held) numbers rows → AreRising (held ∷ numbers) → AreStockRuns (holders_among (held ∷ numbers)) rows

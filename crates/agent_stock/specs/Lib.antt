@@ -1,4 +1,5 @@
 pub mod Code
+pub mod Count
 pub mod Plain
 pub mod Runs
 pub mod Stock

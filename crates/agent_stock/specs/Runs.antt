@@ -2,29 +2,29 @@
 use Rattle.std.specs.Prelude.{ℕ, ◌≡◌, ◌≢◌, ◌+◌, ◌-◌, ◌≤◌, ◌<◌, ◌⊎◌, ◌==◌, IsTrue, IsSome, if◌then◌else◌, Some, None, List, [], ◌∷◌}
 use Rattle.std.specs.List.{AllByRecursion, list_any}
 use Rattle.awb_number.specs.Number.{prefix_of, serial_of}
-use Rattle.agent_stock.specs.Stock.{Holders, covers}
+use Rattle.agent_stock.specs.Stock.{Holders, is_among}
 use Rattle.agent_stock.specs.declared.runs.Held.{Held}
 use Rattle.agent_stock.specs.declared.runs.StockRun.{StockRun}
 
 -- numbers of one prefix and one holder, whose neighbours aren't with that holder
 pub record IsMaximalRun (holders : Holders) (row : StockRun) : Type 0 where
-  pub some : 1 ≤ row.run.count
-  pub one_prefix : serial_of row.run.first + row.run.count ≤ 10_000_000
-  pub one_holder : (q : ℕ) → IsTrue (covers row.run q) → holders q ≡ Some row.holder
-  pub none_before : (serial_of row.run.first ≡ 0) ⊎ (holders (row.run.first - 1) ≢ Some row.holder)
-  pub none_after : (serial_of row.run.first + row.run.count ≡ 10_000_000) ⊎ (holders (row.run.first + row.run.count) ≢ Some row.holder)
+  pub some : 1 ≤ row.count
+  pub one_prefix : serial_of row.first + row.count ≤ 10_000_000
+  pub one_holder : (q : ℕ) → IsTrue (is_among row.first row.count q) → holders q ≡ Some row.holder
+  pub none_before : (serial_of row.first ≡ 0) ⊎ (holders (row.first - 1) ≢ Some row.holder)
+  pub none_after : (serial_of row.first + row.count ≡ 10_000_000) ⊎ (holders (row.first + row.count) ≢ Some row.holder)
 
 -- each row begins behind the one before it
 abbrev pub AreApart : List StockRun → Type 0
 AreApart [] = Unit {0}
 AreApart (row ∷ []) = Unit {0}
-AreApart (row ∷ next ∷ rows) = (row.run.first + row.run.count ≤ next.run.first) × AreApart (next ∷ rows)
+AreApart (row ∷ next ∷ rows) = (row.first + row.count ≤ next.first) × AreApart (next ∷ rows)
 
 -- the maximal runs of the stock, rising, and all of them
 pub record AreStockRuns (holders : Holders) (rows : List StockRun) : Type 0 where
   pub maximal : AllByRecursion (IsMaximalRun holders) rows
   pub rising : AreApart rows
-  pub complete : (q : ℕ) → IsSome (holders q) → IsTrue (list_any (λ row. covers row.run q) rows)
+  pub complete : (q : ℕ) → IsSome (holders q) → IsTrue (list_any (λ row. is_among row.first row.count q) rows)
 
 -- each number is above the one before it
 abbrev pub AreRising : List Held → Type 0
@@ -39,4 +39,4 @@ holders_among (held ∷ numbers) q = if q == held.number then Some held.holder e
 
 -- the number is the next one of the run's prefix, and with its holder
 abbrev pub GoesOn : StockRun → Held → Type 0
-GoesOn row held = (prefix_of row.run.first ≡ prefix_of held.number) × (row.run.first + row.run.count ≡ held.number) × (row.holder ≡ held.holder)
+GoesOn row held = (prefix_of row.first ≡ prefix_of held.number) × (row.first + row.count ≡ held.number) × (row.holder ≡ held.holder)

@@ -17,9 +17,13 @@ use Rattle.agent_stock.specs.declared.stock.StockFault.TheVariants as fault
 abbrev pub Holders : Type 0
 Holders = ℕ → Option Holder
 
+-- whether a number is one of so many from the first one on
+abbrev pub is_among : ℕ → ℕ → ℕ → Bool
+is_among first count q = nat_le first q && nat_lt q (first + count)
+
 -- whether a number is one of the run
 abbrev pub covers : Run → ℕ → Bool
-covers run q = nat_le run.first q && nat_lt q (run.first + run.count)
+covers run q = is_among run.first run.count q
 
 -- whether a run has 1 to 10,000 numbers and stays within its prefix
 abbrev pub is_run : Run → Bool

@@ -13,4 +13,4 @@ pub use orders::{carry_out, give_back, issue, take_in, void_run};
 pub use plain::PlainRows;
 pub use rows::StockRows;
 pub use runs::{Held, StockRun, runs_of};
-pub use stock::{Holder, Order, Run, StockFault, Test};
+pub use stock::{Holder, Order, Run, RunCount, StockFault, Test};

@@ -108,7 +108,7 @@ impl StockRows for PlainRows {
     }
 
     fn uniform(&mut self, run: &Run, test: &Test) -> Result<Option<Awb>, AllocError> {
-        for key in run.first.key()..run.first.key() + u64::from(run.count) {
+        for key in run.first.key()..run.first.key() + u64::from(run.count.number()) {
             if !test.passes(&self.by_number.get(&key).copied()) {
                 return Ok(Awb::of_key(key));
             }
@@ -117,7 +117,7 @@ impl StockRows for PlainRows {
     }
 
     fn assign(&mut self, run: &Run, holder: &Holder) -> Result<(), AllocError> {
-        for key in run.first.key()..run.first.key() + u64::from(run.count) {
+        for key in run.first.key()..run.first.key() + u64::from(run.count.number()) {
             self.by_number.insert(key, *holder)?;
         }
         Ok(())

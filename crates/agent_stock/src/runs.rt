@@ -1,7 +1,7 @@
 ghost use Rattle.std.specs.Prelude.{◌≡◌, ◌↔◌, ◌∷◌, IsTrue, IfOk};
 ghost use Rattle.agent_stock.specs.Runs.{AreRising, AreStockRuns, GoesOn, holders_among};
 
-use crate::stock::{Holder, Run};
+use crate::stock::Holder;
 use awb_number::Awb;
 use std::alloc::{AllocError, Global};
 
@@ -12,23 +12,22 @@ pub struct Held {
     pub holder: Holder,
 }
 
-/// Numbers one after another that one holder has.
+/// Numbers one after another that one holder has: the first, and how many, at most the 10,000,000 of a prefix.
 #[derive(Clone, Copy, Debug, PartialEq, Eq)]
 pub struct StockRun {
-    pub run: Run,
+    pub first: Awb,
+    pub count: u32,
     pub holder: Holder,
 }
 
 impl StockRun {
     /// The run of one number.
     fn of_one(held: &Held) -> StockRun
-        ensures { result ≡ record { run = record { first = held.now.number; count = 1 }; holder = held.now.holder } }
+        ensures { result ≡ record { first = held.now.number; count = 1; holder = held.now.holder } }
     {
         StockRun {
-            run: Run {
-                first: held.number,
-                count: 1,
-            },
+            first: held.number,
+            count: 1,
             holder: held.holder,
         }
     }
@@ -37,8 +36,8 @@ impl StockRun {
     fn goes_on(&self, held: &Held) -> bool
         ensures { IsTrue result ↔ GoesOn self.now held.now }
     {
-        self.run.first.prefix() == held.number.prefix()
-            && self.run.first.key() + u64::from(self.run.count) == held.number.key()
+        self.first.prefix() == held.number.prefix()
+            && self.first.key() + u64::from(self.count) == held.number.key()
             && self.holder.is_same(&held.holder)
     }
 }
@@ -51,7 +50,7 @@ fn runs_from(alloc: Global, first: &Held, following: &[Held]) -> Result<Vec<Stoc
     let mut row = StockRun::of_one(first);
     for held in following {
         if row.goes_on(held) {
-            row.run.count += 1;
+            row.count += 1;
         } else {
             rows.push(row)?;
             row = StockRun::of_one(held);

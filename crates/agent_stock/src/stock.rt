@@ -1,8 +1,10 @@
-ghost use Rattle.std.specs.Prelude.{◌≡◌, ◌↔◌, IsTrue};
+ghost use Rattle.std.specs.Prelude.{◌≡◌, ◌↔◌, true, IsTrue, IsSome, IfSome};
 ghost use Rattle.agent_stock.specs.Stock.{is_run, passes};
+ghost use Rattle.agent_stock.specs.Count.{IsRunCount};
 
 use crate::agent_code::AgentCode;
 use awb_number::Awb;
+use std::marker::Model;
 
 /// The most numbers that one order is for.
 const LARGEST_RUN: u32 = 10_000;
@@ -38,19 +40,76 @@ impl Holder {
     }
 }
 
-/// Numbers one after another: the first, and how many. It may have any count, and end past its prefix.
+/// The largest number that an order may state as its count.
+const LARGEST_COUNT: u32 = 9_999_999;
+
+/// How many numbers an order states, 0 to 9,999,999: seven digits at most. Whether so many can be ordered is asked
+/// by [`Run::is_run`].
+#[derive(Clone, Copy, Debug, PartialEq, Eq, PartialOrd, Ord)]
+pub struct RunCount {
+    number: u32,
+}
+
+impl Model for RunCount {
+    ghost use Rattle.std.specs.Prelude.{ℕ};
+    ghost use Rattle.agent_stock.specs.Count.{IsRunCount};
+
+    ghost Value = { ℕ };
+
+    ghost view = { λ c. c.number };
+
+    ghost invariant = { λ c. IsRunCount c.number };
+
+    ghost inverse = { λ n. record { number = n } };
+}
+
+impl RunCount {
+    /// The count, where the number is at most 9,999,999.
+    pub fn new(number: u32) -> Option<RunCount>
+        ensures in_range { IsSome result ↔ IsRunCount number }
+        ensures value { IfSome result (λ c. c ≡ number) }
+    {
+        if number <= LARGEST_COUNT {
+            Some(RunCount { number })
+        } else {
+            None
+        }
+    }
+
+    /// The number, 0 to 9,999,999.
+    pub fn number(self) -> u32
+        ensures value { result ≡ self }
+        ensures in_range { IsRunCount result }
+    {
+        self.number
+    }
+}
+
+/// Numbers one after another: the first, and how many. It may be too long for an order, and end past its prefix.
 #[derive(Clone, Copy, Debug, PartialEq, Eq)]
 pub struct Run {
     pub first: Awb,
-    pub count: u32,
+    pub count: RunCount,
 }
 
 impl Run {
+    /// The run of one number.
+    pub fn of_one(number: Awb) -> Run
+        ensures value { result ≡ record { first = number; count = 1 } }
+        ensures is_run { is_run result ≡ true }
+    {
+        Run {
+            first: number,
+            count: RunCount { number: 1 },
+        }
+    }
+
     /// Whether it has 1 to 10,000 numbers and stays within its prefix.
     pub fn is_run(&self) -> bool
         ensures { result ≡ is_run self.now }
     {
-        self.count > 0 && self.count <= LARGEST_RUN && self.count <= SERIALS - self.first.serial()
+        let count = self.count.number();
+        count > 0 && count <= LARGEST_RUN && count <= SERIALS - self.first.serial()
     }
 }
 

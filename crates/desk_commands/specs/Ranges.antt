@@ -1,5 +1,5 @@
 -- The values that commands have.
-use Rattle.std.specs.Prelude.{◌<◌, ◌≤◌, ℕ, List, IsTrue, IfSome}
+use Rattle.std.specs.Prelude.{◌<◌, ℕ, List, IsTrue, IfSome}
 use Rattle.awb_number.specs.Number.{IsNumber}
 use Rattle.imp_fields.specs.Amount.{IsPieces, IsTenths}
 use Rattle.imp_fields.specs.Airport.{is_airport}
@@ -7,6 +7,7 @@ use Rattle.imp_fields.specs.Flight.{IsDesignator}
 use Rattle.imp_fields.specs.Date.{IsMomentDay}
 use Rattle.imp_fields.specs.Name.{is_name, is_goods}
 use Rattle.agent_stock.specs.Code.{is_agent_code}
+use Rattle.agent_stock.specs.Count.{IsRunCount}
 use Rattle.agent_stock.specs.declared.stock.Run.{Run}
 use Rattle.agent_stock.specs.declared.stock.Order.{Order}
 use Rattle.agent_stock.specs.declared.stock.Order.TheVariants.{TakeIn, Issue, GiveBack, Void}
@@ -17,9 +18,9 @@ use Rattle.shipment_machine.specs.declared.command.DeskCommand.TheVariants.{Book
 use Rattle.desk_commands.specs.declared.command.Command.{Command}
 use Rattle.desk_commands.specs.declared.command.Command.TheVariants.{Stock, Cargo}
 
--- as many numbers as a prefix has at most
+-- a run's first number, and a count as an order may state it
 abbrev pub IsRun : Run → Type 0
-IsRun run = IsNumber run.first × (run.count ≤ 9_999_999)
+IsRun run = IsNumber run.first × IsRunCount run.count
 
 abbrev pub IsOrder : Order → Type 0
 IsOrder (TakeIn run) = IsRun run

@@ -10,10 +10,10 @@ use crate::command::Command;
 use crate::field::{Field, Kind, places};
 use crate::given::Given;
 use crate::reading::command_of;
+use crate::text::Text;
 use crate::verb::Verb;
 use imp_fields::Flight;
 use serde_json::Value;
-use shipment_machine::Text;
 
 /// A body of JSON that isn't one of the verb.
 #[derive(Clone, Copy, Debug, PartialEq, Eq)]

@@ -6,10 +6,11 @@ ghost use Rattle.awb_number.specs.Number.{number_of};
 ghost use Rattle.desk_commands.specs.Reading.{text_in, number_in, digits_of, digits_in, awb_of, awb_in, airport_in, pieces_in, tenths_in, name_in, goods_in, agent_in, counted_in, count_in, flight_in, day_in, flight_date_in, flight_if_any_in, run_in};
 
 use crate::day::read_day;
-use agent_stock::{AgentCode, Run};
+use crate::text::Text;
+use agent_stock::{AgentCode, Run, RunCount};
 use awb_number::{Awb, decimal};
 use imp_fields::{Airport, Flight, Goods, LocalDay, Name, Pieces, Tenths};
-use shipment_machine::{FlightDate, PieceCount, Text};
+use shipment_machine::{FlightDate, PieceCount};
 
 /// What a field holds.
 #[derive(Drop)]
@@ -95,15 +96,10 @@ impl Given<'_> {
         read_day(self.text()?)
     }
 
-    fn count(&self) -> Option<u32>
+    fn count(&self) -> Option<RunCount>
         ensures { result ≡ count_in self.now }
     {
-        let count = self.number()?;
-        if count <= 9_999_999 {
-            Some(count)
-        } else {
-            None
-        }
+        RunCount::new(self.number()?)
     }
 
     /// A waybill number.

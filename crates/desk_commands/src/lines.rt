@@ -7,8 +7,8 @@ ghost use Rattle.desk_commands.specs.Lines.{IsNext, is_end, lines_left, lines_of
 use crate::field::{Field, Kind};
 use crate::given::Given;
 use crate::number::read_number;
+use crate::text::Text;
 use imp_fields::Flight;
-use shipment_machine::Text;
 
 /// How many bytes stand before the first end of a line, or in all where there is none.
 fn before_end(text: &[u8]) -> usize

@@ -11,9 +11,10 @@ use crate::command::Command;
 use crate::field::places;
 use crate::given::{Given, flight_date, flight_if_any, run};
 use crate::lines::{first_line, givens, next_line};
+use crate::text::Text;
 use crate::verb::Verb;
 use agent_stock::Order;
-use shipment_machine::{DeskCommand, Text};
+use shipment_machine::DeskCommand;
 
 /// The command whose text this is, if it is one. It takes no memory.
 pub fn read_command_text(text: &[u8]) -> Option<Command>

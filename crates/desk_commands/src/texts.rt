@@ -127,7 +127,7 @@ fn run_lines(alloc: Global, run: &Run) -> Result<String, AllocError>
     let number = run.first.write();
     let prefix = ascii_text(&number[..3]);
     let serial = ascii_text(&number[4..11]);
-    let count = run.count;
+    let count = run.count.number();
     format!(in alloc; "{prefix}\n{serial}\n{count}")
 }
 

@@ -1,6 +1,6 @@
 //! Commands that are built from their fields, and their texts.
 use crate::said::{next_number, next_small_number, say, shown};
-use agent_stock::{AgentCode, Order, Run};
+use agent_stock::{AgentCode, Order, Run, RunCount};
 use awb_number::Awb;
 use desk_commands::{Command, Verb, command_text, read_command_text};
 use imp_fields::{Airport, Flight, Goods, LocalDay, Name, Pieces, Tenths};
@@ -45,7 +45,7 @@ fn order(asked: &str, words: &mut SplitWhitespace<'_>) -> Option<Order> {
     let prefix = next_small_number(words)?;
     let serial = next_number(words)?;
     let first = Awb::new(prefix, serial)?;
-    let count = next_number(words)?;
+    let count = RunCount::new(next_number(words)?)?;
     let run = Run { first, count };
     match asked {
         "take-in" => Some(Order::TakeIn(run)),

@@ -1,8 +1,8 @@
 //! Orders on a stock in memory.
 use crate::said::{next_number, say, shown, yes_or_no};
 use agent_stock::{
-    AgentCode, Held, Holder, Order, PlainRows, Run, StockFault, StockRows, StockRun, carry_out,
-    give_back, issue, runs_of, take_in, void_run,
+    AgentCode, Held, Holder, Order, PlainRows, Run, RunCount, StockFault, StockRows, StockRun,
+    carry_out, give_back, issue, runs_of, take_in, void_run,
 };
 use awb_number::Awb;
 use std::alloc::{AllocError, Global};
@@ -35,7 +35,7 @@ pub fn answer(alloc: Global, stock: &mut PlainRows, asked: &str, text: &[u8]) ->
 
 fn run(words: &mut SplitWhitespace<'_>) -> Option<Run> {
     let first = Awb::read(words.next()?.as_bytes().first_chunk()?).ok()?;
-    let count = next_number(words)?;
+    let count = RunCount::new(next_number(words)?)?;
     Some(Run { first, count })
 }
 
@@ -93,7 +93,7 @@ fn runs_said(alloc: Global, runs: &[StockRun]) -> Option<String> {
     let mut said = format!(in alloc; "{}", runs.len()).ok()?;
     for run in runs {
         let holder = holder_said(alloc, &run.holder)?;
-        let run = format!(in alloc; "; {} {} {holder}", run.run.first, run.run.count).ok()?;
+        let run = format!(in alloc; "; {} {} {holder}", run.first, run.count).ok()?;
         said.push_str(run.as_str()).ok()?;
     }
     Some(said)

@@ -1,6 +1,6 @@
 //! Answers as texts, keys, and what an order counts.
 use crate::said::{next_number, next_small_number, say, shown, yes_or_no};
-use agent_stock::{Order, Run};
+use agent_stock::{Order, Run, RunCount};
 use awb_number::Awb;
 use imp_fields::{Airport, Flight, LocalDay, PartNumber, Why};
 use shipment_machine::{Detail, FlightDate, Part, Refusal};
@@ -101,7 +101,10 @@ fn why(word: &str) -> Option<Why> {
 /// An order on so many numbers.
 fn order(verb: &str, count: u32) -> Option<Order> {
     let first = Awb::new(20, 1234567)?;
-    let run = Run { first, count };
+    let run = Run {
+        first,
+        count: RunCount::new(count)?,
+    };
     match verb {
         "take-in" => Some(Order::TakeIn(run)),
         "void" => Some(Order::Void(run)),

@@ -22,11 +22,7 @@ use std::alloc::{AllocError, Global};
 fn use_up(stock: &mut PlainRows, awb: &Awb) -> Result<(), AllocError>
     ensures { OnOk result ((q : ℕ) → holders_of stock.new q ≡ (if q == awb.now then Some Used else holders_of stock.old q)) }
 {
-    let run = Run {
-        first: *awb,
-        count: 1,
-    };
-    stock.assign(&run, &Holder::Used)
+    stock.assign(&Run::of_one(*awb), &Holder::Used)
 }
 
 /// The rows that a command changes, made beside those that are kept.

@@ -130,12 +130,9 @@ fn inbound_part(part: &PartContent) -> InboundPart<'_>
 fn inbound_status<'a>(status: &'a StatusContent<'a>) -> InboundStatus<'a>
     ensures { result ≡ record { awb = status.now.awb; lines = status.now.lines } }
 {
-    let Some(lines) = TrailLines::new(status.lines.as_slice()) else {
-        unreachable!();
-    };
     InboundStatus {
         awb: status.awb,
-        lines,
+        lines: TrailLines::new(status.lines.as_slice()),
     }
 }
 

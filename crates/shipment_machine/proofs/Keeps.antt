@@ -115,7 +115,7 @@ declares s w d fine law = record {
   declarations = λ q. chosen (λ d. IsLawfulAmount d.pieces d.tenths) (q == w) d (s.declared q) fine (law.declarations q);
   expectations = λ k q. still_expected (s.expected k q) _ _ (still_some (q == w) d (s.declared q)) (law.expectations k q);
   moves = all_map _ _ (λ m l. record { pair = l.pair; some = l.some; not_more = l.not_more; declared = still_some (m.awb == w) d (s.declared m.awb) l.declared; noted_from = same_noted s w d m.from l.noted_from; noted_to = same_noted s w d m.to l.noted_to; names_from = l.names_from; names_to = l.names_to }) s.book law.moves;
-  trail = all_map _ _ (λ (row : ℕ × List ℕ) h. still_some (row.0 == w) d (s.declared row.0) h) s.trail law.trail;
+  trail = all_map _ _ (λ (row : ℕ × List ℕ) h. (still_some (row.0 == w) d (s.declared row.0) h.0, h.1)) s.trail law.trail;
   used = λ q e. still_some (q == w) d (s.declared q) (law.used q e);
   closed = law.closed;
   departed = law.departed;

@@ -41,4 +41,4 @@ keeps_lawful s (order.Desk (desk.Found w p t flight)) at text law proper = keeps
 keeps_lawful s (order.Desk (desk.Confirm upto)) at text law proper = keeps_confirm s upto at text law
 keeps_lawful s (order.Fwb c) at text law proper = keeps_fwb s c at text proper law
 keeps_lawful s (order.Ffm f) at text law proper = keeps_ffm s f at text (here_have_pieces s.here f.lines (recursion_from_All HasPieces f.lines proper)) law
-keeps_lawful s (order.Fsu f) at text law proper = keeps_fsu s f at text law
+keeps_lawful s (order.Fsu f) at text law proper = keeps_fsu s f at text proper law

@@ -3,7 +3,10 @@ use Rattle.std.proofs.Common.{◌≡◌, ℕ, ◌+◌, ◌≤◌, max, Bool, tru
 use Rattle.std.specs.Bool.{if◌then◌else◌}
 use Rattle.std.specs.Option.{unwrap_or}
 use Rattle.std.specs.Str.{bytes_eq}
-use Rattle.std.specs.List.{AllByRecursion, filter}
+use Rattle.std.specs.Prelude.{IsTrue}
+use Rattle.std.specs.List.{AllByRecursion, filter, list_all}
+use Rattle.std.proofs.lemmas.Bool.{and_parts}
+use Rattle.imp_fields.specs.Characters.{is_line}
 use Rattle.std.proofs.lemmas.List.{append-nil}
 use Rattle.shipment_machine.specs.declared.moves.Move.{Move}
 use Rattle.imp_fields.specs.Amount.{book_weight_of}
@@ -150,10 +153,12 @@ keeps_ffm s f at text some law = by_refusals s (order.Ffm f) at _ (λ none.
 
 -- A status message.
 
-keeps_trail : (text : List ℕ) (w : ℕ) (lines : List (List ℕ)) (s : Cargo) → IsSome (s.declared w) → IsLawful s → IsLawful (written_all text (map (λ (line : List ℕ). Trail w line) lines) s)
-keeps_trail text w [] s known law = law
-keeps_trail text w (line ∷ lines) s known law = keeps_trail text w lines (written text (Trail w line) s) known (trails text s w line known law)
+keeps_trail : (text : List ℕ) (w : ℕ) (lines : List (List ℕ)) (s : Cargo) → IsSome (s.declared w) → IsTrue (list_all is_line lines) → IsLawful s → IsLawful (written_all text (map (λ (line : List ℕ). Trail w line) lines) s)
+keeps_trail text w [] s known print law = law
+keeps_trail text w (line ∷ lines) s known print law =
+    let parts = and_parts (is_line line) (list_all is_line lines) print in
+    keeps_trail text w lines (written text (Trail w line) s) known parts.1 (trails text s w line known parts.0 law)
 
-pub keeps_fsu : (s : Cargo) (f : InboundStatus) (at : LocalMinute) (text : List ℕ) → IsLawful s → IfOk (effect s (order.Fsu f) at) (λ done. IsLawful (carried_out text done s))
-keeps_fsu s f at text law = by_refusals s (order.Fsu f) at _ (λ none.
-    keeps_trail text f.awb f.lines (with_moves s []) (is_known (s.declared f.awb) none.0) (rests s law))
+pub keeps_fsu : (s : Cargo) (f : InboundStatus) (at : LocalMinute) (text : List ℕ) → IsTrue (list_all is_line f.lines) → IsLawful s → IfOk (effect s (order.Fsu f) at) (λ done. IsLawful (carried_out text done s))
+keeps_fsu s f at text print law = by_refusals s (order.Fsu f) at _ (λ none.
+    keeps_trail text f.awb f.lines (with_moves s []) (is_known (s.declared f.awb) none.0) print (rests s law))

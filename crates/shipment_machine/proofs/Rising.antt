@@ -1,7 +1,7 @@
 -- Lists of rising numbers, and the waybills on a flight.
 use Rattle.std.proofs.Common.{◌≡◌, ◌≢◌, ℕ, ◌<◌, Bool, true, false, ◌&&◌, ◌||◌, ◌==◌, nat_lt, List, [], ◌∷◌, refl, sym, ap, subst, ◌∙◌, arith, true≢false}
 use Rattle.std.specs.Bool.{if◌then◌else◌}
-use Rattle.std.specs.List.{AllByRecursion, list_any, filter}
+use Rattle.std.specs.List.{AllByRecursion, filter}
 use Rattle.std.proofs.lemmas.Bool.Decides.{nat_tests}
 use Rattle.shipment_machine.specs.Book.{put_rising}
 use Rattle.shipment_machine.specs.Numbers.{IsAscending as Rising, is_in}

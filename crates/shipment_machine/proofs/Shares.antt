@@ -1,5 +1,5 @@
 -- What a share of an amount leaves.
-use Rattle.std.proofs.Common.{◌≡◌, ℕ, ◌+◌, ◌-◌, ◌*◌, ◌/◌, ◌≤◌, subst, sym, arith}
+use Rattle.std.proofs.Common.{◌≡◌, ℕ, ◌-◌, ◌*◌, ◌/◌, ◌≤◌, subst, sym, arith}
 use Rattle.std.proofs.lemmas.Nat.{le-div}
 use Rattle.imp_fields.specs.Amount.{share_of}
 use Rattle.imp_fields.proofs.ShareLemmas.{share_leaves, share_heavy}

@@ -4,7 +4,6 @@ use Rattle.std.specs.Prelude.{is_some, IfOk, IfErr}
 use Rattle.std.specs.Bool.{if◌then◌else◌}
 use Rattle.std.proofs.lemmas.List.{length-map}
 use Rattle.imp_fields.specs.Date.{LocalMinute, resolved}
-use Rattle.shipment_machine.specs.declared.flight.FlightDate.{FlightDate}
 use Rattle.shipment_machine.specs.declared.view.Rows.{Rows}
 use Rattle.shipment_machine.specs.declared.view.Rows.TheVariants as rows
 use Rattle.shipment_machine.specs.declared.command.InboundPart.{InboundPart}
@@ -21,7 +20,7 @@ use Rattle.imp_fields.specs.declared.fault.Why.TheVariants as why
 use Rattle.shipment_machine.specs.Book.{balances_of}
 use Rattle.shipment_machine.specs.Cargo.{Cargo}
 use Rattle.shipment_machine.specs.Views.{line_view_of}
-use Rattle.shipment_machine.specs.Effect.{Outcome, Rule, effect, decided, unless_refused, first_refusal, announcing, announced, lines_for, is_day, inbound_flight, inbound_part}
+use Rattle.shipment_machine.specs.Effect.{Outcome, effect, decided, unless_refused, first_refusal, announcing, announced, lines_for, is_day, inbound_flight, inbound_part}
 use Rattle.shipment_machine.specs.Announced.{no_earlier, announced_changes, part_key}
 use Rattle.shipment_machine.specs.FitsCommand.{AreSound, FitsCommand, rows_answer}
 use Rattle.shipment_machine.specs.Meant.{meant_by}

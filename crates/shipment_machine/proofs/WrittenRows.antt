@@ -1,7 +1,9 @@
 -- Written rows keep a state lawful.
 use Rattle.std.proofs.Common.{◌≡◌, ℕ, Bool, true, false, ◌&&◌, ◌==◌, Option, Some, None, IsSome, IfSome, List, [], ◌∷◌, ◌++◌, refl, sym, ap, subst, arith}
 use Rattle.std.specs.Bool.{if◌then◌else◌}
+use Rattle.std.specs.Prelude.{IsTrue}
 use Rattle.std.specs.List.{AllByRecursion}
+use Rattle.imp_fields.specs.Characters.{is_line}
 use Rattle.std.proofs.lemmas.Bool.Decides.{nat_tests}
 use Rattle.agent_stock.specs.declared.stock.Holder.{Holder}
 use Rattle.agent_stock.specs.declared.stock.Holder.TheVariants as holder
@@ -109,14 +111,14 @@ all_end : {X : Type 0} (P : X → Type 0) (xs : List X) (y : X) → AllByRecursi
 all_end P [] y h q = (q, tt)
 all_end P (x ∷ xs) y h q = (h.0, all_end P xs y h.1 q)
 
-pub trails : (text : List ℕ) (s : Cargo) (w : ℕ) (line : List ℕ) → IsSome (s.declared w) → IsLawful s → IsLawful (written text (Trail w line) s)
-trails text s w line known law = record {
+pub trails : (text : List ℕ) (s : Cargo) (w : ℕ) (line : List ℕ) → IsSome (s.declared w) → IsTrue (is_line line) → IsLawful s → IsLawful (written text (Trail w line) s)
+trails text s w line known prints law = record {
   stocked = law.stocked;
   within = law.within;
   declarations = law.declarations;
   expectations = law.expectations;
   moves = moves_in s (written text (Trail w line) s) (λ q h. h) (λ k h. h) law;
-  trail = all_end (λ (row : ℕ × List ℕ). IsSome (s.declared row.0)) s.trail (w, line) law.trail known;
+  trail = all_end (λ (row : ℕ × List ℕ). IsSome (s.declared row.0) × IsTrue (is_line row.1)) s.trail (w, line) law.trail (known, prints);
   used = law.used;
   closed = law.closed;
   departed = law.departed;

@@ -1,5 +1,5 @@
 -- When a view shows what a state has for a command.
-use Rattle.std.specs.Prelude.{◌≡◌, ℕ, false, if◌then◌else◌, Result, Ok, Err, Some, None, is_some, List, [], map, length}
+use Rattle.std.specs.Prelude.{◌≡◌, ℕ, false, if◌then◌else◌, Result, Ok, Err, is_some, List, [], map, length}
 use Rattle.imp_fields.specs.Date.{LocalMinute, resolved}
 use Rattle.shipment_machine.specs.declared.view.Rows.{Rows}
 use Rattle.shipment_machine.specs.declared.view.Rows.TheVariants as rows

@@ -1,5 +1,5 @@
 -- The answer to a command, told from the rows of a view, and the views that fit a command.
-use Rattle.std.specs.Prelude.{◌≡◌, ◌==◌, ℕ, false, true, ◌+◌, ◌≤◌, ⊤, Option, Some, None, IsSome, Result, List, [], length, All}
+use Rattle.std.specs.Prelude.{◌≡◌, ◌==◌, ℕ, false, true, ◌+◌, ◌≤◌, ⊤, Option, IsSome, Result, List, [], length, All}
 use Rattle.imp_fields.specs.Date.{LocalMinute}
 use Rattle.shipment_machine.specs.declared.balances.Balances.{Balances}
 use Rattle.shipment_machine.specs.declared.view.Rows.{Rows}

@@ -1,6 +1,7 @@
 -- What holds of every state of a station.
 use Rattle.std.specs.Prelude.{◌≡◌, ℕ, ◌≤◌, Bool, true, false, ◌&&◌, ◌↔◌, IsTrue, IsSome, IfSome, ⊤, Option, Some, List, [], ◌∷◌, length, All}
-use Rattle.std.specs.List.{AllByRecursion, list_any}
+use Rattle.std.specs.List.{AllByRecursion, list_all, list_any}
+use Rattle.imp_fields.specs.Characters.{is_line}
 use Rattle.std.specs.Str.{bytes_eq}
 use Rattle.shipment_machine.specs.declared.flight.FlightDate.{FlightDate}
 use Rattle.agent_stock.specs.declared.stock.Holder.TheVariants.{Used}
@@ -89,7 +90,7 @@ pub record IsLawful (s : Cargo) : Type 0 where
   pub declarations : (w : ℕ) → IfSome (s.declared w) (λ d. IsLawfulAmount d.pieces d.tenths)
   pub expectations : (flight : FlightDate) (w : ℕ) → IfSome (s.expected flight w) (λ e. IsLawfulAmount e.pieces e.tenths × IsSome (s.declared w))
   pub moves : AllByRecursion (IsLawfulMove s) s.book
-  pub trail : AllByRecursion (λ (row : ℕ × List ℕ). IsSome (s.declared row.0)) s.trail
+  pub trail : AllByRecursion (λ (row : ℕ × List ℕ). IsSome (s.declared row.0) × IsTrue (is_line row.1)) s.trail
   pub used : (w : ℕ) → s.holders w ≡ Some Used → IsSome (s.declared w)
   pub closed : (flight : FlightDate) → IsTrue (is_closed (s.flights flight)) ↔ IsTrue (list_any (departs_with flight) s.book)
   pub departed : (flight : FlightDate) → StaysDeparted flight s.book
@@ -98,7 +99,7 @@ pub record IsLawful (s : Cargo) : Type 0 where
   pub outbound : (flight : FlightDate) → IfSome (s.flights flight) (λ o. bytes_eq o.unload s.here ≡ false)
   pub mark : s.confirmed ≤ length s.outbox
 
--- whether the numbers of a command are ones that its types allow: each declared or announced line has a piece
+-- whether a command is one that its types allow: each declared or announced line has a piece, each line of a trail prints
 abbrev pub HasPieces : InboundLine → Type 0
 HasPieces l = 1 ≤ l.cargo.pieces
 
@@ -107,4 +108,4 @@ IsProper (order.Desk (desk.Book w origin destination pieces tenths goods)) = 1 �
 IsProper (order.Desk _) = ⊤
 IsProper (order.Fwb c) = 1 ≤ c.pieces
 IsProper (order.Ffm f) = All HasPieces f.lines
-IsProper (order.Fsu f) = ⊤
+IsProper (order.Fsu f) = IsTrue (list_all is_line f.lines)

@@ -2,7 +2,7 @@ ghost use Rattle.std.specs.Prelude.{◌≡◌, ℕ, ◌≤◌, ◌↔◌, length
 ghost use Rattle.shipment_machine.specs.Amount.{IsCount};
 
 use crate::flight::FlightDate;
-use crate::text::Text;
+use crate::trail::TrailLines;
 use awb_number::Awb;
 use imp_fields::{Airport, DayMonth, Flight, Goods, Name, PartNumber, Pieces, Tenths};
 use std::marker::Model;
@@ -112,44 +112,6 @@ pub struct InboundPart<'a> {
     /// Where the flight was loaded.
     pub loaded: Airport,
     pub lines: InboundLines<'a>,
-}
-
-/// The lines below the consignment line of a status message, 1,000 at most.
-#[derive(Drop)]
-pub struct TrailLines<'a> {
-    lines: &'a [Text<'a>],
-}
-
-impl<'a> Model for TrailLines<'a> {
-    ghost use Rattle.std.specs.Prelude.{List, ℕ, ◌≤◌, length};
-
-    ghost Value = { List (List ℕ) };
-
-    ghost view = { λ a. a.lines.now };
-
-    ghost invariant = { λ a. length a.lines.now ≤ 1000 };
-}
-
-impl<'a> TrailLines<'a> {
-    /// None where there are more than 1,000.
-    pub fn new(lines: &'a [Text<'a>]) -> Option<TrailLines<'a>>
-        ensures in_range { IsSome result ↔ (length lines.now ≤ 1000) }
-        ensures value { IfSome result (λ kept. kept ≡ lines.now) }
-    {
-        if lines.len() <= 1000 {
-            Some(TrailLines { lines })
-        } else {
-            None
-        }
-    }
-
-    /// The lines, in their order.
-    pub fn as_slice(&self) -> &'a [Text<'a>]
-        ensures value { result.now ≡ self.now }
-        ensures in_range { length result.now ≤ 1000 }
-    {
-        self.lines
-    }
 }
 
 /// A status message that arrived.

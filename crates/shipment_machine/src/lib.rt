@@ -21,21 +21,21 @@ mod notice;
 mod outbound;
 mod planning;
 mod plans;
-mod text;
+mod trail;
 mod view;
 
 pub use amount::Amount;
 pub use balances::Balances;
 pub use command::{
     CargoLine, CargoRef, DeskCommand, DeskRef, InboundLine, InboundLines, InboundPart,
-    InboundStatus, PieceCount, ShipmentCommand, TrailLines,
+    InboundStatus, PieceCount, ShipmentCommand,
 };
 pub use flight::FlightDate;
 pub use moves::{Declared, Expected, Move, Outbound, Part, Place};
 pub use notice::{Event, ManifestLine, ManifestLines, Notice};
 pub use planning::plan;
 pub use plans::{Change, Detail, Plan, PlanFault, Refusal};
-pub use text::Text;
+pub use trail::{TrailLine, TrailLines};
 pub use view::{
     DeclarationView, FlightLoad, FlightView, LineView, LineViews, Loads, Rows, View, WaybillView,
 };

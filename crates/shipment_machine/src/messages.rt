@@ -1,5 +1,7 @@
 //! Messages that were sent, and status messages that arrived.
-ghost use Rattle.std.specs.Prelude.{◌≡◌, IfOk, map};
+ghost use Rattle.std.specs.Prelude.{◌≡◌, IfOk, IsTrue, map};
+ghost use Rattle.std.specs.List.{list_all};
+ghost use Rattle.imp_fields.specs.Characters.{is_line};
 ghost use Rattle.shipment_machine.specs.Effect.{decided, confirming, noting_status};
 ghost use Rattle.shipment_machine.specs.declared.plans.Change.TheVariants as change;
 ghost use Rattle.shipment_machine.specs.Agreement.{IsAnswer};
@@ -8,7 +10,7 @@ use crate::command::InboundStatus;
 use crate::drafting::{PlanContext, blank, refuse_waybill};
 use crate::moves::Declared;
 use crate::plans::{Change, Detail, Plan, PlanFault, Refusal};
-use crate::text::Text;
+use crate::trail::TrailLine;
 use awb_number::Awb;
 use std::alloc::AllocError;
 
@@ -16,7 +18,7 @@ use std::alloc::AllocError;
 fn trail_of<'a>(
     on: &PlanContext,
     awb: Awb,
-    lines: &[Text<'a>],
+    lines: &[TrailLine<'a>],
 ) -> Result<Vec<Change<'a>>, AllocError>
     ensures { IfOk result (λ changes. changes.items ≡ map (λ line. change.Trail awb line) lines.now) }
 {
@@ -24,7 +26,7 @@ fn trail_of<'a>(
     for line in lines {
         changes.push(Change::Trail {
             awb,
-            line: Text::new(line.as_bytes()),
+            line: TrailLine::new(line.as_bytes()),
         })?;
     }
     Ok(changes)
@@ -36,7 +38,8 @@ pub(crate) fn note_status<'a>(
     declared: &Option<Declared>,
     status: &InboundStatus<'a>,
 ) -> Result<Plan<'a>, PlanFault>
-    ensures { IsAnswer result (decided (noting_status declared.now status.now.awb status.now.lines)) }
+    ensures answer { IsAnswer result (decided (noting_status declared.now status.now.awb status.now.lines)) }
+    ensures printable { IfOk result (λ _. IsTrue (list_all is_line status.now.lines)) }
 {
     if declared.is_none() {
         return Err(refuse_waybill(201, status.awb));

@@ -1,7 +1,7 @@
 use crate::flight::FlightDate;
 use crate::moves::{Declared, Expected, Move, Outbound, Part};
 use crate::notice::Notice;
-use crate::text::Text;
+use crate::trail::TrailLine;
 use awb_number::Awb;
 use imp_fields::Why;
 use std::alloc::{AllocError, AllocFailed};
@@ -58,7 +58,7 @@ pub enum Change<'a> {
     /// A line joins the trail of a waybill.
     Trail {
         awb: Awb,
-        line: Text<'a>,
+        line: TrailLine<'a>,
     },
     /// The messages up to this one are confirmed.
     Confirm {

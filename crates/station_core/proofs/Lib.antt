@@ -1,5 +1,6 @@
 mod Examples
 mod Keys
+mod RangeLaws
 mod Reading
 mod Refusals
 mod RetryLaw

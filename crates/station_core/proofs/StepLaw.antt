@@ -214,7 +214,7 @@ lines_proper (l ∷ lines) all = (all.0.1.3.0, lines_proper lines all.1)
 content_proper : (c : Content) → IsContent c → IsProper (shipment_of c)
 content_proper (content.Fwb line) range = range.3.0
 content_proper (content.Ffm part) range = All-from_recursion HasPieces part.lines (lines_proper part.lines range.5)
-content_proper (content.Fsu update) range = tt
+content_proper (content.Fsu update) range = range.1
 
 -- One step.
 

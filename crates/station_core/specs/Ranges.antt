@@ -1,6 +1,7 @@
 -- The values that inputs have by their types.
 use Rattle.std.specs.Prelude.{◌≤◌, IsTrue, IfSome, List}
-use Rattle.std.specs.List.{AllByRecursion}
+use Rattle.std.specs.List.{AllByRecursion, list_all}
+use Rattle.imp_fields.specs.Characters.{is_line}
 use Rattle.awb_number.specs.Number.{IsNumber}
 use Rattle.imp_fields.specs.Amount.{IsPieces, IsTenths}
 use Rattle.imp_fields.specs.Airport.{is_airport}
@@ -29,7 +30,7 @@ IsContent (Fwb c) = IsCargoLine c
 IsContent (Ffm p) =
     (1 ≤ p.sequence) × (p.sequence ≤ 9999) × IsDesignator p.flight × IsCalendarDay p.date × IsTrue (is_airport p.loaded)
     × AllByRecursion IsInboundLine p.lines
-IsContent (Fsu u) = IsNumber u.awb
+IsContent (Fsu u) = IsNumber u.awb × IsTrue (list_all is_line u.lines)
 
 abbrev pub IsInput : Input → Type 0
 IsInput (Keyed key command) = IsTrue (is_key key) × IsCommand command

@@ -28,6 +28,6 @@ pub fn count_of_order(order: &Order) -> u32
 {
     match order {
         Order::TakeIn(run) | Order::Issue(run, _) | Order::GiveBack(run, _) | Order::Void(run) =>
-            run.count,
+            run.count.number(),
     }
 }

@@ -42,7 +42,7 @@ pub fn runs_said(alloc: Global, runs: &[StockRun]) -> Option<String> {
     let mut said = format!(in alloc; "{}", runs.len()).ok()?;
     for run in runs {
         let holder = holder_said(alloc, &run.holder)?;
-        let run = format!(in alloc; "; {} {} {holder}", run.run.first, run.run.count).ok()?;
+        let run = format!(in alloc; "; {} {} {holder}", run.first, run.count).ok()?;
         said.push_str(run.as_str()).ok()?;
     }
     Some(said)

@@ -1,6 +1,6 @@
 //! A store that fails at its n-th call, for every n: what is found afterwards is the station before or after.
 use crate::said::say;
-use agent_stock::{Order, Run};
+use agent_stock::{Order, Run, RunCount};
 use awb_number::Awb;
 use desk_commands::Command;
 use imp_fields::Moment;
@@ -43,15 +43,17 @@ fn crashed(mut files: Files<Fused>) -> Files<Fused> {
 #[derive(Clone, Copy)]
 struct TenNumbers {
     key: Key,
-    first: Awb,
+    run: Run,
     at: Moment,
 }
 
 fn ten_numbers() -> Option<TenNumbers> {
     let key = Key::read(b"k1")?;
     let first = Awb::new(20, 1234567)?;
+    let count = RunCount::new(10)?;
+    let run = Run { first, count };
     let at = Moment::new(20465, 720)?;
-    Some(TenNumbers { key, first, at })
+    Some(TenNumbers { key, run, at })
 }
 
 /// Makes a station and takes in ten numbers, on files that fail after so many calls.
@@ -68,10 +70,7 @@ fn run(alloc: Global, log_calls: u64, db_calls: u64, ten: &TenNumbers) -> (Stage
         Ok(station) => station,
         Err((conn, _)) => return (Stage::Opened, conn.into_store().close()),
     };
-    let order = Order::TakeIn(Run {
-        first: ten.first,
-        count: 10,
-    });
+    let order = Order::TakeIn(ten.run);
     let input = Input::Keyed(ten.key, Command::Stock(order));
     let stage = match station.act(&input, ten.at) {
         Ok(_) => Stage::TakenIn,

@@ -1,6 +1,6 @@
 //! A station over the tables of a database in memory.
 use crate::said::{holder_said, next_whole, runs_said, say, shown};
-use agent_stock::{AgentCode, Held, Order, Run, StockRun};
+use agent_stock::{AgentCode, Held, Order, Run, RunCount, StockRun};
 use awb_number::Awb;
 use desk_commands::Command;
 use imp_fields::Moment;
@@ -97,7 +97,7 @@ fn asked_by(text: &str) -> Option<Asked> {
 
 fn order(verb: &str, words: &mut SplitWhitespace<'_>) -> Option<Order> {
     let first = Awb::read(words.next()?.as_bytes().first_chunk()?).ok()?;
-    let count = words.next()?.parse::<u32>().ok()?;
+    let count = RunCount::new(words.next()?.parse::<u32>().ok()?)?;
     let run = Run { first, count };
     match verb {
         "take-in" => Some(Order::TakeIn(run)),

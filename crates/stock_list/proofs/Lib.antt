@@ -1,3 +1,4 @@
+pub mod Digits
 mod Fields
 mod More
 mod Records

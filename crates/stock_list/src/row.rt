@@ -2,7 +2,7 @@ ghost use Rattle.std.specs.Prelude.{◌≡◌, ◌^◌, ◌<◌, ◌≤◌, leng
 ghost use Rattle.csv.specs.Records.{fields_of, field_at};
 ghost use Rattle.stock_list.specs.Row.{digits_of, run_of, order_of, asked_by, row_asks};
 
-use agent_stock::{AgentCode, Order, Run};
+use agent_stock::{AgentCode, Order, Run, RunCount};
 use awb_number::{Awb, decimal};
 use csv::ByteRecord;
 use station_core::Key;
@@ -19,13 +19,21 @@ fn digits(text: &[u8], least: usize, most: usize) -> Option<u32>
     decimal(text)
 }
 
+/// The count that one to seven digits write.
+fn read_count(text: &[u8]) -> Option<RunCount>
+    ensures { result ≡ digits_of 1 7 text.now }
+{
+    let number = digits(text, 1, 7)?;
+    RunCount::new(number)
+}
+
 /// The run of a prefix of three digits, a serial of seven and a count of one to seven.
 fn run(prefix: &[u8], serial: &[u8], count: &[u8]) -> Option<Run>
     ensures { result ≡ run_of prefix.now serial.now count.now }
 {
     let prefix = digits(prefix, 3, 3)?;
     let serial = digits(serial, 7, 7)?;
-    let count = digits(count, 1, 7)?;
+    let count = read_count(count)?;
     let first = Awb::new(prefix as u16, serial)?;
     Some(Run { first, count })
 }

@@ -10,6 +10,7 @@ ghost use Rattle.imp_fields.specs.NormalText.{line_texts, IsFaultOf};
 ghost use Rattle.fwb_text.specs.Fwb.{fwb_fault};
 ghost use Rattle.ffm_text.specs.Ffm.{ffm_fault, unloaded_of};
 ghost use Rattle.fsu_text.specs.Fsu.{fsu_fault};
+ghost use Rattle.fsu_text.specs.Trail.{is_plain};
 ghost use Rattle.telegrams.specs.Kept.{has_plain_goods, has_plain_cargo};
 ghost use Rattle.telegrams.specs.Meaning.{cargo_line, inbound_line, message_fault, SaysAs, RefusesAs};
 
@@ -17,7 +18,7 @@ use crate::telegram::{Content, PartContent, PartLines, StatusContent, StatusLine
 use ffm_text::FfmLine;
 use fsu_text::StatusLine;
 use imp_fields::{Consignment, Goods, Lines, MessageKind, Tenths, TextFault, Why};
-use shipment_machine::{CargoLine, Detail, InboundLine, Refusal, Text};
+use shipment_machine::{CargoLine, Detail, InboundLine, Refusal, TrailLine};
 use std::alloc::{AllocError, Global};
 use std::slice;
 
@@ -105,12 +106,16 @@ fn inbound_lines(alloc: Global, cargo: &[FfmLine<'_>]) -> Result<Vec<InboundLine
 }
 
 /// The lines of a status message, as they stand.
-fn trail_lines<'a>(alloc: Global, trail: &[StatusLine<'a>]) -> Result<Vec<Text<'a>>, AllocError>
+fn trail_lines<'a>(
+    alloc: Global,
+    trail: &[StatusLine<'a>],
+) -> Result<Vec<TrailLine<'a>>, AllocError>
+    requires { IsTrue (list_all is_plain trail.now) }
     ensures { IfOk result (λ lines. lines.items ≡ map (λ l. l.text.text.now) trail.now) }
 {
     let mut lines = Vec::new(alloc);
     for line in trail {
-        lines.push(Text::new(line.text.text))?;
+        lines.push(TrailLine::new(line.text.text))?;
     }
     Ok(lines)
 }

@@ -5,7 +5,7 @@ ghost use Rattle.telegrams.specs.Kept.{is_text_byte};
 
 use awb_number::Awb;
 use imp_fields::{Airport, DayMonth, Flight, PartNumber};
-use shipment_machine::{CargoLine, InboundLine, Refusal, Text};
+use shipment_machine::{CargoLine, InboundLine, Refusal, TrailLine};
 use std::marker::Model;
 
 /// The normal text of a telegram: lines of printable ASCII, joined by newlines.
@@ -92,7 +92,7 @@ pub struct PartContent {
 /// printable ASCII. They borrow the telegram's bytes.
 #[derive(Drop)]
 pub struct StatusLines<'a> {
-    texts: Vec<Text<'a>>,
+    texts: Vec<TrailLine<'a>>,
 }
 
 impl<'a> Model for StatusLines<'a> {
@@ -108,7 +108,7 @@ impl<'a> Model for StatusLines<'a> {
 }
 
 impl<'a> StatusLines<'a> {
-    pub(crate) fn new(lines: Vec<Text<'a>>) -> StatusLines<'a>
+    pub(crate) fn new(lines: Vec<TrailLine<'a>>) -> StatusLines<'a>
         requires few { length lines.items ≤ 1000 }
         requires printable { IsTrue (list_all is_line lines.items) }
         ensures { result ≡ lines.entry.items }
@@ -117,7 +117,7 @@ impl<'a> StatusLines<'a> {
     }
 
     /// The lines, in their order.
-    pub fn as_slice(&self) -> &[Text<'a>]
+    pub fn as_slice(&self) -> &[TrailLine<'a>]
         ensures value { result.now ≡ self.now }
         ensures in_range { length result.now ≤ 1000 }
         ensures printable { IsTrue (list_all is_line result.now) }

@@ -17,6 +17,6 @@ loop-key-preserved c = λ q.
 
 pub returns-clause-answer : goal.returns-clause-answer
 returns-clause-answer c = λ u.
-    let at : c.loop-key.key ≡ c.args.run.now.first + c.args.run.now.count = omega (arith, c.key-key.ensures.value, c.key.ensures.value, c.from.ensures) in
+    let at : c.loop-key.key ≡ c.args.run.now.first + c.args.run.now.count = omega (arith, c.key-key.ensures.value, c.key.ensures.value, c.from.ensures, c.number.ensures.value) in
     let all = λ (q : ℕ). c.loop-key.invariant q ∙ ap (λ n. cond (nat_le c.args.run.now.first q && nat_lt q n) (Some c.args.holder.now) (holders_of c.args.self.now q)) at in
     λ i q. all q i

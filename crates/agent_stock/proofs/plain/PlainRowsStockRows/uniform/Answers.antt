@@ -9,7 +9,7 @@ use Rattle.agent_stock.proofs.plain.PlainRowsStockRows.uniform.Goals as goal
 pub loop-key-init : goal.loop-key-init
 loop-key-init c =
     let p : ℕ → Bool = λ q. not (passes c.args.test.now (holders_of c.args.self.now q)) in
-    let same : (c.key.result + c.from.result) - c.key-key-counter.result ≡ c.args.run.now.count = omega (arith, c.key.ensures.value, c.key-key-counter.ensures.value, c.from.ensures) in
+    let same : (c.key.result + c.from.result) - c.key-key-counter.result ≡ c.args.run.now.count = omega (arith, c.key.ensures.value, c.key-key-counter.ensures.value, c.from.ensures, c.number.ensures.value) in
     sym (ap (λ n. find p (range_with_len n c.args.run.now.count)) c.key-key-counter.ensures.value) ∙ sym (ap (λ n. find p (range_with_len c.key-key-counter.result n)) same)
 
 pub returns-then-not-passes-clause-answer : goal.returns-then-not-passes-clause-answer
@@ -18,7 +18,7 @@ returns-then-not-passes-clause-answer c = λ u.
     let at : c.passes.result ≡ passes c.args.test.now (holders_of c.args.self.now c.loop-key.key-counter) = c.passes.ensures ∙ ap (passes c.args.test.now) (c.copied.ensures ∙ c.get.ensures.value) in
     let fails : p c.loop-key.key-counter ≡ true = ap not (sym at ∙ c.if-not-passes.true) in
     let ahead : (c.key.result + c.from.result) - c.loop-key.key-counter ≡ suc ((c.key.result + c.from.result) - (c.loop-key.key-counter + 1)) = omega arith in
-    let number : IsNumber c.loop-key.key-counter = IsNumber-covered c.args.run.now.first c.args.run.now.count c.loop-key.key-counter (subst IsNumber c.key.ensures.value c.key.ensures.bound) c.requires.run (omega (arith, c.key.ensures.value, c.from.ensures)) in
+    let number : IsNumber c.loop-key.key-counter = IsNumber-covered c.args.run.now.first c.args.run.now.count c.loop-key.key-counter (subst IsNumber c.key.ensures.value c.key.ensures.bound) c.requires.run (omega (arith, c.key.ensures.value, c.from.ensures, c.number.ensures.value)) in
     given_as c.of_key.result c.loop-key.key-counter (c.of_key.ensures.in_range.1 number) c.of_key.ensures.value ∙ sym (c.loop-key.invariant ∙ find_here p c.loop-key.key-counter _ _ ahead fails)
 
 pub loop-key-preserved : goal.loop-key-preserved

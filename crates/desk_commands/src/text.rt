@@ -4,7 +4,7 @@ use std::marker::Model;
 
 /// Bytes of a text that someone else keeps.
 #[derive(Drop)]
-pub struct Text<'a> {
+pub(crate) struct Text<'a> {
     bytes: &'a [u8],
 }
 
@@ -18,14 +18,14 @@ impl<'a> Model for Text<'a> {
 
 impl<'a> Text<'a> {
     /// The text of these bytes, as borrowed.
-    pub fn new(bytes: &'a [u8]) -> Text<'a>
+    pub(crate) fn new(bytes: &'a [u8]) -> Text<'a>
         ensures { result ≡ bytes.now }
     {
         Text { bytes }
     }
 
     /// The bytes of the text.
-    pub fn as_bytes(&self) -> &'a [u8]
+    pub(crate) fn as_bytes(&self) -> &'a [u8]
         ensures { result.now ≡ self.now }
     {
         self.bytes
