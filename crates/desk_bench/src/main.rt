@@ -1,147 +1,115 @@
-//! How fast the desk is: with the word `run` it prints a table with a line for each kind of work.
+//! How fast the desk is: with the word `run` it prints a table with a line for each kind of work. The messages that it reads lie in
+//! `data/`.
 #![tactic(auto)]
 
 mod messages;
 mod mixed;
 mod planning;
+mod report;
 mod stock;
 
-use messages::Texts;
+use report::{Done, give_up, report};
+use std::alloc::Global;
 use std::process::ExitCode;
-use std::time::{Duration, Instant};
-use std::{env, io};
+use std::time::Instant;
+use std::{env, fs, io};
 
-/// How many there are in a second.
-fn in_a_second(count: u64, nanos: u64) -> u64 {
-    count.saturating_mul(1_000_000_000) / nanos.max(1)
+/// What is done again and again, perhaps with a message.
+#[derive(Clone, Copy)]
+enum Work {
+    /// The lines and the consignment line of a message are found.
+    Scan,
+    Read,
+    WriteManifest,
+    WriteUpdate,
+    PlanDeparture,
+    PlanManifest,
 }
 
-/// Prints how many were done in a second, and how long one took.
-fn report(rt: &HostRuntime, what: &str, count: u64, spent: Duration) -> Result<(), io::Error> {
-    let nanos = u64::try_from(spent.as_nanos()).unwrap_or(u64::MAX);
-    let rate = in_a_second(count, nanos);
-    let each = nanos / count.max(1);
-    println!(rt; "{rate:>10} {each:>10} {:>8}  {what}", "-")
-}
+/// Kinds of orders, and what each is called.
+const ORDERS: [(stock::Work, &str); 4] = [
+    (stock::Work::Days, "order: take-in 10, issue 3, return 3"),
+    (stock::Work::Repeats, "order that is repeated"),
+    (stock::Work::Runs, "take-in 10,000"),
+    (stock::Work::Singles, "issue of one number of 10,000"),
+];
 
-/// Prints the same of texts, and how many million bytes of them there were in a second.
-fn report_texts(
-    rt: &HostRuntime,
-    what: &str,
-    texts: Texts,
-    spent: Duration,
-) -> Result<(), io::Error> {
-    let nanos = u64::try_from(spent.as_nanos()).unwrap_or(u64::MAX);
-    let rate = in_a_second(texts.count, nanos);
-    let each = nanos / texts.count.max(1);
-    let megabytes = in_a_second(texts.bytes, nanos) / 1_000_000;
-    println!(rt; "{rate:>10} {each:>10} {megabytes:>8}  {what}")
-}
+/// What is done with a message, the message's file, and what this is called.
+const READ: [(Work, &str, &str); 4] = [
+    (
+        Work::Scan,
+        "data/fwb.txt",
+        "lines and consignment line of 400 bytes",
+    ),
+    (Work::Read, "data/fwb.txt", "FWB of 400 bytes read"),
+    (Work::Read, "data/ffm.txt", "FFM of 400 bytes read"),
+    (Work::Read, "data/fsu.txt", "FSU of 400 bytes read"),
+];
 
-/// Prints that work of a kind couldn't be done.
-fn gave_up(rt: &HostRuntime, what: &str) -> Result<(), io::Error> {
-    println!(rt; "gave up: {what}")
-}
+/// What is done with no message, and what this is called.
+const OTHERS: [(Work, &str); 4] = [
+    (Work::WriteManifest, "FFM of one waybill written"),
+    (Work::WriteUpdate, "FSU written"),
+    (Work::PlanDeparture, "departure of 500 waybills planned"),
+    (Work::PlanManifest, "FFM of 500 lines planned"),
+];
 
-/// Orders over a station in memory.
-fn orders(rt: &HostRuntime, what: &str, work: stock::Work) -> Result<(), io::Error> {
-    let alloc = rt.alloc();
-    let Some(mut station) = stock::station(alloc) else {
-        return gave_up(rt, what);
-    };
-    if !stock::prepare(alloc, &mut station, work) {
-        return gave_up(rt, what);
+/// Does the work, and tells how often; nothing where it couldn't be done.
+fn done(alloc: Global, work: Work, text: &[u8]) -> Option<Done> {
+    match work {
+        Work::Scan => messages::scan_often(alloc, text),
+        Work::Read => messages::read_often(alloc, text),
+        Work::WriteManifest => messages::write_manifests(alloc),
+        Work::WriteUpdate => messages::write_updates(alloc),
+        Work::PlanDeparture => planning::plan_departures(alloc),
+        Work::PlanManifest => planning::plan_manifests(alloc),
     }
+}
+
+/// Measures work.
+fn measure(rt: &HostRuntime, what: &str, work: Work, text: &[u8]) -> Result<(), io::Error> {
     let start = Instant::now(rt)?;
-    match stock::run(alloc, &mut station, work) {
-        Some(count) => report(rt, what, count, start.elapsed(rt)?),
-        None => gave_up(rt, what),
-    }
+    let done = done(rt.alloc(), work, text);
+    report(rt, what, done, start.elapsed(rt)?)
 }
 
-/// A session of many kinds of inputs on a station in memory alone.
-fn session(rt: &HostRuntime, what: &str) -> Result<(), io::Error> {
+/// Measures orders over a new station in memory.
+fn measure_orders(rt: &HostRuntime, what: &str, work: stock::Work) -> Result<(), io::Error> {
+    let alloc = rt.alloc();
+    let Some(mut station) = stock::prepared(alloc, work) else {
+        return give_up(rt, what);
+    };
+    let start = Instant::now(rt)?;
+    let done = stock::run(alloc, &mut station, work);
+    report(rt, what, done, start.elapsed(rt)?)
+}
+
+/// Measures a session of many kinds of inputs on a station in memory alone.
+fn measure_session(rt: &HostRuntime, what: &str) -> Result<(), io::Error> {
     let alloc = rt.alloc();
     let Some(mut station) = mixed::station(alloc) else {
-        return gave_up(rt, what);
+        return give_up(rt, what);
     };
     let start = Instant::now(rt)?;
-    match mixed::run(alloc, &mut station) {
-        Some(count) => report(rt, what, count, start.elapsed(rt)?),
-        None => gave_up(rt, what),
-    }
+    let done = mixed::run(alloc, &mut station);
+    report(rt, what, done, start.elapsed(rt)?)
 }
 
-/// A message that is read again and again.
-fn read(rt: &HostRuntime, what: &str, text: &[u8]) -> Result<(), io::Error> {
-    let start = Instant::now(rt)?;
-    let texts = messages::read_often(rt.alloc(), text);
-    report_texts(rt, what, texts, start.elapsed(rt)?)
-}
-
-/// The lines and the consignment line of a message.
-fn scan(rt: &HostRuntime, what: &str, text: &[u8]) -> Result<(), io::Error> {
-    let start = Instant::now(rt)?;
-    let texts = messages::scan_often(rt.alloc(), text);
-    report_texts(rt, what, texts, start.elapsed(rt)?)
-}
-
-/// A manifest that is written again and again.
-fn manifests(rt: &HostRuntime, what: &str) -> Result<(), io::Error> {
-    let start = Instant::now(rt)?;
-    match messages::write_manifests(rt.alloc()) {
-        Some(texts) => report_texts(rt, what, texts, start.elapsed(rt)?),
-        None => gave_up(rt, what),
-    }
-}
-
-/// A status update that is written again and again.
-fn updates(rt: &HostRuntime, what: &str) -> Result<(), io::Error> {
-    let start = Instant::now(rt)?;
-    match messages::write_updates(rt.alloc()) {
-        Some(texts) => report_texts(rt, what, texts, start.elapsed(rt)?),
-        None => gave_up(rt, what),
-    }
-}
-
-/// A departure of 500 waybills, planned from a view.
-fn departures(rt: &HostRuntime, what: &str) -> Result<(), io::Error> {
-    let start = Instant::now(rt)?;
-    match planning::plan_departures(rt.alloc()) {
-        Some(count) => report(rt, what, count, start.elapsed(rt)?),
-        None => gave_up(rt, what),
-    }
-}
-
-/// A part of a manifest with 500 lines, planned from a view.
-fn parts(rt: &HostRuntime, what: &str) -> Result<(), io::Error> {
-    let start = Instant::now(rt)?;
-    match planning::plan_manifests(rt.alloc()) {
-        Some(count) => report(rt, what, count, start.elapsed(rt)?),
-        None => gave_up(rt, what),
-    }
-}
-
-/// Each kind of work, one after another.
-fn measure(rt: &HostRuntime) -> Result<(), io::Error> {
+/// Measures each kind of work, one after another.
+fn measure_all(rt: &HostRuntime) -> Result<(), io::Error> {
     println!(rt; "  a second    ns each     MB/s  work")?;
-    orders(
-        rt,
-        "order: take-in 10, issue 3, return 3",
-        stock::Work::Days,
-    )?;
-    orders(rt, "order that is repeated", stock::Work::Repeats)?;
-    orders(rt, "take-in 10,000", stock::Work::Runs)?;
-    orders(rt, "issue of one number of 10,000", stock::Work::Singles)?;
-    session(rt, "input of 10,000 on a plain station")?;
-    scan(rt, "lines and consignment line of 400 bytes", messages::FWB)?;
-    read(rt, "FWB of 400 bytes read", messages::FWB)?;
-    read(rt, "FFM of 400 bytes read", messages::FFM)?;
-    read(rt, "FSU of 400 bytes read", messages::FSU)?;
-    manifests(rt, "FFM of one waybill written")?;
-    updates(rt, "FSU written")?;
-    departures(rt, "departure of 500 waybills planned")?;
-    parts(rt, "FFM of 500 lines planned")
+    for (work, what) in ORDERS {
+        measure_orders(rt, what, work)?;
+    }
+    measure_session(rt, "input of 10,000 on a plain station")?;
+    for (work, file, what) in READ {
+        let text = fs::read_to_string(rt, file)?;
+        measure(rt, what, work, text.as_bytes())?;
+    }
+    for (work, what) in OTHERS {
+        measure(rt, what, work, b"")?;
+    }
+    Ok(())
 }
 
 /// Status 0: all was measured; 2: other words than `run`.
@@ -149,7 +117,7 @@ fn main(rt: HostRuntime) -> Result<ExitCode, io::Error> {
     let words: Vec<String> = env::args(&rt)?.collect(rt.alloc())?;
     match words.as_slice() {
         [_program, verb] if verb.as_str() == "run" => {
-            measure(&rt)?;
+            measure_all(&rt)?;
             Ok(ExitCode::from(0))
         }
         _ => {

@@ -2,6 +2,7 @@
 //! and repeats.
 ghost use Rattle.std.specs.Prelude.{◌<◌};
 
+use crate::report::{Done, counted};
 use crate::stock::{ask, key_of, noon, run_of};
 use agent_stock::{AgentCode, Order};
 use awb_number::Awb;
@@ -80,57 +81,35 @@ fn tell(
     }
 }
 
-/// A delivery of ten numbers: five are issued to two agents, one of these comes back, and one is voided.
-fn deliver(
-    alloc: Global,
-    station: &mut PlainStation,
-    names: &Names,
-    n: u32,
-    serial: u32,
-) -> Option<()>
+/// The orders of a delivery of ten numbers: five are issued to two agents, one of these comes back, and one is voided.
+fn delivery(names: &Names, serial: u32) -> Option<[(char, Order); 5]>
     requires { serial < 9_000_000 }
 {
     let (acme, beta) = (names.acme, names.beta);
-    ask(
-        alloc,
-        station,
-        't',
-        n,
-        Order::TakeIn(run_of(serial, DELIVERY)?),
-    )?;
-    ask(
-        alloc,
-        station,
-        'a',
-        n,
-        Order::Issue(run_of(serial, 3)?, acme),
-    )?;
-    ask(
-        alloc,
-        station,
-        'i',
-        n,
-        Order::Issue(run_of(serial + 3, 2)?, beta),
-    )?;
-    ask(
-        alloc,
-        station,
-        'g',
-        n,
-        Order::GiveBack(run_of(serial + 4, 1)?, beta),
-    )?;
-    ask(alloc, station, 'v', n, Order::Void(run_of(serial + 9, 1)?))
+    Some([
+        ('t', Order::TakeIn(run_of(serial, DELIVERY)?)),
+        ('a', Order::Issue(run_of(serial, 3)?, acme)),
+        ('i', Order::Issue(run_of(serial + 3, 2)?, beta)),
+        ('g', Order::GiveBack(run_of(serial + 4, 1)?, beta)),
+        ('v', Order::Void(run_of(serial + 9, 1)?)),
+    ])
 }
 
-/// A waybill is booked, taken over and built on a flight.
-fn build(
+/// The orders come, under keys with a number.
+fn deliver(
     alloc: Global,
     station: &mut PlainStation,
-    names: &Names,
     n: u32,
-    awb: Awb,
-    flight: &FlightDate,
+    orders: [(char, Order); 5],
 ) -> Option<()> {
+    for (letter, order) in orders {
+        ask(alloc, station, letter, n, order)?;
+    }
+    Some(())
+}
+
+/// The commands by which a waybill is booked, taken over and built on a flight.
+fn building(names: &Names, awb: Awb, flight: &FlightDate) -> [(char, DeskCommand); 3] {
     let (flight, pieces) = (*flight, names.pieces);
     let book = DeskCommand::Book {
         awb,
@@ -152,24 +131,43 @@ fn build(
         unload: names.unload,
         pieces,
     };
-    tell(alloc, station, 'b', n, book)?;
-    tell(alloc, station, 'r', n, receive)?;
-    tell(alloc, station, 'm', n, manifest)
+    [('b', book), ('r', receive), ('m', manifest)]
+}
+
+/// The commands come, under keys with a number.
+fn build(
+    alloc: Global,
+    station: &mut PlainStation,
+    n: u32,
+    commands: [(char, DeskCommand); 3],
+) -> Option<()> {
+    for (letter, command) in commands {
+        tell(alloc, station, letter, n, command)?;
+    }
+    Some(())
+}
+
+/// What comes with a waybill, the first of its delivery.
+fn work_on(alloc: Global, station: &mut PlainStation, names: &Names, n: u32) -> Option<()>
+    requires { n < 900 }
+{
+    let serial = n * DELIVERY;
+    let flight = flight_on(n / ON_A_FLIGHT)?;
+    let awb = Awb::new(20, serial)?;
+    deliver(alloc, station, n, delivery(names, serial)?)?;
+    build(alloc, station, n, building(names, awb, &flight))?;
+    build(alloc, station, n, building(names, awb, &flight))?;
+    if n % ON_A_FLIGHT == ON_A_FLIGHT - 1 {
+        tell(alloc, station, 'd', n, DeskCommand::Depart { flight })?;
+    }
+    Some(())
 }
 
 /// How many inputs were accepted, or `None` where one wasn't.
-pub fn run(alloc: Global, station: &mut PlainStation) -> Option<u64> {
+pub fn run(alloc: Global, station: &mut PlainStation) -> Option<Done> {
     let names = all_names()?;
     for n in 0..WAYBILLS {
-        let serial = n * DELIVERY;
-        let awb = Awb::new(20, serial)?;
-        let flight = flight_on(n / ON_A_FLIGHT)?;
-        deliver(alloc, station, &names, n, serial)?;
-        build(alloc, station, &names, n, awb, &flight)?;
-        build(alloc, station, &names, n, awb, &flight)?;
-        if n % ON_A_FLIGHT == ON_A_FLIGHT - 1 {
-            tell(alloc, station, 'd', n, DeskCommand::Depart { flight })?;
-        }
+        work_on(alloc, station, &names, n)?;
     }
-    Some(INPUTS)
+    Some(counted(INPUTS))
 }

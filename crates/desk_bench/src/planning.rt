@@ -1,4 +1,5 @@
 //! Commands on cargo that are planned: a departure of 500 waybills, and a manifest of 500 lines.
+use crate::report::{Done, counted};
 use awb_number::Awb;
 use imp_fields::{
     Airport, BookTenths, DayMonth, Flight, Goods, LocalDay, Moment, PartNumber, Pieces, Tenths,
@@ -17,19 +18,24 @@ const PLANS: u64 = 2_000;
 /// How many waybills leave with the flight, and how many lines the manifest has.
 const WAYBILLS: u32 = 500;
 
+/// Whether a command is planned.
+fn is_planned(alloc: Global, view: &View, command: &ShipmentCommand<'_>, at: Moment) -> bool {
+    plan(alloc, view, command, at).is_ok()
+}
+
 /// How often a command was planned, or `None` where it was refused or memory is out.
 fn plan_often(
     alloc: Global,
     view: &View,
     command: &ShipmentCommand<'_>,
     at: Moment,
-) -> Option<u64> {
+) -> Option<Done> {
     for _ in 0..PLANS {
-        if plan(alloc, view, command, at).is_err() {
+        if !is_planned(alloc, view, command, at) {
             return None;
         }
     }
-    Some(PLANS)
+    Some(counted(PLANS))
 }
 
 /// Ten pieces of 100 kilograms.
@@ -68,29 +74,41 @@ fn loads(alloc: Global, declared: &Declared) -> Option<Vec<FlightLoad>> {
     Some(loads)
 }
 
-/// How often the departure of a flight with 500 waybills was planned.
-pub fn plan_departures(alloc: Global) -> Option<u64> {
+/// What is looked at of the flight: its waybills, and that it hasn't left.
+fn departure_view(alloc: Global) -> Option<View> {
     let (here, unload) = (Airport::read(b"FRA")?, Airport::read(b"JFK")?);
-    let flight = FlightDate {
-        flight: Flight::read(b"LH400")?,
-        day: LocalDay::new(20465)?,
-    };
-    let outbound = Outbound {
-        unload,
-        closed: false,
-    };
     let declared = declared(here, unload)?;
     let loads = Loads::new(loads(alloc, &declared)?)?;
-    let view = View {
+    let outbound = Some(Outbound {
+        unload,
+        closed: false,
+    });
+    Some(View {
         here,
-        rows: Rows::Departure {
-            outbound: Some(outbound),
-            loads,
-        },
-    };
+        rows: Rows::Departure { outbound, loads },
+    })
+}
+
+/// Noon of 2026-01-12.
+fn noon() -> Option<Moment> {
+    Moment::new(20465, 720)
+}
+
+/// LH400 on that day.
+fn lh400() -> Option<FlightDate> {
+    Some(FlightDate {
+        flight: Flight::read(b"LH400")?,
+        day: LocalDay::new(20465)?,
+    })
+}
+
+/// How often the departure of a flight with 500 waybills was planned.
+pub fn plan_departures(alloc: Global) -> Option<Done> {
+    let view = departure_view(alloc)?;
+    let flight = lh400()?;
     let desk = DeskCommand::Depart { flight };
     let command = ShipmentCommand::Desk(DeskRef::new(&desk));
-    plan_often(alloc, &view, &command, Moment::new(20465, 720)?)
+    plan_often(alloc, &view, &command, noon()?)
 }
 
 /// A line of the manifest, of a waybill that isn't known.
@@ -133,26 +151,34 @@ fn rows(alloc: Global) -> Option<Vec<LineView>> {
     Some(rows)
 }
 
-/// How often a part of a manifest with 500 lines for here was planned at a new station.
-pub fn plan_manifests(alloc: Global) -> Option<u64> {
-    let here = Airport::read(b"JFK")?;
-    let at = Moment::new(20465, 720)?;
-    let date = DayMonth::read(b"12JAN")?;
-    let lines = lines(alloc, here)?;
+/// What is looked at of the manifest's waybills.
+fn manifest_view(alloc: Global, here: Airport) -> Option<View> {
     let rows = rows(alloc)?;
-    let view = View {
+    Some(View {
         here,
         rows: Rows::Lines {
             taken: false,
             lines: LineViews::new(rows),
         },
-    };
-    let command = ShipmentCommand::Ffm(InboundPart {
+    })
+}
+
+/// The part of a manifest that these lines are.
+fn part(lines: &[InboundLine]) -> Option<InboundPart<'_>> {
+    Some(InboundPart {
         number: PartNumber::new(1)?,
         flight: Flight::read(b"LH400")?,
-        date,
+        date: DayMonth::read(b"12JAN")?,
         loaded: Airport::read(b"FRA")?,
-        lines: InboundLines::new(lines.as_slice())?,
-    });
-    plan_often(alloc, &view, &command, at)
+        lines: InboundLines::new(lines)?,
+    })
+}
+
+/// How often a part of a manifest with 500 lines for here was planned at a new station.
+pub fn plan_manifests(alloc: Global) -> Option<Done> {
+    let here = Airport::read(b"JFK")?;
+    let lines = lines(alloc, here)?;
+    let view = manifest_view(alloc, here)?;
+    let command = ShipmentCommand::Ffm(part(&lines)?);
+    plan_often(alloc, &view, &command, noon()?)
 }

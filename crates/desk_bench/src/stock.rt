@@ -1,5 +1,6 @@
 //! Orders of the stock desk over tables in memory.
-use agent_stock::{AgentCode, Order, Run};
+use crate::report::{Done, counted};
+use agent_stock::{AgentCode, Order, Run, RunCount};
 use awb_number::Awb;
 use desk_commands::Command;
 use imp_fields::Moment;
@@ -26,7 +27,7 @@ pub enum Work {
 }
 
 /// A new station in memory.
-pub fn station(alloc: Global) -> Option<Station<Rows<MemStore>>> {
+fn station(alloc: Global) -> Option<Station<Rows<MemStore>>> {
     let conn = open_memory(alloc).ok()?;
     match create(alloc, conn) {
         Ok(station) => Some(station),
@@ -63,68 +64,76 @@ pub fn ask(
 /// Numbers of the prefix 020.
 pub fn run_of(serial: u32, count: u32) -> Option<Run> {
     let first = Awb::new(20, serial)?;
+    let count = RunCount::new(count)?;
     Some(Run { first, count })
 }
 
-fn days(alloc: Global, keeper: &mut impl Keeper) -> Option<u64> {
-    let agent = AgentCode::read(b"ACME")?;
+/// Takes in numbers.
+fn take_in(alloc: Global, keeper: &mut impl Keeper, n: u32, serial: u32, count: u32) -> Option<()> {
+    let run = run_of(serial, count)?;
+    ask(alloc, keeper, 't', n, Order::TakeIn(run))
+}
+
+/// Issues numbers to an agent.
+fn issue(alloc: Global, keeper: &mut impl Keeper, n: u32, serial: u32, count: u32) -> Option<()> {
+    let (run, agent) = (run_of(serial, count)?, AgentCode::read(b"ACME")?);
+    ask(alloc, keeper, 'i', n, Order::Issue(run, agent))
+}
+
+/// Takes numbers back from the agent.
+fn give_back(
+    alloc: Global,
+    keeper: &mut impl Keeper,
+    n: u32,
+    serial: u32,
+    count: u32,
+) -> Option<()> {
+    let (run, agent) = (run_of(serial, count)?, AgentCode::read(b"ACME")?);
+    ask(alloc, keeper, 'r', n, Order::GiveBack(run, agent))
+}
+
+fn days(alloc: Global, keeper: &mut impl Keeper) -> Option<Done> {
     for n in 0..2667 {
         let serial = n * DELIVERY;
-        let three = run_of(serial, 3)?;
-        ask(
-            alloc,
-            keeper,
-            't',
-            n,
-            Order::TakeIn(run_of(serial, DELIVERY)?),
-        )?;
-        ask(alloc, keeper, 'i', n, Order::Issue(three, agent))?;
-        ask(alloc, keeper, 'r', n, Order::GiveBack(three, agent))?;
+        take_in(alloc, keeper, n, serial, DELIVERY)?;
+        issue(alloc, keeper, n, serial, 3)?;
+        give_back(alloc, keeper, n, serial, 3)?;
     }
-    Some(8001)
+    Some(counted(8001))
 }
 
-fn repeats(alloc: Global, keeper: &mut impl Keeper) -> Option<u64> {
+fn repeats(alloc: Global, keeper: &mut impl Keeper) -> Option<Done> {
     for _ in 0..20_000 {
-        ask(alloc, keeper, 't', 0, Order::TakeIn(run_of(0, DELIVERY)?))?;
+        take_in(alloc, keeper, 0, 0, DELIVERY)?;
     }
-    Some(20_000)
+    Some(counted(20_000))
 }
 
-fn runs(alloc: Global, keeper: &mut impl Keeper) -> Option<u64> {
+fn runs(alloc: Global, keeper: &mut impl Keeper) -> Option<Done> {
     for n in 0..10 {
-        ask(
-            alloc,
-            keeper,
-            't',
-            n,
-            Order::TakeIn(run_of(n * 10_000, 10_000)?),
-        )?;
+        take_in(alloc, keeper, n, n * 10_000, 10_000)?;
     }
-    Some(10)
+    Some(counted(10))
 }
 
-fn singles(alloc: Global, keeper: &mut impl Keeper) -> Option<u64> {
-    let agent = AgentCode::read(b"ACME")?;
+fn singles(alloc: Global, keeper: &mut impl Keeper) -> Option<Done> {
     for n in 0..10_000 {
-        ask(alloc, keeper, 'i', n, Order::Issue(run_of(n, 1)?, agent))?;
+        issue(alloc, keeper, n, n, 1)?;
     }
-    Some(10_000)
+    Some(counted(10_000))
 }
 
-/// What has to stand before the work begins. `false` where it couldn't be done.
-pub fn prepare(alloc: Global, keeper: &mut impl Keeper, work: Work) -> bool {
-    if work != Work::Singles {
-        return true;
+/// A new station in memory where the work can begin.
+pub fn prepared(alloc: Global, work: Work) -> Option<Station<Rows<MemStore>>> {
+    let mut station = station(alloc)?;
+    if work == Work::Singles {
+        take_in(alloc, &mut station, 0, 0, 10_000)?;
     }
-    match run_of(0, 10_000) {
-        Some(run) => ask(alloc, keeper, 't', 0, Order::TakeIn(run)).is_some(),
-        None => false,
-    }
+    Some(station)
 }
 
 /// How many orders were done, or `None` where one wasn't.
-pub fn run(alloc: Global, keeper: &mut impl Keeper, work: Work) -> Option<u64> {
+pub fn run(alloc: Global, keeper: &mut impl Keeper, work: Work) -> Option<Done> {
     match work {
         Work::Days => days(alloc, keeper),
         Work::Repeats => repeats(alloc, keeper),
