@@ -1,5 +1,5 @@
 -- The forms of the clauses of `TableStore`: what the store showed before, and what it shows now.
-use Rattle.std.specs.Prelude.{OnOk, IfOk, Result}
+use Rattle.std.specs.Prelude.{◌≡◌, true, OnOk, IfOk, Result}
 use Rattle.row_schema.specs.Tables.{Tables}
 use Rattle.row_schema.specs.Store.{View, Seen, inside, IsShowing}
 
@@ -15,3 +15,7 @@ TellsOf old new result Is = (seen : Seen) → IsShowing old seen → new.IsSound
 -- whatever it showed, it still shows
 abbrev pub ShowsStill : {X E : Type 0} → View → View → Result X E → Type 0
 ShowsStill old new result = (seen : Seen) → IsShowing old seen → OnOk result (IsShowing new seen)
+
+-- a call that is answered finds the store open
+abbrev pub WasOpen : {X E : Type 0} → View → View → Result X E → Type 0
+WasOpen old new result = OnOk result (new.IsSound → old.is_open ≡ true)

@@ -1,0 +1,13 @@
+pub mod Tests
+pub mod Storing
+pub mod Codes
+pub mod Written
+pub mod Moved
+pub mod Keeping
+pub mod Found
+pub mod Placing
+pub mod Amounts
+pub mod Stores
+pub mod Entries
+pub mod FlightRows
+pub mod Loads

@@ -1,0 +1,16 @@
+//! Running counts of pieces and tenths in the tables of a station.
+#![tactic(auto)]
+
+mod building;
+mod counting;
+mod fields;
+mod loading;
+mod posting;
+mod tally;
+mod waybills;
+
+pub use building::load;
+pub use counting::balances;
+pub use loading::aboard;
+pub use posting::post_move;
+pub use waybills::waybills_in;

@@ -1,0 +1,10 @@
+pub mod Numbers
+pub mod Waybills
+pub mod Stock
+pub mod Flights
+pub mod Moves
+pub mod Counts
+pub mod Manifests
+pub mod Logs
+pub mod Replies
+pub mod Meaning

@@ -1,0 +1,38 @@
+-- Whole numbers of rows.
+use Rattle.std.specs.Prelude.{◌≡◌, ℕ, ℤ, pos, negsuc, int_le, Bool, ◌&&◌, ◌||◌, if◌then◌else◌, List, map, length}
+use Rattle.std.specs.List.{range_with_len}
+use Rattle.std.specs.Ordering.{int_eq}
+
+abbrev pub natural : ℤ → ℕ
+natural (pos n) = n
+natural (negsuc n) = 0
+
+-- from one number to another, both included
+abbrev pub is_within : ℕ → ℕ → ℤ → Bool
+is_within low high z = int_le (pos low) z && int_le z (pos high)
+
+-- a waybill number, by its key
+abbrev pub is_number : ℤ → Bool
+is_number = is_within 0 9_999_999_999
+
+-- what a column `count` or `confirmed` has
+abbrev pub is_count : ℤ → Bool
+is_count = is_within 0 4_294_967_295
+
+-- a day from 2000-01-01 to 2099-12-31
+abbrev pub is_day : ℤ → Bool
+is_day = is_within 10957 47481
+
+-- a flag is 1 or 0
+abbrev pub flag : Bool → ℤ
+flag set = if set then pos 1 else pos 0
+
+abbrev pub is_set : ℤ → Bool
+is_set z = int_eq z (pos 1)
+
+abbrev pub is_flag : ℤ → Bool
+is_flag z = int_eq z (pos 0) || int_eq z (pos 1)
+
+-- the rows are numbered from 1, in order
+abbrev pub AreNumbered : {X : Type 0} → (X → ℤ) → List X → Type 0
+AreNumbered number rows = map number rows ≡ map pos (range_with_len 1 (length rows))

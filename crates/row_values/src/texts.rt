@@ -1,0 +1,17 @@
+ghost use Rattle.std.specs.Prelude.{◌≡◌, IfOk, string_bytes};
+
+use station_rows::StoreFault;
+use std::alloc::Global;
+
+/// The bytes as a text of their own. A fault: they are no UTF-8, or memory was wanting.
+pub fn text(alloc: Global, bytes: &[u8]) -> Result<String, StoreFault>
+    ensures { IfOk result (λ text. string_bytes text ≡ bytes.now) }
+{
+    let Ok(text) = std::str::from_utf8(bytes) else {
+        return Err(StoreFault);
+    };
+    match String::from_str(alloc, text) {
+        Ok(text) => Ok(text),
+        Err(_) => Err(StoreFault),
+    }
+}

@@ -1,0 +1,56 @@
+ghost use Rattle.std.specs.Prelude.{◌≡◌, IsTrue, IfSome, IfOk};
+ghost use Rattle.cargo_rows.specs.Meant.{waybill_meant};
+ghost use Rattle.row_values.specs.Waybills.{declared_by, waybill_row, is_waybill_row};
+
+use crate::texts::text;
+use awb_number::Awb;
+use imp_fields::{Airport, BookTenths, Goods, Pieces};
+use shipment_machine::Declared;
+use station_rows::{StoreFault, WaybillRow};
+use std::alloc::Global;
+
+/// What a row declares. `None`: a column is out of range.
+pub fn declared_by(row: &WaybillRow) -> Option<Declared>
+    ensures { IfSome result (λ d. d ≡ declared_by (waybill_meant row.now)) }
+{
+    let pieces = u32::try_from(row.pieces).ok()?;
+    let tenths = u32::try_from(row.tenths).ok()?;
+    Some(Declared {
+        origin: Airport::read(row.origin.as_bytes())?,
+        destination: Airport::read(row.destination.as_bytes())?,
+        pieces: Pieces::new(pieces)?,
+        tenths: BookTenths::new(tenths)?,
+        goods: Goods::read(row.goods.as_bytes())?,
+        notified: row.notified == 1,
+    })
+}
+
+/// What is declared of a waybill is within the range of its row.
+#[tactic(auto, using(crate::proofs::Fits::waybill_fits))]
+fn waybill_range(awb: &Awb, declared: &Declared)
+    ensures { IsTrue (is_waybill_row (waybill_row awb.now declared.now)) }
+{
+    let _number = awb.key();
+    let _origin = declared.origin.letters();
+    let _destination = declared.destination.letters();
+    let _pieces = declared.pieces.number();
+    let _tenths = declared.tenths.number();
+    let _goods = declared.goods.as_bytes();
+}
+
+/// The row of what is declared of a waybill. A fault: memory was wanting.
+pub fn waybill_row(alloc: Global, awb: &Awb, declared: &Declared) -> Result<WaybillRow, StoreFault>
+    ensures value { IfOk result (λ row. waybill_meant row ≡ waybill_row awb.now declared.now) }
+    ensures lawful { IsTrue (is_waybill_row (waybill_row awb.now declared.now)) }
+{
+    waybill_range(awb, declared);
+    Ok(WaybillRow {
+        awb: awb.key() as i64,
+        origin: text(alloc, &declared.origin.letters())?,
+        destination: text(alloc, &declared.destination.letters())?,
+        pieces: i64::from(declared.pieces.number()),
+        tenths: i64::from(declared.tenths.number()),
+        goods: text(alloc, declared.goods.as_bytes())?,
+        notified: i64::from(declared.notified),
+    })
+}

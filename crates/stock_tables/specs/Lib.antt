@@ -1,0 +1,3 @@
+pub mod Stocked
+pub mod Ahead
+pub mod Listed

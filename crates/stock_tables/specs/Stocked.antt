@@ -1,0 +1,29 @@
+-- The stock in the tables of a store, and what a change of it leaves.
+use Rattle.std.specs.Prelude.{◌≡◌, ◌==◌, ℕ, IsTrue, if◌then◌else◌, Some}
+use Rattle.std.specs.FinMap.{FinMap, entries}
+use Rattle.std.specs.List.{list_all}
+use Rattle.agent_stock.specs.Stock.{Holders}
+use Rattle.agent_stock.specs.declared.stock.Holder.TheVariants.{Used}
+use Rattle.row_schema.specs.Store.{View, Displays, inside}
+use Rattle.row_schema.specs.Tables.{Tables, Stock, stock_cmp}
+use Rattle.row_values.specs.Stock.{holders_in, is_stock_row}
+
+-- each row of the stock is within range
+abbrev pub Stocked : Tables → Type 0
+Stocked t = IsTrue (list_all is_stock_row (entries t.stock))
+
+-- the same tables with another stock
+abbrev pub restocked : FinMap stock_cmp Stock → Tables → Tables
+restocked stock t = record t { stock = stock }
+
+-- a number is used up, and every other one is as before
+abbrev pub using_up : Holders → ℕ → Holders
+using_up h w q = if q == w then Some Used else h q
+
+-- In a transaction that began with the tables `before`, a store shows the tables `t` with another stock, in which each number has the
+-- holder that is said here. Each row of it is within range.
+pub record Restocked (v : View) (before t : Tables) (holders : Holders) : Type 0 where
+  pub stock : FinMap stock_cmp Stock
+  pub shown : Displays v (inside before (restocked stock t))
+  pub rows : Stocked (restocked stock t)
+  pub held : holders_in stock ≡ holders

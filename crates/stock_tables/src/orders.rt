@@ -1,0 +1,109 @@
+//! Orders on the stock.
+ghost use Rattle.std.specs.Prelude.{◌≡◌, true, None, OnOk, IfErr};
+ghost use Rattle.agent_stock.specs.Stock.{is_run, lowest_failing, refused_by, run_refusal, order_refusal, assigned, after_order};
+ghost use Rattle.row_schema.specs.Store.{IsShowing, Survives, at_rest};
+ghost use Rattle.row_schema.specs.Tables.{Tables};
+ghost use Rattle.row_values.specs.Stock.{holders_in};
+ghost use Rattle.state_store.specs.Store.{RefusesBy, OnRefused};
+ghost use Rattle.stock_tables.specs.Stocked.{Stocked, Restocked};
+
+use crate::giving::begin_giving;
+use crate::holding::{lowest_failing, rows_of};
+use agent_stock::{Holder, Order, Run, StockFault, Test};
+use station_rows::{StoreFault, TableStore};
+use std::alloc::Global;
+
+/// Gives a run of a size that can be ordered to a holder, where each of its numbers passes a test.
+fn change_run<S: TableStore>(
+    alloc: Global,
+    store: &mut S,
+    run: &Run,
+    test: &Test,
+    to: &Holder,
+    number: u16,
+) -> Result<(), StockFault<StoreFault>>
+    requires { is_run run.now ≡ true }
+    ensures accepted { (t : Tables) → IsShowing (S.view store.old) (at_rest t) → Stocked t → (S.view store.new).IsSound
+        → OnOk result (refused_by (lowest_failing (holders_in t.stock) run.now test.now) number ≡ None) }
+    ensures done { (t : Tables) → IsShowing (S.view store.old) (at_rest t) → Stocked t
+        → OnOk result ((S.view store.new).IsSound
+        → Restocked (S.view store.new) t t (assigned (holders_in t.stock) run.now to.now)) }
+    ensures refused { (t : Tables) → IsShowing (S.view store.old) (at_rest t) → Stocked t → (S.view store.new).IsSound
+        → IfErr result (RefusesBy (refused_by (lowest_failing (holders_in t.stock) run.now test.now) number)) }
+    ensures same { (t : Tables) → IsShowing (S.view store.old) (at_rest t)
+        → OnRefused result (IsShowing (S.view store.new) (at_rest t)) }
+    ensures survives { Survives (S.view store.old) (S.view store.new) }
+{
+    let rows = match rows_of(store, run) {
+        Ok(rows) => rows,
+        Err(fault) => return Err(StockFault::Rows(fault)),
+    };
+    match lowest_failing(&rows, run, test) {
+        Some(lowest) => Err(StockFault::Refused(number, Some(lowest))),
+        None => match begin_giving(alloc, store, run, &rows, to) {
+            Ok(()) => Ok(()),
+            Err(fault) => Err(StockFault::Rows(fault)),
+        },
+    }
+}
+
+/// Gives a run to a holder, where each of its numbers passes a test.
+fn change<S: TableStore>(
+    alloc: Global,
+    store: &mut S,
+    run: &Run,
+    test: &Test,
+    to: &Holder,
+    number: u16,
+) -> Result<(), StockFault<StoreFault>>
+    ensures accepted { (t : Tables) → IsShowing (S.view store.old) (at_rest t) → Stocked t → (S.view store.new).IsSound
+        → OnOk result (run_refusal (holders_in t.stock) run.now test.now number ≡ None) }
+    ensures done { (t : Tables) → IsShowing (S.view store.old) (at_rest t) → Stocked t
+        → OnOk result ((S.view store.new).IsSound
+        → Restocked (S.view store.new) t t (assigned (holders_in t.stock) run.now to.now)) }
+    ensures refused { (t : Tables) → IsShowing (S.view store.old) (at_rest t) → Stocked t → (S.view store.new).IsSound
+        → IfErr result (RefusesBy (run_refusal (holders_in t.stock) run.now test.now number)) }
+    ensures same { (t : Tables) → IsShowing (S.view store.old) (at_rest t)
+        → OnRefused result (IsShowing (S.view store.new) (at_rest t)) }
+    ensures survives { Survives (S.view store.old) (S.view store.new) }
+{
+    if !run.is_run() {
+        return Err(StockFault::Refused(105, None));
+    }
+    change_run(alloc, store, run, test, to, number)
+}
+
+/// Does an order in a transaction that it begins, and leaves that open. Where the order is refused none is begun, and
+/// nothing changes. `Rows`: a database call failed, a transaction was open already, or memory is short.
+pub fn carry_out_order<S: TableStore>(
+    alloc: Global,
+    store: &mut S,
+    order: &Order,
+) -> Result<(), StockFault<StoreFault>>
+    ensures accepted { (t : Tables) → IsShowing (S.view store.old) (at_rest t) → Stocked t → (S.view store.new).IsSound
+        → OnOk result (order_refusal (holders_in t.stock) order.now ≡ None) }
+    ensures done { (t : Tables) → IsShowing (S.view store.old) (at_rest t) → Stocked t
+        → OnOk result ((S.view store.new).IsSound
+        → Restocked (S.view store.new) t t (after_order (holders_in t.stock) order.now)) }
+    ensures refused { (t : Tables) → IsShowing (S.view store.old) (at_rest t) → Stocked t → (S.view store.new).IsSound
+        → IfErr result (RefusesBy (order_refusal (holders_in t.stock) order.now)) }
+    ensures same { (t : Tables) → IsShowing (S.view store.old) (at_rest t)
+        → OnRefused result (IsShowing (S.view store.new) (at_rest t)) }
+    ensures survives { Survives (S.view store.old) (S.view store.new) }
+{
+    match order {
+        Order::TakeIn(run) => change(alloc, store, run, &Test::Absent, &Holder::Desk, 101),
+        Order::Issue(run, agent) => change(
+            alloc,
+            store,
+            run,
+            &Test::Desk,
+            &Holder::Agent(*agent),
+            102,
+        ),
+        Order::GiveBack(run, agent) => {
+            change(alloc, store, run, &Test::With(*agent), &Holder::Desk, 103)
+        }
+        Order::Void(run) => change(alloc, store, run, &Test::DeskOrAgent, &Holder::Void, 104),
+    }
+}
