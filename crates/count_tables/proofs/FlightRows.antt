@@ -118,6 +118,16 @@ module _ (text : List ℕ) (day : ℤ) (w : ℕ) (v : Build) (loaded : int_lt (p
 
 -- ---- the rows of a flight
 
+abbrev IsBelow : ℤ × Running → ℤ × Running → Type 0
+IsBelow a b = int_cmp a.0 b.0 ≡ Less
+
+-- what is said of a waybill is what is built of it
+abbrev IsBuilt : List Move → FlightDate → ℤ × Running → Type 0
+IsBuilt book f s = (w : ℕ) → s.0 ≡ pos w → s.1 ≡ running book w (Built f)
+
+abbrev rows_of : FlightDate → FinMap build_cmp Build → List (ℤ × Running)
+rows_of f builds = map row_said (filter (is_on (flight_text f.flight) (pos f.day)) (entries builds))
+
 apart : (t : List ℕ) (d x y : ℤ) → build_cmp (t, (d, x)) (t, (d, y)) ≡ int_cmp x y
 apart t d x y =
     ap (λ o. ordering_then o (ordering_then (int_cmp d d) (int_cmp x y))) (tied_itself texts_total t)
@@ -131,10 +141,10 @@ above text day a b on_a on_b less =
     let db : b.0.1.0 ≡ day = is_int b.0.1.0 day (second_true (eq_by_cmp bytes_cmp b.0.0 text) (int_eq b.0.1.0 day) on_b) in
     sym (apart text day a.0.1.1 b.0.1.1) ∙ sym (λ i. build_cmp (ta i, (da i, a.0.1.1)) (tb i, (db i, b.0.1.1))) ∙ less
 
-said_rise : (text : List ℕ) (day : ℤ) (builds : FinMap build_cmp Build) → IsAscending (λ (a b : ℤ × Running). int_cmp a.0 b.0 ≡ Less) (said_on text day (entries builds))
+said_rise : (text : List ℕ) (day : ℤ) (builds : FinMap build_cmp Build) → IsAscending IsBelow (said_on text day (entries builds))
 said_rise text day builds =
-    rises_filtered (λ (a b : ℤ × Running). int_cmp a.0 b.0 ≡ Less) is_loaded (map row_said (filter (is_on text day) (entries builds)))
-    (rises_mapped (λ (a b : ℤ × Running). int_cmp a.0 b.0 ≡ Less) row_said (filter (is_on text day) (entries builds))
+    rises_filtered IsBelow is_loaded (map row_said (filter (is_on text day) (entries builds)))
+    (rises_mapped IsBelow row_said (filter (is_on text day) (entries builds))
     (ascending_where (λ (e : BuildKey × Build). is_on text day e ≡ true) (λ (a b : BuildKey × Build). build_cmp a.0 b.0 ≡ Less) (λ (a b : BuildKey × Build). int_cmp a.0.1.1 b.0.1.1 ≡ Less)
     (above text day) (filter (is_on text day) (entries builds)) (all_passed (is_on text day) (entries builds))
     (rises_filtered (λ (a b : BuildKey × Build). build_cmp a.0 b.0 ≡ Less) (is_on text day) (entries builds) (entries_rise build_cmp builds_total builds))))
@@ -149,10 +159,9 @@ not_nothing r h = ap (λ b. b && int_eq r.tenths (pos 0)) (some_left r.pieces h)
     some_left z h = grind (arith, ints)
 
 module _ (builds : FinMap build_cmp Build) (book : List Move) (f : FlightDate) (designator : IsDesignator f.flight) (are : AreBuilds builds book) where
-  -- what is said of a waybill is what is built of it
-  pub all_true : AllByRecursion (λ (s : ℤ × Running). (w : ℕ) → s.0 ≡ pos w → s.1 ≡ running book w (Built f)) (map row_said (filter (is_on (flight_text f.flight) (pos f.day)) (entries builds)))
+  pub all_true : AllByRecursion (IsBuilt book f) (rows_of f builds)
   all_true =
-      mapped (λ (s : ℤ × Running). (w : ℕ) → s.0 ≡ pos w → s.1 ≡ running book w (Built f)) row_said (filter (is_on (flight_text f.flight) (pos f.day)) (entries builds))
+      mapped (IsBuilt book f) row_said (filter (is_on (flight_text f.flight) (pos f.day)) (entries builds))
       (filtered (λ (e : BuildKey × Build). (w : ℕ) → e.0.1.1 ≡ pos w → running_on e.1 ≡ running book w (Built f)) (is_on (flight_text f.flight) (pos f.day)) (entries builds)
       (each_entry build_cmp builds_total (λ (e : BuildKey × Build). is_on (flight_text f.flight) (pos f.day) e ≡ true → (w : ℕ) → e.0.1.1 ≡ pos w → running_on e.1 ≡ running book w (Built f)) builds one))
     where
@@ -168,10 +177,10 @@ module _ (builds : FinMap build_cmp Build) (book : List Move) (f : FlightDate) (
       let out = positive (moved_in pieces_of book w (same_place (Built f))) (moved_out pieces_of book w (same_place (Built f))) in
       same_bool _ _
       (λ h. any_of (is_number w) (nat_lt 0 (built book w f).pieces ≡ true) (said_on (flight_text f.flight) (pos f.day) (entries builds))
-      (filtered (λ (s : ℤ × Running). int_eq s.0 (pos w) ≡ true → nat_lt 0 (built book w f).pieces ≡ true) is_loaded (map row_said (filter (is_on (flight_text f.flight) (pos f.day)) (entries builds)))
-      (all_weaker (λ (s : ℤ × Running). (n : ℕ) → s.0 ≡ pos n → s.1 ≡ running book n (Built f)) (λ (s : ℤ × Running). is_loaded s ≡ true → int_eq s.0 (pos w) ≡ true → nat_lt 0 (built book w f).pieces ≡ true)
+      (filtered (λ (s : ℤ × Running). int_eq s.0 (pos w) ≡ true → nat_lt 0 (built book w f).pieces ≡ true) is_loaded (rows_of f builds)
+      (all_weaker (IsBuilt book f) (λ (s : ℤ × Running). is_loaded s ≡ true → int_eq s.0 (pos w) ≡ true → nat_lt 0 (built book w f).pieces ≡ true)
       (λ s is loaded number. sym out ∙ sym (ap (λ (r : Running). int_lt (pos 0) r.pieces) (is w (is_int s.0 (pos w) number))) ∙ loaded)
-      (map row_said (filter (is_on (flight_text f.flight) (pos f.day)) (entries builds))) all_true)) h)
+      (rows_of f builds) all_true)) h)
       (λ h.
       let some : int_lt (pos 0) (running book w (Built f)).pieces ≡ true = out ∙ h in
       said_if_found (flight_text f.flight) (pos f.day) w (build_row (running book w (Built f))) some (entries builds)
@@ -180,7 +189,7 @@ module _ (builds : FinMap build_cmp Build) (book : List Move) (f : FlightDate) (
 
   -- ---- loads
 
-  rising : (loads : List Load) → IsAscending (λ (a b : ℤ × Running). int_cmp a.0 b.0 ≡ Less) (map load_said loads) → Rising (map (λ (l : Load). l.awb) loads)
+  rising : (loads : List Load) → IsAscending IsBelow (map load_said loads) → Rising (map (λ (l : Load). l.awb) loads)
   rising [] up = tt
   rising (l ∷ loads) up = (
     mapped (λ n. l.awb < n) (λ (k : Load). k.awb) loads (all_weaker (λ (k : Load). int_cmp (pos l.awb) (pos k.awb) ≡ Less) (λ (k : Load). l.awb < k.awb) (λ k h. less l.awb k.awb h) loads
@@ -198,20 +207,20 @@ module _ (builds : FinMap build_cmp Build) (book : List Move) (f : FlightDate) (
       same : (a b : ℕ) → (a == b) ≡ int_eq (pos a) (pos b)
       same a b = grind (arith, ints, nat_tests)
 
-  amounts : (loads : List Load) → AllByRecursion (λ (s : ℤ × Running). (w : ℕ) → s.0 ≡ pos w → s.1 ≡ running book w (Built f)) (map load_said loads) → loads ≡ map (load_on book f) (map (λ (l : Load). l.awb) loads)
+  amounts : (loads : List Load) → AllByRecursion (IsBuilt book f) (map load_said loads) → loads ≡ map (load_on book f) (map (λ (l : Load). l.awb) loads)
   amounts [] all = refl
   amounts (l ∷ loads) all =
       let amount = held_is book l.awb (Built f) (record { pieces = pos l.amount.pieces; tenths = pos l.amount.tenths }) l.amount (all.0 l.awb refl) refl refl in
       let first : l ≡ load_on book f l.awb = λ i. record { awb = l.awb; amount = amount i } in
       ap₂ ◌∷◌ first (amounts loads all.1)
 
-  pub loads_are : (loads : List Load) → map load_said loads ≡ filter is_loaded (map row_said (filter (is_on (flight_text f.flight) (pos f.day)) (entries builds))) → loads ≡ loads_on book f
+  pub loads_are : (loads : List Load) → map load_said loads ≡ filter is_loaded (rows_of f builds) → loads ≡ loads_on book f
   loads_are loads are_said =
-      let all = filtered (λ (s : ℤ × Running). (w : ℕ) → s.0 ≡ pos w → s.1 ≡ running book w (Built f)) is_loaded (map row_said (filter (is_on (flight_text f.flight) (pos f.day)) (entries builds)))
-      (all_weaker (λ (s : ℤ × Running). (w : ℕ) → s.0 ≡ pos w → s.1 ≡ running book w (Built f)) (λ (s : ℤ × Running). is_loaded s ≡ true → (w : ℕ) → s.0 ≡ pos w → s.1 ≡ running book w (Built f)) (λ s is loaded. is)
-      (map row_said (filter (is_on (flight_text f.flight) (pos f.day)) (entries builds))) all_true) in
+      let all = filtered (IsBuilt book f) is_loaded (rows_of f builds)
+      (all_weaker (IsBuilt book f) (λ (s : ℤ × Running). is_loaded s ≡ true → (w : ℕ) → s.0 ≡ pos w → s.1 ≡ running book w (Built f)) (λ s is loaded. is)
+      (rows_of f builds) all_true) in
       let same : map (λ (l : Load). l.awb) loads ≡ waybills_on book f = same_rising _ _
-      (rising loads (subst (IsAscending (λ (a b : ℤ × Running). int_cmp a.0 b.0 ≡ Less)) (sym are_said) (said_rise (flight_text f.flight) (pos f.day) builds)))
+      (rising loads (subst (IsAscending IsBelow) (sym are_said) (said_rise (flight_text f.flight) (pos f.day) builds)))
       (Rising-filter _ _ (Rising-waybills_of book))
       (λ w. members w loads ∙ ap (list_any (is_number w)) are_said ∙ number_said w ∙ sym (is_in-waybills_on w book f)) in
-      amounts loads (subst (AllByRecursion (λ (s : ℤ × Running). (w : ℕ) → s.0 ≡ pos w → s.1 ≡ running book w (Built f))) (sym are_said) all) ∙ ap (map (load_on book f)) same
+      amounts loads (subst (AllByRecursion (IsBuilt book f)) (sym are_said) all) ∙ ap (map (load_on book f)) same

@@ -38,9 +38,6 @@ int_pos a b = grind (arith, ints, nat_tests)
 pub is_nat : (a b : ℕ) → (a == b) ≡ true → a ≡ b
 is_nat a b h = grind (arith, nat_tests)
 
-pub nat_itself : (a : ℕ) → (a == a) ≡ true
-nat_itself a = grind (arith, nat_tests)
-
 pub from_zero : (z y : ℤ) → z ≡ pos 0 → y ≡ z +ℤ y
 from_zero z y h = omega (arith, ints)
 

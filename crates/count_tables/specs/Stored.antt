@@ -8,6 +8,7 @@ use Rattle.row_values.specs.Counts.{Running, is_nothing, running_in, running_on,
 use Rattle.count_tables.specs.Sums.{plus}
 use Rattle.count_tables.specs.declared.tally.Tally.{Tally}
 
+-- what a row's tally stands for
 abbrev pub meant : Tally → Running
 meant t = record { pieces = t.pieces; tenths = t.tenths }
 
@@ -20,6 +21,7 @@ abbrev pub come_to : {V : Type 0} → (V → Running) → Option V → Running �
 come_to amount None by = by
 come_to amount (Some v) by = plus (amount v) by
 
+-- what a waybill has at a place, where it is told whether there is a row
 abbrev pub storing_count : Bool → CountKey × Count → Tables → Tables
 storing_count there e tables = record tables { counts = stored tables.counts (is_nothing (running_in e.1)) there e.0 e.1 }
 
@@ -27,6 +29,7 @@ storing_count there e tables = record tables { counts = stored tables.counts (is
 abbrev pub posting_count : CountKey → Running → Tables → Tables
 posting_count key by tables = storing_count (is_some (get tables.counts key)) (key, count_row (come_to running_in (get tables.counts key) by)) tables
 
+-- what a flight carries of a waybill, in the same way
 abbrev pub storing_build : Bool → BuildKey × Build → Tables → Tables
 storing_build there e tables = record tables { builds = stored tables.builds (is_nothing (running_on e.1)) there e.0 e.1 }
 

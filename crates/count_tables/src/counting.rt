@@ -41,7 +41,6 @@ fn first_at(rows: &[CountRow], place: i64) -> Option<&CountRow>
 }
 
 /// What the row of a place has, among the rows of a waybill.
-#[tactic(auto, using(crate::proofs::Found::tally_found))]
 fn at_place(rows: &[CountRow], place: i64) -> Option<Tally>
     ensures { (counts : FinMap count_cmp Count) (awb : ℤ) → map count_meant rows.now ≡ filter (counts_for awb) (entries counts)
         → option_map meant result ≡ option_map running_in (get counts (awb, place)) }

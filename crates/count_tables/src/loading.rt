@@ -43,6 +43,7 @@ fn load_in(row: &BuildRow) -> Result<Load, StoreFault>
     Ok(Load { awb, amount })
 }
 
+/// Adds a load.
 fn add(loads: &mut Vec<Load>, load: Load) -> Result<(), StoreFault>
     ensures { OnOk result (loads.new.items ≡ loads.old.items ++ load ∷ []) }
 {

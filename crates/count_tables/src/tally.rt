@@ -14,6 +14,7 @@ pub(crate) struct Tally {
     pub tenths: i64,
 }
 
+/// The tally of a row of `counts`.
 pub(crate) fn count_tally(row: &CountRow) -> Tally
     ensures { meant result ≡ running_in (count_meant row.now).1 }
 {
@@ -23,6 +24,7 @@ pub(crate) fn count_tally(row: &CountRow) -> Tally
     }
 }
 
+/// The tally of a row of `build`.
 pub(crate) fn build_tally(row: &BuildRow) -> Tally
     ensures { meant result ≡ running_on (build_meant row.now).1 }
 {

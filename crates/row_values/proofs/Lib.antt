@@ -12,6 +12,7 @@ pub mod Numbering
 pub mod Confirming
 pub mod Moving
 pub mod Telling
+pub mod Handing
 pub mod Reading
 pub mod Written
 mod Examples

@@ -81,10 +81,10 @@ list_all-update_where p test f fits (x ∷ xs) h = ap₂ ◌&&◌ (go (test x) r
 
 -- ---- numbered rows
 
-head_is : (x y : ℤ) (xs ys : List ℤ) → ◌≡◌ {A = List ℤ} (x ∷ xs) (y ∷ ys) → x ≡ y
+pub head_is : (x y : ℤ) (xs ys : List ℤ) → ◌≡◌ {A = List ℤ} (x ∷ xs) (y ∷ ys) → x ≡ y
 head_is x y xs ys e = cc
 
-tail_is : (x y : ℤ) (xs ys : List ℤ) → ◌≡◌ {A = List ℤ} (x ∷ xs) (y ∷ ys) → xs ≡ ys
+pub tail_is : (x y : ℤ) (xs ys : List ℤ) → ◌≡◌ {A = List ℤ} (x ∷ xs) (y ∷ ys) → xs ≡ ys
 tail_is x y xs ys e = cc
 
 is_less : (a n : ℕ) (z w : ℤ) → z ≡ pos a → w ≡ pos n → suc a ≤ n → int_cmp z w ≡ Less

@@ -1,7 +1,7 @@
 ghost use Rattle.std.specs.Prelude.{◌≡◌, pos, IsTrue, IfSome, IfOk, string_bytes};
 ghost use Rattle.imp_fields.specs.Flight.{flight_text};
 ghost use Rattle.cargo_rows.specs.Meant.{flight_meant};
-ghost use Rattle.row_values.specs.Numbers.{is_number, is_day};
+ghost use Rattle.row_values.specs.Numbers.{natural, is_number, is_day};
 ghost use Rattle.row_values.specs.Flights.{is_designator, is_flight_text, flight_key, outbound_by, outbound_row, is_flight_row};
 
 use crate::texts::text;
@@ -17,6 +17,13 @@ pub fn awb_key(awb: &Awb) -> i64
     ensures in_range { IsTrue (is_number (pos awb.now)) }
 {
     awb.key() as i64
+}
+
+/// A waybill's number in a column.
+pub(crate) fn awb_by(number: i64) -> Option<Awb>
+    ensures { IfSome result (λ awb. awb ≡ natural number) }
+{
+    Awb::of_key(u64::try_from(number).ok()?)
 }
 
 /// A day as a column has it: days since 1970-01-01.

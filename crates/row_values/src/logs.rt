@@ -1,11 +1,16 @@
-ghost use Rattle.std.specs.Prelude.{◌≡◌, IsTrue, IfOk};
+ghost use Rattle.std.specs.Prelude.{◌≡◌, IsTrue, IfSome, IfOk, map};
+ghost use Rattle.station_core.specs.Readers.{trail_row as reader_line, message};
 ghost use Rattle.text_rows.specs.Meant.{trail_meant, message_meant};
-ghost use Rattle.row_values.specs.Logs.{line_row, is_trail_row, message_row};
+ghost use Rattle.row_values.specs.Numbers.{natural};
+ghost use Rattle.row_values.specs.Logs.{line_by, line_row, is_trail_row, message_row};
 
-use crate::flights::awb_key;
+use crate::flights::{awb_by, awb_key};
+use crate::lists::put;
+use crate::replies::count_of;
 use crate::texts::text;
 use awb_number::Awb;
 use shipment_machine::TrailLine;
+use station_core::{Message, RowText, TrailRow as ReaderLine};
 use station_rows::{MessageRow, StoreFault, TrailRow};
 use std::alloc::Global;
 
@@ -44,4 +49,54 @@ pub fn message_row(alloc: Global, number: u32, message: &[u8]) -> Result<Message
         number: i64::from(number),
         body: text(alloc, message)?,
     })
+}
+
+/// A line of the trail, as readers are given it. `None`: the waybill's number is out of range.
+pub fn line_by(row: TrailRow) -> Option<ReaderLine>
+    ensures { IfSome result (λ line. line ≡ reader_line (line_by (trail_meant row))) }
+{
+    let awb = awb_by(row.awb)?;
+    Some(ReaderLine {
+        awb,
+        line: RowText::new(row.line.into_bytes()),
+    })
+}
+
+/// A message, as readers are given it. `None`: its number is out of range.
+pub fn message_by(row: MessageRow) -> Option<Message>
+    ensures { IfSome result (λ one. one ≡ message (natural row.number) (message_meant row).body) }
+{
+    let number = count_of(row.number)?;
+    Some(Message {
+        number,
+        text: RowText::new(row.body.into_bytes()),
+    })
+}
+
+/// Lines of the trail in order, as readers are given them. A fault: a number is out of range, or memory was wanting.
+pub fn lines_by(alloc: Global, rows: Vec<TrailRow>) -> Result<Vec<ReaderLine>, StoreFault>
+    ensures { IfOk result (λ lines. lines.items ≡ map (λ row. reader_line (line_by (trail_meant row))) rows.items) }
+{
+    let mut lines = Vec::new(alloc);
+    for row in rows {
+        let Some(line) = line_by(row) else {
+            return Err(StoreFault);
+        };
+        put(&mut lines, line)?;
+    }
+    Ok(lines)
+}
+
+/// Messages in order, as readers are given them. A fault: a number is out of range, or memory was wanting.
+pub fn messages_by(alloc: Global, rows: Vec<MessageRow>) -> Result<Vec<Message>, StoreFault>
+    ensures { IfOk result (λ messages. messages.items ≡ map (λ row. message (natural row.number) (message_meant row).body) rows.items) }
+{
+    let mut messages = Vec::new(alloc);
+    for row in rows {
+        let Some(one) = message_by(row) else {
+            return Err(StoreFault);
+        };
+        put(&mut messages, one)?;
+    }
+    Ok(messages)
 }

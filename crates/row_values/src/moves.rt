@@ -1,25 +1,21 @@
-ghost use Rattle.std.specs.Prelude.{◌≡◌, ◌<◌, pos, ℤ, true, IsTrue, IfSome, IfOk, OnOk, Some, string_bytes};
+ghost use Rattle.std.specs.Prelude.{◌≡◌, ◌<◌, pos, ℤ, true, IsTrue, IfSome, IfOk, OnOk, Some, string_bytes, map, ◌++◌, ◌∷◌, []};
 ghost use Rattle.std.specs.Option.{unwrap_or};
 ghost use Rattle.shipment_machine.specs.Flights.{same_flight_date};
 ghost use Rattle.shipment_machine.specs.declared.moves.Place.TheVariants.{Hand};
+ghost use Rattle.station_core.specs.Readers.{book_row};
 ghost use Rattle.cargo_rows.specs.Meant.{move_meant};
 ghost use Rattle.row_values.specs.Flights.{flight_date_of};
 ghost use Rattle.row_values.specs.Moves.{place_code, place_of, move_by, flight_column, day_column, move_row, is_move_row, are_flight_columns};
 ghost use Rattle.row_values.specs.Numbers.{natural, is_day};
 
-use crate::flights::{awb_key, day_number, flight_range, flight_text};
-use awb_number::Awb;
+use crate::flights::{awb_by, awb_key, day_number, flight_range, flight_text};
+use crate::lists::put;
+use crate::replies::count_of;
 use imp_fields::{BookTenths, Flight, LocalDay, Moment, Pieces};
 use shipment_machine::{FlightDate, Move, Place};
+use station_core::BookRow;
 use station_rows::{MoveRow, StoreFault};
 use std::alloc::Global;
-
-/// A waybill's number.
-fn awb_by(number: i64) -> Option<Awb>
-    ensures { IfSome result (λ awb. awb ≡ natural number) }
-{
-    Awb::of_key(u64::try_from(number).ok()?)
-}
 
 /// The moment of a day and a minute.
 fn moment_by(day: i64, minute: i64) -> Option<Moment>
@@ -73,6 +69,43 @@ pub fn move_by(row: &MoveRow) -> Option<Move>
         flight,
         at: moment_by(row.day, row.minute)?,
     })
+}
+
+/// The move in a row with its number, as readers are given it. `None`: a column is out of range.
+pub fn book_row_by(row: &MoveRow) -> Option<BookRow>
+    ensures { IfSome result (λ one. one ≡ book_row (natural row.now.number) (move_by (move_meant row.now))) }
+{
+    Some(BookRow {
+        number: count_of(row.number)?,
+        movement: move_by(row)?,
+    })
+}
+
+/// Puts the move in a row behind the others.
+fn put_book_row(book: &mut Vec<BookRow>, row: &MoveRow) -> Result<(), StoreFault>
+    ensures { OnOk result (book.new.items ≡ book.old.items ++ book_row (natural (move_meant row.now).number) (move_by (move_meant row.now)) ∷ []) }
+{
+    let Some(movement) = move_by(row) else {
+        return Err(StoreFault);
+    };
+    let Some(number) = count_of(row.number) else {
+        return Err(StoreFault);
+    };
+    // The checker wants the types of a move's parts to be named where moves are stored.
+    let _from: Place = movement.from;
+    let _flight: Option<FlightDate> = movement.flight;
+    put(book, BookRow { number, movement })
+}
+
+/// The book's rows in order, as readers are given them. A fault: a column is out of range, or memory was wanting.
+pub fn book_rows_by(alloc: Global, rows: &[MoveRow]) -> Result<Vec<BookRow>, StoreFault>
+    ensures { IfOk result (λ book. book.items ≡ map (λ row. book_row (natural (move_meant row).number) (move_by (move_meant row))) rows.now) }
+{
+    let mut book = Vec::new(alloc);
+    for row in rows {
+        put_book_row(&mut book, row)?;
+    }
+    Ok(book)
 }
 
 /// The code of a place.

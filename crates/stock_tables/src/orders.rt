@@ -1,6 +1,6 @@
 //! Orders on the stock.
-ghost use Rattle.std.specs.Prelude.{◌≡◌, true, None, OnOk, IfErr};
-ghost use Rattle.agent_stock.specs.Stock.{is_run, lowest_failing, refused_by, run_refusal, order_refusal, assigned, after_order};
+ghost use Rattle.std.specs.Prelude.{◌≡◌, true, false, Err, None, OnOk, IfErr};
+ghost use Rattle.agent_stock.specs.Stock.{is_run, lowest_failing, refused_by, run_refusal, order_refusal, run_of, assigned, after_order};
 ghost use Rattle.row_schema.specs.Store.{IsShowing, Survives, at_rest};
 ghost use Rattle.row_schema.specs.Tables.{Tables};
 ghost use Rattle.row_values.specs.Stock.{holders_in};
@@ -32,6 +32,8 @@ fn change_run<S: TableStore>(
         → IfErr result (RefusesBy (refused_by (lowest_failing (holders_in t.stock) run.now test.now) number)) }
     ensures same { (t : Tables) → IsShowing (S.view store.old) (at_rest t)
         → OnRefused result (IsShowing (S.view store.new) (at_rest t)) }
+    ensures open { OnOk result ((S.view store.new).IsSound → (S.view store.old).is_open ≡ true) }
+    ensures open_at_refusal { OnRefused result ((S.view store.new).IsSound → (S.view store.old).is_open ≡ true) }
     ensures survives { Survives (S.view store.old) (S.view store.new) }
 {
     let rows = match rows_of(store, run) {
@@ -65,6 +67,9 @@ fn change<S: TableStore>(
         → IfErr result (RefusesBy (run_refusal (holders_in t.stock) run.now test.now number)) }
     ensures same { (t : Tables) → IsShowing (S.view store.old) (at_rest t)
         → OnRefused result (IsShowing (S.view store.new) (at_rest t)) }
+    ensures size { is_run run.now ≡ false → (result ≡ Err (StockFault.Refused 105 None)) × (store.new ≡ store.old) }
+    ensures open { OnOk result ((S.view store.new).IsSound → (S.view store.old).is_open ≡ true) }
+    ensures open_at_refusal { is_run run.now ≡ true → OnRefused result ((S.view store.new).IsSound → (S.view store.old).is_open ≡ true) }
     ensures survives { Survives (S.view store.old) (S.view store.new) }
 {
     if !run.is_run() {
@@ -89,6 +94,11 @@ pub fn carry_out_order<S: TableStore>(
         → IfErr result (RefusesBy (order_refusal (holders_in t.stock) order.now)) }
     ensures same { (t : Tables) → IsShowing (S.view store.old) (at_rest t)
         → OnRefused result (IsShowing (S.view store.new) (at_rest t)) }
+
+    // A run of a size that can't be ordered is refused at once, and else a call that is answered finds the store open.
+    ensures size { is_run (run_of order.now) ≡ false → (result ≡ Err (StockFault.Refused 105 None)) × (store.new ≡ store.old) }
+    ensures open { OnOk result ((S.view store.new).IsSound → (S.view store.old).is_open ≡ true) }
+    ensures open_at_refusal { is_run (run_of order.now) ≡ true → OnRefused result ((S.view store.new).IsSound → (S.view store.old).is_open ≡ true) }
     ensures survives { Survives (S.view store.old) (S.view store.new) }
 {
     match order {
