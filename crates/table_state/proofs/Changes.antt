@@ -1,0 +1,301 @@
+-- What a row that was written makes of the state that is shown.
+use Rattle.std.proofs.Common.{◌≡◌, ℕ, ◌+◌, ◌<◌, ℤ, pos, Bool, true, false, IsTrue, List, [], ◌∷◌, ◌++◌, length, Option, Some, None, refl, sym, ap, subst, ◌∙◌}
+use Rattle.std.specs.Prelude.{if◌then◌else◌}
+use Rattle.std.proofs.lemmas.List.{length-append}
+use Rattle.std.specs.FinMap.{FinMap}
+use Rattle.sqlite_keyed.specs.Keyed.{get_by}
+use Rattle.imp_fields.specs.Flight.{flight_text}
+use Rattle.agent_stock.specs.Stock.{Holders, is_run, run_of, test_of, refusal_number, lowest_failing, refused_by, order_refusal, after_order}
+use Rattle.agent_stock.specs.declared.stock.Order.{Order}
+use Rattle.shipment_machine.specs.Cargo.{written}
+use Rattle.shipment_machine.specs.declared.flight.FlightDate.{FlightDate}
+use Rattle.std.specs.List.{list_all}
+use Rattle.shipment_machine.specs.declared.moves.Declared.{Declared}
+use Rattle.shipment_machine.specs.declared.moves.Move.{Move}
+use Rattle.shipment_machine.specs.declared.moves.Outbound.{Outbound}
+use Rattle.shipment_machine.specs.declared.moves.Expected.{Expected}
+use Rattle.shipment_machine.specs.declared.moves.Part.{Part}
+use Rattle.shipment_machine.specs.declared.plans.Change.TheVariants.{Declare, UseUp, NoteFlight, Expect, NotePart, Trail, Confirm}
+use Rattle.station_core.specs.Key.{is_key}
+use Rattle.station_core.specs.Step as step
+use Rattle.station_core.specs.Step.{State}
+use Rattle.row_schema.specs.Store as row
+use Rattle.row_schema.specs.Store.{View, Displays, IsShowing}
+use Rattle.row_schema.specs.Tables as table
+use Rattle.row_schema.specs.Tables.{Tables, Stock, stock_cmp, Count, count_cmp, Build, build_cmp, waybill_id, move_id}
+use Rattle.cargo_rows.specs.Meant.{with_flight, with_expected, with_move}
+use Rattle.text_rows.specs.Meant.{with_part, with_trail_line, with_message, with_kept, with_kept_text}
+use Rattle.station_rows.specs.Meant.{confirming}
+use Rattle.row_values.specs.Numbers.{is_count, AreNumbered}
+use Rattle.row_values.specs.Moves.{book_in, is_move_row}
+use Rattle.row_values.specs.Counts.{AreCounts, AreBuilds}
+use Rattle.row_values.proofs.Moving.{HasMove}
+use Rattle.row_values.specs.Stock.{holders_in}
+use Rattle.row_values.specs.Waybills.{waybill_row, is_waybill_row}
+use Rattle.row_values.specs.Flights.{is_designator, flight_key, outbound_row, is_flight_row}
+use Rattle.row_values.specs.Manifests.{expected_key, expected_row, is_expected_row, part_key, is_part_row}
+use Rattle.row_values.specs.Logs.{line_row, is_trail_row, message_row}
+use Rattle.row_values.specs.Replies.{kept_row}
+use Rattle.row_values.specs.Meaning.{meaning_of, IsReadable, Means}
+use Rattle.row_values.proofs.Fits.{count_fits}
+use Rattle.row_values.proofs.Readable.{readable_stock}
+use Rattle.row_values.proofs.Written.{waybill_written, waybill_changed, flight_written, expected_written, part_written, key_kept, text_kept, line_written, message_written, mark_written, move_written}
+use Rattle.state_store.specs.Store.{at_rest, inside}
+use Rattle.state_store.specs.Told.{sizes_of, on_cargo, with_moves, with_messages, with_key, with_text, with_order}
+use Rattle.state_store.specs.declared.store.Sizes.{Sizes}
+use Rattle.stock_tables.specs.Stocked.{Stocked, restocked, using_up, Restocked}
+use Rattle.table_state.specs.Recorded.{Recorded}
+use Rattle.table_state.specs.Put.{put_over, putting_waybill}
+use Rattle.table_state.specs.Shown.{Knows, Tells, Shows}
+use Rattle.table_state.proofs.Lifting.{writes_on, reached}
+
+put_means : (t : Tables) (s : State) (text : List ℕ) (w : ℕ) (d : Declared) (new : table.Waybill) → new ≡ waybill_row w d → is_waybill_row (waybill_row w d) ≡ true → Means t (Some s)
+    → (o : Option table.Waybill) → get_by waybill_id t.waybills (pos w) ≡ o → Means (put_over o new t) (Some (on_cargo (written text (Declare w d)) s))
+put_means t s text w d new is fits means None has = waybill_written t s means text w d new is fits
+put_means t s text w d new is fits means (Some was) has = waybill_changed t s means text w d new was is fits has
+
+module _ (old new : View) (here : List ℕ) (sizes : Sizes) (confirmed : ℕ) (before s : State) (was : Shows old here sizes confirmed (inside before s)) (survives : row.Survives old new) where
+  same_rest : (after : State) → s.cargo.here ≡ after.cargo.here → sizes_of s.cargo ≡ sizes_of after.cargo → s.cargo.confirmed ≡ after.cargo.confirmed
+      → Knows here sizes confirmed (inside before s) → Knows here sizes confirmed (inside before after)
+  same_rest after place counts mark k = record { here_is = k.here_is ∙ place; sizes_are = k.sizes_are ∙ counts; confirmed_is = k.confirmed_is ∙ mark }
+
+  pub declares_on : (text : List ℕ) (w : ℕ) (d : Declared) (row_is : table.Waybill) → row_is ≡ waybill_row w d → IsTrue (is_waybill_row (waybill_row w d))
+      → (IsShowing old (row.inside old.committed old.now) → IsShowing new (row.inside old.committed (putting_waybill row_is old.now)))
+      → Shows new here sizes confirmed (inside before (on_cargo (written text (Declare w d)) s))
+  declares_on text w d row_is is fits done =
+      writes_on old new here sizes confirmed (putting_waybill row_is) sizes confirmed before s (on_cargo (written text (Declare w d)) s) was survives done
+      (λ _ means. put_means old.now s text w d row_is is fits means (get_by waybill_id old.now.waybills row_is.awb) (ap (λ (r : table.Waybill). get_by waybill_id old.now.waybills r.awb) (sym is)))
+      (same_rest (on_cargo (written text (Declare w d)) s) refl refl refl)
+
+  pub notes_flight_on : (text name : List ℕ) (day : ℤ) (f : FlightDate) (o : Outbound) (row_is : table.Flight) → name ≡ flight_text f.flight → day ≡ pos f.day → row_is ≡ outbound_row o
+      → IsTrue (is_designator f.flight) → IsTrue (is_flight_row (flight_key f, outbound_row o))
+      → (IsShowing old (row.inside old.committed old.now) → IsShowing new (row.inside old.committed (with_flight (name, day) row_is old.now)))
+      → Shows new here sizes confirmed (inside before (on_cargo (written text (NoteFlight f o)) s))
+  notes_flight_on text name day f o row_is is_name is_day is may fits done =
+      writes_on old new here sizes confirmed (with_flight (name, day) row_is) sizes confirmed before s (on_cargo (written text (NoteFlight f o)) s) was survives done
+      (λ _ means. flight_written old.now s means text name day f o row_is is_name is_day is may fits)
+      (same_rest (on_cargo (written text (NoteFlight f o)) s) refl refl refl)
+
+  pub expects_on : (text name : List ℕ) (day awb : ℤ) (f : FlightDate) (w : ℕ) (e : Expected) (row_is : table.Expected) → name ≡ flight_text f.flight → day ≡ pos f.day → awb ≡ pos w → row_is ≡ expected_row e
+      → IsTrue (is_designator f.flight) → IsTrue (is_expected_row (expected_key f w, expected_row e))
+      → (IsShowing old (row.inside old.committed old.now) → IsShowing new (row.inside old.committed (with_expected (name, (day, awb)) row_is old.now)))
+      → Shows new here sizes confirmed (inside before (on_cargo (written text (Expect f w e)) s))
+  expects_on text name day awb f w e row_is is_name is_day is_awb is may fits done =
+      writes_on old new here sizes confirmed (with_expected (name, (day, awb)) row_is) sizes confirmed before s (on_cargo (written text (Expect f w e)) s) was survives done
+      (λ _ means. expected_written old.now s means text name day awb f w e row_is is_name is_day is_awb is may fits)
+      (same_rest (on_cargo (written text (Expect f w e)) s) refl refl refl)
+
+  pub notes_part_on : (text name airport body : List ℕ) (day number : ℤ) (p : Part) → name ≡ flight_text p.flight.flight → day ≡ pos p.flight.day → airport ≡ p.airport → number ≡ pos p.number → body ≡ text
+      → IsTrue (is_designator p.flight.flight) → IsTrue (is_part_row (part_key p, text))
+      → (IsShowing old (row.inside old.committed old.now) → IsShowing new (row.inside old.committed (with_part (name, (day, (airport, number))) body old.now)))
+      → Shows new here sizes confirmed (inside before (on_cargo (written text (NotePart p)) s))
+  notes_part_on text name airport body day number p is_name is_day is_airport is_number is may fits done =
+      writes_on old new here sizes confirmed (with_part (name, (day, (airport, number))) body) sizes confirmed before s (on_cargo (written text (NotePart p)) s) was survives done
+      (λ _ means. part_written old.now s means text name airport body day number p is_name is_day is_airport is_number is may fits)
+      (same_rest (on_cargo (written text (NotePart p)) s) refl refl refl)
+
+  -- a list that got one more
+
+  pub adds_line_on : (text : List ℕ) (n w : ℕ) (line : List ℕ) (row_is : table.TrailLine) → row_is ≡ line_row n w line → IsTrue (is_trail_row (line_row n w line)) → n ≡ sizes.lines + 1
+      → (IsShowing old (row.inside old.committed old.now) → IsShowing new (row.inside old.committed (with_trail_line row_is old.now)))
+      → Shows new here (record { moves = sizes.moves; lines = n; messages = sizes.messages }) confirmed (inside before (on_cargo (written text (Trail w line)) s))
+  adds_line_on text n w line row_is is fits next done sound =
+      let counted : sizes.lines ≡ length s.cargo.trail = ap (λ (z : Sizes). z.lines) (was (survives.sound sound)).knows.sizes_are in
+      let one_more : n ≡ length s.cargo.trail + 1 = next ∙ ap (λ k. k + 1) counted in
+      writes_on old new here sizes confirmed (with_trail_line row_is) (record { moves = sizes.moves; lines = n; messages = sizes.messages }) confirmed before s (on_cargo (written text (Trail w line)) s) was survives done
+      (λ _ means. line_written old.now s means n w line text row_is is fits one_more)
+      (λ k. record {
+        here_is = k.here_is;
+        sizes_are = λ i. record { moves = (k.sizes_are i).moves; lines = (one_more ∙ sym (length-append s.cargo.trail ((w, line) ∷ []))) i; messages = (k.sizes_are i).messages };
+        confirmed_is = k.confirmed_is;
+      }) sound
+
+  pub adds_message_on : (n : ℕ) (text : List ℕ) (row_is : table.Message) → row_is ≡ message_row n text → n ≡ sizes.messages + 1
+      → (IsShowing old (row.inside old.committed old.now) → IsShowing new (row.inside old.committed (with_message row_is old.now)))
+      → Shows new here (record { moves = sizes.moves; lines = sizes.lines; messages = n }) confirmed (inside before (with_messages (text ∷ []) s))
+  adds_message_on n text row_is is next done sound =
+      let counted : sizes.messages ≡ length s.cargo.outbox = ap (λ (z : Sizes). z.messages) (was (survives.sound sound)).knows.sizes_are in
+      let one_more : n ≡ length s.cargo.outbox + 1 = next ∙ ap (λ k. k + 1) counted in
+      writes_on old new here sizes confirmed (with_message row_is) (record { moves = sizes.moves; lines = sizes.lines; messages = n }) confirmed before s (with_messages (text ∷ []) s) was survives done
+      (λ _ means. message_written old.now s means n text row_is is one_more)
+      (λ k. record {
+        here_is = k.here_is;
+        sizes_are = λ i. record { moves = (k.sizes_are i).moves; lines = (k.sizes_are i).lines; messages = (one_more ∙ sym (length-append s.cargo.outbox (text ∷ []))) i };
+        confirmed_is = k.confirmed_is;
+      }) sound
+
+  pub confirms_on : (text : List ℕ) (number : ℤ) (upto : ℕ) → number ≡ pos upto → IsTrue (is_count (pos upto))
+      → (IsShowing old (row.inside old.committed old.now) → IsShowing new (row.inside old.committed (confirming number old.now)))
+      → Shows new here sizes upto (inside before (on_cargo (written text (Confirm upto)) s))
+  confirms_on text number upto is counts done =
+      writes_on old new here sizes confirmed (confirming number) sizes upto before s (on_cargo (written text (Confirm upto)) s) was survives done
+      (λ _ means. mark_written old.now s means text number upto is counts)
+      (λ k. record { here_is = k.here_is; sizes_are = k.sizes_are; confirmed_is = refl })
+
+  pub keeps_text_on : (body text : List ℕ) (number : ℤ) (count : ℕ) → body ≡ text → number ≡ pos count → IsTrue (is_count (pos count))
+      → (IsShowing old (row.inside old.committed old.now) → IsShowing new (row.inside old.committed (with_kept_text body number old.now)))
+      → Shows new here sizes confirmed (inside before (with_text text count s))
+  keeps_text_on body text number count is_body is_number counts done =
+      writes_on old new here sizes confirmed (with_kept_text body number) sizes confirmed before s (with_text text count s) was survives done
+      (λ _ means. text_kept old.now s means body text number count is_body is_number counts)
+      (same_rest (with_text text count s) refl refl refl)
+
+  pub keeps_key_on : (id key : List ℕ) (one : step.Kept) (row_is : table.Kept) → id ≡ key → row_is ≡ kept_row one → IsTrue (is_key key) → IsTrue (is_count (pos one.count))
+      → (new.IsSound → row.Writes old new (with_kept id row_is old.now))
+      → Shows new here sizes confirmed (inside before (with_key key one s))
+  keeps_key_on id key one row_is is_id is valid counts done =
+      reached old new here sizes confirmed (λ _. with_kept id row_is old.now) sizes confirmed before s (with_key key one s) was survives
+      (λ sound. let d = done sound in record { is_open = d.is_open; now_is = d.now_is; committed_is = d.committed_is; mode = d.mode })
+      (λ _ means. key_kept old.now s means id key one row_is is_id is valid counts)
+      (same_rest (with_key key one s) refl refl refl)
+
+  -- the stock
+
+  stock_means : (stock : FinMap stock_cmp Stock) (holders : Holders) → Stocked (restocked stock old.now) → holders_in stock ≡ holders → Means old.now (Some s) → Means (restocked stock old.now) (Some (on_cargo (λ c. record c { holders = holders }) s))
+  stock_means stock holders rows held means = (
+    readable_stock old.now means.0 stock rows,
+    (λ i. record (meaning_of old.now) { cargo = record (meaning_of old.now).cargo { holders = held i } }) ∙ ap (on_cargo (λ c. record c { holders = holders })) means.1,
+  )
+
+  pub uses_up_on : (text : List ℕ) (w : ℕ) → (IsShowing old (row.inside old.committed old.now) → Stocked old.now → new.IsSound → Restocked new old.committed old.now (using_up (holders_in old.now.stock) w))
+      → Shows new here sizes confirmed (inside before (on_cargo (written text (UseUp w)) s))
+  uses_up_on text w done sound =
+      let k = was (survives.sound sound) in
+      let up = k.holds.inside refl in
+      let m = k.holds.stands up in
+      let d = done (λ _. record { is_open = up; now_is = refl; committed_is = refl; mode = m.mode }) m.now.0.stock sound in
+      let held : holders_in d.stock ≡ using_up s.cargo.holders w = d.held ∙ ap (λ (x : State). using_up x.cargo.holders w) m.now.1 in
+      reached old new here sizes confirmed (λ _. restocked d.stock old.now) sizes confirmed before s (on_cargo (written text (UseUp w)) s) was survives
+      (λ _. d.shown)
+      (λ _ means. stock_means d.stock (using_up s.cargo.holders w) d.rows held means)
+      (same_rest (on_cargo (written text (UseUp w)) s) refl refl refl) sound
+
+-- a move that was added
+module _ (t : Tables) (s : State) (m : Move) (book : List table.Move) (counts : FinMap count_cmp Count) (builds : FinMap build_cmp Build) (means : Means t (Some s)) where
+  abbrev with_book : Tables
+  with_book = record t { moves = book; counts = counts; builds = builds }
+
+  still_readable : AreNumbered move_id book → IsTrue (list_all is_move_row book) → AreCounts counts (book_in book) → AreBuilds builds (book_in book) → IsReadable with_book
+  still_readable numbered rows are_counts are_builds = record {
+    station = means.0.station;
+    waybills = means.0.waybills;
+    stock = means.0.stock;
+    flights = means.0.flights;
+    moves = rows;
+    book = numbered;
+    expected = means.0.expected;
+    parts = means.0.parts;
+    trail = means.0.trail;
+    lines = means.0.lines;
+    outbox = means.0.outbox;
+    kept = means.0.kept;
+    kept_texts = means.0.kept_texts;
+    counts = are_counts;
+    builds = are_builds;
+  }
+
+  pub move_means : HasMove t (record t { moves = book }) m → AreCounts counts (book_in t.moves ++ m ∷ []) → AreBuilds builds (book_in t.moves ++ m ∷ []) → Means with_book (Some (with_moves (m ∷ []) s))
+  move_means has are_counts are_builds = (
+    still_readable has.numbered has.rows (subst (λ b. AreCounts counts b) (sym has.book) are_counts) (subst (λ b. AreBuilds builds b) (sym has.book) are_builds),
+    (λ i. record (meaning_of t) { cargo = record (meaning_of t).cargo { book = has.book i } }) ∙ ap (with_moves (m ∷ [])) means.1,
+  )
+
+module _ (old new : View) (here : List ℕ) (sizes : Sizes) (confirmed : ℕ) (before s : State) (was : Shows old here sizes confirmed (inside before s)) (survives : row.Survives old new) where
+  pub moves_on : (n : ℕ) (m : Move) → n ≡ sizes.moves + 1
+      → (IsShowing old (row.inside old.committed old.now) → (book : List Move) → AreCounts old.now.counts book → AreBuilds old.now.builds book → Recorded new old.committed old.now n m (book ++ m ∷ []))
+      → Shows new here (record { moves = n; lines = sizes.lines; messages = sizes.messages }) confirmed (inside before (with_moves (m ∷ []) s))
+  moves_on n m next done sound =
+      let k = was (survives.sound sound) in
+      let up = k.holds.inside refl in
+      let h = k.holds.stands up in
+      let one_more : n ≡ length s.cargo.book + 1 = next ∙ ap (λ (z : Sizes). z.moves + 1) k.knows.sizes_are in
+      let r = done (λ _. record { is_open = up; now_is = refl; committed_is = refl; mode = h.mode }) (book_in old.now.moves) h.now.0.counts h.now.0.builds in
+      let has = move_written old.now s h.now n m r.row r.is one_more r.fits r.again in
+      reached old new here sizes confirmed (λ _. record (with_move r.row old.now) { counts = r.posted.counts; builds = r.posted.builds }) (record { moves = n; lines = sizes.lines; messages = sizes.messages }) confirmed
+      before s (with_moves (m ∷ []) s) was survives
+      (λ up_to. r.posted.shows up_to)
+      (λ _ means. move_means old.now s m (with_move r.row old.now).moves r.posted.counts r.posted.builds means has r.posted.are_counts r.posted.are_builds)
+      (λ known. record {
+        here_is = known.here_is;
+        sizes_are = λ i. record { moves = (one_more ∙ sym (length-append s.cargo.book (m ∷ []))) i; lines = (known.sizes_are i).lines; messages = (known.sizes_are i).messages };
+        confirmed_is = known.confirmed_is;
+      }) sound
+
+-- a mark of 32 bits
+pub mark_fits : (upto : ℕ) → upto < 4_294_967_296 → is_count (pos upto) ≡ true
+mark_fits = count_fits
+
+-- an order that was carried out
+module _ (old new : View) (here : List ℕ) (sizes : Sizes) (confirmed : ℕ) (s : State) (was : Shows old here sizes confirmed (at_rest s)) (survives : row.Survives old new) (up : new.IsSound → old.is_open ≡ true) where
+  pub at_rest_now : new.IsSound → IsShowing old (row.at_rest old.now)
+  at_rest_now sound _ =
+      let m = (was (survives.sound sound)).holds.stands (up sound) in
+      record { is_open = up sound; now_is = refl; committed_is = sym (m.rest refl); mode = m.mode }
+
+  pub orders_on : (order : Order) → (IsShowing old (row.at_rest old.now) → Stocked old.now → new.IsSound → Restocked new old.now old.now (after_order (holders_in old.now.stock) order))
+      → Shows new here sizes confirmed (inside s (with_order order s))
+  orders_on order done sound =
+      let k = was (survives.sound sound) in
+      let m = k.holds.stands (up sound) in
+      let d = done (at_rest_now sound) m.now.0.stock sound in
+      let held : holders_in d.stock ≡ after_order s.cargo.holders order = d.held ∙ ap (λ (x : State). after_order x.cargo.holders order) m.now.1 in
+      let after : Means (restocked d.stock old.now) (Some (with_order order s)) = (
+        readable_stock old.now m.now.0 d.stock d.rows,
+        (λ i. record (meaning_of old.now) { cargo = record (meaning_of old.now).cargo { holders = held i } }) ∙ ap (on_cargo (λ c. record c { holders = after_order s.cargo.holders order })) m.now.1,
+      ) in
+      record {
+        holds = record {
+          inside = λ _. d.shown.is_open;
+          stands = λ _. record {
+            mode = d.shown.mode;
+            rest = λ e. absurd (cc);
+            now = subst (λ t. Means t (Some (with_order order s))) (sym d.shown.now_is) after;
+            committed = subst (λ t. Means t (Some s)) (sym d.shown.committed_is) m.now;
+          };
+          found = λ t left. k.holds.found t (survives.crash sound t left);
+        };
+        knows = record { here_is = k.knows.here_is; sizes_are = k.knows.sizes_are; confirmed_is = k.knows.confirmed_is };
+      }
+
+size_refused : (h : Holders) (order : Order) → is_run (run_of order) ≡ false → order_refusal h order ≡ Some (105, None)
+size_refused h order wrong = ap (λ b. if b then refused_by (lowest_failing h (run_of order) (test_of order)) (refusal_number order) else Some (105, None)) wrong
+
+-- an order that was answered
+module _ (old new : View) (here : List ℕ) (sizes : Sizes) (confirmed : ℕ) (s : State) (was : Shows old here sizes confirmed (at_rest s)) (survives : row.Survives old new) where
+  pub due_on : (order : Order) (due : Option (ℕ × Option ℕ)) → (new.IsSound → old.is_open ≡ true) → (IsShowing old (row.at_rest old.now) → Stocked old.now → new.IsSound → order_refusal (holders_in old.now.stock) order ≡ due)
+      → new.IsSound → order_refusal s.cargo.holders order ≡ due
+  due_on order due up tells sound =
+      let m = (was (survives.sound sound)).holds.stands (up sound) in
+      ap (λ (x : State). order_refusal x.cargo.holders order) (sym m.now.1) ∙ tells (at_rest_now old new here sizes confirmed s was survives up sound) m.now.0.stock sound
+
+  pub refusal_on : (order : Order) (due : Option (ℕ × Option ℕ)) → (is_run (run_of order) ≡ true → new.IsSound → old.is_open ≡ true) → (is_run (run_of order) ≡ false → Some (105, None) ≡ due)
+      → (IsShowing old (row.at_rest old.now) → Stocked old.now → new.IsSound → order_refusal (holders_in old.now.stock) order ≡ due) → new.IsSound → order_refusal s.cargo.holders order ≡ due
+  refusal_on order due up size tells sound = go (is_run (run_of order)) refl
+    where
+      go : (b : Bool) → is_run (run_of order) ≡ b → order_refusal s.cargo.holders order ≡ due
+      go true e = due_on order due (up e) tells sound
+      go false e = size_refused s.cargo.holders order e ∙ size e
+
+  pub stays_on : (order : Order) → (is_run (run_of order) ≡ true → new.IsSound → old.is_open ≡ true) → (is_run (run_of order) ≡ false → new ≡ old)
+      → (IsShowing old (row.at_rest old.now) → IsShowing new (row.at_rest old.now)) → Shows new here sizes confirmed (at_rest s)
+  stays_on order up size same sound = go (is_run (run_of order)) refl
+    where
+      go : (b : Bool) → is_run (run_of order) ≡ b → Tells new here sizes confirmed (at_rest s)
+      go false e = subst (λ v. Tells v here sizes confirmed (at_rest s)) (sym (size e)) (was (survives.sound sound))
+      go true e =
+          let k = was (survives.sound sound) in
+          let m = k.holds.stands (up e sound) in
+          let d = same (at_rest_now old new here sizes confirmed s was survives (up e) sound) sound in
+          record {
+            holds = record {
+              inside = λ f. absurd (cc);
+              stands = λ _. record {
+                mode = d.mode;
+                rest = λ _. d.now_is ∙ sym d.committed_is;
+                now = subst (λ t. Means t (Some s)) (sym d.now_is) m.now;
+                committed = subst (λ t. Means t (Some s)) (sym d.committed_is) m.now;
+              };
+              found = λ t left. k.holds.found t (survives.crash sound t left);
+            };
+            knows = k.knows;
+          }

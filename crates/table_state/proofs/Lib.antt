@@ -1,0 +1,6 @@
+pub mod Lifting
+pub mod HasMoves
+pub mod NewState
+pub mod Putting
+pub mod Values
+pub mod Changes

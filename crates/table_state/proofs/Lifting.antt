@@ -1,0 +1,177 @@
+-- From what the tables of a store show to the state that they mean.
+use Rattle.std.proofs.Common.{◌≡◌, ◌⊎◌, inl, inr, ⊎_elim, ℕ, true, false, List, Option, Some, refl, sym, subst, ◌∙◌}
+use Rattle.station_core.specs.Step.{State}
+use Rattle.row_schema.specs.Tables.{Tables}
+use Rattle.row_schema.specs.Store as row
+use Rattle.row_schema.specs.Store.{View, Displays, IsShowing, IsAtRest, MayCommit}
+use Rattle.row_values.specs.Meaning.{Means}
+use Rattle.state_store.specs.Store.{Seen, at_rest, inside, Survives}
+use Rattle.state_store.specs.declared.store.Sizes.{Sizes}
+use Rattle.table_state.specs.Laws.{same_meaning}
+use Rattle.table_state.specs.Shown.{Stands, Knows, Shows, Finds}
+
+-- what a view shows
+abbrev pub seen_in : View → row.Seen
+seen_in v = record { now = v.now; committed = v.committed; in_transaction = v.in_transaction }
+
+displays : (v : View) → v.is_open ≡ true → Displays v (seen_in v)
+displays v up = record { is_open = up; now_is = refl; committed_is = refl; mode = refl }
+
+-- the crash clauses
+
+pub finds_on : (old new : View) → row.Survives old new → new.IsSound → (found : Option State) → Finds new found → Finds old found
+finds_on old new survives sound found finds = record { tables = finds.tables; left = survives.crash sound finds.tables finds.left; means = finds.means }
+
+pub survives_so : {K : Type 0} (is_sound : K → Type 0) (may_find : K → Option State → Type 0) (old new : K) (v w : View) → row.Survives v w
+    → (is_sound new → w.IsSound) → (v.IsSound → is_sound old) → ((found : Option State) → may_find new found → Finds w found) → ((found : Option State) → Finds v found → may_find old found)
+    → Survives is_sound may_find old new
+survives_so is_sound may_find old new v w survives down up there back = record {
+  sound = λ sound. up (survives.sound (down sound));
+  leaves = λ sound found finds. back found (finds_on v w survives (down sound) found (there found finds));
+}
+
+pub may_find_on : (old new : View) (here : List ℕ) (sizes : Sizes) (confirmed : ℕ) (before s : State)
+    → Shows old here sizes confirmed (inside before s) → MayCommit old new → new.IsSound → (found : Option State) → Finds new found → Finds old found ⊎ (found ≡ Some s)
+may_find_on old new here sizes confirmed before s was may sound found finds =
+    let h = (was (may.sound sound)).holds in
+    ⊎_elim
+    (λ left. inl (record { tables = finds.tables; left = left; means = finds.means }))
+    (λ e. inr (same_meaning old.now s found (h.stands (h.inside refl)).now (subst (λ t. Means t found) e finds.means)))
+    (may.crash sound finds.tables finds.left)
+
+module _ (old new : View) (here : List ℕ) (sizes : Sizes) (confirmed : ℕ) where
+  stands_on : (x : Seen) → Stands old x → new.now ≡ old.now → new.committed ≡ old.committed → new.in_transaction ≡ old.in_transaction → Stands new x
+  stands_on x m now committed mode = record {
+    mode = mode ∙ m.mode;
+    rest = λ e. now ∙ m.rest e ∙ sym committed;
+    now = subst (λ t. Means t (Some x.now)) (sym now) m.now;
+    committed = subst (λ t. Means t (Some x.committed)) (sym committed) m.committed;
+  }
+
+  -- a read that was answered
+  pub reads_on : (x : Seen) → Shows old here sizes confirmed x → row.Survives old new → (IsShowing old (seen_in old) → IsShowing new (seen_in old)) → (new.IsSound → old.is_open ≡ true) → Shows new here sizes confirmed x
+  reads_on x was survives same up sound =
+      let k = was (survives.sound sound) in
+      let d : Displays new (seen_in old) = same (λ _. displays old (up sound)) sound in
+      record {
+        holds = record {
+          inside = λ _. d.is_open;
+          stands = λ _. stands_on x (k.holds.stands (up sound)) d.now_is d.committed_is d.mode;
+          found = λ t left. k.holds.found t (survives.crash sound t left);
+        };
+        knows = k.knows;
+      }
+
+  -- a read that was answered, and left all as it was
+  pub reads_unchanged : (x : Seen) → Shows old here sizes confirmed x → row.Survives old new → (new.IsSound → row.IsUnchanged old new) → Shows new here sizes confirmed x
+  reads_unchanged x was survives same sound =
+      let k = was (survives.sound sound) in
+      let d = same sound in
+      record {
+        holds = record {
+          inside = λ _. d.is_open;
+          stands = λ _. stands_on x (k.holds.stands d.was_open) d.now_is d.committed_is d.mode;
+          found = λ t left. k.holds.found t (survives.crash sound t left);
+        };
+        knows = k.knows;
+      }
+
+  pub told_before : (x : Seen) → Shows old here sizes confirmed x → row.Survives old new → (new.IsSound → row.IsUnchanged old new) → new.IsSound → Means old.now (Some x.now)
+  told_before x was survives same sound = ((was (survives.sound sound)).holds.stands (same sound).was_open).now
+
+  -- a read between two transactions, whatever it answered
+  pub rests_on : (s : State) → Shows old here sizes confirmed (at_rest s) → row.Survives old new → (new.IsSound → row.Rests old new) → Shows new here sizes confirmed (at_rest s)
+  rests_on s was survives rests sound =
+      let k = was (survives.sound sound) in
+      let r = rests sound in
+      record {
+        holds = record {
+          inside = λ e. absurd (cc);
+          stands = λ up.
+              let m = k.holds.stands (r.was_open up) in
+              let step = r.same (record { mode = m.mode; same = m.rest refl }) up in
+              stands_on (at_rest s) m step.now_is step.committed_is step.mode;
+          found = λ t left. k.holds.found t (survives.crash sound t left);
+        };
+        knows = k.knows;
+      }
+
+  pub begins : (s : State) → Shows old here sizes confirmed (at_rest s) → row.Survives old new → (new.IsSound → row.Shows old new old.now old.committed true) → Shows new here sizes confirmed (inside s s)
+  begins s was survives ok sound =
+      let k = was (survives.sound sound) in
+      let step = ok sound in
+      let m = k.holds.stands step.was_open in
+      record {
+        holds = record {
+          inside = λ _. step.is_open;
+          stands = λ _. record {
+            mode = step.mode;
+            rest = λ e. absurd (cc);
+            now = subst (λ t. Means t (Some s)) (sym step.now_is) m.now;
+            committed = subst (λ t. Means t (Some s)) (sym step.committed_is) m.committed;
+          };
+          found = λ t left. k.holds.found t (survives.crash sound t left);
+        };
+        knows = record { here_is = k.knows.here_is; sizes_are = k.knows.sizes_are; confirmed_is = k.knows.confirmed_is };
+      }
+
+  pub commits : (before s : State) → Shows old here sizes confirmed (inside before s) → (new.IsSound → old.IsSound) → (new.IsSound → row.Shows old new old.now old.now false)
+      → ((t : Tables) → new.is_open ≡ true → new.IsSound → new.may_leave t → t ≡ new.committed) → Shows new here sizes confirmed (at_rest s)
+  commits before s was down ok settled sound =
+      let k = was (down sound) in
+      let step = ok sound in
+      let m = k.holds.stands step.was_open in
+      let after : Means new.committed (Some s) = subst (λ t. Means t (Some s)) (sym step.committed_is) m.now in
+      record {
+        holds = record {
+          inside = λ e. absurd (cc);
+          stands = λ _. record {
+            mode = step.mode;
+            rest = λ _. step.now_is ∙ sym step.committed_is;
+            now = subst (λ t. Means t (Some s)) (sym step.now_is) m.now;
+            committed = after;
+          };
+          found = λ t left. subst (λ u. Means u (Some s)) (sym (settled t step.is_open sound left)) after;
+        };
+        knows = record { here_is = k.knows.here_is; sizes_are = k.knows.sizes_are; confirmed_is = k.knows.confirmed_is };
+      }
+
+  -- in a transaction the tables became others
+  pub reached : (change : Tables → Tables) (sizes_then : Sizes) (confirmed_then : ℕ) (before s after : State) → Shows old here sizes confirmed (inside before s) → row.Survives old new
+      → (new.IsSound → Displays new (row.inside old.committed (change old.now)))
+      → (new.IsSound → Means old.now (Some s) → Means (change old.now) (Some after))
+      → (Knows here sizes confirmed (inside before s) → Knows here sizes_then confirmed_then (inside before after))
+      → Shows new here sizes_then confirmed_then (inside before after)
+  reached change sizes_then confirmed_then before s after was survives shown means knows sound =
+      let k = was (survives.sound sound) in
+      let m = k.holds.stands (k.holds.inside refl) in
+      let d = shown sound in
+      record {
+        holds = record {
+          inside = λ _. d.is_open;
+          stands = λ _. record {
+            mode = d.mode;
+            rest = λ e. absurd (cc);
+            now = subst (λ t. Means t (Some after)) (sym d.now_is) (means sound m.now);
+            committed = subst (λ t. Means t (Some before)) (sym d.committed_is) m.committed;
+          };
+          found = λ t left. k.holds.found t (survives.crash sound t left);
+        };
+        knows = knows k.knows;
+      }
+
+  -- one change of the tables
+  pub writes_on : (change : Tables → Tables) (sizes_then : Sizes) (confirmed_then : ℕ) (before s after : State) → Shows old here sizes confirmed (inside before s) → row.Survives old new
+      → (IsShowing old (row.inside old.committed old.now) → IsShowing new (row.inside old.committed (change old.now)))
+      → (new.IsSound → Means old.now (Some s) → Means (change old.now) (Some after))
+      → (Knows here sizes confirmed (inside before s) → Knows here sizes_then confirmed_then (inside before after))
+      → Shows new here sizes_then confirmed_then (inside before after)
+  writes_on change sizes_then confirmed_then before s after was survives done =
+      reached change sizes_then confirmed_then before s after was survives (λ sound.
+      let k = was (survives.sound sound) in
+      let up = k.holds.inside refl in
+      done (λ _. record { is_open = up; now_is = refl; committed_is = refl; mode = (k.holds.stands up).mode }) sound)
+
+  -- what a read of an open store told
+  pub told : (P : Tables → Type 0) (x : Seen) → Shows old here sizes confirmed x → row.Survives old new → (IsShowing old (seen_in old) → new.IsSound → P old.now) → (new.IsSound → old.is_open ≡ true) → new.IsSound → P old.now × Means old.now (Some x.now)
+  told P x was survives tells up sound = (tells (λ _. displays old (up sound)) sound, ((was (survives.sound sound)).holds.stands (up sound)).now)

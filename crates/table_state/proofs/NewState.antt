@@ -1,0 +1,129 @@
+-- The tables of a new station mean a station with nothing in it.
+use Rattle.std.proofs.Common.{◌≡◌, ℕ, ℤ, pos, negsuc, Bool, true, false, List, [], ◌∷◌, length, Ordering, Option, Some, None, refl, sym, ◌∙◌, ap, subst, arith}
+use Rattle.std.specs.Prelude.{IsTrue, if◌then◌else◌}
+use Rattle.std.specs.List.{find}
+use Rattle.std.specs.Option.{option_map, option_and_then}
+use Rattle.std.specs.FinMap.{get, empty, entries, get-empty, len-empty, len-entries}
+use Rattle.std.specs.Str.{IsAscii}
+use Rattle.desk_commands.proofs.Ascii.{IsAscii-airport}
+use Rattle.imp_fields.specs.Airport.{is_airport}
+use Rattle.imp_fields.specs.Flight.{Designator}
+use Rattle.shipment_machine.specs.Cargo.{opening_cargo}
+use Rattle.shipment_machine.specs.declared.flight.FlightDate.{FlightDate}
+use Rattle.shipment_machine.specs.declared.moves.Part.{Part}
+use Rattle.shipment_machine.specs.declared.moves.Place.{Place}
+use Rattle.station_core.specs.Step as step
+use Rattle.station_core.specs.Step.{State}
+use Rattle.row_schema.specs.Connection.{opening, IsOpening}
+use Rattle.row_schema.specs.Store.{View}
+use Rattle.row_schema.specs.Tables.{Tables, Stock, StockKey, stock_cmp, Flight, flight_cmp, Expected, expected_cmp, part_cmp, Kept, kept_cmp, kept_text_cmp, Count, CountKey, count_cmp, Build, BuildKey, build_cmp}
+use Rattle.row_values.specs.Numbers.{natural}
+use Rattle.row_values.specs.Stock.{holder_by, stands_for}
+use Rattle.row_values.specs.Flights.{is_designator, outbound_by, flight_key, flights_in}
+use Rattle.row_values.specs.Moves.{plain_place}
+use Rattle.row_values.specs.Counts.{counted, count_at, built_up, build_at, written_flight}
+use Rattle.row_values.specs.Manifests.{expected_by, expected_key, expected_in, part_key, parts_in}
+use Rattle.row_values.specs.Replies.{kept_by}
+use Rattle.row_values.specs.Meaning.{meaning_of, IsReadable, Means}
+use Rattle.state_store.specs.Store.{at_rest}
+use Rattle.table_state.specs.Laws.{same_meaning}
+use Rattle.table_state.specs.Shown.{Shows}
+
+none_of : {X : Type 0} (xs : List X) → length xs ≡ 0 → xs ≡ []
+none_of [] e = refl
+none_of (x ∷ xs) e = absurd (omega arith)
+
+no_entries : {K : Type 0} (R : K → K → Ordering) (V : Type 0) → entries (empty {X = V} {R = R}) ≡ []
+no_entries R V = none_of (entries (empty {X = V} {R = R})) (sym (len-entries (empty {X = V} {R = R})) ∙ len-empty R V)
+
+either_none : {X : Type 0} (b : Bool) → ◌≡◌ {A = Option X} (if b then None else None) None
+either_none true = refl
+either_none false = refl
+
+no_flights : (f : FlightDate) → flights_in empty f ≡ None
+no_flights f = ap (λ o. if is_designator f.flight then option_map outbound_by o else None) (get-empty flight_cmp (flight_key f)) ∙ either_none (is_designator f.flight)
+
+no_expected : (f : FlightDate) (w : ℕ) → expected_in empty f w ≡ None
+no_expected f w = ap (λ o. if is_designator f.flight then option_map expected_by o else None) (get-empty expected_cmp (expected_key f w)) ∙ either_none (is_designator f.flight)
+
+no_parts : (p : Part) → parts_in empty p ≡ None
+no_parts p = ap (λ o. if is_designator p.flight.flight then o else None) (get-empty part_cmp (part_key p)) ∙ either_none (is_designator p.flight.flight)
+
+nothing_counted : (w : ℕ) (place : Option Place) → count_at [] w place ≡ None
+nothing_counted w None = refl
+nothing_counted w (Some place) = refl
+
+no_counts : (key : CountKey) → get (empty {X = Count} {R = count_cmp}) key ≡ counted [] key
+no_counts (pos w, code) = get-empty count_cmp (pos w, code) ∙ sym (nothing_counted w (plain_place code))
+no_counts (negsuc w, code) = get-empty count_cmp (negsuc w, code)
+
+nothing_built : (day w : ℕ) (flight : Option Designator) → build_at [] day w flight ≡ None
+nothing_built day w None = refl
+nothing_built day w (Some flight) = refl
+
+no_builds : (key : BuildKey) → get (empty {X = Build} {R = build_cmp}) key ≡ built_up [] key
+no_builds (text, (pos day, pos w)) = get-empty build_cmp (text, (pos day, pos w)) ∙ sym (nothing_built day w (written_flight text))
+no_builds (text, (pos day, negsuc w)) = get-empty build_cmp (text, (pos day, negsuc w))
+no_builds (text, (negsuc day, w)) = get-empty build_cmp (text, (negsuc day, w))
+
+pub meaning_opening : (here : List ℕ) → meaning_of (opening here) ≡ step.opening here
+meaning_opening here = λ i. record {
+  cargo = record (opening_cargo here) {
+    holders = λ n. option_and_then (λ (row : StockKey × Stock). holder_by row.1) (find (stands_for n) (no_entries stock_cmp Stock i));
+    flights = λ f. no_flights f i;
+    expected = λ f w. no_expected f w i;
+    parts = λ p. no_parts p i;
+  };
+  kept_keys = λ key. option_map kept_by (get-empty {X = Kept} kept_cmp key i);
+  kept_texts = λ text. option_map natural (get-empty {X = ℤ} kept_text_cmp text i);
+}
+
+pub opening_readable : (here : List ℕ) → IsTrue (is_airport here) → IsReadable (opening here)
+opening_readable here airport = record {
+  station = rw airport refl;
+  waybills = refl;
+  stock = rw (no_entries stock_cmp Stock) refl;
+  flights = rw (no_entries flight_cmp Flight) refl;
+  moves = refl;
+  book = refl;
+  expected = rw (no_entries expected_cmp Expected) refl;
+  parts = rw (no_entries part_cmp (List ℕ)) refl;
+  trail = refl;
+  lines = refl;
+  outbox = refl;
+  kept = rw (no_entries kept_cmp Kept) refl;
+  kept_texts = rw (no_entries kept_text_cmp ℤ) refl;
+  counts = no_counts;
+  builds = no_builds;
+}
+
+pub opening_means : (here : List ℕ) → IsTrue (is_airport here) → Means (opening here) (Some (step.opening here))
+opening_means here airport = (opening_readable here airport, meaning_opening here)
+
+-- a store whose tables are those of a new station
+pub opening_shown : (v : View) (here : List ℕ) → IsTrue (is_airport here) → (v.IsSound → IsOpening here v) → ((t : Tables) → v.is_open ≡ true → v.IsSound → v.may_leave t → t ≡ v.committed)
+    → Shows v here (record { moves = 0; lines = 0; messages = 0 }) 0 (at_rest (step.opening here))
+opening_shown v here airport is settled sound =
+    let new = is sound in
+    let committed : v.committed ≡ opening here = sym new.at_rest.same ∙ new.now_is in
+    let means = opening_means here airport in
+    record {
+      holds = record {
+        inside = λ e. absurd (cc);
+        stands = λ _. record {
+          mode = new.at_rest.mode;
+          rest = λ _. new.at_rest.same;
+          now = subst (λ t. Means t (Some (step.opening here))) (sym new.now_is) means;
+          committed = subst (λ t. Means t (Some (step.opening here))) (sym committed) means;
+        };
+        found = λ t left. subst (λ u. Means u (Some (step.opening here))) (sym (settled t new.is_open sound left ∙ committed)) means;
+      };
+      knows = record { here_is = refl; sizes_are = refl; confirmed_is = refl };
+    }
+
+-- tables of a new station mean a station with nothing in it
+pub opening_found : (here : List ℕ) → IsTrue (is_airport here) → (t : Tables) (found : Option State) → t ≡ opening here → Means t found → found ≡ Some (step.opening here)
+opening_found here airport t found made means = same_meaning t (step.opening here) found (subst (λ u. Means u (Some (step.opening here))) (sym made) (opening_means here airport)) means
+
+pub ascii_airport : (code : List ℕ) → is_airport code ≡ true → IsAscii code
+ascii_airport = IsAscii-airport

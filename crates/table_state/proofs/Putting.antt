@@ -1,0 +1,45 @@
+-- A row that is written over the one with its key.
+use Rattle.std.proofs.Common.{◌≡◌, true, false, Option, Some, None, sym, ap, subst, Ordering}
+use Rattle.std.specs.Prelude.{option_map, unwrap_or, is_some}
+use Rattle.std.specs.FinMap.{FinMap, get, insert}
+use Rattle.sqlite_keyed.specs.Keyed.{get_by}
+use Rattle.row_laws.specs.Columns.{adjust}
+use Rattle.row_schema.specs.Store.{View, Displays, IsShowing, inside}
+use Rattle.row_schema.specs.Tables.{Tables, Waybill, waybill_id, Flight, FlightKey, Expected, ExpectedKey}
+use Rattle.cargo_rows.specs.declared.waybills.WaybillRow.{WaybillRow}
+use Rattle.cargo_rows.specs.declared.flights.FlightRow.{FlightRow}
+use Rattle.cargo_rows.specs.declared.expected.ExpectedRow.{ExpectedRow}
+use Rattle.cargo_rows.specs.Meant.{waybill_meant, flight_meant, expected_meant, with_waybill, changing_waybill, with_flight, changing_flight, with_expected, changing_expected}
+use Rattle.table_state.specs.Put.{put_over, putting_waybill}
+
+adjusts : {K V A : Type 0} {R : K → K → Ordering} (m : FinMap R V) (k : K) (meant : A → V) (found : Option A) (new : V) → is_some found ≡ true → option_map meant found ≡ get m k → adjust m k (λ _. new) ≡ insert m k new
+adjusts m k meant None new some has = absurd (cc)
+adjusts m k meant (Some was) new some has = ap (λ o. unwrap_or (option_map (λ _. insert m k new) o) m) (sym has)
+
+module _ (v : View) (before now : Tables) where
+  shown_as : (t u : Tables) → (v.IsSound → t ≡ u) → IsShowing v (inside before t) → IsShowing v (inside before u)
+  shown_as t u same shown sound = subst (λ w. Displays v (inside before w)) (same sound) (shown sound)
+
+  pub over_flight : (key : FlightKey) (found : Option FlightRow) (new : Flight) → is_some found ≡ true → (v.IsSound → option_map flight_meant found ≡ get now.flights key)
+      → IsShowing v (inside before (changing_flight key new now)) → IsShowing v (inside before (with_flight key new now))
+  over_flight key found new some has = shown_as (changing_flight key new now) (with_flight key new now) (λ sound. ap (λ m. record now { flights = m }) (adjusts now.flights key flight_meant found new some (has sound)))
+
+  pub over_expected : (key : ExpectedKey) (found : Option ExpectedRow) (new : Expected) → is_some found ≡ true → (v.IsSound → option_map expected_meant found ≡ get now.expected key)
+      → IsShowing v (inside before (changing_expected key new now)) → IsShowing v (inside before (with_expected key new now))
+  over_expected key found new some has = shown_as (changing_expected key new now) (with_expected key new now) (λ sound. ap (λ m. record now { expected = m }) (adjusts now.expected key expected_meant found new some (has sound)))
+
+  there : (found : Option WaybillRow) (new : Waybill) → is_some found ≡ true → option_map waybill_meant found ≡ get_by waybill_id now.waybills new.awb → changing_waybill new now ≡ putting_waybill new now
+  there None new some has = absurd (cc)
+  there (Some row) new some has = ap (λ o. put_over o new now) has
+
+  not_there : (found : Option WaybillRow) (new : Waybill) → is_some found ≡ false → option_map waybill_meant found ≡ get_by waybill_id now.waybills new.awb → with_waybill new now ≡ putting_waybill new now
+  not_there None new none has = ap (λ o. put_over o new now) has
+  not_there (Some row) new none has = absurd (cc)
+
+  pub over_waybill : (found : Option WaybillRow) (new : Waybill) → is_some found ≡ true → (v.IsSound → option_map waybill_meant found ≡ get_by waybill_id now.waybills new.awb)
+      → IsShowing v (inside before (changing_waybill new now)) → IsShowing v (inside before (putting_waybill new now))
+  over_waybill found new some has = shown_as (changing_waybill new now) (putting_waybill new now) (λ sound. there found new some (has sound))
+
+  pub as_new_waybill : (found : Option WaybillRow) (new : Waybill) → is_some found ≡ false → (v.IsSound → option_map waybill_meant found ≡ get_by waybill_id now.waybills new.awb)
+      → IsShowing v (inside before (with_waybill new now)) → IsShowing v (inside before (putting_waybill new now))
+  as_new_waybill found new none has = shown_as (with_waybill new now) (putting_waybill new now) (λ sound. not_there found new none (has sound))

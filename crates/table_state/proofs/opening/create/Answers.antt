@@ -1,0 +1,14 @@
+use Rattle.std.proofs.Common.{rules, ◌≡◌, true, inl, inr, ⊎_elim, ap, ◌∙◌}
+use Rattle.imp_fields.specs.Airport.{is_airport}
+use Rattle.row_schema.specs.Connection.{opening}
+use Rattle.table_state.proofs.NewState.{opening_found}
+use Rattle.table_state.proofs.opening.create.Goals as goal
+
+pub returns-in-Err-clause-leaves : goal.returns-in-Err-clause-leaves
+returns-in-Err-clause-leaves g c = λ sound found finds.
+    let same : c.ascii_text.result.now ≡ c.args.here = search rules in
+    let airport : is_airport c.args.here ≡ true = search rules in
+    ⊎_elim
+    (λ left. inl (record { tables = finds.tables; left = left; means = finds.means }))
+    (λ made. inr (made.0, opening_found c.args.here airport finds.tables found (made.1 ∙ ap opening same) finds.means))
+    (c.in-Err.ensures.spares.crash sound finds.tables finds.left)

@@ -1,0 +1,11 @@
+use Rattle.cargo_rows.specs.Meant.{move_meant, with_move}
+use Rattle.table_state.proofs.recording.record_move.Goals as goal
+
+pub returns-clause-done : goal.returns-clause-done
+returns-clause-done g c = λ before now showing book counts builds. record {
+  row = move_meant c.in_ok-row.row;
+  is = c.in_ok-row.ensures.value;
+  fits = c.in_ok-row.ensures.lawful;
+  again = c.in_ok-row.ensures.again;
+  posted = c.in_ok-post_move.ensures.done before (with_move (move_meant c.in_ok-row.row) now) (c.in_ok-insert_move.ensures.done before now showing) book counts builds;
+}

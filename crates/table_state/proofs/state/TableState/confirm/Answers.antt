@@ -1,0 +1,10 @@
+use Rattle.std.proofs.Common.{rules, [], ◌<◌, ◌∙◌, SFits, w64}
+use Rattle.std.proofs.lemmas.Int.{to_z-of_z}
+use Rattle.table_state.proofs.Changes.{confirms_on, mark_fits}
+use Rattle.table_state.proofs.state.TableState.confirm.Goals as goal
+
+pub returns-in-Ok-clause-done : goal.returns-in-Ok-clause-done
+returns-in-Ok-clause-done g c = λ before s shown.
+    let fits : SFits w64 c.from.result = search rules in
+    let small : c.args.upto < 4_294_967_296 = search rules in
+    confirms_on _ _ _ _ _ before s shown c.in-Ok.ensures.survives [] _ c.args.upto (to_z-of_z w64 c.from.result fits ∙ c.from.ensures) (mark_fits c.args.upto small) (c.in-Ok.ensures.done _ _)

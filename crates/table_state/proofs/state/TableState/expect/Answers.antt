@@ -1,0 +1,11 @@
+use Rattle.std.proofs.Common.{rules, [], ◌∙◌, SFits, w64}
+use Rattle.std.proofs.lemmas.Int.{to_z-of_z}
+use Rattle.table_state.proofs.Changes.{expects_on}
+use Rattle.table_state.proofs.state.TableState.expect.Goals as goal
+
+pub returns-clause-done : goal.returns-clause-done
+returns-clause-done g c = λ before s shown.
+    let day_fits : SFits w64 c.day_number.result = search rules in
+    let awb_fits : SFits w64 c.awb_key.result = search rules in
+    expects_on _ _ _ _ _ before s shown c.in-Ok-put_expected.ensures.survives [] _ _ _ c.args.flight.now c.args.awb.now c.args.expected.now _ (c.deref.ensures ∙ c.in-Ok.ensures.text) (to_z-of_z w64 c.day_number.result day_fits ∙ c.day_number.ensures.value) (to_z-of_z w64 c.awb_key.result awb_fits ∙ c.awb_key.ensures.value) c.expected_row-row.ensures
+    c.expected_range.ensures.designator c.expected_range.ensures.lawful (c.in-Ok-put_expected.ensures.done _ _)

@@ -1,0 +1,28 @@
+use Rattle.std.proofs.Common.{rules, ap, sym, Some, option_map, ◌∙◌, SFits, w64}
+use Rattle.std.proofs.lemmas.Int.{to_z-of_z}
+use Rattle.cargo_rows.specs.declared.expected.ExpectedRow.{ExpectedRow}
+use Rattle.cargo_rows.specs.Meant.{expected_meant}
+use Rattle.row_values.specs.Manifests.{expected_by}
+use Rattle.table_state.proofs.Lifting.{seen_in, reads_on}
+use Rattle.table_state.proofs.Values.{expected_is}
+use Rattle.table_state.proofs.state.TableStateStateStore.expected.Goals as goal
+
+pub returns-in-Ok-None-clause-value : goal.returns-in-Ok-None-clause-value
+returns-in-Ok-None-clause-value g c = λ x shown sound.
+    let day_fits : SFits w64 c.day_number.result = search rules in
+    let awb_fits : SFits w64 c.awb_key.result = search rules in
+    ap (option_map (λ (r : ExpectedRow). expected_by (expected_meant r))) (sym c.in-Ok-None.field-0-is)
+    ∙ expected_is _ _ _ _ _ x shown c.in-Ok-None.ensures.survives c.in-Ok-None.ensures.open sound c.args.flight.now c.args.awb.now _ _ _ c.in-Ok-None.field-0 (c.deref.ensures ∙ c.in-Ok.ensures.text) (to_z-of_z w64 c.day_number.result day_fits ∙ c.day_number.ensures.value) (to_z-of_z w64 c.awb_key.result awb_fits ∙ c.awb_key.ensures.value) c.flight_text.ensures.designator (c.in-Ok-None.ensures.read (seen_in (g.S.TableStore.view c.args.self.now.store)))
+
+pub returns-in-Ok-None-clause-same : goal.returns-in-Ok-None-clause-same
+returns-in-Ok-None-clause-same g c = λ x shown. reads_on _ _ _ _ _ x shown c.in-Ok-None.ensures.survives (c.in-Ok-None.ensures.same (seen_in (g.S.TableStore.view c.args.self.now.store))) c.in-Ok-None.ensures.open
+
+pub returns-clause-value : goal.returns-clause-value
+returns-clause-value g c = λ x shown sound.
+    let day_fits : SFits w64 c.day_number.result = search rules in
+    let awb_fits : SFits w64 c.awb_key.result = search rules in
+    ap Some c.in-Some.ensures ∙ ap (option_map (λ (r : ExpectedRow). expected_by (expected_meant r))) (sym c.in-Ok-Some.field-0-is)
+    ∙ expected_is _ _ _ _ _ x shown c.in-Ok-Some.ensures.survives c.in-Ok-Some.ensures.open sound c.args.flight.now c.args.awb.now _ _ _ c.in-Ok-Some.field-0 (c.deref.ensures ∙ c.in-Ok.ensures.text) (to_z-of_z w64 c.day_number.result day_fits ∙ c.day_number.ensures.value) (to_z-of_z w64 c.awb_key.result awb_fits ∙ c.awb_key.ensures.value) c.flight_text.ensures.designator (c.in-Ok-Some.ensures.read (seen_in (g.S.TableStore.view c.args.self.now.store)))
+
+pub returns-clause-same : goal.returns-clause-same
+returns-clause-same g c = λ x shown. reads_on _ _ _ _ _ x shown c.in-Ok-Some.ensures.survives (c.in-Ok-Some.ensures.same (seen_in (g.S.TableStore.view c.args.self.now.store))) c.in-Ok-Some.ensures.open

@@ -1,0 +1,4 @@
+pub mod Laws
+pub mod Put
+pub mod Recorded
+pub mod Shown

@@ -1,0 +1,42 @@
+-- What a store of tables shows of a state.
+use Rattle.std.specs.Prelude.{◌≡◌, ℕ, true, false, List, Option, Some}
+use Rattle.station_core.specs.Step.{State}
+use Rattle.row_schema.specs.Tables.{Tables}
+use Rattle.row_schema.specs.Store.{View}
+use Rattle.row_values.specs.Meaning.{Means}
+use Rattle.state_store.specs.Store.{Seen}
+use Rattle.state_store.specs.Told.{sizes_of}
+use Rattle.state_store.specs.declared.store.Sizes.{Sizes}
+
+-- the tables mean what is shown; between two transactions they are those of the last commit
+pub record Stands (v : View) (x : Seen) : Type 0 where
+  pub mode : v.in_transaction ≡ x.in_transaction
+  pub rest : x.in_transaction ≡ false → v.now ≡ v.committed
+  pub now : Means v.now (Some x.now)
+  pub committed : Means v.committed (Some x.committed)
+
+-- A store that is open shows this state. One that was shut says nothing more, but a crash still leaves what was committed.
+pub record Holds (v : View) (x : Seen) : Type 0 where
+  pub inside : x.in_transaction ≡ true → v.is_open ≡ true
+  pub stands : v.is_open ≡ true → Stands v x
+  pub found : (t : Tables) → v.may_leave t → Means t (Some x.committed)
+
+-- what is known of the state beside the tables
+pub record Knows (here : List ℕ) (sizes : Sizes) (confirmed : ℕ) (x : Seen) : Type 0 where
+  pub here_is : here ≡ x.now.cargo.here
+  pub sizes_are : sizes ≡ sizes_of x.now.cargo
+  pub confirmed_is : confirmed ≡ x.now.cargo.confirmed
+
+pub record Tells (v : View) (here : List ℕ) (sizes : Sizes) (confirmed : ℕ) (x : Seen) : Type 0 where
+  pub holds : Holds v x
+  pub knows : Knows here sizes confirmed x
+
+-- as long as the disk has returned what was written
+abbrev pub Shows : View → List ℕ → Sizes → ℕ → Seen → Type 0
+Shows v here sizes confirmed x = v.IsSound → Tells v here sizes confirmed x
+
+-- some tables that a crash may leave mean this state, or none
+pub record Finds (v : View) (found : Option State) : Type 0 where
+  pub tables : Tables
+  pub left : v.may_leave tables
+  pub means : Means tables found

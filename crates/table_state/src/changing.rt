@@ -1,0 +1,159 @@
+//! The changes that a plan writes, each in the transaction that is open.
+ghost use Rattle.std.specs.Prelude.{[], OnOk};
+ghost use Rattle.shipment_machine.specs.Cargo.{written};
+ghost use Rattle.shipment_machine.specs.declared.plans.Change.TheVariants.{Confirm, Declare, Expect, NoteFlight, NotePart, Trail, UseUp};
+ghost use Rattle.station_core.specs.Step.{State};
+ghost use Rattle.row_schema.specs.Store.{Survives};
+ghost use Rattle.state_store.specs.Store.{inside};
+ghost use Rattle.state_store.specs.Told.{on_cargo};
+ghost use Rattle.table_state.specs.Shown.{Shows};
+
+use crate::state::TableState;
+use crate::writing::{put_expected, put_flight, put_waybill};
+use awb_number::Awb;
+use row_values::{
+    awb_key, day_number, expected_range, expected_row, flight_text, outbound_range, outbound_row,
+    part_range, text, trail_row, waybill_row,
+};
+use shipment_machine::{Declared, Expected, FlightDate, Outbound, Part, TrailLine};
+use state_store::StoreFault;
+use station_rows::TableStore;
+
+impl<S: TableStore> TableState<S> {
+    /// What is declared of a waybill from now on.
+    pub(crate) fn declare(&mut self, awb: &Awb, declared: &Declared) -> Result<(), StoreFault>
+        ensures done { (before s : State) → Shows (S.view self.old.store) self.old.here self.old.sizes self.old.confirmed (inside before s)
+            → OnOk result (Shows (S.view self.new.store) self.new.here self.new.sizes self.new.confirmed (inside before (on_cargo (written [] (Declare awb.now declared.now)) s))) }
+        ensures survives { Survives (S.view self.old.store) (S.view self.new.store) }
+    {
+        let Ok(row) = waybill_row(self.alloc, awb, declared) else {
+            return Err(StoreFault);
+        };
+        match put_waybill(&mut self.store, &row) {
+            Err(_) => Err(StoreFault),
+            Ok(()) => Ok(()),
+        }
+    }
+
+    /// An agent's number is used up.
+    pub(crate) fn use_up(&mut self, awb: &Awb) -> Result<(), StoreFault>
+        ensures done { (before s : State) → Shows (S.view self.old.store) self.old.here self.old.sizes self.old.confirmed (inside before s)
+            → OnOk result (Shows (S.view self.new.store) self.new.here self.new.sizes self.new.confirmed (inside before (on_cargo (written [] (UseUp awb.now)) s))) }
+        ensures survives { Survives (S.view self.old.store) (S.view self.new.store) }
+    {
+        match stock_tables::use_up(self.alloc, &mut self.store, awb) {
+            Err(_) => Err(StoreFault),
+            Ok(()) => Ok(()),
+        }
+    }
+
+    /// What is noted of an outbound flight from now on.
+    pub(crate) fn note_flight(
+        &mut self,
+        flight: &FlightDate,
+        outbound: &Outbound,
+    ) -> Result<(), StoreFault>
+        ensures done { (before s : State) → Shows (S.view self.old.store) self.old.here self.old.sizes self.old.confirmed (inside before s)
+            → OnOk result (Shows (S.view self.new.store) self.new.here self.new.sizes self.new.confirmed (inside before (on_cargo (written [] (NoteFlight flight.now outbound.now)) s))) }
+        ensures survives { Survives (S.view self.old.store) (S.view self.new.store) }
+    {
+        outbound_range(flight, outbound);
+        let Ok(name) = flight_text(self.alloc, &flight.flight) else {
+            return Err(StoreFault);
+        };
+        let Ok(row) = outbound_row(self.alloc, outbound) else {
+            return Err(StoreFault);
+        };
+        match put_flight(&mut self.store, &name, day_number(flight.day), &row) {
+            Err(_) => Err(StoreFault),
+            Ok(()) => Ok(()),
+        }
+    }
+
+    /// What is expected of a waybill on a flight from now on.
+    pub(crate) fn expect(
+        &mut self,
+        flight: &FlightDate,
+        awb: &Awb,
+        expected: &Expected,
+    ) -> Result<(), StoreFault>
+        ensures done { (before s : State) → Shows (S.view self.old.store) self.old.here self.old.sizes self.old.confirmed (inside before s)
+            → OnOk result (Shows (S.view self.new.store) self.new.here self.new.sizes self.new.confirmed (inside before (on_cargo (written [] (Expect flight.now awb.now expected.now)) s))) }
+        ensures survives { Survives (S.view self.old.store) (S.view self.new.store) }
+    {
+        expected_range(flight, awb, expected);
+        let Ok(name) = flight_text(self.alloc, &flight.flight) else {
+            return Err(StoreFault);
+        };
+        let row = expected_row(expected);
+        match put_expected(
+            &mut self.store,
+            &name,
+            day_number(flight.day),
+            awb_key(awb),
+            &row,
+        ) {
+            Err(_) => Err(StoreFault),
+            Ok(()) => Ok(()),
+        }
+    }
+
+    /// The telegram in work, which has this text, is this part.
+    pub(crate) fn note_part(&mut self, part: &Part, telegram: &[u8]) -> Result<(), StoreFault>
+        ensures done { (before s : State) → Shows (S.view self.old.store) self.old.here self.old.sizes self.old.confirmed (inside before s)
+            → OnOk result (Shows (S.view self.new.store) self.new.here self.new.sizes self.new.confirmed (inside before (on_cargo (written telegram.now (NotePart part.now)) s))) }
+        ensures survives { Survives (S.view self.old.store) (S.view self.new.store) }
+    {
+        part_range(part);
+        let Ok(name) = flight_text(self.alloc, &part.flight.flight) else {
+            return Err(StoreFault);
+        };
+        let Ok(airport) = text(self.alloc, &part.airport.letters()) else {
+            return Err(StoreFault);
+        };
+        let Ok(body) = std::str::from_utf8(telegram) else {
+            return Err(StoreFault);
+        };
+        let (day, number) = (day_number(part.flight.day), i64::from(part.number.number()));
+        match self.store.insert_part(&name, day, &airport, number, body) {
+            Err(_) => Err(StoreFault),
+            Ok(()) => Ok(()),
+        }
+    }
+
+    /// A line joins the trail of a waybill.
+    pub(crate) fn add_line(&mut self, awb: &Awb, line: &TrailLine<'_>) -> Result<(), StoreFault>
+        ensures done { (before s : State) → Shows (S.view self.old.store) self.old.here self.old.sizes self.old.confirmed (inside before s)
+            → OnOk result (Shows (S.view self.new.store) self.new.here self.new.sizes self.new.confirmed (inside before (on_cargo (written [] (Trail awb.now line.now)) s))) }
+        ensures survives { Survives (S.view self.old.store) (S.view self.new.store) }
+    {
+        let Some(number) = self.sizes.lines.checked_add(1) else {
+            return Err(StoreFault);
+        };
+        let Ok(row) = trail_row(self.alloc, number, awb, line) else {
+            return Err(StoreFault);
+        };
+        match self.store.insert_trail_line(&row) {
+            Err(_) => Err(StoreFault),
+            Ok(()) => {
+                self.sizes.lines = number;
+                Ok(())
+            }
+        }
+    }
+
+    /// The messages up to this one are confirmed.
+    pub(crate) fn confirm(&mut self, upto: u32) -> Result<(), StoreFault>
+        ensures done { (before s : State) → Shows (S.view self.old.store) self.old.here self.old.sizes self.old.confirmed (inside before s)
+            → OnOk result (Shows (S.view self.new.store) self.new.here self.new.sizes self.new.confirmed (inside before (on_cargo (written [] (Confirm upto)) s))) }
+        ensures survives { Survives (S.view self.old.store) (S.view self.new.store) }
+    {
+        match self.store.update_confirmed(i64::from(upto)) {
+            Err(_) => Err(StoreFault),
+            Ok(()) => {
+                self.confirmed = upto;
+                Ok(())
+            }
+        }
+    }
+}

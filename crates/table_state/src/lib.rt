@@ -1,0 +1,12 @@
+//! The state of a station in its tables.
+#![tactic(auto)]
+
+mod changing;
+mod moved;
+mod opening;
+mod recording;
+mod state;
+mod writing;
+
+pub use opening::create;
+pub use state::TableState;

@@ -1,0 +1,53 @@
+ghost use Rattle.std.specs.Prelude.{◌≡◌, ◌⊎◌, true, false, Some, Option, IfOk, IfErr, OnOk};
+ghost use Rattle.station_core.specs.Step.{State, opening};
+ghost use Rattle.row_schema.specs.Connection.{connection_view, IsVacant};
+ghost use Rattle.state_store.specs.Store.{at_rest};
+ghost use Rattle.table_state.specs.Shown.{Finds};
+
+use crate::state::TableState;
+use imp_fields::Airport;
+use sqlite::{Alter, Connection};
+use state_store::{Sizes, StateStore};
+use station_rows::{CreateFault, Rows, TableStore};
+use std::alloc::Global;
+
+/// Makes the tables of a station at an airport with nothing in it, in one transaction, in a store that has none. It gives
+/// the connection back where it fails.
+#[tactic(auto, using(crate::proofs::NewState::ascii_airport, crate::proofs::NewState::opening_found))]
+pub fn create<S: Alter>(
+    alloc: Global,
+    conn: Connection<S>,
+    here: Airport,
+) -> Result<TableState<Rows<S>>, (Connection<S>, CreateFault)>
+    ensures empty { OnOk result (IsVacant S.Store conn) }
+    ensures sound { IfOk result (λ tables. ⟦<TableState<Rows<S>> as StateStore>⟧.is_sound tables → (connection_view S.Store conn).IsSound) }
+
+    // It shows the opening state, and a crash leaves that alone.
+    ensures shows { IfOk result (λ tables. ⟦<TableState<Rows<S>> as StateStore>⟧.shows tables (at_rest (opening here))) }
+
+    // Occupied exactly where the store wasn't empty, and then nothing changed.
+    ensures inside { (connection_view S.Store conn).in_transaction ≡ true → result ≡ Err (conn, CreateFault.Store) }
+    ensures occupied { (connection_view S.Store conn).in_transaction ≡ false → ¬ IsVacant S.Store conn → result ≡ Err (conn, CreateFault.Occupied) }
+    ensures vacant { IfErr result (λ e. e.1 ≡ CreateFault.Occupied → ¬ IsVacant S.Store conn) }
+
+    // A crash leaves what it left before the call, or where the store was empty the opening station.
+    ensures leaves { IfErr result (λ e. (connection_view S.Store e.0).IsSound → (found : Option State) → Finds (connection_view S.Store e.0) found
+        → Finds (connection_view S.Store conn) found ⊎ (IsVacant S.Store conn × (found ≡ Some (opening here)))) }
+{
+    let letters = here.letters();
+    match Rows::create(conn, awb_number::ascii_text(&letters)) {
+        Ok(store) => Ok(TableState::new(alloc, store, here)),
+        Err((conn, fault)) => Err((conn, fault)),
+    }
+}
+
+impl<S: Alter> TableState<Rows<S>> {
+    /// Gives the connection back, whatever state it is in. A transaction that is open is undone as well as it can be, and
+    /// what a crash may leave is as before.
+    pub fn release(self) -> Connection<S>
+        ensures leaves { (connection_view S.Store result).IsSound → (found : Option State) → Finds (connection_view S.Store result) found → ⟦<TableState<Rows<S>> as StateStore>⟧.may_find self found }
+        ensures sound { (connection_view S.Store result).IsSound → ⟦<TableState<Rows<S>> as StateStore>⟧.is_sound self }
+    {
+        self.into_store().release()
+    }
+}

@@ -1,0 +1,31 @@
+//! A move is written with what it changes of the running counts.
+ghost use Rattle.std.specs.Prelude.{List, ◌++◌, ◌∷◌, [], OnOk};
+ghost use Rattle.shipment_machine.specs.declared.moves.Move as cargo;
+ghost use Rattle.row_schema.specs.Store.{IsShowing, Survives, inside};
+ghost use Rattle.row_schema.specs.Tables.{Tables};
+ghost use Rattle.row_values.specs.Counts.{AreCounts, AreBuilds};
+ghost use Rattle.table_state.specs.Recorded.{Recorded};
+
+use count_tables::post_move;
+use row_values::move_row;
+use shipment_machine::Move;
+use station_rows::{StoreFault, TableStore};
+use std::alloc::Global;
+
+/// Writes a move under its number, and what it changes of the running counts, in a transaction.
+pub(crate) fn record_move<S: TableStore>(
+    alloc: Global,
+    store: &mut S,
+    number: u32,
+    movement: &Move,
+) -> Result<(), StoreFault>
+    ensures done { (before now : Tables) → IsShowing (S.view store.old) (inside before now)
+        → (book : List cargo.Move) → AreCounts now.counts book → AreBuilds now.builds book
+        → OnOk result (Recorded (S.view store.new) before now number movement.now (book ++ movement.now ∷ [])) }
+    ensures survives { Survives (S.view store.old) (S.view store.new) }
+{
+    let row = move_row(alloc, number, movement)?;
+    store.insert_move(&row)?;
+    post_move(alloc, store, movement)?;
+    Ok(())
+}

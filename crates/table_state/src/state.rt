@@ -1,0 +1,371 @@
+ghost use Rattle.std.specs.Prelude.{◌≡◌, ◌≤◌};
+ghost use Rattle.station_core.specs.Step.{opening};
+ghost use Rattle.row_schema.specs.Connection.{IsOpening};
+ghost use Rattle.state_store.specs.Store.{at_rest};
+ghost use Rattle.table_state.specs.Laws.{finds_what_it_shows, all_numbered};
+ghost use Rattle.table_state.specs.Shown.{Shows, Finds};
+
+use crate::moved::waybills_moved;
+use crate::recording::record_move;
+use agent_stock::{Holder, Order, StockFault, StockRun};
+use awb_number::Awb;
+use imp_fields::Airport;
+use row_values::{
+    awb_key, book_rows_by, count_of, day_number, declared_by, expected_by, flight_text, kept_by,
+    lines_by, message_row, messages_by, outbound_by,
+};
+use shipment_machine::{
+    Amount, Balances, Change, Declared, Expected, FlightDate, Move, Outbound, Part,
+};
+use state_store::{KeptReply, Load, Sizes, StateStore, StoreFault};
+use station_core::{BookRow, Key, Message, TrailRow};
+use station_rows::TableStore;
+use std::alloc::Global;
+
+/// The state of a station in the tables of a store.
+///
+/// A value that a row doesn't say in range is answered as a fault of the store.
+#[derive(Drop)]
+pub struct TableState<S: TableStore> {
+    pub(crate) alloc: Global,
+    pub(crate) store: S,
+    pub(crate) here: Airport,
+    pub(crate) sizes: Sizes,
+    pub(crate) confirmed: u32,
+    ghost numbered: { (sizes.moves ≤ 4_294_967_295) × (sizes.lines ≤ 4_294_967_295) × (sizes.messages ≤ 4_294_967_295) },
+}
+
+impl<S: TableStore> TableState<S> {
+    /// The state of a new station at an airport.
+    #[tactic(auto, using(crate::proofs::NewState::opening_shown))]
+    pub(crate) fn new(alloc: Global, store: S, here: Airport) -> TableState<S>
+        ensures shows { ((S.view store).IsSound → IsOpening here (S.view store)) → ⟦<TableState<S> as StateStore>⟧.shows result (at_rest (opening here)) }
+        ensures sound { ⟦<TableState<S> as StateStore>⟧.is_sound result → (S.view store).IsSound }
+    {
+        TableState {
+            alloc,
+            store,
+            here,
+            sizes: Sizes {
+                moves: 0,
+                lines: 0,
+                messages: 0,
+            },
+            confirmed: 0,
+        }
+    }
+
+    /// The store comes back, whatever state it is in.
+    pub(crate) fn into_store(self) -> S
+        ensures { result ≡ self.store }
+    {
+        let TableState {
+            alloc: _,
+            store,
+            here: _,
+            sizes: _,
+            confirmed: _,
+        } = self;
+        store
+    }
+}
+
+impl<S: TableStore> StateStore for TableState<S> {
+    ghost shows = { λ k x. Shows (S.view k.store) k.here k.sizes k.confirmed x };
+
+    ghost is_sound = { λ k. (S.view k.store).IsSound };
+
+    ghost may_find = { λ k found. Finds (S.view k.store) found };
+
+    #[tactic(auto, using(crate::proofs::Lifting::begins, crate::proofs::Lifting::survives_so))]
+    fn begin(&mut self) -> Result<(), StoreFault> {
+        match self.store.begin() {
+            Err(_) => Err(StoreFault),
+            Ok(()) => Ok(()),
+        }
+    }
+
+    #[tactic(auto, using(crate::proofs::Lifting::commits, crate::proofs::Lifting::may_find_on))]
+    fn commit(&mut self) -> Result<(), StoreFault> {
+        match self.store.commit() {
+            Err(_) => Err(StoreFault),
+            Ok(()) => Ok(()),
+        }
+    }
+
+    #[tactic(auto, using(crate::proofs::Lifting::reads_unchanged, crate::proofs::Lifting::survives_so, crate::proofs::Values::none_kept, crate::proofs::Values::some_kept))]
+    fn kept_key(&mut self, key: &Key) -> Result<Option<KeptReply>, StoreFault> {
+        match self.store.kept_row(key.as_str()) {
+            Err(_) => Err(StoreFault),
+            Ok(None) => Ok(None),
+            Ok(Some(row)) => match kept_by(row) {
+                None => Err(StoreFault),
+                Some(kept) => Ok(Some(kept)),
+            },
+        }
+    }
+
+    #[tactic(auto, using(crate::proofs::Lifting::rests_on, crate::proofs::Lifting::survives_so))]
+    fn kept_text(&mut self, text: &[u8]) -> Result<Option<u32>, StoreFault> {
+        let Ok(text) = std::str::from_utf8(text) else {
+            return Err(StoreFault);
+        };
+        match self.store.kept_text_count(text) {
+            Err(_) => Err(StoreFault),
+            Ok(None) => Ok(None),
+            Ok(Some(count)) => match count_of(count) {
+                None => Err(StoreFault),
+                Some(count) => Ok(Some(count)),
+            },
+        }
+    }
+
+    #[tactic(auto, using(crate::proofs::Lifting::rests_on, crate::proofs::Lifting::survives_so))]
+    fn declared(&mut self, awb: &Awb) -> Result<Option<Declared>, StoreFault> {
+        match self.store.waybill_row(awb_key(awb)) {
+            Err(_) => Err(StoreFault),
+            Ok(None) => Ok(None),
+            Ok(Some(row)) => match declared_by(&row) {
+                None => Err(StoreFault),
+                Some(declared) => Ok(Some(declared)),
+            },
+        }
+    }
+
+    #[tactic(auto, using(crate::proofs::Lifting::rests_on, crate::proofs::Lifting::survives_so))]
+    fn holder(&mut self, awb: &Awb) -> Result<Option<Holder>, StoreFault> {
+        match stock_tables::holder(&mut self.store, awb) {
+            Err(_) => Err(StoreFault),
+            Ok(holder) => Ok(holder),
+        }
+    }
+
+    #[tactic(auto, using(crate::proofs::Lifting::rests_on, crate::proofs::Lifting::survives_so))]
+    fn has_moves(&mut self, awb: &Awb) -> Result<bool, StoreFault> {
+        match self.store.moves_of(awb_key(awb)) {
+            Err(_) => Err(StoreFault),
+            Ok(rows) => Ok(!rows.is_empty()),
+        }
+    }
+
+    #[tactic(auto, using(crate::proofs::Lifting::rests_on, crate::proofs::Lifting::survives_so))]
+    fn balances(&mut self, awb: &Awb) -> Result<Balances, StoreFault> {
+        match count_tables::balances(&mut self.store, awb) {
+            Err(_) => Err(StoreFault),
+            Ok(balances) => Ok(balances),
+        }
+    }
+
+    #[tactic(auto, using(crate::proofs::Lifting::rests_on, crate::proofs::Lifting::survives_so))]
+    fn load(&mut self, awb: &Awb, flight: &FlightDate) -> Result<Amount, StoreFault> {
+        match count_tables::load(self.alloc, &mut self.store, awb, flight) {
+            Err(_) => Err(StoreFault),
+            Ok(load) => Ok(load),
+        }
+    }
+
+    #[tactic(auto, using(crate::proofs::Lifting::rests_on, crate::proofs::Lifting::survives_so))]
+    fn aboard(&mut self, flight: &FlightDate) -> Result<Vec<Load>, StoreFault> {
+        match count_tables::aboard(self.alloc, &mut self.store, flight) {
+            Err(_) => Err(StoreFault),
+            Ok(loads) => Ok(loads),
+        }
+    }
+
+    #[tactic(auto, using(crate::proofs::Lifting::rests_on, crate::proofs::Lifting::survives_so))]
+    fn outbound(&mut self, flight: &FlightDate) -> Result<Option<Outbound>, StoreFault> {
+        let Ok(text) = flight_text(self.alloc, &flight.flight) else {
+            return Err(StoreFault);
+        };
+        match self.store.flight_row(&text, day_number(flight.day)) {
+            Err(_) => Err(StoreFault),
+            Ok(None) => Ok(None),
+            Ok(Some(row)) => match outbound_by(&row) {
+                None => Err(StoreFault),
+                Some(outbound) => Ok(Some(outbound)),
+            },
+        }
+    }
+
+    #[tactic(auto, using(crate::proofs::Lifting::rests_on, crate::proofs::Lifting::survives_so))]
+    fn expected(&mut self, flight: &FlightDate, awb: &Awb) -> Result<Option<Expected>, StoreFault> {
+        let Ok(text) = flight_text(self.alloc, &flight.flight) else {
+            return Err(StoreFault);
+        };
+        match self
+            .store
+            .expected_row(&text, day_number(flight.day), awb_key(awb))
+        {
+            Err(_) => Err(StoreFault),
+            Ok(None) => Ok(None),
+            Ok(Some(row)) => match expected_by(&row) {
+                None => Err(StoreFault),
+                Some(expected) => Ok(Some(expected)),
+            },
+        }
+    }
+
+    #[tactic(auto, using(crate::proofs::Lifting::rests_on, crate::proofs::Lifting::survives_so))]
+    fn has_part(&mut self, part: &Part) -> Result<bool, StoreFault> {
+        let Ok(flight) = flight_text(self.alloc, &part.flight.flight) else {
+            return Err(StoreFault);
+        };
+        let airport = part.airport.letters();
+        let Ok(airport) = std::str::from_utf8(&airport) else {
+            return Err(StoreFault);
+        };
+        let day = day_number(part.flight.day);
+        let seq = i64::from(part.number.number());
+        match self.store.part_body(&flight, day, airport, seq) {
+            Err(_) => Err(StoreFault),
+            Ok(body) => Ok(body.is_some()),
+        }
+    }
+
+    fn here(&self) -> Airport {
+        self.here
+    }
+
+    fn sizes(&self) -> Sizes {
+        self.sizes
+    }
+
+    fn confirmed(&self) -> u32 {
+        self.confirmed
+    }
+
+    #[tactic(auto, using(crate::proofs::Lifting::survives_so))]
+    fn add_move(&mut self, movement: &Move) -> Result<(), StoreFault> {
+        let Some(number) = self.sizes.moves.checked_add(1) else {
+            return Err(StoreFault);
+        };
+        match record_move(self.alloc, &mut self.store, number, movement) {
+            Err(_) => Err(StoreFault),
+            Ok(()) => {
+                self.sizes.moves = number;
+                Ok(())
+            }
+        }
+    }
+
+    #[tactic(auto, using(crate::proofs::Lifting::survives_so))]
+    fn write(&mut self, text: &[u8], change: &Change<'_>) -> Result<(), StoreFault> {
+        match change {
+            Change::Declare { awb, declared } => self.declare(awb, declared),
+            Change::UseUp { awb } => self.use_up(awb),
+            Change::NoteFlight { flight, outbound } => self.note_flight(flight, outbound),
+            Change::Expect {
+                flight,
+                awb,
+                expected,
+            } => self.expect(flight, awb, expected),
+            Change::NotePart { part } => self.note_part(part, text),
+            Change::Trail { awb, line } => self.add_line(awb, line),
+            Change::Confirm { upto } => self.confirm(*upto),
+        }
+    }
+
+    #[tactic(auto, using(crate::proofs::Lifting::survives_so))]
+    fn add_message(&mut self, text: &[u8]) -> Result<(), StoreFault> {
+        let Some(number) = self.sizes.messages.checked_add(1) else {
+            return Err(StoreFault);
+        };
+        let Ok(row) = message_row(self.alloc, number, text) else {
+            return Err(StoreFault);
+        };
+        match self.store.insert_message(&row) {
+            Err(_) => Err(StoreFault),
+            Ok(()) => {
+                self.sizes.messages = number;
+                Ok(())
+            }
+        }
+    }
+
+    #[tactic(auto, using(crate::proofs::Lifting::survives_so))]
+    fn keep_key(&mut self, key: &Key, request: &str, count: u32) -> Result<(), StoreFault> {
+        match self
+            .store
+            .insert_kept(key.as_str(), request, i64::from(count))
+        {
+            Err(_) => Err(StoreFault),
+            Ok(()) => Ok(()),
+        }
+    }
+
+    #[tactic(auto, using(crate::proofs::Lifting::survives_so))]
+    fn keep_text(&mut self, text: &[u8], count: u32) -> Result<(), StoreFault> {
+        let Ok(text) = std::str::from_utf8(text) else {
+            return Err(StoreFault);
+        };
+        match self.store.insert_kept_text(text, i64::from(count)) {
+            Err(_) => Err(StoreFault),
+            Ok(()) => Ok(()),
+        }
+    }
+
+    #[tactic(auto, using(crate::proofs::Lifting::survives_so))]
+    fn carry_out_order(&mut self, order: &Order) -> Result<(), StockFault<StoreFault>> {
+        match stock_tables::carry_out_order(self.alloc, &mut self.store, order) {
+            Ok(()) => Ok(()),
+            Err(StockFault::Refused(number, lowest)) => Err(StockFault::Refused(number, lowest)),
+            Err(StockFault::Rows(_)) => Err(StockFault::Rows(StoreFault)),
+        }
+    }
+
+    #[tactic(auto, using(crate::proofs::Lifting::rests_on, crate::proofs::Lifting::survives_so))]
+    fn runs(&mut self) -> Result<Vec<StockRun>, StoreFault> {
+        match stock_tables::runs(self.alloc, &mut self.store) {
+            Err(_) => Err(StoreFault),
+            Ok(runs) => Ok(runs),
+        }
+    }
+
+    #[tactic(auto, using(crate::proofs::Lifting::rests_on, crate::proofs::Lifting::survives_so))]
+    fn moved(&mut self) -> Result<Vec<Awb>, StoreFault> {
+        match self.store.all_moves() {
+            Err(_) => Err(StoreFault),
+            Ok(rows) => match waybills_moved(self.alloc, &rows) {
+                Err(_) => Err(StoreFault),
+                Ok(numbers) => Ok(numbers),
+            },
+        }
+    }
+
+    #[tactic(auto, using(crate::proofs::Lifting::rests_on, crate::proofs::Lifting::survives_so))]
+    fn book(&mut self) -> Result<Vec<BookRow>, StoreFault> {
+        match self.store.all_moves() {
+            Err(_) => Err(StoreFault),
+            Ok(rows) => match book_rows_by(self.alloc, &rows) {
+                Err(_) => Err(StoreFault),
+                Ok(book) => Ok(book),
+            },
+        }
+    }
+
+    #[tactic(auto, using(crate::proofs::Lifting::rests_on, crate::proofs::Lifting::survives_so))]
+    fn pending(&mut self) -> Result<Vec<Message>, StoreFault> {
+        match self.store.messages_after(i64::from(self.confirmed)) {
+            Err(_) => Err(StoreFault),
+            Ok(rows) => match messages_by(self.alloc, rows) {
+                Err(_) => Err(StoreFault),
+                Ok(messages) => Ok(messages),
+            },
+        }
+    }
+
+    #[tactic(auto, using(crate::proofs::Lifting::rests_on, crate::proofs::Lifting::survives_so))]
+    fn trail(&mut self) -> Result<Vec<TrailRow>, StoreFault> {
+        match self.store.all_trail_lines() {
+            Err(_) => Err(StoreFault),
+            Ok(rows) => match lines_by(self.alloc, rows) {
+                Err(_) => Err(StoreFault),
+                Ok(lines) => Ok(lines),
+            },
+        }
+    }
+
+    ghost settled = { λ k s shown sound found finds. finds_what_it_shows (S.view k.store) s (shown sound).holds found finds };
+
+    ghost numbered = { λ k x shown sound. all_numbered k.sizes x.now.cargo k.numbered (shown sound).knows.sizes_are };
+}

@@ -1,0 +1,64 @@
+//! Rows that are written over the one with their key, or anew, in a transaction.
+ghost use Rattle.row_schema.specs.Store.{Survives};
+ghost use Rattle.cargo_rows.specs.Meant.{waybill_meant, flight_meant, with_flight, expected_meant, with_expected};
+ghost use Rattle.station_rows.specs.Clauses.{ShowsChange};
+ghost use Rattle.table_state.specs.Put.{putting_waybill};
+
+use cargo_rows::{ExpectedRow, FlightRow, WaybillRow};
+use station_rows::{StoreFault, TableStore};
+
+/// Writes what is declared of a waybill.
+pub(crate) fn put_waybill<S: TableStore>(store: &mut S, row: &WaybillRow) -> Result<(), StoreFault>
+    ensures done { ShowsChange (S.view store.old) (S.view store.new) result (putting_waybill (waybill_meant row.now)) }
+    ensures survives { Survives (S.view store.old) (S.view store.new) }
+{
+    let there = store.waybill_row(row.awb)?.is_some();
+    if there {
+        store.update_waybill(row)?;
+        Ok(())
+    } else {
+        store.insert_waybill(row)?;
+        Ok(())
+    }
+}
+
+/// Writes what is noted of a flight of a day.
+pub(crate) fn put_flight<S: TableStore>(
+    store: &mut S,
+    flight: &str,
+    day: i64,
+    row: &FlightRow,
+) -> Result<(), StoreFault>
+    ensures done { ShowsChange (S.view store.old) (S.view store.new) result (with_flight (flight.now, day) (flight_meant row.now)) }
+    ensures survives { Survives (S.view store.old) (S.view store.new) }
+{
+    let there = store.flight_row(flight, day)?.is_some();
+    if there {
+        store.update_flight(flight, day, row)?;
+        Ok(())
+    } else {
+        store.insert_flight(flight, day, row)?;
+        Ok(())
+    }
+}
+
+/// Writes what a flight is to bring of a waybill.
+pub(crate) fn put_expected<S: TableStore>(
+    store: &mut S,
+    flight: &str,
+    day: i64,
+    awb: i64,
+    row: &ExpectedRow,
+) -> Result<(), StoreFault>
+    ensures done { ShowsChange (S.view store.old) (S.view store.new) result (with_expected (flight.now, (day, awb)) (expected_meant row.now)) }
+    ensures survives { Survives (S.view store.old) (S.view store.new) }
+{
+    let there = store.expected_row(flight, day, awb)?.is_some();
+    if there {
+        store.update_expected(flight, day, awb, row)?;
+        Ok(())
+    } else {
+        store.insert_expected(flight, day, awb, row)?;
+        Ok(())
+    }
+}
