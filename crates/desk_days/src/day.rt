@@ -93,28 +93,7 @@ pub struct Day<'a> {
     pub steps: Vec<Step<'a>>,
 }
 
-/// Whether a verb is one of the stock desk's.
-fn is_order(verb: Verb) -> bool {
-    matches!(verb, Verb::TakeIn | Verb::Issue | Verb::Return | Verb::Void)
-}
-
-impl Step<'_> {
-    /// Whether a keeper of the stock alone can answer it.
-    fn is_of_orders(&self) -> bool {
-        match &self.ask {
-            Ask::Act(verb, _) => is_order(*verb),
-            Ask::Take(_) | Ask::Beginnings => false,
-            _ => true,
-        }
-    }
-}
-
 impl Day<'_> {
-    /// Whether a keeper of the stock alone can answer all of it.
-    pub fn is_of_orders(&self) -> bool {
-        self.steps.iter().all(|step| step.is_of_orders())
-    }
-
     /// How many lines must be printed.
     pub fn told(&self) -> u64 {
         let mut told: u64 = 0;

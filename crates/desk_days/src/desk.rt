@@ -1,8 +1,7 @@
 //! The keepers of a station's state on which a day is played.
 use crate::day::Report;
-use agent_stock::{Holder, Order};
+use agent_stock::Holder;
 use awb_number::Awb;
-use desk_commands::Command;
 use imp_fields::{Airport, Moment};
 use plain_station::PlainStation;
 use reports::{
@@ -10,17 +9,18 @@ use reports::{
     trail_report,
 };
 use sqlite::MemStore;
-use station_core::{ActFault, Answer, Counted, Input, Keeper, Key, Waybill, answer_one};
+use station_core::{ActFault, Answer, Counted, Input, Keeper, Waybill, answer_one};
 use station_rows::{Rows, open_memory};
-use station_tables::{Station, create};
 use std::alloc::Global;
+use stored_station::Station;
+use table_state::{TableState, create};
 
 /// A kind of keeper.
 #[derive(Clone, Copy, Debug, PartialEq, Eq)]
 pub enum Kind {
     /// Lists in memory.
     Plain,
-    /// The tables of a store in memory. They keep the stock alone, and their station is always at XXX.
+    /// The tables of a store in memory.
     Tables,
 }
 
@@ -38,30 +38,7 @@ impl Kind {
 #[derive(Drop)]
 pub enum Desk {
     Plain(PlainStation),
-    Tables(Station<Rows<MemStore>>),
-}
-
-/// An order on the stock.
-fn answer_order<K: Keeper>(
-    keeper: &mut K,
-    key: Key,
-    order: Order,
-    at: Moment,
-) -> Result<Answer, ActFault> {
-    let input = Input::Keyed(key, Command::Stock(order));
-    answer_one(keeper, &input, at)
-}
-
-/// An input, where it is an order on the stock.
-fn answer_if_order<K: Keeper>(
-    keeper: &mut K,
-    input: &Input<'_>,
-    at: Moment,
-) -> Result<Answer, ActFault> {
-    match input {
-        Input::Keyed(key, Command::Stock(order)) => answer_order(keeper, *key, *order, at),
-        _ => Err(ActFault::Reopen),
-    }
+    Tables(Station<TableState<Rows<MemStore>>>),
 }
 
 /// A report.
@@ -89,12 +66,12 @@ fn cause(fault: ReportFault) -> ActFault {
 }
 
 /// A new station over tables in memory.
-fn tables(alloc: Global) -> Result<Desk, ActFault> {
+fn tables(alloc: Global, here: Airport) -> Result<Desk, ActFault> {
     let Ok(conn) = open_memory(alloc) else {
         return Err(ActFault::Memory);
     };
-    match create(alloc, conn) {
-        Ok(station) => Ok(Desk::Tables(station)),
+    match create(alloc, conn, here) {
+        Ok(tables) => Ok(Desk::Tables(Station::over(alloc, tables))),
         Err(_) => Err(ActFault::Store),
     }
 }
@@ -104,15 +81,15 @@ impl Desk {
     pub fn new(alloc: Global, kind: Kind, here: Airport) -> Result<Desk, ActFault> {
         match kind {
             Kind::Plain => Ok(Desk::Plain(PlainStation::new(alloc, here))),
-            Kind::Tables => tables(alloc),
+            Kind::Tables => tables(alloc, here),
         }
     }
 
-    /// What is told of an input. Tables answer `Reopen` to what they don't take.
+    /// What is told of an input.
     pub fn answer(&mut self, input: &Input<'_>, at: Moment) -> Result<Answer, ActFault> {
         match self {
             Desk::Plain(station) => answer_one(station, input, at),
-            Desk::Tables(station) => answer_if_order(station, input, at),
+            Desk::Tables(station) => answer_one(station, input, at),
         }
     }
 

@@ -55,20 +55,14 @@ fn verdict(
         let log = &played.log;
         return format!(in alloc; "{log}{name}: lines that differ: {differences}\n");
     }
-    if day.is_of_orders() {
-        format!(in alloc; "{name}: {told} lines as told, over tables too\n")
-    } else {
-        format!(in alloc; "{name}: {told} lines as told\n")
-    }
+    format!(in alloc; "{name}: {told} lines as told\n")
 }
 
-/// Plays a day on each keeper that takes it.
+/// Plays a day on each keeper.
 fn play_on_all(alloc: Global, name: &str, day: &Day<'_>) -> Result<Played, DayFault> {
     let mut played = Played::new(alloc);
     play::play(alloc, name, day, Kind::Plain, &mut played)?;
-    if day.is_of_orders() {
-        play::play(alloc, name, day, Kind::Tables, &mut played)?;
-    }
+    play::play(alloc, name, day, Kind::Tables, &mut played)?;
     Ok(played)
 }
 
