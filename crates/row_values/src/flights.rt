@@ -34,7 +34,7 @@ pub fn day_number(day: LocalDay) -> i64
     i64::from(day.number())
 }
 
-/// A flight as a column has it: carrier, at least three digits, and perhaps a letter. A fault: memory was wanting.
+/// A flight as a column has it: carrier, at least three digits, and perhaps a letter. A fault: out of memory.
 #[tactic(auto, using(crate::proofs::FlightKeys::designator_test, crate::proofs::FlightKeys::written_reads))]
 pub fn flight_text(alloc: Global, flight: &Flight) -> Result<String, StoreFault>
     ensures text { IfOk result (λ text. string_bytes text ≡ flight_text flight.now) }
@@ -56,7 +56,7 @@ pub fn outbound_by(row: &FlightRow) -> Option<Outbound>
     })
 }
 
-/// The row of what is noted of a flight. A fault: memory was wanting.
+/// The row of what is noted of a flight. A fault: out of memory.
 pub fn outbound_row(alloc: Global, outbound: &Outbound) -> Result<FlightRow, StoreFault>
     ensures { IfOk result (λ row. flight_meant row ≡ outbound_row outbound.now) }
 {

@@ -23,7 +23,7 @@ fn trail_range(number: u32, awb: &Awb, line: &TrailLine<'_>)
     let _line = line.as_bytes();
 }
 
-/// The row of a line of a waybill's trail, under its number from 1. A fault: memory was wanting.
+/// The row of a line of a waybill's trail, under its number from 1. A fault: out of memory.
 pub fn trail_row(
     alloc: Global,
     number: u32,
@@ -41,7 +41,7 @@ pub fn trail_row(
     })
 }
 
-/// The row of a message, under its number from 1. A fault: the text is no UTF-8, or memory was wanting.
+/// The row of a message, under its number from 1. A fault: the text is no UTF-8, or out of memory.
 pub fn message_row(alloc: Global, number: u32, message: &[u8]) -> Result<MessageRow, StoreFault>
     ensures { IfOk result (λ row. message_meant row ≡ message_row number message.now) }
 {
@@ -73,7 +73,7 @@ pub fn message_by(row: MessageRow) -> Option<Message>
     })
 }
 
-/// Lines of the trail in order, as readers are given them. A fault: a number is out of range, or memory was wanting.
+/// Lines of the trail in order, as readers are given them. A fault: a number is out of range, or out of memory.
 pub fn lines_by(alloc: Global, rows: Vec<TrailRow>) -> Result<Vec<ReaderLine>, StoreFault>
     ensures { IfOk result (λ lines. lines.items ≡ map (λ row. reader_line (line_by (trail_meant row))) rows.items) }
 {
@@ -87,7 +87,7 @@ pub fn lines_by(alloc: Global, rows: Vec<TrailRow>) -> Result<Vec<ReaderLine>, S
     Ok(lines)
 }
 
-/// Messages in order, as readers are given them. A fault: a number is out of range, or memory was wanting.
+/// Messages in order, as readers are given them. A fault: a number is out of range, or out of memory.
 pub fn messages_by(alloc: Global, rows: Vec<MessageRow>) -> Result<Vec<Message>, StoreFault>
     ensures { IfOk result (λ messages. messages.items ≡ map (λ row. message (natural row.number) (message_meant row).body) rows.items) }
 {

@@ -97,7 +97,7 @@ fn put_book_row(book: &mut Vec<BookRow>, row: &MoveRow) -> Result<(), StoreFault
     put(book, BookRow { number, movement })
 }
 
-/// The book's rows in order, as readers are given them. A fault: a column is out of range, or memory was wanting.
+/// The book's rows in order, as readers are given them. A fault: a column is out of range, or out of memory.
 pub fn book_rows_by(alloc: Global, rows: &[MoveRow]) -> Result<Vec<BookRow>, StoreFault>
     ensures { IfOk result (λ book. book.items ≡ map (λ row. book_row (natural (move_meant row).number) (move_by (move_meant row))) rows.now) }
 {
@@ -205,7 +205,7 @@ fn is_lawful(number: u32, movement: &Move) -> bool
 }
 
 /// The row of a move, under its number from 1. A fault: a place of it is built on another flight than the move's, or
-/// memory was wanting.
+/// out of memory.
 pub fn move_row(alloc: Global, number: u32, movement: &Move) -> Result<MoveRow, StoreFault>
     ensures value { IfOk result (λ row. move_meant row ≡ move_row number movement.now) }
     ensures lawful { OnOk result (IsTrue (is_move_row (move_row number movement.now))) }

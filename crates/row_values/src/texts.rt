@@ -3,7 +3,7 @@ ghost use Rattle.std.specs.Prelude.{◌≡◌, IfOk, string_bytes};
 use station_rows::StoreFault;
 use std::alloc::Global;
 
-/// The bytes as a text of their own. A fault: they are no UTF-8, or memory was wanting.
+/// The bytes as a text of their own. A fault: they are no UTF-8, or out of memory.
 pub fn text(alloc: Global, bytes: &[u8]) -> Result<String, StoreFault>
     ensures { IfOk result (λ text. string_bytes text ≡ bytes.now) }
 {

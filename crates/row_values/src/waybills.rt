@@ -38,7 +38,7 @@ fn waybill_range(awb: &Awb, declared: &Declared)
     let _goods = declared.goods.as_bytes();
 }
 
-/// The row of what is declared of a waybill. A fault: memory was wanting.
+/// The row of what is declared of a waybill. A fault: out of memory.
 pub fn waybill_row(alloc: Global, awb: &Awb, declared: &Declared) -> Result<WaybillRow, StoreFault>
     ensures value { IfOk result (λ row. waybill_meant row ≡ waybill_row awb.now declared.now) }
     ensures lawful { IsTrue (is_waybill_row (waybill_row awb.now declared.now)) }
