@@ -4,7 +4,7 @@
 ghost use Rattle.std.specs.Prelude.{◌≡◌};
 ghost use Rattle.cargo_desk.specs.Words.{fault_text, asks_for_stock, status_of};
 
-use imp_fields::Moment;
+use imp_fields::{Airport, Moment};
 use station_core::Counted;
 use station_rows::open_memory;
 use station_tables::create;
@@ -59,13 +59,18 @@ fn moment_of_rows() -> Moment
     }
 }
 
+/// The airport of a station in memory, which isn't told one.
+fn nowhere() -> Airport {
+    Airport::read(b"XXX").unwrap()
+}
+
 /// Answers the stock list at standard input over a station in memory.
 fn answer_list(rt: &HostRuntime) -> Result<bool, RunFault> {
     let alloc = rt.alloc();
     let Ok(conn) = open_memory(alloc) else {
         return Err(RunFault::Memory);
     };
-    let Ok(mut station) = create(alloc, conn) else {
+    let Ok(mut station) = create(alloc, conn, nowhere()) else {
         return Err(RunFault::Store);
     };
     let mut output = Counted::new(rt.stdout());

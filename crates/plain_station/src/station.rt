@@ -142,10 +142,6 @@ impl Keeper for PlainStation {
 
     ghost may_find = { λ k found. ⊥ };
 
-    ghost takes = { λ input. Unit {0} };
-
-    ghost takes_orders = { λ key order. tt };
-
     ghost settled = { λ k s keeps sound found finds. absurd finds };
 
     ghost lawful = { λ k s sound finds. absurd finds };

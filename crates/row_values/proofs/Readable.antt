@@ -9,7 +9,7 @@ use Rattle.row_values.specs.Stock.{is_stock_row}
 use Rattle.row_values.specs.Flights.{is_flight_row}
 use Rattle.row_values.specs.Manifests.{is_expected_row, is_part_row}
 use Rattle.row_values.specs.Logs.{is_trail_row}
-use Rattle.row_values.specs.Replies.{is_kept_row, is_kept_text_row}
+use Rattle.row_values.specs.Replies.{AreRequests, is_kept_row, is_kept_text_row}
 use Rattle.row_values.specs.Meaning.{is_station, IsReadable}
 
 module _ (t : Tables) (is : IsReadable t) where
@@ -27,6 +27,7 @@ module _ (t : Tables) (is : IsReadable t) where
     lines = is.lines;
     outbox = is.outbox;
     kept = is.kept;
+    requests = is.requests;
     kept_texts = is.kept_texts;
     counts = is.counts;
     builds = is.builds;
@@ -46,6 +47,7 @@ module _ (t : Tables) (is : IsReadable t) where
     lines = is.lines;
     outbox = is.outbox;
     kept = is.kept;
+    requests = is.requests;
     kept_texts = is.kept_texts;
     counts = is.counts;
     builds = is.builds;
@@ -65,6 +67,7 @@ module _ (t : Tables) (is : IsReadable t) where
     lines = is.lines;
     outbox = is.outbox;
     kept = is.kept;
+    requests = is.requests;
     kept_texts = is.kept_texts;
     counts = is.counts;
     builds = is.builds;
@@ -84,6 +87,7 @@ module _ (t : Tables) (is : IsReadable t) where
     lines = is.lines;
     outbox = is.outbox;
     kept = is.kept;
+    requests = is.requests;
     kept_texts = is.kept_texts;
     counts = is.counts;
     builds = is.builds;
@@ -103,6 +107,7 @@ module _ (t : Tables) (is : IsReadable t) where
     lines = is.lines;
     outbox = is.outbox;
     kept = is.kept;
+    requests = is.requests;
     kept_texts = is.kept_texts;
     counts = is.counts;
     builds = is.builds;
@@ -122,6 +127,7 @@ module _ (t : Tables) (is : IsReadable t) where
     lines = is.lines;
     outbox = is.outbox;
     kept = is.kept;
+    requests = is.requests;
     kept_texts = is.kept_texts;
     counts = is.counts;
     builds = is.builds;
@@ -141,6 +147,7 @@ module _ (t : Tables) (is : IsReadable t) where
     lines = numbered;
     outbox = is.outbox;
     kept = is.kept;
+    requests = is.requests;
     kept_texts = is.kept_texts;
     counts = is.counts;
     builds = is.builds;
@@ -160,13 +167,14 @@ module _ (t : Tables) (is : IsReadable t) where
     lines = is.lines;
     outbox = numbered;
     kept = is.kept;
+    requests = is.requests;
     kept_texts = is.kept_texts;
     counts = is.counts;
     builds = is.builds;
   }
 
-  pub readable_kept : (rows : FinMap kept_cmp Kept) → IsTrue (list_all is_kept_row (entries rows)) → IsReadable (record t { kept = rows })
-  readable_kept rows fits = record {
+  pub readable_kept : (rows : FinMap kept_cmp Kept) → IsTrue (list_all is_kept_row (entries rows)) → AreRequests rows → IsReadable (record t { kept = rows })
+  readable_kept rows fits requests = record {
     station = is.station;
     waybills = is.waybills;
     stock = is.stock;
@@ -179,6 +187,7 @@ module _ (t : Tables) (is : IsReadable t) where
     lines = is.lines;
     outbox = is.outbox;
     kept = fits;
+    requests = requests;
     kept_texts = is.kept_texts;
     counts = is.counts;
     builds = is.builds;
@@ -198,6 +207,7 @@ module _ (t : Tables) (is : IsReadable t) where
     lines = is.lines;
     outbox = is.outbox;
     kept = is.kept;
+    requests = is.requests;
     kept_texts = fits;
     counts = is.counts;
     builds = is.builds;

@@ -13,7 +13,7 @@ use Rattle.sqlite_keyed.specs.Keyed.{get_by}
 use Rattle.station_core.specs.Key.{is_key}
 use Rattle.station_core.specs.Step.{State}
 use Rattle.station_core.specs.Step as step
-use Rattle.state_store.specs.Told.{on_cargo, with_key, with_text, with_messages}
+use Rattle.state_store.specs.Told.{IsRequest, on_cargo, with_key, with_text, with_messages}
 use Rattle.row_schema.specs.Tables.{Tables, Waybill, waybill_id, Flight, FlightKey, Expected, ExpectedKey, PartKey, Kept, TrailLine, Message, Move}
 use Rattle.cargo_rows.specs.Meant.{with_waybill, changing_waybill, with_flight, with_expected, with_move}
 use Rattle.text_rows.specs.Meant.{with_part, with_trail_line, with_message, with_kept, with_kept_text}
@@ -62,10 +62,10 @@ module _ (t : Tables) (s : State) (means : Means t (Some s)) where
       let e : ◌≡◌ {A = PartKey × List ℕ} ((flight, (day, (airport, number))), body) (part_key p, text) = λ i. ((is_flight i, (is_day i, (is_airport i, is_number i))), is i) in
       subst (λ (x : PartKey × List ℕ). Means (with_part x.0 x.1 t) (Some (on_cargo (written text (NotePart p)) s))) (sym e) (notes_part t p text may s fits means)
 
-  pub key_kept : (id key : List ℕ) (one : step.Kept) (row : Kept) → id ≡ key → row ≡ kept_row one → is_key key ≡ true → is_count (pos one.count) ≡ true → Means (with_kept id row t) (Some (with_key key one s))
-  key_kept id key one row is_id is valid counts =
+  pub key_kept : (id key : List ℕ) (one : step.Kept) (row : Kept) → id ≡ key → row ≡ kept_row one → is_key key ≡ true → is_count (pos one.count) ≡ true → IsRequest one.request → Means (with_kept id row t) (Some (with_key key one s))
+  key_kept id key one row is_id is valid counts asked =
       let e : ◌≡◌ {A = List ℕ × Kept} (id, row) (key, kept_row one) = λ i. (is_id i, is i) in
-      subst (λ (x : List ℕ × Kept). Means (with_kept x.0 x.1 t) (Some (with_key key one s))) (sym e) (keeps_key t s means key one valid counts)
+      subst (λ (x : List ℕ × Kept). Means (with_kept x.0 x.1 t) (Some (with_key key one s))) (sym e) (keeps_key t s means key one valid counts asked)
 
   pub text_kept : (body text : List ℕ) (number : ℤ) (count : ℕ) → body ≡ text → number ≡ pos count → is_count (pos count) ≡ true → Means (with_kept_text body number t) (Some (with_text text count s))
   text_kept body text number count is_body is_number counts =

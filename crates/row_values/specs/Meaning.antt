@@ -14,7 +14,7 @@ use Rattle.row_values.specs.Moves.{book_in, is_move_row}
 use Rattle.row_values.specs.Counts.{AreCounts, AreBuilds}
 use Rattle.row_values.specs.Manifests.{expected_in, is_expected_row, parts_in, is_part_row}
 use Rattle.row_values.specs.Logs.{trail_in, is_trail_row, outbox_in}
-use Rattle.row_values.specs.Replies.{kept_keys_in, is_kept_row, kept_texts_in, is_kept_text_row}
+use Rattle.row_values.specs.Replies.{kept_keys_in, is_kept_row, AreRequests, kept_texts_in, is_kept_text_row}
 
 -- the station's own row
 
@@ -51,7 +51,8 @@ meaning_of t = record {
   kept_texts = kept_texts_in t.kept_texts;
 }
 
--- Every value is within range, what is numbered has the numbers from 1, and the running counts are the book's sums.
+-- Every value is within range, what is numbered has the numbers from 1, what was accepted under a key is a command, and the
+-- running counts are the book's sums.
 pub record IsReadable (t : Tables) : Type 0 where
   pub station : IsTrue (is_station t.stations)
   pub waybills : IsTrue (list_all is_waybill_row t.waybills)
@@ -65,6 +66,7 @@ pub record IsReadable (t : Tables) : Type 0 where
   pub lines : AreNumbered trail_id t.trail
   pub outbox : AreNumbered message_id t.outbox
   pub kept : IsTrue (list_all is_kept_row (entries t.kept))
+  pub requests : AreRequests t.kept
   pub kept_texts : IsTrue (list_all is_kept_text_row (entries t.kept_texts))
   pub counts : AreCounts t.counts (book_in t.moves)
   pub builds : AreBuilds t.builds (book_in t.moves)

@@ -1,9 +1,10 @@
 -- What was accepted, by the rows of `kept_key` and `kept_text`.
-use Rattle.std.specs.Prelude.{ℕ, ℤ, pos, Bool, ◌&&◌, Option, List}
+use Rattle.std.specs.Prelude.{◌≡◌, ℕ, ℤ, pos, Bool, ◌&&◌, Option, Some, List}
 use Rattle.std.specs.Option.{option_map}
 use Rattle.std.specs.FinMap.{FinMap, get}
 use Rattle.station_core.specs.Key.{is_key}
 use Rattle.station_core.specs.Step as step
+use Rattle.state_store.specs.Told.{IsRequest}
 use Rattle.row_schema.specs.Tables.{Kept, kept_cmp, kept_text_cmp}
 use Rattle.row_values.specs.Numbers.{natural, is_count}
 
@@ -20,6 +21,10 @@ kept_keys_in rows key = option_map kept_by (get rows key)
 -- within range
 abbrev pub is_kept_row : List ℕ × Kept → Bool
 is_kept_row row = is_key row.0 && is_count row.1.count
+
+-- under each key stands the text of a command
+abbrev pub AreRequests : FinMap kept_cmp Kept → Type 0
+AreRequests rows = (key : List ℕ) (row : Kept) → get rows key ≡ Some row → IsRequest row.command
 
 abbrev pub kept_texts_in : FinMap kept_text_cmp ℤ → List ℕ → Option ℕ
 kept_texts_in rows text = option_map natural (get rows text)

@@ -1,11 +1,13 @@
 -- What a store tells of a state, and the changes of its calls.
-use Rattle.std.specs.Prelude.{ℕ, string_bytes, List, ◌++◌, length, map}
+use Rattle.std.specs.Prelude.{◌≡◌, ℕ, string_bytes, List, ◌++◌, length, map}
 use Rattle.agent_stock.specs.Stock.{after_order}
 use Rattle.agent_stock.specs.declared.stock.Order.{Order}
 use Rattle.shipment_machine.specs.declared.flight.FlightDate.{FlightDate}
 use Rattle.shipment_machine.specs.declared.moves.Move.{Move}
 use Rattle.shipment_machine.specs.Book.{built, waybills_on}
 use Rattle.shipment_machine.specs.Cargo.{Cargo}
+use Rattle.desk_commands.specs.Command.{command_text}
+use Rattle.desk_commands.specs.declared.command.Command.{Command}
 use Rattle.station_core.specs.Step.{State, Kept, keeping, keeping_text, sent}
 use Rattle.state_store.specs.declared.store.KeptReply.{KeptReply}
 use Rattle.state_store.specs.declared.store.Load.{Load}
@@ -13,6 +15,11 @@ use Rattle.state_store.specs.declared.store.Sizes.{Sizes}
 
 abbrev pub kept_of : KeptReply → Kept
 kept_of row = record { request = string_bytes row.request; count = row.count }
+
+-- the text of a command
+pub record IsRequest (text : List ℕ) : Type 0 where
+  pub command : Command
+  pub is : text ≡ command_text command
 
 abbrev pub sizes_of : Cargo → Sizes
 sizes_of c = record { moves = length c.book; lines = length c.trail; messages = length c.outbox }

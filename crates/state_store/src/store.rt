@@ -61,7 +61,7 @@ pub trait StateStore {
     ghost use Rattle.station_core.specs.Readers.{book_rows, pending_messages, trail_rows};
     ghost use Rattle.station_core.specs.Step.{State, has_room};
     ghost use Rattle.state_store.specs.Store.{Seen, at_rest, inside, Survives, MayLeave, OnRefused, RefusesBy};
-    ghost use Rattle.state_store.specs.Told.{kept_of, sizes_of, loads_on, on_cargo, with_moves, with_messages, with_key, with_text, with_order};
+    ghost use Rattle.state_store.specs.Told.{IsRequest, kept_of, sizes_of, loads_on, on_cargo, with_moves, with_messages, with_key, with_text, with_order};
 
     /// It shows this, as long as the disk returned what was written.
     ghost shows: { Self → Seen → Type 0 };
@@ -199,9 +199,9 @@ pub trait StateStore {
             → OnOk result (shows self.new (inside before (with_messages (text.now ∷ []) s))) }
         ensures survives { Survives is_sound may_find self.old self.new };
 
-    /// Keeps what was accepted under a key, and its count, in a transaction.
+    /// Keeps the text of a command that was accepted under a key, and its count, in a transaction.
     fn keep_key(&mut self, key: &Key, request: &str, count: u32) -> Result<(), StoreFault>
-        ensures done { (before s : State) → shows self.old (inside before s)
+        ensures done { (before s : State) → shows self.old (inside before s) → IsRequest request.now
             → OnOk result (shows self.new (inside before (with_key key.now
             (record { request = request.now; count = count }) s))) }
         ensures survives { Survives is_sound may_find self.old self.new };

@@ -17,7 +17,6 @@ pub fn answer_one<K: Keeper>(
     input: &Input<'_>,
     at: Moment,
 ) -> Result<Answer, ActFault>
-    requires { K.takes input.now }
     ensures sound { K.is_sound keeper.new → K.is_sound keeper.old }
     ensures works { K.is_broken keeper.old ≡ false → OnOk result (K.is_broken keeper.new ≡ false) }
     ensures reopen { K.is_broken keeper.old ≡ true → (result ≡ Err ActFault.Reopen) × (keeper.new ≡ keeper.old) }
@@ -42,7 +41,6 @@ pub fn act_all<K: Keeper>(
     keeper: &mut K,
     inputs: &[(Input<'_>, Moment)],
 ) -> AllAnswers
-    requires { All (λ (one : AnyInput × LocalMinute). K.takes one.0) inputs.now }
     ensures answers { (s : State) → K.keeps keeper.old s → K.is_broken keeper.old ≡ false → K.is_sound keeper.new
         → result.answers.items ≡ answers_of s (take (length result.answers.items) inputs.now) }
     ensures all { result.fault ≡ None → length result.answers.items ≡ length inputs.now }

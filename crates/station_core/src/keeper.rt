@@ -14,13 +14,9 @@ use imp_fields::Moment;
 /// wants no more, or after a fault.
 pub trait Keeper {
     ghost use Rattle.agent_stock.specs.Runs.{AreStockRuns};
-    ghost use Rattle.agent_stock.specs.declared.stock.Order.{Order};
-    ghost use Rattle.desk_commands.specs.declared.command.Command.TheVariants.{Stock};
     ghost use Rattle.station_core.specs.Step.{State, IsLawfulState};
     ghost use Rattle.station_core.specs.Keeping.{Breaks, Acts, Leaves, IsReadersFault, OnlyReads, HandsOut};
     ghost use Rattle.station_core.specs.Readers.{waybill_of, irregular_rows, book_rows, pending_messages, trail_rows};
-    ghost use Rattle.station_core.specs.declared.input.Input.{Input};
-    ghost use Rattle.station_core.specs.declared.input.Input.TheVariants.{Keyed};
 
     /// It keeps this state: what it answers is answered by it.
     ghost keeps: { Self → State → Type 0 };
@@ -34,14 +30,8 @@ pub trait Keeper {
     /// What a reopening after a crash at this moment may find: a state, or what means none.
     ghost may_find: { Self → Option State → Type 0 };
 
-    /// The inputs that it takes. Orders on the stock are among them.
-    ghost takes: { Input → Type 0 };
-
-    ghost takes_orders: { (key : List ℕ) (order : Order) → takes (Keyed key (Stock order)) };
-
     /// One input, at a moment.
     fn act(&mut self, input: &Input<'_>, at: Moment) -> Result<Reply, ActFault>
-        requires { takes input.now }
         // After a failure of the store nothing happens until the station is opened again.
         ensures reopen { is_broken self.old ≡ true → (result ≡ Err ActFault.Reopen) × (self.new ≡ self.old) }
         ensures breaks { is_broken self.old ≡ false → Breaks result (is_broken self.new) }

@@ -1,11 +1,2 @@
-mod Assigning
-mod MapLaws
-mod NewStation
-mod Reading
-mod Readers
-mod Refusing
-mod Rows
-mod Serving
-mod Walk
-mod Writing
-mod Listing
+mod Around
+mod Made

@@ -1,15 +1,10 @@
--- What a station keeps, and what a reopening may find.
-use Rattle.std.specs.Prelude.{◌≡◌, true, Option, Some}
+-- What a reopening of a store of tables may find.
+use Rattle.std.specs.Prelude.{Option}
 use Rattle.station_core.specs.Step.{State}
-use Rattle.row_schema.specs.Tables.{Tables}
 use Rattle.row_schema.specs.Store.{View}
-use Rattle.station_tables.specs.Meaning.{meaning_of, Means}
+use Rattle.stored_station.specs.Found as stored
+use Rattle.table_state.specs.Shown as tables
 
--- some tables that a crash may leave mean this state, or none
+-- a lawful state that some tables which a crash may leave mean, or none
 abbrev pub Finds : View → Option State → Type 0
-Finds v found = (t : Tables) × v.may_leave t × Means t found
-
--- The tables mean this state, unless the store is shut. A crash leaves tables that mean it.
-pub record Keeps (v : View) (s : State) : Type 0 where
-  pub now : v.is_open ≡ true → meaning_of v.now ≡ s
-  pub found : (t : Tables) → v.may_leave t → Means t (Some s)
+Finds v found = stored.Finds (tables.Finds v) found

@@ -1,62 +1,54 @@
 ghost use Rattle.std.specs.Prelude.{◌≡◌, ◌⊎◌, true, false, Some, Option, IfOk, IfErr, OnOk};
-ghost use Rattle.station_core.specs.Step.{State};
-ghost use Rattle.station_core.specs.Step as step;
+ghost use Rattle.station_core.specs.Step.{State, opening};
 ghost use Rattle.row_schema.specs.Connection.{connection_view, IsVacant};
-ghost use Rattle.station_tables.specs.Opening.{here};
 ghost use Rattle.station_tables.specs.Found.{Finds};
 
 use crate::station::Station;
+use imp_fields::Airport;
 use sqlite::{Alter, Connection};
 use station_core::Keeper;
-use station_rows::{CreateFault, Rows, TableStore};
+use station_rows::CreateFault;
 use std::alloc::Global;
-
-/// The airport of a station, as long as none is given.
-const HERE: &str = "XXX";
+use stored_station::StoredStation;
 
 /// Why there is no station. The connection comes back beside it.
 #[derive(Clone, Copy, Debug, PartialEq, Eq)]
 pub enum AttachFault {
-    /// The store has a table, an index or a view already. It is as it was.
+    /// A table, an index or a view has the name of one of a station's. The store is as it was.
     Occupied,
     /// The store failed, or the connection was inside a transaction. The store is as it was, or a station was made.
     Store,
 }
 
-/// Makes the tables of a station with nothing in it, in one transaction, in a store that has none.
+/// Makes the tables of a station at an airport with nothing in it, in one transaction, in a store that has none of them.
 pub fn create<S: Alter>(
     alloc: Global,
     conn: Connection<S>,
-) -> Result<Station<Rows<S>>, (Connection<S>, AttachFault)>
+    here: Airport,
+) -> Result<Station<S>, (Connection<S>, AttachFault)>
     ensures empty { OnOk result (IsVacant S.Store conn) }
-    ensures works { IfOk result (λ station. ⟦<Station<Rows<S>> as Keeper>⟧.is_broken station ≡ false) }
-    ensures sound { IfOk result (λ station. ⟦<Station<Rows<S>> as Keeper>⟧.is_sound station → (connection_view S.Store conn).IsSound) }
+    ensures works { IfOk result (λ station. ⟦<Station<S> as Keeper>⟧.is_broken station ≡ false) }
+    ensures sound { IfOk result (λ station. ⟦<Station<S> as Keeper>⟧.is_sound station
+        → (connection_view S.Store conn).IsSound) }
 
     // It keeps the opening state, and a crash leaves that alone.
-    ensures keeps { IfOk result (λ station. ⟦<Station<Rows<S>> as Keeper>⟧.keeps station (step.opening here)) }
+    ensures keeps { IfOk result (λ station. ⟦<Station<S> as Keeper>⟧.keeps station (opening here)) }
 
     // Occupied exactly where the store wasn't empty, and then nothing changed.
-    ensures inside { (connection_view S.Store conn).in_transaction ≡ true → result ≡ Err (conn, AttachFault.Store) }
-    ensures occupied { (connection_view S.Store conn).in_transaction ≡ false → ¬ IsVacant S.Store conn → result ≡ Err (conn, AttachFault.Occupied) }
+    ensures inside { (connection_view S.Store conn).in_transaction ≡ true
+        → result ≡ Err (conn, AttachFault.Store) }
+    ensures occupied { (connection_view S.Store conn).in_transaction ≡ false
+        → ¬ IsVacant S.Store conn → result ≡ Err (conn, AttachFault.Occupied) }
     ensures vacant { IfErr result (λ e. e.1 ≡ AttachFault.Occupied → ¬ IsVacant S.Store conn) }
 
     // A crash leaves what it left before the call, or where the store was empty the opening station.
-    ensures leaves { IfErr result (λ e. (connection_view S.Store e.0).IsSound → (found : Option State) → Finds (connection_view S.Store e.0) found
-        → Finds (connection_view S.Store conn) found ⊎ (IsVacant S.Store conn × (found ≡ Some (step.opening here)))) }
+    ensures leaves { IfErr result (λ e. (connection_view S.Store e.0).IsSound → (found : Option State)
+        → Finds (connection_view S.Store e.0) found → Finds (connection_view S.Store conn) found
+        ⊎ (IsVacant S.Store conn × (found ≡ Some (opening here)))) }
 {
-    match Rows::create(conn, HERE) {
-        Ok(rows) => Ok(Station::over(alloc, rows)),
+    match table_state::create(alloc, conn, here) {
+        Ok(tables) => Ok(Station::over(StoredStation::over(alloc, tables))),
         Err((conn, CreateFault::Occupied)) => Err((conn, AttachFault::Occupied)),
         Err((conn, CreateFault::Store)) => Err((conn, AttachFault::Store)),
-    }
-}
-
-impl<S: Alter> Station<Rows<S>> {
-    /// Gives the connection back, whatever state it is in. What a crash may leave is as before.
-    pub fn release(self) -> Connection<S>
-        ensures leaves { (connection_view S.Store result).IsSound → (found : Option State) → Finds (connection_view S.Store result) found → ⟦<Station<Rows<S>> as Keeper>⟧.may_find self found }
-        ensures sound { (connection_view S.Store result).IsSound → ⟦<Station<Rows<S>> as Keeper>⟧.is_sound self }
-    {
-        self.into_store().release()
     }
 }

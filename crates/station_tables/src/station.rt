@@ -1,180 +1,102 @@
-ghost use Rattle.std.specs.Prelude.{◌≡◌, true, false, Err, IfOk, IfErr, OnOk};
-ghost use Rattle.std.proofs.Props.{props};
-ghost use Rattle.agent_stock.specs.Runs.{AreStockRuns};
-ghost use Rattle.station_core.specs.Keeping.{IsReadersFault, OnlyReads};
+ghost use Rattle.std.specs.Prelude.{◌≡◌, true, Option};
+ghost use Rattle.row_schema.specs.Connection.{connection_view};
 ghost use Rattle.station_core.specs.Step.{State};
-ghost use Rattle.row_schema.specs.Code.{tables_code};
-ghost use Rattle.station_tables.specs.Meaning.{meaning_of};
-ghost use Rattle.station_tables.specs.Steady.{IsSteady};
-ghost use Rattle.station_tables.specs.Found.{Keeps, Finds};
+ghost use Rattle.table_state.specs.Shown.{IfGivenBack};
+ghost use Rattle.station_tables.specs.Found.{Finds};
 
-use crate::desk::Desk;
-use crate::serve::serve;
-use agent_stock::{Holder, StockRun, runs_of};
+use agent_stock::{Holder, StockRun};
 use awb_number::Awb;
-use desk_commands::{Command, command_text};
 use imp_fields::Moment;
+use sqlite::{Alter, Connection};
 use station_core::{
-    ActFault, Answer, BookRow, Input, IrregularRow, Keeper, Message, Reply, Sink, TrailRow,
-    Waybill, hand_out,
+    ActFault, BookRow, Input, IrregularRow, Keeper, Message, Reply, Sink, TrailRow, Waybill,
 };
-use station_rows::TableStore;
-use std::alloc::Global;
+use station_rows::Rows;
+use stored_station::StoredStation;
+use table_state::TableState;
 
-/// A station over the tables of a store.
+/// A station over the tables of a `sqlite` connection. It takes every input.
+///
+/// An accepted input is one transaction; a refused or repeated one writes nothing. `act` fails with `Memory` before the first
+/// call of the database, and nothing has changed then; a failing call, or memory refused after the first one, is `Store`: the
+/// file then holds the state before the input or the one after it, and `act` and the readers answer `Reopen` from then on.
+/// A reader's `Store` changes nothing.
 #[derive(Drop)]
-pub struct Station<S: TableStore> {
-    pub(crate) desk: Desk<S>,
-    // Since a call of the store failed, it answers `Reopen`.
-    pub(crate) broken: bool,
-    // While it works, the tables are lawful, and no transaction is open.
-    ghost steady: { broken ≡ false → (S.view desk.store).IsSound → (S.view desk.store).is_open ≡ true → IsSteady (S.view desk.store) } by { Prim.hlevel (props, tables_code) },
+pub struct Station<S: Alter> {
+    stored: StoredStation<TableState<Rows<S>>>,
 }
 
-impl<S: TableStore> Station<S> {
-    /// A station over an open store with lawful tables.
-    pub(crate) fn over(alloc: Global, store: S) -> Station<S>
-        requires { (S.view store).IsSound → IsSteady (S.view store) }
-        ensures keeps { ⟦<Station<S> as Keeper>⟧.keeps result (meaning_of (S.view store).now) }
-        ensures works { ⟦<Station<S> as Keeper>⟧.is_broken result ≡ false }
-        ensures store { result.desk.store ≡ store }
+impl<S: Alter> Station<S> {
+    /// A station over what keeps its state in tables.
+    pub(crate) fn over(stored: StoredStation<TableState<Rows<S>>>) -> Station<S>
+        ensures { result ≡ record { stored = stored } }
     {
-        Station {
-            desk: Desk { alloc, store },
-            broken: false,
-        }
+        Station { stored }
     }
 
-    /// The store comes back, whatever state it is in.
-    pub(crate) fn into_store(self) -> S
-        ensures { result ≡ self.desk.store }
-    {
-        let Station { desk, broken: _ } = self;
-        let Desk { alloc: _, store } = desk;
-        store
-    }
-}
+    /// Gives the connection back, whatever state it is in.
+    pub fn release(self) -> Connection<S>
+        // What a crash may leave is as before.
+        ensures leaves { (connection_view S.Store result).IsSound → (found : Option State)
+            → Finds (connection_view S.Store result) found
+            → ⟦<Station<S> as Keeper>⟧.may_find self found }
+        ensures sound { (connection_view S.Store result).IsSound
+            → ⟦<Station<S> as Keeper>⟧.is_sound self }
 
-// What the readers share.
-impl<S: TableStore> Station<S> {
-    /// Whether the store can be read.
-    fn ask(&mut self) -> Result<(), ActFault>
-        ensures reopen { self.old.broken ≡ true → (result ≡ Err ActFault.Reopen) × (self.new ≡ self.old) }
-        ensures fault { self.old.broken ≡ false → IfErr result IsReadersFault }
-        ensures reads { OnlyReads ⟦<Station<S> as Keeper>⟧.keeps ⟦<Station<S> as Keeper>⟧.is_sound ⟦<Station<S> as Keeper>⟧.is_broken ⟦<Station<S> as Keeper>⟧.may_find self.old self.new }
-        ensures means { (s : State) → ⟦<Station<S> as Keeper>⟧.keeps self.old s → ⟦<Station<S> as Keeper>⟧.is_sound self.new → OnOk result (meaning_of (S.view self.old.desk.store).now ≡ s) }
+        // If it is open, it is outside a transaction, and its tables mean the state that the station kept.
+        ensures shown { (s : State) → ⟦<Station<S> as Keeper>⟧.keeps self s
+            → IfGivenBack (connection_view S.Store result) s }
     {
-        if self.broken {
-            return Err(ActFault::Reopen);
-        }
-        match self.desk.ask() {
-            Err(_) => Err(ActFault::Store),
-            Ok(()) => Ok(()),
-        }
-    }
-
-    /// The maximal runs of the stock, rising.
-    fn runs(&mut self) -> Result<Vec<StockRun>, ActFault>
-        ensures reopen { self.old.broken ≡ true → (result ≡ Err ActFault.Reopen) × (self.new ≡ self.old) }
-        ensures fault { self.old.broken ≡ false → IfErr result IsReadersFault }
-        ensures reads { OnlyReads ⟦<Station<S> as Keeper>⟧.keeps ⟦<Station<S> as Keeper>⟧.is_sound ⟦<Station<S> as Keeper>⟧.is_broken ⟦<Station<S> as Keeper>⟧.may_find self.old self.new }
-        ensures runs { (s : State) → ⟦<Station<S> as Keeper>⟧.keeps self.old s → ⟦<Station<S> as Keeper>⟧.is_sound self.new → IfOk result (λ runs. AreStockRuns s.cargo.holders runs.items) }
-    {
-        if self.broken {
-            return Err(ActFault::Reopen);
-        }
-        let numbers = match self.desk.numbers() {
-            Err(_) => return Err(ActFault::Store),
-            Ok(numbers) => numbers,
-        };
-        match runs_of(self.desk.alloc, &numbers) {
-            Err(_) => Err(ActFault::Memory),
-            Ok(runs) => Ok(runs),
-        }
+        let Station { stored } = self;
+        stored.into_store().release()
     }
 }
 
-impl<S: TableStore> Keeper for Station<S> {
-    ghost use Rattle.station_tables.specs.Laws.{found_is, found_lawful};
-    ghost use Rattle.station_tables.specs.Orders.{IsOrder};
+impl<S: Alter> Keeper for Station<S> {
+    ghost use Rattle.stored_station.specs.Laws.{found_is};
+    ghost use Rattle.table_state.specs.Laws.{finds_what_it_shows};
 
-    ghost keeps = { λ k s. (S.view k.desk.store).IsSound → Keeps (S.view k.desk.store) s };
+    ghost keeps = { λ k s. ⟦<StoredStation<TableState<Rows<S>>> as Keeper>⟧.keeps k.stored s };
 
-    ghost is_sound = { λ k. (S.view k.desk.store).IsSound };
+    ghost is_sound = { λ k. ⟦<StoredStation<TableState<Rows<S>>> as Keeper>⟧.is_sound k.stored };
 
-    ghost is_broken = { λ k. k.broken };
+    ghost is_broken = { λ k. ⟦<StoredStation<TableState<Rows<S>>> as Keeper>⟧.is_broken k.stored };
 
-    ghost may_find = { λ k found. Finds (S.view k.desk.store) found };
+    ghost may_find = { λ k found. ⟦<StoredStation<TableState<Rows<S>>> as Keeper>⟧.may_find k.stored found };
 
-    ghost takes = { λ input. IsOrder input };
+    ghost settled = { λ k s keeps sound found finds. found_is _ s keeps.0 (λ f left. finds_what_it_shows _ s (keeps.1 sound).holds f left) found finds };
 
-    ghost takes_orders = { λ key order. tt };
+    ghost lawful = { λ k s sound finds. finds.1 };
 
-    ghost settled = { λ k s keeps sound found finds. found_is _ s (keeps sound) found finds };
-
-    ghost lawful = { λ k s sound finds. found_lawful (S.view k.desk.store) s finds };
-
-    fn act(&mut self, input: &Input<'_>, _at: Moment) -> Result<Reply, ActFault> {
-        if self.broken {
-            return Err(ActFault::Reopen);
-        }
-        let Input::Keyed(key, command) = input else {
-            unreachable!();
-        };
-        let Command::Stock(order) = command else {
-            unreachable!();
-        };
-        let Ok(text) = command_text(self.desk.alloc, command) else {
-            return Err(ActFault::Memory);
-        };
-        // Until the store has answered for the whole input.
-        self.broken = true;
-        match serve(&mut self.desk, key, order, &text) {
-            Err(_) => Err(ActFault::Store),
-            Ok(answer) => {
-                self.broken = false;
-                match answer {
-                    Answer::Done(reply) => Ok(reply),
-                    Answer::Refused(refusal) => Err(ActFault::Refused(refusal)),
-                }
-            }
-        }
+    fn act(&mut self, input: &Input<'_>, at: Moment) -> Result<Reply, ActFault> {
+        self.stored.act(input, at)
     }
 
     fn holder(&mut self, number: &Awb) -> Result<Option<Holder>, ActFault> {
-        if self.broken {
-            return Err(ActFault::Reopen);
-        }
-        match self.desk.find(number) {
-            Err(_) => Err(ActFault::Store),
-            Ok(holder) => Ok(holder),
-        }
+        self.stored.holder(number)
     }
 
-    fn waybill(&mut self, _number: &Awb) -> Result<Option<Waybill>, ActFault> {
-        self.ask()?;
-        Ok(None)
+    fn waybill(&mut self, number: &Awb) -> Result<Option<Waybill>, ActFault> {
+        self.stored.waybill(number)
     }
 
     fn stock<K: Sink<StockRun>>(&mut self, sink: &mut K) -> Result<(), ActFault> {
-        let runs = self.runs()?;
-        hand_out(sink, runs);
-        Ok(())
+        self.stored.stock(sink)
     }
 
-    fn irregular<K: Sink<IrregularRow>>(&mut self, _sink: &mut K) -> Result<(), ActFault> {
-        self.ask()
+    fn irregular<K: Sink<IrregularRow>>(&mut self, sink: &mut K) -> Result<(), ActFault> {
+        self.stored.irregular(sink)
     }
 
-    fn book<K: Sink<BookRow>>(&mut self, _sink: &mut K) -> Result<(), ActFault> {
-        self.ask()
+    fn book<K: Sink<BookRow>>(&mut self, sink: &mut K) -> Result<(), ActFault> {
+        self.stored.book(sink)
     }
 
-    fn pending<K: Sink<Message>>(&mut self, _sink: &mut K) -> Result<(), ActFault> {
-        self.ask()
+    fn pending<K: Sink<Message>>(&mut self, sink: &mut K) -> Result<(), ActFault> {
+        self.stored.pending(sink)
     }
 
-    fn trail<K: Sink<TrailRow>>(&mut self, _sink: &mut K) -> Result<(), ActFault> {
-        self.ask()
+    fn trail<K: Sink<TrailRow>>(&mut self, sink: &mut K) -> Result<(), ActFault> {
+        self.stored.trail(sink)
     }
 }

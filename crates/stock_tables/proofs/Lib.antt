@@ -1,5 +1,4 @@
 mod Assigning
-mod MapLaws
 mod Reading
 mod Rows
 mod Said

@@ -14,7 +14,7 @@ use Rattle.row_schema.specs.Tables.{Stock, StockKey, stock_cmp}
 use Rattle.station_rows.specs.Meant.{is_between}
 use Rattle.stock_tables.specs.Ahead.{row_at, key_of}
 use Rattle.row_values.specs.Stock.{holder_by, stands_for, holders_in, is_stock_row}
-use Rattle.stock_tables.proofs.MapLaws.{first, second, each_passes}
+use Rattle.row_values.proofs.MapLaws.{first, second, each_passes}
 
 -- the low and the high serial are one
 is_single : (row : StockKey × Stock) → is_stock_row row ≡ true → row.1.high ≡ row.0.1

@@ -17,7 +17,7 @@ use Rattle.station_rows.specs.declared.stock.StockRow.{StockRow}
 use Rattle.station_rows.specs.Meant.{stock_meant, with_stock}
 use Rattle.stock_tables.specs.Ahead.{key_of, SoFar}
 use Rattle.stock_tables.specs.Stocked.{Stocked, restocked}
-use Rattle.stock_tables.proofs.MapLaws.{all-insert}
+use Rattle.row_values.proofs.MapLaws.{all-insert}
 use Rattle.stock_tables.proofs.Rows.{same_key}
 
 and_from : (a b : Bool) → a ≡ true → b ≡ true → (a && b) ≡ true

@@ -7,4 +7,4 @@ mod replying;
 mod room;
 mod station;
 
-pub use station::Station;
+pub use station::StoredStation;

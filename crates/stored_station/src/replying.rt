@@ -93,7 +93,7 @@ pub(crate) fn keep<S: StateStore>(
     ensures survives { Survives S.is_sound S.may_find store.old store.new }
 {
     match input {
-        Input::Keyed(key, _) => store.keep_key(key, request, count),
+        Input::Keyed(key, _command) => store.keep_key(key, request, count),
         Input::Wire(telegram) => store.keep_text(telegram.text().as_bytes(), count),
     }
 }

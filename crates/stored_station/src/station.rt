@@ -1,4 +1,4 @@
-ghost use Rattle.std.specs.Prelude.{◌≡◌, true, false, Err, IfOk, IfErr};
+ghost use Rattle.std.specs.Prelude.{◌≡◌, true, false, Err, Option, IfOk, IfErr};
 ghost use Rattle.agent_stock.specs.Runs.{AreStockRuns};
 ghost use Rattle.station_core.specs.Keeping.{IsReadersFault, OnlyReads};
 ghost use Rattle.station_core.specs.Readers.{irregular_rows, book_rows, pending_messages, trail_rows};
@@ -24,22 +24,22 @@ use std::alloc::Global;
 /// answers `Reopen`: the store then holds the state before the input or the one after it. A reader's
 /// `Store` changes nothing.
 #[derive(Drop)]
-pub struct Station<S: StateStore> {
+pub struct StoredStation<S: StateStore> {
     alloc: Global,
     store: S,
     // Since a call of the store failed, it answers `Reopen`.
     broken: bool,
 }
 
-impl<S: StateStore> Station<S> {
+impl<S: StateStore> StoredStation<S> {
     /// A station over a store that shows a lawful state, with no transaction begun.
-    pub fn over(alloc: Global, store: S) -> Station<S>
+    pub fn over(alloc: Global, store: S) -> StoredStation<S>
         ensures keeps { (s : State) → IsLawfulState s → S.shows store (at_rest s)
-            → ⟦<Station<S> as Keeper>⟧.keeps result s }
-        ensures sound { ⟦<Station<S> as Keeper>⟧.is_sound result → S.is_sound store }
-        ensures works { ⟦<Station<S> as Keeper>⟧.is_broken result ≡ false }
+            → ⟦<StoredStation<S> as Keeper>⟧.keeps result s }
+        ensures sound { ⟦<StoredStation<S> as Keeper>⟧.is_sound result → S.is_sound store }
+        ensures works { ⟦<StoredStation<S> as Keeper>⟧.is_broken result ≡ false }
     {
-        Station {
+        StoredStation {
             alloc,
             store,
             broken: false,
@@ -48,11 +48,13 @@ impl<S: StateStore> Station<S> {
 
     /// The store comes back, whatever state it is in.
     pub fn into_store(self) -> S
-        ensures shows { (s : State) → ⟦<Station<S> as Keeper>⟧.keeps self s
+        ensures shows { (s : State) → ⟦<StoredStation<S> as Keeper>⟧.keeps self s
             → S.shows result (at_rest s) }
-        ensures sound { S.is_sound result → ⟦<Station<S> as Keeper>⟧.is_sound self }
+        ensures sound { S.is_sound result → ⟦<StoredStation<S> as Keeper>⟧.is_sound self }
+        ensures leaves { (found : Option State) → Finds (S.may_find result) found
+            → ⟦<StoredStation<S> as Keeper>⟧.may_find self found }
     {
-        let Station {
+        let StoredStation {
             alloc: _,
             store,
             broken: _,
@@ -62,17 +64,17 @@ impl<S: StateStore> Station<S> {
 }
 
 // What the readers of rows share.
-impl<S: StateStore> Station<S> {
+impl<S: StateStore> StoredStation<S> {
     /// The maximal runs of the stock, rising.
     #[tactic(auto, using(crate::proofs::Reading::reads_only))]
     fn runs(&mut self) -> Result<Vec<StockRun>, ActFault>
         ensures reopen { self.old.broken ≡ true → (result ≡ Err ActFault.Reopen)
             × (self.new ≡ self.old) }
         ensures fault { self.old.broken ≡ false → IfErr result IsReadersFault }
-        ensures reads { OnlyReads ⟦<Station<S> as Keeper>⟧.keeps ⟦<Station<S> as Keeper>⟧.is_sound
-            ⟦<Station<S> as Keeper>⟧.is_broken ⟦<Station<S> as Keeper>⟧.may_find self.old self.new }
-        ensures rows { (s : State) → ⟦<Station<S> as Keeper>⟧.keeps self.old s
-            → ⟦<Station<S> as Keeper>⟧.is_sound self.new
+        ensures reads { OnlyReads ⟦<StoredStation<S> as Keeper>⟧.keeps ⟦<StoredStation<S> as Keeper>⟧.is_sound
+            ⟦<StoredStation<S> as Keeper>⟧.is_broken ⟦<StoredStation<S> as Keeper>⟧.may_find self.old self.new }
+        ensures rows { (s : State) → ⟦<StoredStation<S> as Keeper>⟧.keeps self.old s
+            → ⟦<StoredStation<S> as Keeper>⟧.is_sound self.new
             → IfOk result (λ rows. AreStockRuns s.cargo.holders rows.items) }
     {
         if self.broken {
@@ -90,10 +92,10 @@ impl<S: StateStore> Station<S> {
         ensures reopen { self.old.broken ≡ true → (result ≡ Err ActFault.Reopen)
             × (self.new ≡ self.old) }
         ensures fault { self.old.broken ≡ false → IfErr result IsReadersFault }
-        ensures reads { OnlyReads ⟦<Station<S> as Keeper>⟧.keeps ⟦<Station<S> as Keeper>⟧.is_sound
-            ⟦<Station<S> as Keeper>⟧.is_broken ⟦<Station<S> as Keeper>⟧.may_find self.old self.new }
-        ensures rows { (s : State) → ⟦<Station<S> as Keeper>⟧.keeps self.old s
-            → ⟦<Station<S> as Keeper>⟧.is_sound self.new
+        ensures reads { OnlyReads ⟦<StoredStation<S> as Keeper>⟧.keeps ⟦<StoredStation<S> as Keeper>⟧.is_sound
+            ⟦<StoredStation<S> as Keeper>⟧.is_broken ⟦<StoredStation<S> as Keeper>⟧.may_find self.old self.new }
+        ensures rows { (s : State) → ⟦<StoredStation<S> as Keeper>⟧.keeps self.old s
+            → ⟦<StoredStation<S> as Keeper>⟧.is_sound self.new
             → IfOk result (λ rows. rows.items ≡ irregular_rows s.cargo) }
     {
         if self.broken {
@@ -111,10 +113,10 @@ impl<S: StateStore> Station<S> {
         ensures reopen { self.old.broken ≡ true → (result ≡ Err ActFault.Reopen)
             × (self.new ≡ self.old) }
         ensures fault { self.old.broken ≡ false → IfErr result IsReadersFault }
-        ensures reads { OnlyReads ⟦<Station<S> as Keeper>⟧.keeps ⟦<Station<S> as Keeper>⟧.is_sound
-            ⟦<Station<S> as Keeper>⟧.is_broken ⟦<Station<S> as Keeper>⟧.may_find self.old self.new }
-        ensures rows { (s : State) → ⟦<Station<S> as Keeper>⟧.keeps self.old s
-            → ⟦<Station<S> as Keeper>⟧.is_sound self.new
+        ensures reads { OnlyReads ⟦<StoredStation<S> as Keeper>⟧.keeps ⟦<StoredStation<S> as Keeper>⟧.is_sound
+            ⟦<StoredStation<S> as Keeper>⟧.is_broken ⟦<StoredStation<S> as Keeper>⟧.may_find self.old self.new }
+        ensures rows { (s : State) → ⟦<StoredStation<S> as Keeper>⟧.keeps self.old s
+            → ⟦<StoredStation<S> as Keeper>⟧.is_sound self.new
             → IfOk result (λ rows. rows.items ≡ book_rows s.cargo) }
     {
         if self.broken {
@@ -132,10 +134,10 @@ impl<S: StateStore> Station<S> {
         ensures reopen { self.old.broken ≡ true → (result ≡ Err ActFault.Reopen)
             × (self.new ≡ self.old) }
         ensures fault { self.old.broken ≡ false → IfErr result IsReadersFault }
-        ensures reads { OnlyReads ⟦<Station<S> as Keeper>⟧.keeps ⟦<Station<S> as Keeper>⟧.is_sound
-            ⟦<Station<S> as Keeper>⟧.is_broken ⟦<Station<S> as Keeper>⟧.may_find self.old self.new }
-        ensures rows { (s : State) → ⟦<Station<S> as Keeper>⟧.keeps self.old s
-            → ⟦<Station<S> as Keeper>⟧.is_sound self.new
+        ensures reads { OnlyReads ⟦<StoredStation<S> as Keeper>⟧.keeps ⟦<StoredStation<S> as Keeper>⟧.is_sound
+            ⟦<StoredStation<S> as Keeper>⟧.is_broken ⟦<StoredStation<S> as Keeper>⟧.may_find self.old self.new }
+        ensures rows { (s : State) → ⟦<StoredStation<S> as Keeper>⟧.keeps self.old s
+            → ⟦<StoredStation<S> as Keeper>⟧.is_sound self.new
             → IfOk result (λ rows. rows.items ≡ pending_messages s.cargo) }
     {
         if self.broken {
@@ -153,10 +155,10 @@ impl<S: StateStore> Station<S> {
         ensures reopen { self.old.broken ≡ true → (result ≡ Err ActFault.Reopen)
             × (self.new ≡ self.old) }
         ensures fault { self.old.broken ≡ false → IfErr result IsReadersFault }
-        ensures reads { OnlyReads ⟦<Station<S> as Keeper>⟧.keeps ⟦<Station<S> as Keeper>⟧.is_sound
-            ⟦<Station<S> as Keeper>⟧.is_broken ⟦<Station<S> as Keeper>⟧.may_find self.old self.new }
-        ensures rows { (s : State) → ⟦<Station<S> as Keeper>⟧.keeps self.old s
-            → ⟦<Station<S> as Keeper>⟧.is_sound self.new
+        ensures reads { OnlyReads ⟦<StoredStation<S> as Keeper>⟧.keeps ⟦<StoredStation<S> as Keeper>⟧.is_sound
+            ⟦<StoredStation<S> as Keeper>⟧.is_broken ⟦<StoredStation<S> as Keeper>⟧.may_find self.old self.new }
+        ensures rows { (s : State) → ⟦<StoredStation<S> as Keeper>⟧.keeps self.old s
+            → ⟦<StoredStation<S> as Keeper>⟧.is_sound self.new
             → IfOk result (λ rows. rows.items ≡ trail_rows s.cargo) }
     {
         if self.broken {
@@ -169,7 +171,7 @@ impl<S: StateStore> Station<S> {
     }
 }
 
-impl<S: StateStore> Keeper for Station<S> {
+impl<S: StateStore> Keeper for StoredStation<S> {
     ghost use Rattle.stored_station.specs.Laws.{found_is};
 
     ghost keeps = { λ k s. IsLawfulState s × S.shows k.store (at_rest s) };
@@ -179,10 +181,6 @@ impl<S: StateStore> Keeper for Station<S> {
     ghost is_broken = { λ k. k.broken };
 
     ghost may_find = { λ k found. Finds (S.may_find k.store) found };
-
-    ghost takes = { λ input. Unit {0} };
-
-    ghost takes_orders = { λ key order. tt };
 
     ghost settled = { λ k s keeps sound found finds. found_is (S.may_find k.store) s keeps.0 (S.settled k.store s keeps.1 sound) found finds };
 

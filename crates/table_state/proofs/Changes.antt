@@ -41,7 +41,7 @@ use Rattle.row_values.proofs.Fits.{count_fits}
 use Rattle.row_values.proofs.Readable.{readable_stock}
 use Rattle.row_values.proofs.Written.{waybill_written, waybill_changed, flight_written, expected_written, part_written, key_kept, text_kept, line_written, message_written, mark_written, move_written}
 use Rattle.state_store.specs.Store.{at_rest, inside}
-use Rattle.state_store.specs.Told.{sizes_of, on_cargo, with_moves, with_messages, with_key, with_text, with_order}
+use Rattle.state_store.specs.Told.{IsRequest, sizes_of, on_cargo, with_moves, with_messages, with_key, with_text, with_order}
 use Rattle.state_store.specs.declared.store.Sizes.{Sizes}
 use Rattle.stock_tables.specs.Stocked.{Stocked, restocked, using_up, Restocked}
 use Rattle.table_state.specs.Recorded.{Recorded}
@@ -140,13 +140,13 @@ module _ (old new : View) (here : List ℕ) (sizes : Sizes) (confirmed : ℕ) (b
       (λ _ means. text_kept old.now s means body text number count is_body is_number counts)
       (same_rest (with_text text count s) refl refl refl)
 
-  pub keeps_key_on : (id key : List ℕ) (one : step.Kept) (row_is : table.Kept) → id ≡ key → row_is ≡ kept_row one → IsTrue (is_key key) → IsTrue (is_count (pos one.count))
+  pub keeps_key_on : (id key : List ℕ) (one : step.Kept) (row_is : table.Kept) → id ≡ key → row_is ≡ kept_row one → IsTrue (is_key key) → IsTrue (is_count (pos one.count)) → IsRequest one.request
       → (new.IsSound → row.Writes old new (with_kept id row_is old.now))
       → Shows new here sizes confirmed (inside before (with_key key one s))
-  keeps_key_on id key one row_is is_id is valid counts done =
+  keeps_key_on id key one row_is is_id is valid counts asked done =
       reached old new here sizes confirmed (λ _. with_kept id row_is old.now) sizes confirmed before s (with_key key one s) was survives
       (λ sound. let d = done sound in record { is_open = d.is_open; now_is = d.now_is; committed_is = d.committed_is; mode = d.mode })
-      (λ _ means. key_kept old.now s means id key one row_is is_id is valid counts)
+      (λ _ means. key_kept old.now s means id key one row_is is_id is valid counts asked)
       (same_rest (with_key key one s) refl refl refl)
 
   -- the stock
@@ -189,6 +189,7 @@ module _ (t : Tables) (s : State) (m : Move) (book : List table.Move) (counts : 
     lines = means.0.lines;
     outbox = means.0.outbox;
     kept = means.0.kept;
+    requests = means.0.requests;
     kept_texts = means.0.kept_texts;
     counts = are_counts;
     builds = are_builds;

@@ -8,7 +8,7 @@ use Rattle.row_values.specs.Meaning.{Means}
 use Rattle.state_store.specs.Store.{Seen, at_rest, inside, Survives}
 use Rattle.state_store.specs.declared.store.Sizes.{Sizes}
 use Rattle.table_state.specs.Laws.{same_meaning}
-use Rattle.table_state.specs.Shown.{Stands, Knows, Shows, Finds}
+use Rattle.table_state.specs.Shown.{Stands, Knows, Shows, Finds, IfGivenBack}
 
 -- what a view shows
 abbrev pub seen_in : View → row.Seen
@@ -21,6 +21,14 @@ displays v up = record { is_open = up; now_is = refl; committed_is = refl; mode 
 
 pub finds_on : (old new : View) → row.Survives old new → new.IsSound → (found : Option State) → Finds new found → Finds old found
 finds_on old new survives sound found finds = record { tables = finds.tables; left = survives.crash sound finds.tables finds.left; means = finds.means }
+
+-- what an open store gives back when its transaction is undone
+pub given_back : (old new : View) (here : List ℕ) (sizes : Sizes) (confirmed : ℕ) (x : Seen) → Shows old here sizes confirmed x → row.Survives old new
+    → (new.IsSound → new.is_open ≡ true → row.Shows old new old.committed old.committed false) → IfGivenBack new x.committed
+given_back old new here sizes confirmed x was survives undone sound up =
+    let d = undone sound up in
+    let stands = (was (survives.sound sound)).holds.stands d.was_open in
+    (d.mode, subst (λ t. Means t (Some x.committed)) (sym d.now_is) stands.committed)
 
 pub survives_so : {K : Type 0} (is_sound : K → Type 0) (may_find : K → Option State → Type 0) (old new : K) (v w : View) → row.Survives v w
     → (is_sound new → w.IsSound) → (v.IsSound → is_sound old) → ((found : Option State) → may_find new found → Finds w found) → ((found : Option State) → Finds v found → may_find old found)

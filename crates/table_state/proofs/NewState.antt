@@ -78,6 +78,12 @@ meaning_opening here = λ i. record {
   kept_texts = λ text. option_map natural (get-empty {X = ℤ} kept_text_cmp text i);
 }
 
+none_some : (row : Kept) → ◌≡◌ {A = Option Kept} None (Some row) → ⊥
+none_some row has = absurd (cc)
+
+none_kept : (key : List ℕ) (row : Kept) → get (empty {X = Kept} {R = kept_cmp}) key ≡ Some row → ⊥
+none_kept key row has = none_some row (sym (get-empty {X = Kept} kept_cmp key) ∙ has)
+
 pub opening_readable : (here : List ℕ) → IsTrue (is_airport here) → IsReadable (opening here)
 opening_readable here airport = record {
   station = rw airport refl;
@@ -92,6 +98,7 @@ opening_readable here airport = record {
   lines = refl;
   outbox = refl;
   kept = rw (no_entries kept_cmp Kept) refl;
+  requests = λ key row has. absurd (none_kept key row has);
   kept_texts = rw (no_entries kept_text_cmp ℤ) refl;
   counts = no_counts;
   builds = no_builds;

@@ -40,3 +40,7 @@ pub record Finds (v : View) (found : Option State) : Type 0 where
   pub tables : Tables
   pub left : v.may_leave tables
   pub means : Means tables found
+
+-- a sound connection that is open is outside a transaction, and its tables mean this state
+abbrev pub IfGivenBack : View → State → Type 0
+IfGivenBack v s = v.IsSound → v.is_open ≡ true → (v.in_transaction ≡ false) × Means v.now (Some s)

@@ -1,8 +1,8 @@
 ghost use Rattle.std.specs.Prelude.{◌≡◌, ◌⊎◌, true, false, Some, Option, IfOk, IfErr, OnOk};
 ghost use Rattle.station_core.specs.Step.{State, opening};
 ghost use Rattle.row_schema.specs.Connection.{connection_view, IsVacant};
-ghost use Rattle.state_store.specs.Store.{at_rest};
-ghost use Rattle.table_state.specs.Shown.{Finds};
+ghost use Rattle.state_store.specs.Store.{Seen, at_rest};
+ghost use Rattle.table_state.specs.Shown.{Finds, IfGivenBack};
 
 use crate::state::TableState;
 use imp_fields::Airport;
@@ -47,6 +47,10 @@ impl<S: Alter> TableState<Rows<S>> {
     pub fn release(self) -> Connection<S>
         ensures leaves { (connection_view S.Store result).IsSound → (found : Option State) → Finds (connection_view S.Store result) found → ⟦<TableState<Rows<S>> as StateStore>⟧.may_find self found }
         ensures sound { (connection_view S.Store result).IsSound → ⟦<TableState<Rows<S>> as StateStore>⟧.is_sound self }
+
+        // A connection that is open is outside a transaction, and its tables mean the state of the last commit.
+        ensures shown { (x : Seen) → ⟦<TableState<Rows<S>> as StateStore>⟧.shows self x
+            → IfGivenBack (connection_view S.Store result) x.committed }
     {
         self.into_store().release()
     }

@@ -22,6 +22,13 @@ use station_core::{BookRow, Key, Message, TrailRow};
 use station_rows::TableStore;
 use std::alloc::Global;
 
+/// How many rows there are that are numbered. All of them have a number.
+#[derive(Clone, Copy, Debug, PartialEq, Eq)]
+pub(crate) struct Counted {
+    pub(crate) sizes: Sizes,
+    ghost fit: { (sizes.moves ≤ 4_294_967_295) × (sizes.lines ≤ 4_294_967_295) × (sizes.messages ≤ 4_294_967_295) },
+}
+
 /// The state of a station in the tables of a store.
 ///
 /// A value that a row doesn't say in range is answered as a fault of the store.
@@ -30,9 +37,8 @@ pub struct TableState<S: TableStore> {
     pub(crate) alloc: Global,
     pub(crate) store: S,
     pub(crate) here: Airport,
-    pub(crate) sizes: Sizes,
+    pub(crate) counted: Counted,
     pub(crate) confirmed: u32,
-    ghost numbered: { (sizes.moves ≤ 4_294_967_295) × (sizes.lines ≤ 4_294_967_295) × (sizes.messages ≤ 4_294_967_295) },
 }
 
 impl<S: TableStore> TableState<S> {
@@ -46,10 +52,12 @@ impl<S: TableStore> TableState<S> {
             alloc,
             store,
             here,
-            sizes: Sizes {
-                moves: 0,
-                lines: 0,
-                messages: 0,
+            counted: Counted {
+                sizes: Sizes {
+                    moves: 0,
+                    lines: 0,
+                    messages: 0,
+                },
             },
             confirmed: 0,
         }
@@ -63,7 +71,7 @@ impl<S: TableStore> TableState<S> {
             alloc: _,
             store,
             here: _,
-            sizes: _,
+            counted: _,
             confirmed: _,
         } = self;
         store
@@ -71,7 +79,7 @@ impl<S: TableStore> TableState<S> {
 }
 
 impl<S: TableStore> StateStore for TableState<S> {
-    ghost shows = { λ k x. Shows (S.view k.store) k.here k.sizes k.confirmed x };
+    ghost shows = { λ k x. Shows (S.view k.store) k.here k.counted.sizes k.confirmed x };
 
     ghost is_sound = { λ k. (S.view k.store).IsSound };
 
@@ -227,7 +235,7 @@ impl<S: TableStore> StateStore for TableState<S> {
     }
 
     fn sizes(&self) -> Sizes {
-        self.sizes
+        self.counted.sizes
     }
 
     fn confirmed(&self) -> u32 {
@@ -236,13 +244,13 @@ impl<S: TableStore> StateStore for TableState<S> {
 
     #[tactic(auto, using(crate::proofs::Lifting::survives_so))]
     fn add_move(&mut self, movement: &Move) -> Result<(), StoreFault> {
-        let Some(number) = self.sizes.moves.checked_add(1) else {
+        let Some(number) = self.counted.sizes.moves.checked_add(1) else {
             return Err(StoreFault);
         };
         match record_move(self.alloc, &mut self.store, number, movement) {
             Err(_) => Err(StoreFault),
             Ok(()) => {
-                self.sizes.moves = number;
+                self.counted.sizes.moves = number;
                 Ok(())
             }
         }
@@ -267,7 +275,7 @@ impl<S: TableStore> StateStore for TableState<S> {
 
     #[tactic(auto, using(crate::proofs::Lifting::survives_so))]
     fn add_message(&mut self, text: &[u8]) -> Result<(), StoreFault> {
-        let Some(number) = self.sizes.messages.checked_add(1) else {
+        let Some(number) = self.counted.sizes.messages.checked_add(1) else {
             return Err(StoreFault);
         };
         let Ok(row) = message_row(self.alloc, number, text) else {
@@ -276,7 +284,7 @@ impl<S: TableStore> StateStore for TableState<S> {
         match self.store.insert_message(&row) {
             Err(_) => Err(StoreFault),
             Ok(()) => {
-                self.sizes.messages = number;
+                self.counted.sizes.messages = number;
                 Ok(())
             }
         }
@@ -367,5 +375,5 @@ impl<S: TableStore> StateStore for TableState<S> {
 
     ghost settled = { λ k s shown sound found finds. finds_what_it_shows (S.view k.store) s (shown sound).holds found finds };
 
-    ghost numbered = { λ k x shown sound. all_numbered k.sizes x.now.cargo k.numbered (shown sound).knows.sizes_are };
+    ghost numbered = { λ k x shown sound. all_numbered k.counted.sizes x.now.cargo k.counted.fit (shown sound).knows.sizes_are };
 }
