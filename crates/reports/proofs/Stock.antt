@@ -16,7 +16,8 @@ use Rattle.reports.specs.declared.fault.ReportFault.{ReportFault}
 use Rattle.reports.specs.Lines.{stock_line, report_text}
 use Rattle.reports.specs.Reports.{IsStockReport}
 use Rattle.reports.specs.Progress.{Progress, Ends}
-use Rattle.reports.specs.Ended.{IsBegun, HaveGone, HasEnded, HasEndedStock}
+use Rattle.reports.specs.Ended.{IsBegun, HaveGone, HasEnded, HasEndedStock, HasEndedEach}
+use Rattle.reports.proofs.OneList.{one_list}
 use Rattle.reports.proofs.Telling.{Handed, start_whole, handed, unfinished, Took, SameName, reported}
 
 have_gone : (text : List ℕ) (n : ℕ) (old new : Given) → Sent old new text n → HaveGone n old new
@@ -46,12 +47,12 @@ module _ {S N : Type 0} (P : S → Progress) (name : S → N) (holders : Holders
       → ((why : ReportCause) → (P mid).cause ≡ Some why → (r ≡ Err (record { sent = (P mid).sent; cause = why })) × (new ≡ mid))
       → ((P mid).cause ≡ None → IfErr read (λ e. (r ≡ Err (record { sent = (P mid).sent; cause = cause.Act e })) × (new ≡ mid)))
       → ((P mid).cause ≡ None → OnOk read (Ends (P mid) (P new) r))
-      → HasEndedStock Open holders (P old).front (P old).given (P new).given r
+      → HasEndedStock Open holders (P old).waiting (P old).given (P new).given r
   reported_stock (Ok x) r Open old mid new no_rows none_sent no_cause took (rows, are, all) part fault cut unread ends =
       let end = reported P stock_line name (Ok x) r Open rows old mid new no_rows none_sent no_cause all tt fault cut unread ends in
-      of_stock Open holders (P old).front (report_text stock_line rows) (P old).given (P new).given r (rows, are, λ _. report_text stock_line rows) end
+      of_stock Open holders (P old).waiting (report_text stock_line rows) (P old).given (P new).given r (rows, are, λ _. report_text stock_line rows) end
   reported_stock (Err e) r Open old mid new no_rows none_sent no_cause took all part fault cut unread ends =
-      let front : List ℕ = (P old).front in
+      let front : List ℕ = (P old).waiting in
       let start = start_whole (P old) no_rows none_sent no_cause in
       let told = handed P stock_line (SameName P stock_line name) took.0 (P old).given front 0 old mid took.1 start in
       let cut_p : (why : ReportCause) → (P mid).cause ≡ Some why → (r ≡ Err (record { sent = (P mid).sent; cause = why })) × (P new ≡ P mid) = λ why is. ((cut why is).0, ap P (cut why is).1) in
@@ -65,3 +66,29 @@ module _ {S N : Type 0} (P : S → Progress) (name : S → N) (holders : Holders
       let now = subst (λ t. HasEnded Open (front ++ t) (P old).given (P new).given r) (sym is.2) end in
       (subst (HasEnded Open (front ++ text) (P old).given (P new).given) failed.1 now).0 in
       subst (HasEndedStock Open holders front (P old).given (P new).given) (sym failed.1) (inr each, have_gone _ failed.0.sent (P old).given (P new).given any_f.0.0, any_f.0.1, any_f.1)
+
+  -- the rows were those of any list that is the runs of the stock
+  all_of : (read : Result (Unit {0}) ActFault) (old mid : S) (rows : List StockRun) → AreStockRuns holders rows
+      → OnOk read ((rows : List StockRun) × AreStockRuns holders rows × Hands rows old mid) → OnOk read (Hands rows old mid)
+  all_of (Ok x) old mid rows are (these, are_too, all) = subst (λ (l : List StockRun). Hands l old mid) (one_list holders these rows are_too are) all
+  all_of (Err e) old mid rows are all = tt
+
+  part_of : (read : Result (Unit {0}) ActFault) (old mid : S) (rows : List StockRun) → AreStockRuns holders rows
+      → OnErr read ((rows : List StockRun) → AreStockRuns holders rows → (n : ℕ) × Hands (take n rows) old mid) → OnErr read ((n : ℕ) × Hands (take n rows) old mid)
+  part_of (Ok x) old mid rows are part = tt
+  part_of (Err e) old mid rows are part = part rows are
+
+  pub reported_each : (read : Result (Unit {0}) ActFault) (r : Result (Unit {0}) ReportFault) (Open : Type 0) (old mid new : S)
+      → (P old).rows ≡ 0 → (P old).sent ≡ 0 → (P old).cause ≡ None
+      → OnOk read ((rows : List StockRun) × AreStockRuns holders rows × Hands rows old mid)
+      → OnErr read ((rows : List StockRun) → AreStockRuns holders rows → (n : ℕ) × Hands (take n rows) old mid)
+      → (Open → IfErr read IsReadersFault)
+      → ((why : ReportCause) → (P mid).cause ≡ Some why → (r ≡ Err (record { sent = (P mid).sent; cause = why })) × (new ≡ mid))
+      → ((P mid).cause ≡ None → IfErr read (λ e. (r ≡ Err (record { sent = (P mid).sent; cause = cause.Act e })) × (new ≡ mid)))
+      → ((P mid).cause ≡ None → OnOk read (Ends (P mid) (P new) r))
+      → HasEndedEach Open holders (P old).waiting (P old).given (P new).given r
+  reported_each read r Open old mid new no_rows none_sent no_cause all part fault cut unread ends = record {
+    text = λ text is.
+        subst (λ t. HasEnded Open ((P old).waiting ++ t) (P old).given (P new).given r) (sym is.2)
+        (reported P stock_line name read r Open is.0 old mid new no_rows none_sent no_cause (all_of read old mid is.0 is.1 all) (part_of read old mid is.0 is.1 part) fault cut unread ends);
+  }

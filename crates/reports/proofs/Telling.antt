@@ -11,15 +11,15 @@ use Rattle.station_core.specs.declared.answer.ActFault.{ActFault}
 use Rattle.reports.specs.declared.fault.ReportCause.{ReportCause}
 use Rattle.reports.specs.declared.fault.ReportCause.TheVariants as cause
 use Rattle.reports.specs.declared.fault.ReportFault.{ReportFault}
-use Rattle.reports.specs.Progress.{Progress, IsWhy, HasGone, HasStuck, Takes, Ends}
+use Rattle.reports.specs.Progress.{Progress, IsWhy, Waits, HasGone, HasStuck, Takes, Ends}
 use Rattle.reports.specs.Ended.{HasTold, IsBegun, IsCause, HasEnded}
 use Rattle.reports.specs.Lines.{end_line, report_text}
 
--- all of the text went out, but for what still stands in front of the next line
+-- all of the text went out, but for what waits
 pub record IsWhole (start : Given) (text : List ℕ) (rows : ℕ) (p : Progress) : Type 0 where
   pub out : List ℕ
   pub bytes : p.given.bytes ≡ start.bytes ++ out
-  pub whole : out ++ p.front ≡ text
+  pub whole : out ++ p.waiting ≡ text
   pub sent : p.sent ≡ length out
   pub failures : p.given.failures ≡ start.failures
   pub idle : p.given.idle ≡ start.idle
@@ -57,28 +57,45 @@ why_cause (cause.Act e) old new (memory, same) = subst IsReadersFault (sym memor
 -- a line more
 pub gone : (start : Given) (text line : List ℕ) (n : ℕ) (p q : Progress) → IsWhole start text n p → HasGone line p q → q.rows ≡ p.rows + 1 → q.cause ≡ p.cause → IsWhole start (text ++ line) (n + 1) q
 gone start text line n p q w g rows same =
-    let all : (w.out ++ (p.front ++ line)) ≡ text ++ line = sym (append_assoc w.out p.front line) ∙ ap (λ t. t ++ line) w.whole in
+    let all : (w.out ++ (p.waiting ++ line)) ≡ text ++ line = sym (append_assoc w.out p.waiting line) ∙ ap (λ t. t ++ line) w.whole in
     record {
       out = text ++ line;
-      bytes = g.bytes ∙ ap (λ t. t ++ (p.front ++ line)) w.bytes ∙ append_assoc start.bytes w.out (p.front ++ line) ∙ ap (λ t. start.bytes ++ t) all;
-      whole = ap (λ t. (text ++ line) ++ t) g.front ∙ append_nil (text ++ line);
-      sent = g.sent ∙ ap (λ k. k + length (p.front ++ line)) w.sent ∙ sym (length-append w.out (p.front ++ line)) ∙ ap length all;
+      bytes = g.bytes ∙ ap (λ t. t ++ (p.waiting ++ line)) w.bytes ∙ append_assoc start.bytes w.out (p.waiting ++ line) ∙ ap (λ t. start.bytes ++ t) all;
+      whole = ap (λ t. (text ++ line) ++ t) g.waiting ∙ append_nil (text ++ line);
+      sent = g.sent ∙ ap (λ k. k + length (p.waiting ++ line)) w.sent ∙ sym (length-append w.out (p.waiting ++ line)) ∙ ap length all;
       failures = g.failures ∙ w.failures;
       idle = g.idle ∙ w.idle;
       rows_are = rows ∙ ap (λ k. k + 1) w.rows_are;
       cause = same ∙ w.cause;
     }
 
+-- a line that waits
+pub waits : (start : Given) (text line : List ℕ) (n : ℕ) (p q : Progress) → IsWhole start text n p → Waits line p q → q.rows ≡ p.rows + 1 → q.cause ≡ p.cause → IsWhole start (text ++ line) (n + 1) q
+waits start text line n p q w g rows same = record {
+  out = w.out;
+  bytes = ap (λ (x : Given). x.bytes) g.given ∙ w.bytes;
+  whole = ap (λ t. w.out ++ t) g.waiting ∙ sym (append_assoc w.out p.waiting line) ∙ ap (λ t. t ++ line) w.whole;
+  sent = g.sent ∙ w.sent;
+  failures = ap (λ (x : Given). x.failures) g.given ∙ w.failures;
+  idle = ap (λ (x : Given). x.idle) g.given ∙ w.idle;
+  rows_are = rows ∙ ap (λ k. k + 1) w.rows_are;
+  cause = same ∙ w.cause;
+}
+
+added : (start : Given) (text line : List ℕ) (n : ℕ) (p q : Progress) → IsWhole start text n p → Takes line p true q → IsWhole start (text ++ line) (n + 1) q
+added start text line n p q w (inl stays, rows, same) = waits start text line n p q w stays rows same
+added start text line n p q w (inr went, rows, same) = gone start text line n p q w went rows same
+
 -- a line that got stuck
 pub stuck : (start : Given) (text line : List ℕ) (n : ℕ) (why : ReportCause) (p q : Progress) → IsWhole start text n p → HasStuck line why p q → IsBegun (text ++ line) (record { sent = q.sent; cause = why }) start q.given
 stuck start text line n why p q w s =
-    let all : (w.out ++ (p.front ++ line)) ≡ text ++ line = sym (append_assoc w.out p.front line) ∙ ap (λ t. t ++ line) w.whole in
+    let all : (w.out ++ (p.waiting ++ line)) ≡ text ++ line = sym (append_assoc w.out p.waiting line) ∙ ap (λ t. t ++ line) w.whole in
     let sent : q.sent ≡ length w.out + s.part = s.sent ∙ ap (λ k. k + s.part) w.sent in
-    let fits : q.sent ≤ length (text ++ line) = omega (arith, sent, s.within, ap length all, length-append w.out (p.front ++ line)) in (
+    let fits : q.sent ≤ length (text ++ line) = omega (arith, sent, s.within, ap length all, length-append w.out (p.waiting ++ line)) in (
       (
         fits,
-        s.bytes ∙ ap (λ t. t ++ take s.part (p.front ++ line)) w.bytes ∙ append_assoc start.bytes w.out (take s.part (p.front ++ line))
-            ∙ ap (λ t. start.bytes ++ t) (sym (take-append-add w.out (p.front ++ line) s.part) ∙ ap (λ t. take (length w.out + s.part) t) all ∙ ap (λ k. take k (text ++ line)) (sym sent)),
+        s.bytes ∙ ap (λ t. t ++ take s.part (p.waiting ++ line)) w.bytes ∙ append_assoc start.bytes w.out (take s.part (p.waiting ++ line))
+            ∙ ap (λ t. start.bytes ++ t) (sym (take-append-add w.out (p.waiting ++ line) s.part) ∙ ap (λ t. take (length w.out + s.part) t) all ∙ ap (λ k. take k (text ++ line)) (sym sent)),
       ),
       told_since why start p.given q.given w.failures w.idle s.cause,
     )
@@ -102,7 +119,7 @@ module _ {S Row : Type 0} (P : S → Progress) (line : Row → List ℕ) (same :
       let same_text = sym (append_nil text) in
       inl (subst (λ (s : S). IsWhole start (text ++ []) (n + 0) (P s)) (sym h) (subst (λ t. IsWhole start t (n + 0) (P old)) same_text (subst (λ k. IsWhole start text k (P old)) (none_more n) w)))
   handed (row ∷ rows) start text n old new (true, mid, took, more) w =
-      let next = gone start text (line row) n (P old) (P mid) w took.1.0 took.1.1 took.1.2 in
+      let next = added start text (line row) n (P old) (P mid) w took.1 in
       let rest = handed rows start (text ++ line row) (n + 1) mid new more next in
       subst (λ t. Handed start t (n + length (row ∷ rows)) (P new)) (append_assoc text (line row) (flat_map line rows))
       (subst (λ k. Handed start ((text ++ line row) ++ flat_map line rows) k (P new)) (one_more n row rows) rest)
@@ -119,27 +136,27 @@ module _ {S Row : Type 0} (P : S → Progress) (line : Row → List ℕ) (same :
       inr (subst (λ (s : S). IsCut start (text ++ flat_map line (row ∷ rows)) (P s)) (sym more) cut)
 
 -- nothing went out yet
-pub start_whole : (p : Progress) → p.rows ≡ 0 → p.sent ≡ 0 → p.cause ≡ None → IsWhole p.given p.front 0 p
+pub start_whole : (p : Progress) → p.rows ≡ 0 → p.sent ≡ 0 → p.cause ≡ None → IsWhole p.given p.waiting 0 p
 start_whole p rows sent none = record { out = []; bytes = sym (append_nil p.given.bytes); whole = refl; sent = sent; failures = refl; idle = refl; rows_are = rows; cause = none }
 
 whole_begun : (start : Given) (text : List ℕ) (n : ℕ) (p : Progress) (e : ActFault) → IsWhole start text n p → IsBegun text (record { sent = p.sent; cause = cause.Act e }) start p.given
 whole_begun start text n p e w =
-    let fits : p.sent ≤ length text = omega (arith, w.sent, ap length w.whole, length-append w.out p.front) in
-    let part : w.out ≡ take p.sent text = sym (take-append_seam w.out p.front) ∙ ap (λ k. take k (w.out ++ p.front)) (sym w.sent) ∙ ap (λ t. take p.sent t) w.whole in
+    let fits : p.sent ≤ length text = omega (arith, w.sent, ap length w.whole, length-append w.out p.waiting) in
+    let part : w.out ≡ take p.sent text = sym (take-append_seam w.out p.waiting) ∙ ap (λ k. take k (w.out ++ p.waiting)) (sym w.sent) ∙ ap (λ t. take p.sent t) w.whole in
     ((fits, w.bytes ∙ ap (λ t. start.bytes ++ t) part), (w.failures, w.idle))
 
 module _ (start : Given) (text : List ℕ) (n : ℕ) (p q : Progress) (Open : Type 0) where
   whole_ends : (r : Result (Unit {0}) ReportFault) → IsWhole start text n p → Ends p q r → HasEnded Open (text ++ end_line n) start q.given r
   whole_ends (Ok x) w g =
-      g.bytes ∙ ap (λ k. p.given.bytes ++ (p.front ++ end_line k)) w.rows_are ∙ ap (λ t. t ++ (p.front ++ end_line n)) w.bytes
-      ∙ append_assoc start.bytes w.out (p.front ++ end_line n)
-      ∙ ap (λ t. start.bytes ++ t) (sym (append_assoc w.out p.front (end_line n)) ∙ ap (λ t. t ++ end_line n) w.whole)
+      g.bytes ∙ ap (λ k. p.given.bytes ++ (p.waiting ++ end_line k)) w.rows_are ∙ ap (λ t. t ++ (p.waiting ++ end_line n)) w.bytes
+      ∙ append_assoc start.bytes w.out (p.waiting ++ end_line n)
+      ∙ ap (λ t. start.bytes ++ t) (sym (append_assoc w.out p.waiting (end_line n)) ∙ ap (λ t. t ++ end_line n) w.whole)
   whole_ends (Err e) w s =
       let begun = stuck start text (end_line p.rows) n e.cause p q w s.0 in
       let sent = subst (λ k. IsBegun (text ++ end_line p.rows) (record { sent = k; cause = e.cause }) start q.given) (sym s.1) begun in
       (subst (λ k. IsBegun (text ++ end_line k) e start q.given) w.rows_are sent, λ _. why_cause e.cause p.given q.given s.0.cause)
 
-  -- a sink that wanted no more
+  -- a sink that takes no more
   cut_ends : (more : List ℕ) (r : Result (Unit {0}) ReportFault) (c : IsCut start text p) → r ≡ Err (record { sent = p.sent; cause = c.why }) → q ≡ p → HasEnded Open (text ++ more) start q.given r
   cut_ends more r c told same =
       let begun = longer text more (record { sent = p.sent; cause = c.why }) start p.given c.begun in
@@ -195,17 +212,17 @@ module _ {S Row N : Type 0} (P : S → Progress) (line : Row → List ℕ) (name
       → ((why : ReportCause) → (P mid).cause ≡ Some why → (r ≡ Err (record { sent = (P mid).sent; cause = why })) × (new ≡ mid))
       → ((P mid).cause ≡ None → IfErr read (λ e. (r ≡ Err (record { sent = (P mid).sent; cause = cause.Act e })) × (new ≡ mid)))
       → ((P mid).cause ≡ None → OnOk read (Ends (P mid) (P new) r))
-      → HasEnded Open ((P old).front ++ report_text line rows) (P old).given (P new).given r
+      → HasEnded Open ((P old).waiting ++ report_text line rows) (P old).given (P new).given r
   reported (Ok x) r Open rows old mid new no_rows none_sent no_cause all part fault cut unread ends =
       let start = start_whole (P old) no_rows none_sent no_cause in
-      let told = handed P line SameName rows (P old).given (P old).front 0 old mid all start in
-      let end = finished (P old).given ((P old).front ++ flat_map line rows) (0 + length rows) (P mid) (P new) Open r
+      let told = handed P line SameName rows (P old).given (P old).waiting 0 old mid all start in
+      let end = finished (P old).given ((P old).waiting ++ flat_map line rows) (0 + length rows) (P mid) (P new) Open r
       (λ why is. let told = cut why is in (told.0, ap P told.1)) ends told in
-      let counted = subst (λ k. HasEnded Open (((P old).front ++ flat_map line rows) ++ end_line k) (P old).given (P new).given r) (zero_more (length rows)) end in
-      subst (λ t. HasEnded Open t (P old).given (P new).given r) (append_assoc (P old).front (flat_map line rows) (end_line (length rows))) counted
+      let counted = subst (λ k. HasEnded Open (((P old).waiting ++ flat_map line rows) ++ end_line k) (P old).given (P new).given r) (zero_more (length rows)) end in
+      subst (λ t. HasEnded Open t (P old).given (P new).given r) (append_assoc (P old).waiting (flat_map line rows) (end_line (length rows))) counted
   reported (Err e) r Open rows old mid new no_rows none_sent no_cause all part fault cut unread ends =
       let n : ℕ = part.0 in
-      let front : List ℕ = (P old).front in
+      let front : List ℕ = (P old).waiting in
       let more : List ℕ = flat_map line (drop n rows) ++ end_line (length rows) in
       let start = start_whole (P old) no_rows none_sent no_cause in
       let told = handed P line SameName (take n rows) (P old).given front 0 old mid part.1 start in

@@ -50,3 +50,7 @@ HasEnded open_station text old new (Err e) = IsBegun text e old new × (open_sta
 abbrev pub HasEndedStock : Type 0 → Holders → List ℕ → Given → Given → Result (Unit {0}) ReportFault → Type 0
 HasEndedStock open_station holders front old new (Ok x) = (text : List ℕ) × IsStockReport holders text × (new.bytes ≡ old.bytes ++ (front ++ text))
 HasEndedStock open_station holders front old new (Err e) = IsBegunStock holders front e old new × HaveGone e.sent old new × HasTold e.cause old new × (open_station → IsCause e.cause)
+
+-- the same of each text that is the report of a stock: there is one at most
+pub record HasEndedEach (open_station : Type 0) (holders : Holders) (front : List ℕ) (old new : Given) (result : Result (Unit {0}) ReportFault) : Type 0 where
+  pub text : (text : List ℕ) → IsStockReport holders text → HasEnded open_station (front ++ text) old new result
