@@ -12,7 +12,7 @@ use Rattle.http_desk.specs.declared.wanted.Wanted.TheVariants as wanted
 use Rattle.http_desk.specs.declared.wanted.HeadWants.{HeadWants}
 use Rattle.http_desk.specs.declared.wanted.HeadWants.TheVariants as wants
 use Rattle.http_desk.specs.Fields.{meant}
-use Rattle.http_desk.specs.Request.{Fault, HeadAsks, fault, head_asks, key_of, IsAskedUnder}
+use Rattle.http_desk.specs.Request.{Fault, HeadAsks, BodyAsks, fault, head_asks, key_of, IsAskedUnder, IsAsked}
 use Rattle.http_desk.specs.Reply.{Reply, fault_reply, body_reply}
 use Rattle.http_desk.specs.Answer.{head_room, head_of, HasHead, Replied, SendsAnswer, IsAnsweredAs, Answers}
 use Rattle.http_desk.specs.Reading.{HasNoHead}
@@ -27,11 +27,12 @@ no_head_wants bytes f is none = record {
     none = λ no. (subst (λ (g : Fault). Replied s (fault_reply g) s status out after) is r, none.1);
   };
   report = λ name is. cc is;
+  input = λ i is. cc is;
 }
 
 module _ (bytes : List ℕ) where
   -- a request has one head
-  one_head : (h k : RequestHead) → HasHead bytes h → HasHead bytes k → h ≡ k
+  pub one_head : (h k : RequestHead) → HasHead bytes h → HasHead bytes k → h ≡ k
   one_head h k has also = (request_unique (take head_room bytes) h k has.0.0 also.0.0 has.0.1 also.0.1).0
 
   abbrev AnsweredBy : State → LocalMinute → ℕ → List ℕ → State → RequestHead → Type 0
@@ -47,28 +48,49 @@ module _ (bytes : List ℕ) where
   now_wants w key start b = record {
     answered = λ s at status out after r. by_head s at status out after b.head b.has (b.wants.answered (head_of b.head) (drop (length (print_request b.head)) bytes) s at status out after r);
     report = λ name is. (b.head, b.has, b.wants.report name is);
+    input = λ i is. absurd (b.wants.input i is);
   }
 
   room_left : (n start : ℕ) → start + n ≤ length bytes → n ≤ length (drop start bytes)
   room_left n start fits = let l : length (drop start bytes) ≡ length bytes - start = length-drop start bytes in omega (arith, l, fits)
 
+  -- what the body asks, at its place behind the head
+  asked_there : (post : Post) (n : ℕ) (key : _) (start : ℕ) (body : List ℕ) (asks : BodyAsks) (b : BeginsWith bytes (wants.Body post n) key start) → start + n ≤ length bytes
+      → body ≡ take n (drop start bytes) → IsAskedUnder (posted_of post) key body asks
+      → (n ≤ length (drop (length (print_request b.head)) bytes)) × IsAsked (posted_of post) (head_of b.head).fields (take n (drop (length (print_request b.head)) bytes)) asks
+  asked_there post n key start body asks b fits is asked =
+      let starts : drop start bytes ≡ drop (length (print_request b.head)) bytes = ap (λ k. drop k bytes) b.start_is in
+      let under : IsAskedUnder (posted_of post) (key_of (head_of b.head).fields) body asks = subst (λ k. IsAskedUnder (posted_of post) k body asks) b.key_is asked in (
+        subst (λ (l : List ℕ). n ≤ length l) starts (room_left n start fits),
+        subst (λ (l : List ℕ). IsAskedUnder (posted_of post) (key_of (head_of b.head).fields) l asks) (is ∙ ap (λ (l : List ℕ). take n l) starts) under,
+      )
+
   pub body_wants : (post : Post) (n : ℕ) (key : _) (start : ℕ) (body : List ℕ) (w : Wanted) → BeginsWith bytes (wants.Body post n) key start → start + n ≤ length bytes
       → body ≡ take n (drop start bytes) → BodyWants (posted_of post) key body w → Wants bytes w
-  body_wants post n key start body w b fits is (asks, asked, told) = record {
-    answered = λ s at status out after r.
-        let head = head_of b.head in
-        let rest : List ℕ = drop (length (print_request b.head)) bytes in
-        let starts : drop start bytes ≡ rest = ap (λ k. drop k bytes) b.start_is in
-        let under : IsAskedUnder (posted_of post) (key_of head.fields) body asks = subst (λ k. IsAskedUnder (posted_of post) k body asks) b.key_is asked in
-        let sent : SendsAnswer (posted_of post) n head rest s at status out after = record {
-          whole = subst (λ (l : List ℕ). n ≤ length l) starts (room_left n start fits);
-          asks = asks;
-          asked = subst (λ (l : List ℕ). IsAskedUnder (posted_of post) (key_of head.fields) l asks) (is ∙ ap (λ (l : List ℕ). take n l) starts) under;
-          replied = subst (λ (next : State). Replied s (body_reply s at asks) next status out after) (told.state s at) (subst (λ (reply : Reply). Replied s reply (wanted_state s at w) status out after) (told.reply s at) r);
-        } in
-        by_head s at status out after b.head b.has (subst (λ (a : HeadAsks). IsAnsweredAs a head rest s at status out after) (sym b.wants) sent);
-    report = λ name is. absurd (told.report name is);
-  }
+  body_wants post n key start body w b fits is (asks, asked, told) =
+      let head = head_of b.head in
+      let rest : List ℕ = drop (length (print_request b.head)) bytes in
+      let there = asked_there post n key start body asks b fits is asked in
+      record {
+        answered = λ s at status out after r.
+            let sent : SendsAnswer (posted_of post) n head rest s at status out after = record {
+              whole = there.0;
+              asks = asks;
+              asked = there.1;
+              replied = subst (λ (next : State). Replied s (body_reply s at asks) next status out after) (told.state s at) (subst (λ (reply : Reply). Replied s reply (wanted_state s at w) status out after) (told.reply s at) r);
+            } in
+            by_head s at status out after b.head b.has (subst (λ (a : HeadAsks). IsAnsweredAs a head rest s at status out after) (sym b.wants) sent);
+        report = λ name is. absurd (told.report name is);
+        input = λ i is. record {
+          head = b.head;
+          has = b.has;
+          posted = posted_of post;
+          size = n;
+          is_sent = b.wants;
+          whole = there.0;
+          asked = subst (λ (a : BodyAsks). IsAsked (posted_of post) head.fields (take n rest) a) (told.input i is) there.1;
+        };
+      }
 
 -- more bytes came behind a head
 pub begins_on : (before after part : List ℕ) (w : HeadWants) (key : _) (start : ℕ) → length before ≤ 16_384 → after ≡ before ++ part → BeginsWith before w key start → BeginsWith after w key start

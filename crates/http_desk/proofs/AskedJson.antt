@@ -1,16 +1,43 @@
 -- What is told once the station was asked.
-use Rattle.std.proofs.Common.{◌≡◌, inr, Option, Some}
+use Rattle.std.proofs.Common.{◌≡◌, sym, ap, subst, refl, inl, inr, ⊎_elim, Bool, Option, Err}
 use Rattle.imp_fields.specs.Date.{LocalMinute}
-use Rattle.station_core.specs.Step.{State}
+use Rattle.shipment_machine.specs.declared.plans.Refusal.{Refusal}
+use Rattle.station_core.specs.declared.answer.ActFault.{ActFault}
+use Rattle.station_core.specs.declared.answer.ActFault.TheVariants as fault
+use Rattle.station_core.specs.declared.answer.Answer.TheVariants as answer
+use Rattle.station_core.specs.declared.input.Input.{Input}
+use Rattle.station_core.specs.Keeping.{Answers, MayLeave, IsMemoryOrStore, IsBrokenAfter}
+use Rattle.station_core.specs.Step.{State, step}
 use Rattle.http_desk.specs.declared.asking.Told.{Told}
 use Rattle.http_desk.specs.declared.asking.Told.TheVariants as told
 use Rattle.http_desk.specs.declared.wanted.Wanted.{Wanted}
+use Rattle.http_desk.specs.declared.wanted.Wanted.TheVariants as wanted
+use Rattle.http_desk.specs.Reply.{Reply, answer_reply, refusal_reply}
+use Rattle.http_desk.specs.Serving.{IsKept}
 use Rattle.http_desk.specs.Told.{IsToldAs, HasAsked}
 use Rattle.http_desk.specs.Wanted.{wanted_reply, wanted_state}
+use Rattle.http_desk.proofs.Refusals.{refused_stays}
 
--- a reply of JSON, where the state after it is kept
-pub asked_json : (s : State) (at : LocalMinute) (w : Wanted) (t : Told) (keeps : State → Type 0) (may_find : Option State → Type 0)
-    → IsToldAs (wanted_reply s at w) t → keeps (wanted_state s at w) → ((found : Option State) → may_find found → found ≡ Some (wanted_state s at w)) → HasAsked s at w t keeps may_find
-asked_json s at w (told.Json status text) keeps may_find is kept settled = (is.0, is.1 s, kept)
-asked_json s at w (told.Report name) keeps may_find is kept settled = absurd is
-asked_json s at w (told.Unavailable reopen) keeps may_find is kept settled = λ found finds. inr (settled found finds)
+-- a reply of JSON, where the state after it is the one before
+pub asked_json : (s : State) (at : LocalMinute) (w : Wanted) (t : Told) (broken : Bool) (keeps : State → Type 0) (may_find : Option State → Type 0)
+    → IsToldAs (wanted_reply s at w) t → wanted_state s at w ≡ s → IsKept broken keeps s → HasAsked s at w t broken keeps may_find
+asked_json s at w (told.Accepted count) broken keeps may_find is same kept = (is, subst (IsKept broken keeps) (sym same) kept)
+asked_json s at w (told.Json status text) broken keeps may_find is same kept = (is.0, is.1 s, same, kept)
+asked_json s at w (told.Report name) broken keeps may_find is same kept = absurd is
+asked_json s at w (told.Unavailable reopen) broken keeps may_find is same kept = inl kept
+
+-- an input that was refused
+pub asked_refused : (s : State) (at : LocalMinute) (i : Input) (refusal : Refusal) (t : Told) (broken : Bool) (keeps : State → Type 0) (may_find : Option State → Type 0)
+    → (step s i at).answer ≡ answer.Refused refusal → IsToldAs (refusal_reply refusal) t → IsKept broken keeps (step s i at).state → HasAsked s at (wanted.Input i) t broken keeps may_find
+asked_refused s at i refusal t broken keeps may_find is told kept =
+    let same : (step s i at).state ≡ s = refused_stays s i at refusal is in
+    asked_json s at (wanted.Input i) t broken keeps may_find (subst (λ (r : Reply). IsToldAs r t) (sym (ap answer_reply is)) told) same (subst (IsKept broken keeps) same kept)
+
+-- an input that wasn't answered
+pub asked_fault : (s : State) (at : LocalMinute) (i : Input) (e : ActFault) (reopen broken : Bool) (keeps : State → Type 0) (may_find : Option State → Type 0)
+    → IsMemoryOrStore e → IsBrokenAfter e broken → Answers s i at (Err e) keeps → ((found : Option State) → may_find found → MayLeave s i at (Err e) found)
+    → HasAsked s at (wanted.Input i) (told.Unavailable reopen) broken keeps may_find
+asked_fault s at i fault.Memory reopen broken keeps may_find is breaks kept leaves = inl (breaks, kept)
+asked_fault s at i fault.Store reopen broken keeps may_find is breaks kept leaves = inr (breaks, (i, refl, λ found finds. ⊎_elim (λ before. inl before) (λ after. inr after.1) (leaves found finds)))
+asked_fault s at i (fault.Refused refusal) reopen broken keeps may_find is breaks kept leaves = absurd is
+asked_fault s at i fault.Reopen reopen broken keeps may_find is breaks kept leaves = absurd is

@@ -1,12 +1,10 @@
 -- What is told for a request, once it went out, is its answer.
-use Rattle.std.proofs.Common.{◌≡◌, ◌∙◌, ap, sym, subst, refl, inl, inr, ⊎_elim, ℕ, Bool, Option, Some, Result, Ok, Err, List, [], ◌∷◌, ◌++◌, length, take, drop, string_bytes}
-use Rattle.std.specs.Prelude.{◌⊎◌, IfOk}
+use Rattle.std.proofs.Common.{◌≡◌, ◌∙◌, ap, sym, subst, refl, inl, inr, ⊎_elim, ℕ, Bool, Option, None, Result, Ok, Err, List, [], ◌∷◌, ◌++◌, length, take, drop, string_bytes}
+use Rattle.std.specs.Prelude.{IfOk}
 use Rattle.imp_fields.specs.Date.{LocalMinute}
 use Rattle.station_core.specs.Given.{Given}
 use Rattle.station_core.specs.Ends.{HasCause}
-use Rattle.station_core.specs.Step.{State, step}
-use Rattle.station_core.specs.declared.answer.Answer.{Answer}
-use Rattle.station_core.specs.declared.answer.Answer.TheVariants as answer
+use Rattle.station_core.specs.Step.{State}
 use Rattle.http_desk.specs.declared.wanted.Wanted.{Wanted}
 use Rattle.http_desk.specs.declared.wanted.Wanted.TheVariants as wanted
 use Rattle.http_desk.specs.Told.{HasAsked, tells_reopen}
@@ -18,9 +16,10 @@ use Rattle.http_desk.specs.declared.serve.Served.{Served}
 use Rattle.http_desk.specs.declared.serve.ServeFault.{ServeFault}
 use Rattle.http_desk.specs.declared.serve.ServeFault.TheVariants as serve
 use Rattle.http_desk.specs.Answer.{Replied}
-use Rattle.http_desk.specs.Reply.{report_head, IsWritten, answer_reply, status_of}
-use Rattle.http_desk.specs.Serving.{added, unavailable, SomeOrEach, IsAnswer, IsPartOut, IsNext, IsBeforeOrAfter, HasServed}
+use Rattle.http_desk.specs.Reply.{Reply, json_reply, ok_data, ok_answer, report_head}
+use Rattle.http_desk.specs.Serving.{added, unavailable, SomeOrEach, IsKept, IsUnchangedOrBroken, BeginsAs503, IsAnswer, IsPartOut, HasServed}
 use Rattle.http_desk.specs.Writing.{IsToldFor, HasSent, HasReported, HasWritten}
+use Rattle.http_desk.proofs.Beginnings.{ok_no_503, begins_as_503}
 use Rattle.http_desk.proofs.Reporting.{some_or_each}
 
 drop_front : (xs ys : List ℕ) → drop (length xs) (xs ++ ys) ≡ ys
@@ -32,14 +31,18 @@ pub added_is : (old new : Given) (bytes : List ℕ) → new.bytes ≡ old.bytes 
 added_is old new bytes e = ap (λ b. drop (length old.bytes) b) e ∙ drop_front old.bytes bytes
 
 -- what is kept and what may be found only shrinks while an answer is written
-module _ (s : State) (at : LocalMinute) (bytes : List ℕ) (old new : Given) (keeps : State → Type 0) (may_find : Option State → Type 0)
-    (still : State → Type 0) (finds : Option State → Type 0) (same : (t : State) → keeps t → still t) (fewer : (found : Option State) → finds found → may_find found)
-    (settled : (t : State) → still t → (found : Option State) → finds found → found ≡ Some t) where
+module _ (s : State) (at : LocalMinute) (bytes : List ℕ) (old new : Given) (broken now_broken : Bool) (keeps : State → Type 0) (may_find : Option State → Type 0)
+    (still : State → Type 0) (finds : Option State → Type 0) (breaks : now_broken ≡ broken) (same : (t : State) → keeps t → still t)
+    (fewer : (found : Option State) → finds found → may_find found) where
   abbrev Gives : ℕ → List ℕ → Type 0
-  Gives status out = IsAnswer s at bytes status out still finds
+  Gives status out = IsAnswer s at bytes status out now_broken still finds
 
-  unchanged : still s → IsBeforeOrAfter bytes s at finds
-  unchanged kept found is = inl (settled s kept found is)
+  kept_on : (t : State) → IsKept broken keeps t → IsKept now_broken still t
+  kept_on t (works, kept) = (breaks ∙ works, same t kept)
+
+  told_on : IsUnchangedOrBroken bytes s at broken keeps may_find → IsUnchangedOrBroken bytes s at now_broken still finds
+  told_on (inl kept) = inl (kept_on s kept)
+  told_on (inr (broke, (i, asks, states))) = inr (breaks ∙ broke, (i, asks, λ found is. states found (fewer found is)))
 
   -- an answer that went out
   sent_whole : (status : ℕ) (reopen : Bool) (out : List ℕ) (served : Served) → served ≡ record { status = status; reopen = reopen } → new.bytes ≡ old.bytes ++ out → Gives status out → Gives served.status (added old new)
@@ -49,42 +52,64 @@ module _ (s : State) (at : LocalMinute) (bytes : List ℕ) (old new : Given) (ke
   abbrev Out : Result Served ServeFault → Type 0
   Out (Ok served) = Gives served.status (added old new)
   Out (Err serve.Read) = ⊥
-  Out (Err (serve.Write sent)) = IsPartOut s at bytes sent old new still finds × HasCause old new
+  Out (Err (serve.Write sent)) = IsPartOut s at bytes sent old new now_broken still finds × HasCause old new
 
   sent : (status : ℕ) (reopen : Bool) (out : List ℕ) (r : Result Served ServeFault) → Gives status out → HasSent status reopen out old new r → Out r
   sent status reopen out (Ok served) answer (is, e) = sent_whole status reopen out served is e answer
   sent status reopen out (Err serve.Read) answer h = absurd h
   sent status reopen out (Err (serve.Write n)) answer (part, why) = (inl (status, out, answer, part), why)
 
-  no_answer : IsBeforeOrAfter bytes s at finds → Gives 503 unavailable
-  no_answer states = inr (inl (refl, refl), states)
+  no_answer : IsUnchangedOrBroken bytes s at now_broken still finds → Gives 503 unavailable
+  no_answer states = inr (inl (refl, refl, states))
 
-  reported : (name : Report) (r : Result Served ServeFault) → IsToldFor bytes s at (told.Report name) keeps may_find → HasReported s name old new r → Out r
-  reported name (Ok served) (gets, whole, kept) (inl (is, (text, are, e))) = sent_whole 200 _ (report_head ++ text) served is e (inl (s, whole text are, same s kept))
+  reported : (name : Report) (r : Result Served ServeFault) → IsToldFor bytes s at (told.Report name) broken keeps may_find → HasReported s name old new r → Out r
+  reported name (Ok served) (gets, whole, kept) (inl (is, (text, are, e))) = sent_whole 200 _ (report_head ++ text) served is e (inl (s, whole text are, kept_on s kept))
   reported name (Ok served) (gets, whole, kept) (inr (inl (is, part))) =
       let begun : SomeOrEach s name (λ text. (n : ℕ) × (added old new ≡ take n text)) = some_or_each s name (λ text. (n : ℕ) × (new.bytes ≡ old.bytes ++ take n text)) (λ text. (n : ℕ) × (added old new ≡ take n text)) (λ text p. (p.0, added_is old new (take p.0 text) p.1)) part in
-      let answer : Gives 200 (added old new) = inr (inr (name, gets, begun, refl), unchanged (same s kept)) in
+      let answer : Gives 200 (added old new) = inr (inr (name, gets, begun, refl, kept_on s kept)) in
       subst (λ (n : ℕ). Gives n (added old new)) (sym (ap (λ (v : Served). v.status) is)) answer
-  reported name (Ok served) (gets, whole, kept) (inr (inr (is, e))) = sent_whole 503 _ unavailable served is e (no_answer (unchanged (same s kept)))
+  reported name (Ok served) (gets, whole, kept) (inr (inr (is, e))) = sent_whole 503 _ unavailable served is e (no_answer (inl (kept_on s kept)))
   reported name (Err serve.Read) told h = absurd h
-  reported name (Err (serve.Write n)) (gets, whole, kept) h = (⊎_elim (λ part. inr (name, gets, same s kept, part)) (λ part. inl (503, unavailable, no_answer (unchanged (same s kept)), part)) h.0, h.1)
+  reported name (Err (serve.Write n)) (gets, whole, kept) h =
+      (⊎_elim (λ part. inr (name, gets, kept_on s kept, part)) (λ part. inl (503, unavailable, no_answer (inl (kept_on s kept)), part)) h.0, h.1)
 
-  written : (t : Told) (r : Result Served ServeFault) → IsToldFor bytes s at t keeps may_find → HasWritten t s old new r → Out r
-  written (told.Json status text) r (after, answers, kept) h = sent status _ (string_bytes text) r (inl (after, answers, same after kept)) h
+  written : (t : Told) (r : Result Served ServeFault) → IsToldFor bytes s at t broken keeps may_find → HasWritten t s old new r → Out r
+  written (told.Accepted count) r (after, answers, kept) h = sent 200 _ (ok_answer count) r (inl (after, answers, kept_on after kept)) h
+  written (told.Json status text) r (answers, kept) h = sent status _ (string_bytes text) r (inl (s, answers, kept_on s kept)) h
   written (told.Report name) r is h = reported name r is h
-  written (told.Unavailable reopen) r states h = sent 503 reopen unavailable r (no_answer (λ found is. states found (fewer found is))) h
+  written (told.Unavailable reopen) r states h = sent 503 reopen unavailable r (no_answer (told_on states)) h
 
-  of_out : (r : Result Served ServeFault) (before now : Given) → added before now ≡ bytes → Out r → HasServed s at before now old new still finds r
-  of_out (Ok served) before now is out = subst (λ (b : List ℕ). IsAnswer s at b served.status (added old new) still finds) (sym is) out
+  of_out : (r : Result Served ServeFault) (before now : Given) → added before now ≡ bytes → Out r → HasServed s at before now old new now_broken still finds r
+  of_out (Ok served) before now is out = subst (λ (b : List ℕ). IsAnswer s at b served.status (added old new) now_broken still finds) (sym is) out
   of_out (Err serve.Read) before now is out = absurd out
-  of_out (Err (serve.Write n)) before now is out = subst (λ (b : List ℕ). IsPartOut s at b n old new still finds × HasCause old new) (sym is) out
+  of_out (Err (serve.Write n)) before now is out = subst (λ (b : List ℕ). IsPartOut s at b n old new now_broken still finds × HasCause old new) (sym is) out
 
   -- what was served
-  pub served : (t : Told) (r : Result Served ServeFault) (before now : Given) → added before now ≡ bytes → IsToldFor bytes s at t keeps may_find → HasWritten t s old new r → HasServed s at before now old new still finds r
+  pub served : (t : Told) (r : Result Served ServeFault) (before now : Given) → added before now ≡ bytes → IsToldFor bytes s at t broken keeps may_find → HasWritten t s old new r
+      → HasServed s at before now old new now_broken still finds r
   served t r before now come is h = of_out r before now come (written t r is h)
+
+  -- 503 began: an accepted input isn't answered so, and nothing else changes a station that works
+  no_accepted : (count : ℕ) (reopen : Bool) (r : Result Served ServeFault) → HasSent 200 reopen (ok_answer count) old new r → ¬ (BeginsAs503 (added old new))
+  no_accepted count reopen (Ok served) (is, e) begins = ok_no_503 count (subst BeginsAs503 (added_is old new (ok_answer count) e) begins)
+  no_accepted count reopen (Err serve.Read) sent begins = sent
+  no_accepted count reopen (Err (serve.Write n)) (part, why) begins = ok_no_503 count (begins_as_503 n (ok_answer count) (subst BeginsAs503 (added_is old new (take n (ok_answer count)) part.1) begins))
+
+  gave_up : (t : Told) (r : Result Served ServeFault) → IsToldFor bytes s at t broken keeps may_find → HasWritten t s old new r → BeginsAs503 (added old new)
+      → IsUnchangedOrBroken bytes s at now_broken still finds
+  gave_up (told.Accepted count) r is h begins = absurd (no_accepted count _ r h begins)
+  gave_up (told.Json status text) r (answers, kept) h begins = inl (kept_on s kept)
+  gave_up (told.Report name) r (gets, whole, kept) h begins = inl (kept_on s kept)
+  gave_up (told.Unavailable reopen) r states h begins = told_on states
+
+  -- what 503 says of the station
+  pub unavailable_is : (t : Told) (r : Result Served ServeFault) (before now : Given) → added before now ≡ bytes → IsToldFor bytes s at t broken keeps may_find → HasWritten t s old new r
+      → BeginsAs503 (added old new) → IsUnchangedOrBroken (added before now) s at now_broken still finds
+  unavailable_is t r before now come is h begins = subst (λ (b : List ℕ). IsUnchangedOrBroken b s at now_broken still finds) (sym come) (gave_up t r is h begins)
 
 -- whether it is told to open the station again
 pub reopen_told : (t : Told) (s : State) (old new : Given) (r : Result Served ServeFault) → HasWritten t s old new r → IfOk r (λ v. v.reopen ≡ tells_reopen t)
+reopen_told (told.Accepted count) s old new (Ok v) (is, e) = ap (λ (v : Served). v.reopen) is
 reopen_told (told.Json status text) s old new (Ok v) (is, e) = ap (λ (v : Served). v.reopen) is
 reopen_told (told.Report name) s old new (Ok v) h = ⊎_elim (λ whole. ap (λ (v : Served). v.reopen) whole.0) (λ rest. ⊎_elim (λ part. ap (λ (v : Served). v.reopen) part.0) (λ none. ap (λ (v : Served). v.reopen) none.0) rest) h
 reopen_told (told.Unavailable reopen) s old new (Ok v) (is, e) = ap (λ (v : Served). v.reopen) is
@@ -96,36 +121,21 @@ ok_more (Err e) P Q more p = tt
 
 -- what was asked for a request is told for its bytes
 module _ (bytes : List ℕ) (s : State) (at : LocalMinute) where
-  written_answer : (a : Answer) → (out : List ℕ) × IsWritten s (answer_reply a) out
-  written_answer (answer.Done reply) = (_, refl)
-  written_answer (answer.Refused refusal) = (_, refl)
+  accepted_is : (reply : Reply) (next : State) (count : ℕ) → reply ≡ json_reply 200 None (ok_data count) → Replied s reply next 200 (ok_answer count) next
+  accepted_is reply next count is =
+      subst (λ (r : Reply). Replied s r next 200 (ok_answer count) next) (sym is) (record { status_is = refl; written = refl; state = refl })
 
-  next_of : (w : Wanted) (found : Option State) → Wants bytes w → found ≡ Some (wanted_state s at w) → (found ≡ Some s) ⊎ ((after : State) × IsNext bytes s at after × (found ≡ Some after))
-  next_of (wanted.Fault f) found wants is = inl is
-  next_of (wanted.Unreadable refusal) found wants is = inl is
-  next_of (wanted.Waybill w) found wants is = inl is
-  next_of (wanted.Holder w) found wants is = inl is
-  next_of (wanted.Report name) found wants is = inl is
-  next_of (wanted.Input i) found wants is =
-      let told = written_answer (step s i at).answer in
-      inr (
-        (step s i at).state,
-        (
-          status_of (answer_reply (step s i at).answer),
-          told.0,
-          wants.answered s at (status_of (answer_reply (step s i at).answer)) told.0 (step s i at).state (record { status_is = refl; written = told.1; state = refl }),
-        ),
-        is,
-      )
-
-  pub told_bytes : (w : Wanted) (t : Told) (keeps : State → Type 0) (may_find : Option State → Type 0) → Wants bytes w → HasAsked s at w t keeps may_find → IsToldFor bytes s at t keeps may_find
-  told_bytes w (told.Json status text) keeps may_find wants (is, written, kept) =
-      (wanted_state s at w, wants.answered s at status (string_bytes text) (wanted_state s at w) (record { status_is = is; written = written; state = refl }), kept)
-  told_bytes w (told.Report name) keeps may_find wants (is, kept) = (
+  pub told_bytes : (w : Wanted) (t : Told) (broken : Bool) (keeps : State → Type 0) (may_find : Option State → Type 0) → Wants bytes w → HasAsked s at w t broken keeps may_find → IsToldFor bytes s at t broken keeps may_find
+  told_bytes w (told.Accepted count) broken keeps may_find wants (is, kept) =
+      (wanted_state s at w, wants.answered s at 200 (ok_answer count) (wanted_state s at w) (accepted_is (wanted_reply s at w) (wanted_state s at w) count is), kept)
+  told_bytes w (told.Json status text) broken keeps may_find wants (is, written, same, kept) =
+      (wants.answered s at status (string_bytes text) s (record { status_is = is; written = written; state = sym same }), kept)
+  told_bytes w (told.Report name) broken keeps may_find wants (is, kept) = (
     wants.report name is,
     λ text are.
         let replied : Replied s (wanted_reply s at (wanted.Report name)) (wanted_state s at (wanted.Report name)) 200 (report_head ++ text) s = record { status_is = refl; written = (text, are, refl); state = refl } in
         wants.answered s at 200 (report_head ++ text) s (subst (λ (v : Wanted). Replied s (wanted_reply s at v) (wanted_state s at v) 200 (report_head ++ text) s) (sym is) replied),
     kept,
   )
-  told_bytes w (told.Unavailable reopen) keeps may_find wants asked = λ found finds. ⊎_elim (λ before. inl before) (λ after. next_of w found wants after) (asked found finds)
+  told_bytes w (told.Unavailable reopen) broken keeps may_find wants (inl kept) = inl kept
+  told_bytes w (told.Unavailable reopen) broken keeps may_find wants (inr (broke, (i, is, states))) = inr (broke, (i, wants.input i is, states))

@@ -1,10 +1,14 @@
+mod Accepting
 mod Arrived
 mod AskedJson
+mod Beginnings
+mod Begun
 mod Examples
 mod FieldLaws
 mod Heads
 mod Joining
 mod NoVerb
+mod Refusals
 mod Reporting
 mod Wanting
 mod WholeWaybill

@@ -44,12 +44,14 @@ pub waybill_wanted : (name : List ℕ) (w : ℕ) → ◌≡◌ {A = Option ℕ} 
 waybill_wanted name w e = record {
   answered = λ head rest s at status out after r. subst (λ reply. Replied s reply s status out after) (number_read (λ v. waybill_reply v (waybill_of s.cargo v)) (number_of name) w e) r;
   report = λ report is. cc is;
+  input = λ i is. cc is;
 }
 
 pub holder_wanted : (name : List ℕ) (w : ℕ) → ◌≡◌ {A = Option ℕ} (Some w) (result_ok (number_of name)) → WantsNow (looks_up (got_holder name)) (wanted.Holder w)
 holder_wanted name w e = record {
   answered = λ head rest s at status out after r. subst (λ reply. Replied s reply s status out after) (number_read (λ v. holder_reply v (s.cargo.holders v)) (number_of name) w e) r;
   report = λ report is. cc is;
+  input = λ i is. cc is;
 }
 
 pub no_waybill : (name : List ℕ) (f : FaultTold) → meant f ≡ fault 404 [] → ◌≡◌ {A = Option ℕ} None (result_ok (number_of name)) → WantsNow (looks_up (got_waybill name)) (wanted.Fault f)
@@ -57,6 +59,7 @@ no_waybill name f is e = record {
   answered = λ head rest s at status out after r.
       subst (λ reply. Replied s reply s status out after) (ap fault_reply is ∙ none_read (λ v. waybill_reply v (waybill_of s.cargo v)) (number_of name) e) r;
   report = λ report is. cc is;
+  input = λ i is. cc is;
 }
 
 pub no_holder : (name : List ℕ) (f : FaultTold) → meant f ≡ fault 404 [] → ◌≡◌ {A = Option ℕ} None (result_ok (number_of name)) → WantsNow (looks_up (got_holder name)) (wanted.Fault f)
@@ -64,6 +67,7 @@ no_holder name f is e = record {
   answered = λ head rest s at status out after r.
       subst (λ reply. Replied s reply s status out after) (ap fault_reply is ∙ none_read (λ v. holder_reply v (s.cargo.holders v)) (number_of name) e) r;
   report = λ report is. cc is;
+  input = λ i is. cc is;
 }
 
 report_of : Wanted → Report → Report
@@ -78,10 +82,12 @@ pub report_wanted : (name : Report) → WantsNow (looks_up (got_report name)) (w
 report_wanted name = record {
   answered = λ head rest s at status out after r. r;
   report = λ other is. ap (λ n. looks_up (got_report n)) (report_is name other is);
+  input = λ i is. cc is;
 }
 
 pub fault_wanted : (asks : HeadAsks) (f : FaultTold) → asks ≡ refuses (meant f) → WantsNow asks (wanted.Fault f)
 fault_wanted asks f is = record {
   answered = λ head rest s at status out after r. subst (λ (a : HeadAsks). IsAnsweredAs a head rest s at status out after) (sym is) r;
   report = λ report is. cc is;
+  input = λ i is. cc is;
 }

@@ -1,18 +1,19 @@
 -- What one connection leaves.
-use Rattle.std.specs.Prelude.{◌≡◌, ◌⊎◌, ℕ, Option, Some, None, Result, Ok, Err, List, [], ◌++◌, length, take, drop}
+use Rattle.std.specs.Prelude.{◌≡◌, ◌⊎◌, ℕ, ◌≤◌, Bool, true, false, Option, Some, None, Result, Ok, Err, List, [], ◌++◌, length, take, drop, codes}
 use Rattle.serde_json.specs.Written.{compact_text}
 use Rattle.imp_fields.specs.Date.{LocalMinute}
 use Rattle.station_core.specs.Given.{Given}
 use Rattle.station_core.specs.Ends.{Sent, HasCause}
-use Rattle.station_core.specs.Step.{State}
+use Rattle.station_core.specs.declared.input.Input.{Input}
+use Rattle.station_core.specs.Step.{State, accepted, step}
 use Rattle.http_desk.specs.declared.serve.Served.{Served}
 use Rattle.http_desk.specs.declared.serve.ServeFault.{ServeFault}
 use Rattle.http_desk.specs.declared.serve.ServeFault.TheVariants as serve
 use Rattle.http_desk.specs.declared.route.Report.{Report}
 use Rattle.http_desk.specs.Reply.{json_answer, refused_data, report_head, IsReport}
-use Rattle.httparse.specs.Grammar.{RequestHead}
-use Rattle.http_desk.specs.Routes.{got_report}
-use Rattle.http_desk.specs.Request.{looks_up, head_asks}
+use Rattle.httparse.specs.Grammar.{RequestHead, print_request}
+use Rattle.http_desk.specs.Routes.{Posted, got_report}
+use Rattle.http_desk.specs.Request.{looks_up, sends, head_asks, for_station, IsAsked}
 use Rattle.http_desk.specs.Answer.{head_of, HasHead, Answers}
 
 -- the bytes that were moved since
@@ -31,35 +32,70 @@ GetsReport bytes name = (h : RequestHead) × HasHead bytes h × (head_asks (head
 abbrev pub SomeOrEach : State → Report → (List ℕ → Type 0) → Type 0
 SomeOrEach s name P = ((text : List ℕ) × IsReport s name text × P (report_head ++ text)) ⊎ ((text : List ℕ) → IsReport s name text → P (report_head ++ text))
 
--- Where the keeper failed or memory was wanting: 503, or a beginning of the report that the request gets.
-abbrev pub IsExcuse : List ℕ → State → List ℕ → ℕ → Type 0
-IsExcuse bytes s out status =
-    ((out ≡ unavailable) × (status ≡ 503))
-    ⊎ ((name : Report) × GetsReport bytes name × SomeOrEach s name (λ whole. (n : ℕ) × (out ≡ take n whole)) × (status ≡ 200))
+-- The request asks this input of the station: its head sends a body, all of which has come, and the body says the input.
+pub record AsksInput (bytes : List ℕ) (i : Input) : Type 0 where
+  pub head : RequestHead
+  pub has : HasHead bytes head
+  pub posted : Posted
+  pub size : ℕ
+  pub is_sent : head_asks (head_of head) ≡ sends posted size
+  pub whole : size ≤ length (drop (length (print_request head)) bytes)
+  pub asked : IsAsked posted (head_of head).fields (take size (drop (length (print_request head)) bytes)) (for_station i)
 
--- a state that the request with these bytes leads to
-abbrev pub IsNext : List ℕ → State → LocalMinute → State → Type 0
-IsNext bytes s at after = (status : ℕ) × (out : List ℕ) × Answers bytes s at status out after
+-- the station works, and keeps this state
+abbrev pub IsKept : Bool → (State → Type 0) → State → Type 0
+IsKept broken keeps s = (broken ≡ false) × keeps s
 
--- then the state is the one before, or the one after the request
-abbrev pub IsBeforeOrAfter : List ℕ → State → LocalMinute → (Option State → Type 0) → Type 0
-IsBeforeOrAfter bytes s at may_find = (found : Option State) → may_find found → (found ≡ Some s) ⊎ ((after : State) × IsNext bytes s at after × (found ≡ Some after))
+-- The station broke at the very input that the request asks: a reopening finds the state before it, or the one after.
+abbrev pub IsBrokenAt : List ℕ → State → LocalMinute → Bool → (Option State → Type 0) → Type 0
+IsBrokenAt bytes s at broken may_find =
+    (broken ≡ true) × ((i : Input) × AsksInput bytes i × ((found : Option State) → may_find found → (found ≡ Some s) ⊎ (found ≡ Some (step s i at).state)))
+
+-- what 503 says of the station: it works and nothing has changed, or it broke at the request's input
+abbrev pub IsUnchangedOrBroken : List ℕ → State → LocalMinute → Bool → (State → Type 0) → (Option State → Type 0) → Type 0
+IsUnchangedOrBroken bytes s at broken keeps may_find = IsKept broken keeps s ⊎ IsBrokenAt bytes s at broken may_find
+
+-- In place of an answer: 503; or a beginning of the report that the request gets, and nothing has changed.
+abbrev pub IsExcuse : List ℕ → State → LocalMinute → List ℕ → ℕ → Bool → (State → Type 0) → (Option State → Type 0) → Type 0
+IsExcuse bytes s at out status broken keeps may_find =
+    ((out ≡ unavailable) × (status ≡ 503) × IsUnchangedOrBroken bytes s at broken keeps may_find)
+    ⊎ ((name : Report) × GetsReport bytes name × SomeOrEach s name (λ whole. (n : ℕ) × (out ≡ take n whole)) × (status ≡ 200) × IsKept broken keeps s)
 
 -- the answer to the bytes of a request, and what is kept after it
-abbrev pub IsAnswer : State → LocalMinute → List ℕ → ℕ → List ℕ → (State → Type 0) → (Option State → Type 0) → Type 0
-IsAnswer s at bytes status out keeps may_find = ((after : State) × Answers bytes s at status out after × keeps after) ⊎ (IsExcuse bytes s out status × IsBeforeOrAfter bytes s at may_find)
+abbrev pub IsAnswer : State → LocalMinute → List ℕ → ℕ → List ℕ → Bool → (State → Type 0) → (Option State → Type 0) → Type 0
+IsAnswer s at bytes status out broken keeps may_find =
+    ((after : State) × Answers bytes s at status out after × IsKept broken keeps after) ⊎ IsExcuse bytes s at out status broken keeps may_find
 
 -- so many bytes of an answer went out, since the writer failed or took none
-abbrev pub IsPartOut : State → LocalMinute → List ℕ → ℕ → Given → Given → (State → Type 0) → (Option State → Type 0) → Type 0
-IsPartOut s at bytes sent before after keeps may_find =
-    ((status : ℕ) × (out : List ℕ) × IsAnswer s at bytes status out keeps may_find × Sent before after out sent)
-    ⊎ ((name : Report) × GetsReport bytes name × keeps s × SomeOrEach s name (λ whole. Sent before after whole sent))
+abbrev pub IsPartOut : State → LocalMinute → List ℕ → ℕ → Given → Given → Bool → (State → Type 0) → (Option State → Type 0) → Type 0
+IsPartOut s at bytes sent before after broken keeps may_find =
+    ((status : ℕ) × (out : List ℕ) × IsAnswer s at bytes status out broken keeps may_find × Sent before after out sent)
+    ⊎ ((name : Report) × GetsReport bytes name × IsKept broken keeps s × SomeOrEach s name (λ whole. Sent before after whole sent))
 
 -- It was written whole, with its status told; or its first bytes, so many as are told, since the writer failed or took none. At a
 -- writer's fault the keeper keeps the state after it, also where no byte went out.
-abbrev pub HasServed : State → LocalMinute → Given → Given → Given → Given → (State → Type 0) → (Option State → Type 0) → Result Served ServeFault → Type 0
-HasServed s at read_before read_after before after keeps may_find (Ok served) =
-    IsAnswer s at (added read_before read_after) served.status (added before after) keeps may_find
-HasServed s at read_before read_after before after keeps may_find (Err serve.Read) = keeps s
-HasServed s at read_before read_after before after keeps may_find (Err (serve.Write sent)) =
-    IsPartOut s at (added read_before read_after) sent before after keeps may_find × HasCause before after
+abbrev pub HasServed : State → LocalMinute → Given → Given → Given → Given → Bool → (State → Type 0) → (Option State → Type 0) → Result Served ServeFault → Type 0
+HasServed s at read_before read_after before after broken keeps may_find (Ok served) =
+    IsAnswer s at (added read_before read_after) served.status (added before after) broken keeps may_find
+HasServed s at read_before read_after before after broken keeps may_find (Err serve.Read) = IsKept broken keeps s
+HasServed s at read_before read_after before after broken keeps may_find (Err (serve.Write sent)) =
+    IsPartOut s at (added read_before read_after) sent before after broken keeps may_find × HasCause before after
+
+-- Once an answer has begun.
+
+-- the request is a POST
+abbrev pub IsPosted : List ℕ → Type 0
+IsPosted bytes = (h : RequestHead) × HasHead bytes h × (h.method ≡ codes "POST")
+
+-- the bytes begin as each 200 does, and as no other answer
+abbrev pub BeginsAs200 : List ℕ → Type 0
+BeginsAs200 out = (rest : List ℕ) × (out ≡ codes "HTTP/1.1 2" ++ rest)
+
+-- the bytes begin as 503 does, and as no other answer
+abbrev pub BeginsAs503 : List ℕ → Type 0
+BeginsAs503 out = (rest : List ℕ) × (out ≡ codes "HTTP/1.1 5" ++ rest)
+
+-- the request asks an input that is accepted, and a reopening finds the state after its step
+abbrev pub IsAfterStep : List ℕ → State → LocalMinute → (Option State → Type 0) → Type 0
+IsAfterStep bytes s at may_find =
+    (i : Input) × AsksInput bytes i × ((count : ℕ) × ((step s i at).answer ≡ accepted count)) × ((found : Option State) → may_find found → found ≡ Some (step s i at).state)

@@ -2,6 +2,7 @@
 use Rattle.std.specs.Prelude.{◌≡◌, ℕ, List, Option}
 use Rattle.imp_fields.specs.Date.{LocalMinute}
 use Rattle.station_core.specs.Readers.{waybill_of}
+use Rattle.station_core.specs.declared.input.Input.{Input}
 use Rattle.station_core.specs.Step.{State, step}
 use Rattle.http_desk.specs.declared.route.Report.{Report}
 use Rattle.http_desk.specs.declared.wanted.Post.{Post}
@@ -12,10 +13,10 @@ use Rattle.http_desk.specs.declared.wanted.HeadWants.{HeadWants}
 use Rattle.http_desk.specs.declared.wanted.HeadWants.TheVariants as wants
 use Rattle.http_desk.specs.Fields.{meant}
 use Rattle.http_desk.specs.Routes.{Posted, posted_command, posted_telegram, got_report}
-use Rattle.http_desk.specs.Request.{Head, HeadAsks, BodyAsks, looks_up, sends, IsAskedUnder}
+use Rattle.http_desk.specs.Request.{Head, HeadAsks, BodyAsks, looks_up, sends, for_station, IsAskedUnder}
 use Rattle.http_desk.specs.Reply.{Reply, report_reply, fault_reply, refusal_reply, answer_reply, waybill_reply, holder_reply, body_reply, body_state}
 use Rattle.http_desk.specs.Answer.{Replied, IsAnsweredAs, Answers}
-use Rattle.http_desk.specs.Serving.{GetsReport}
+use Rattle.http_desk.specs.Serving.{AsksInput, GetsReport}
 
 -- the reply to it, and the state after it
 abbrev pub wanted_reply : State → LocalMinute → Wanted → Reply
@@ -30,16 +31,19 @@ abbrev pub wanted_state : State → LocalMinute → Wanted → State
 wanted_state s at (wanted.Input i) = (step s i at).state
 wanted_state s at _ = s
 
--- The request with these bytes is answered by the reply to what it wants, and a report is wanted only where it is got.
+-- The request with these bytes is answered by the reply to what it wants; a report is wanted only where it is got, and an input only
+-- where it is asked.
 pub record Wants (bytes : List ℕ) (w : Wanted) : Type 0 where
   pub answered : (s : State) (at : LocalMinute) (status : ℕ) (out : List ℕ) (after : State) → Replied s (wanted_reply s at w) (wanted_state s at w) status out after → Answers bytes s at status out after
   pub report : (name : Report) → w ≡ wanted.Report name → GetsReport bytes name
+  pub input : (i : Input) → w ≡ wanted.Input i → AsksInput bytes i
 
 -- the same of what a head asks that sends no body
 pub record WantsNow (asks : HeadAsks) (w : Wanted) : Type 0 where
   pub answered : (head : Head) (rest : List ℕ) (s : State) (at : LocalMinute) (status : ℕ) (out : List ℕ) (after : State)
       → Replied s (wanted_reply s at w) (wanted_state s at w) status out after → IsAnsweredAs asks head rest s at status out after
   pub report : (name : Report) → w ≡ wanted.Report name → asks ≡ looks_up (got_report name)
+  pub input : (i : Input) → w ≡ wanted.Input i → ⊥
 
 -- what is posted
 abbrev pub posted_of : Post → Posted
@@ -56,6 +60,7 @@ pub record WantsAsked (asks : BodyAsks) (w : Wanted) : Type 0 where
   pub reply : (s : State) (at : LocalMinute) → wanted_reply s at w ≡ body_reply s at asks
   pub state : (s : State) (at : LocalMinute) → wanted_state s at w ≡ body_state s at asks
   pub report : (name : Report) → w ≡ wanted.Report name → ⊥
+  pub input : (i : Input) → w ≡ wanted.Input i → asks ≡ for_station i
 
 -- what a body asks is wanted
 abbrev pub BodyWants : Posted → Option (List ℕ) → List ℕ → Wanted → Type 0

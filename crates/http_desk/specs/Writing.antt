@@ -14,15 +14,18 @@ use Rattle.http_desk.specs.declared.route.Report.TheVariants as report
 use Rattle.http_desk.specs.declared.serve.Served.{Served}
 use Rattle.http_desk.specs.declared.serve.ServeFault.{ServeFault}
 use Rattle.http_desk.specs.declared.serve.ServeFault.TheVariants as serve
-use Rattle.http_desk.specs.Reply.{report_head, IsReport}
+use Rattle.http_desk.specs.Reply.{ok_answer, report_head, IsReport}
 use Rattle.http_desk.specs.Answer.{Answers}
-use Rattle.http_desk.specs.Serving.{unavailable, GetsReport, SomeOrEach, IsBeforeOrAfter}
+use Rattle.http_desk.specs.Serving.{unavailable, GetsReport, SomeOrEach, IsKept, IsUnchangedOrBroken}
 
--- what is told for the request with these bytes is its answer, and the state after it is kept
-abbrev pub IsToldFor : List ℕ → State → LocalMinute → Told → (State → Type 0) → (Option State → Type 0) → Type 0
-IsToldFor bytes s at (told.Json status text) keeps may_find = (after : State) × Answers bytes s at status (string_bytes text) after × keeps after
-IsToldFor bytes s at (told.Report name) keeps may_find = GetsReport bytes name × ((text : List ℕ) → IsReport s name text → Answers bytes s at 200 (report_head ++ text) s) × keeps s
-IsToldFor bytes s at (told.Unavailable reopen) keeps may_find = IsBeforeOrAfter bytes s at may_find
+-- What is told for the request with these bytes is its answer, and the state after it is kept. It is another only where an input was
+-- accepted.
+abbrev pub IsToldFor : List ℕ → State → LocalMinute → Told → Bool → (State → Type 0) → (Option State → Type 0) → Type 0
+IsToldFor bytes s at (told.Accepted count) broken keeps may_find = (after : State) × Answers bytes s at 200 (ok_answer count) after × IsKept broken keeps after
+IsToldFor bytes s at (told.Json status text) broken keeps may_find = Answers bytes s at status (string_bytes text) s × IsKept broken keeps s
+IsToldFor bytes s at (told.Report name) broken keeps may_find =
+    GetsReport bytes name × ((text : List ℕ) → IsReport s name text → Answers bytes s at 200 (report_head ++ text) s) × IsKept broken keeps s
+IsToldFor bytes s at (told.Unavailable reopen) broken keeps may_find = IsUnchangedOrBroken bytes s at broken keeps may_find
 
 -- the bytes went out, or their beginning
 abbrev pub HasSent : ℕ → Bool → List ℕ → Given → Given → Result Served ServeFault → Type 0
@@ -49,6 +52,7 @@ HasReported s name old new (Err (serve.Write sent)) = (SomeOrEach s name (λ who
 
 -- what is told went out
 abbrev pub HasWritten : Told → State → Given → Given → Result Served ServeFault → Type 0
+HasWritten (told.Accepted count) s old new r = HasSent 200 false (ok_answer count) old new r
 HasWritten (told.Json status text) s old new r = HasSent status false (string_bytes text) old new r
 HasWritten (told.Report name) s old new r = HasReported s name old new r
 HasWritten (told.Unavailable reopen) s old new r = HasSent 503 reopen unavailable old new r

@@ -3,7 +3,7 @@ ghost use Rattle.std.specs.Prelude.{◌≡◌, IfOk, string_bytes, option_map};
 ghost use Rattle.http.specs.StatusCode.{IsStatusCode};
 ghost use Rattle.serde_json.specs.View.{view};
 ghost use Rattle.serde_json.specs.Written.{compact_text};
-ghost use Rattle.http_desk.specs.Reply.{status_line, allow_line, json_fields, json_answer, report_head, refused_data, ok_data, pair_data, holding_data, holder_data, holder_word, holder_name, waybill_data};
+ghost use Rattle.http_desk.specs.Reply.{status_line, allow_line, json_fields, json_answer, report_head, refused_data, pair_data, holding_data, holder_data, holder_word, holder_name, waybill_data};
 ghost use Rattle.serde_json.specs.Data.{boolean, string};
 ghost use Rattle.http_desk.specs.Members.{first_members, second_members, third_members, last_members};
 
@@ -74,13 +74,6 @@ pub(crate) fn refused_text(alloc: Global, refused: u16, detail: &str) -> Result<
     ensures { IfOk result (λ text. string_bytes text ≡ compact_text (refused_data refused detail.now)) }
 {
     json!(in alloc; {"detail": detail, "refused": refused})?.to_string(alloc)
-}
-
-/// The body of a reply.
-pub(crate) fn ok_text(alloc: Global, count: u32) -> Result<String, AllocError>
-    ensures { IfOk result (λ text. string_bytes text ≡ compact_text (ok_data count)) }
-{
-    json!(in alloc; {"count": count, "reply": "ok"})?.to_string(alloc)
 }
 
 fn holder_word(holder: &Holder) -> &'static str

@@ -4,14 +4,13 @@ ghost use Rattle.http.specs.StatusCode.{IsStatusCode};
 ghost use Rattle.serde_json.specs.Data.{Data};
 ghost use Rattle.serde_json.specs.Written.{compact_text};
 ghost use Rattle.station_core.specs.Step.{State};
-ghost use Rattle.station_core.specs.declared.input.Input.{Input as AnyInput};
 ghost use Rattle.http_desk.specs.Told.{IsToldAs, HasAsked, tells_reopen};
 ghost use Rattle.imp_fields.specs.Date.{LocalMinute};
 ghost use Rattle.station_core.specs.Texts.{detail_text};
 ghost use Rattle.http_desk.specs.Fields.{meant};
-ghost use Rattle.http_desk.specs.Reply.{refused_data, json_reply, fault_reply, refusal_status, refusal_reply, answer_reply, waybill_reply, holder_reply};
+ghost use Rattle.http_desk.specs.Reply.{refused_data, json_reply, fault_reply, refusal_status, refusal_reply, waybill_reply, holder_reply};
 
-use crate::answer::{holder_text, json_answer, ok_text, refused_text, waybill_text};
+use crate::answer::{holder_text, json_answer, refused_text, waybill_text};
 use crate::fault::FaultTold;
 use crate::head::NOT_FOUND;
 use crate::route::Report;
@@ -26,7 +25,9 @@ use std::alloc::{AllocError, Global};
 /// What is to be written.
 #[derive(Drop)]
 pub(crate) enum Told {
-    /// An answer of JSON: its status and its bytes.
+    /// An input was accepted, with this count. Its answer wants no memory.
+    Accepted(u32),
+    /// Another answer of JSON: its status and its bytes.
     Json(u16, String),
     /// A report, which is read while it is written.
     Report(Report),
@@ -91,16 +92,6 @@ fn refusal_told(alloc: Global, refusal: &Refusal) -> Told
     json_told(alloc, refusal_status(refusal.number), None, body)
 }
 
-/// The answer to an input.
-fn answer_told(alloc: Global, answer: &Answer) -> Told
-    ensures { IsToldAs (answer_reply answer.now) result }
-{
-    match answer {
-        Answer::Done(reply) => json_told(alloc, 200, None, ok_text(alloc, reply.count)),
-        Answer::Refused(refusal) => refusal_told(alloc, refusal),
-    }
-}
-
 /// The answer that tells who holds a number.
 fn holder_told(alloc: Global, number: &Awb, holder: &Option<Holder>) -> Told
     ensures { IsToldAs (holder_reply number.now holder.now) result }
@@ -125,8 +116,8 @@ fn waybill_told(alloc: Global, number: &Awb, waybill: &Option<Waybill>) -> Told
 fn ask_holder<K: Keeper>(alloc: Global, keeper: &mut K, number: &Awb) -> Told
     ensures sound { K.is_sound keeper.new → K.is_sound keeper.old }
     ensures breaks { K.is_broken keeper.new ≡ K.is_broken keeper.old }
-    ensures asked { (s : State) (at : LocalMinute) → K.keeps keeper.old s → K.is_sound keeper.new
-        → HasAsked s at (Wanted.Holder number.now) result (K.keeps keeper.new) (K.may_find keeper.new) }
+    ensures asked { (s : State) (at : LocalMinute) → K.keeps keeper.old s → K.is_broken keeper.old ≡ false → K.is_sound keeper.new
+        → HasAsked s at (Wanted.Holder number.now) result (K.is_broken keeper.new) (K.keeps keeper.new) (K.may_find keeper.new) }
     ensures reopen { tells_reopen result ≡ K.is_broken keeper.new }
 {
     match keeper.holder(number) {
@@ -139,8 +130,8 @@ fn ask_holder<K: Keeper>(alloc: Global, keeper: &mut K, number: &Awb) -> Told
 fn ask_waybill<K: Keeper>(alloc: Global, keeper: &mut K, number: &Awb) -> Told
     ensures sound { K.is_sound keeper.new → K.is_sound keeper.old }
     ensures breaks { K.is_broken keeper.new ≡ K.is_broken keeper.old }
-    ensures asked { (s : State) (at : LocalMinute) → K.keeps keeper.old s → K.is_sound keeper.new
-        → HasAsked s at (Wanted.Waybill number.now) result (K.keeps keeper.new) (K.may_find keeper.new) }
+    ensures asked { (s : State) (at : LocalMinute) → K.keeps keeper.old s → K.is_broken keeper.old ≡ false → K.is_sound keeper.new
+        → HasAsked s at (Wanted.Waybill number.now) result (K.is_broken keeper.new) (K.keeps keeper.new) (K.may_find keeper.new) }
     ensures reopen { tells_reopen result ≡ K.is_broken keeper.new }
 {
     match keeper.waybill(number) {
@@ -151,24 +142,23 @@ fn ask_waybill<K: Keeper>(alloc: Global, keeper: &mut K, number: &Awb) -> Told
 
 /// Hands the station an input.
 fn ask_input<K: Keeper>(alloc: Global, keeper: &mut K, input: &Input<'_>, at: Moment) -> Told
-    requires { K.takes input.now }
     ensures sound { K.is_sound keeper.new → K.is_sound keeper.old }
     ensures asked { (s : State) → K.keeps keeper.old s → K.is_broken keeper.old ≡ false → K.is_sound keeper.new
-        → HasAsked s at (Wanted.Input input.now) result (K.keeps keeper.new) (K.may_find keeper.new) }
+        → HasAsked s at (Wanted.Input input.now) result (K.is_broken keeper.new) (K.keeps keeper.new) (K.may_find keeper.new) }
     ensures reopen { tells_reopen result ≡ K.is_broken keeper.new }
 {
     match answer_one(keeper, input, at) {
-        Ok(answer) => answer_told(alloc, &answer),
+        Ok(Answer::Done(reply)) => Told::Accepted(reply.count),
+        Ok(Answer::Refused(refusal)) => refusal_told(alloc, &refusal),
         Err(fault) => Told::Unavailable(fault != ActFault::Memory),
     }
 }
 
 /// Asks the station for what is wanted. A report is left to be read while it is written.
 pub(crate) fn ask<K: Keeper>(alloc: Global, keeper: &mut K, wanted: &Wanted<'_>, at: Moment) -> Told
-    requires { (input : AnyInput) → K.takes input }
     ensures sound { K.is_sound keeper.new → K.is_sound keeper.old }
     ensures asked { (s : State) → K.keeps keeper.old s → K.is_broken keeper.old ≡ false → K.is_sound keeper.new
-        → HasAsked s at wanted.now result (K.keeps keeper.new) (K.may_find keeper.new) }
+        → HasAsked s at wanted.now result (K.is_broken keeper.new) (K.keeps keeper.new) (K.may_find keeper.new) }
     ensures told { K.is_broken keeper.old ≡ false → tells_reopen result ≡ K.is_broken keeper.new }
 {
     match wanted {

@@ -1,6 +1,7 @@
 //! The desk of a station over HTTP.
 #![tactic(auto)]
 
+mod accepted;
 mod answer;
 mod asked;
 mod asking;

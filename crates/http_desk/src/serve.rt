@@ -1,11 +1,10 @@
 //! One connection.
 ghost use Rattle.std.specs.Prelude.{◌≡◌, false, Err, IfOk};
 ghost use Rattle.station_core.specs.Step.{State};
-ghost use Rattle.station_core.specs.declared.input.Input.{Input as AnyInput};
 ghost use Rattle.http_desk.specs.Told.{tells_reopen};
 ghost use Rattle.http_desk.specs.Came.{HasRequest};
 ghost use Rattle.http_desk.specs.Reading.{HasEndedEarly};
-ghost use Rattle.http_desk.specs.Serving.{HasServed};
+ghost use Rattle.http_desk.specs.Serving.{added, HasServed, IsPosted, BeginsAs200, BeginsAs503, IsAfterStep, IsUnchangedOrBroken};
 ghost use Rattle.http_desk.specs.Writing.{IsToldFor};
 
 use crate::asking::{Told, ask};
@@ -36,10 +35,9 @@ pub enum ServeFault {
 /// Asks the station for what a request wants that has come.
 fn told_for<K: Keeper>(alloc: Global, keeper: &mut K, bytes: &[u8], came: Came, at: Moment) -> Told
     requires request { HasRequest bytes.now came }
-    requires takes { (input : AnyInput) → K.takes input }
     ensures sound { K.is_sound keeper.new → K.is_sound keeper.old }
     ensures told { (s : State) → K.keeps keeper.old s → K.is_broken keeper.old ≡ false → K.is_sound keeper.new
-        → IsToldFor bytes.now s at result (K.keeps keeper.new) (K.may_find keeper.new) }
+        → IsToldFor bytes.now s at result (K.is_broken keeper.new) (K.keeps keeper.new) (K.may_find keeper.new) }
     ensures tells { K.is_broken keeper.old ≡ false → tells_reopen result ≡ K.is_broken keeper.new }
 {
     match wanted(alloc, bytes, came) {
@@ -56,7 +54,6 @@ pub fn serve_one<K: Keeper, I: ByteIn, O: ByteOut>(
     writer: &mut O,
     at: Moment,
 ) -> Result<Served, ServeFault>
-    requires { (input : AnyInput) → K.takes input }
     ensures sound { K.is_sound keeper.new → K.is_sound keeper.old }
 
     // Reading ended: nothing was written, nothing was changed.
@@ -65,7 +62,18 @@ pub fn serve_one<K: Keeper, I: ByteIn, O: ByteOut>(
 
     // The answer to the bytes that were read, or a beginning of it; and the keeper keeps the state after it.
     ensures served { (s : State) → K.keeps keeper.old s → K.is_broken keeper.old ≡ false → K.is_sound keeper.new
-        → HasServed s at (I.given reader.old) (I.given reader.new) (O.taken writer.old) (O.taken writer.new) (K.keeps keeper.new) (K.may_find keeper.new) result }
+        → HasServed s at (I.given reader.old) (I.given reader.new) (O.taken writer.old) (O.taken writer.new)
+        (K.is_broken keeper.new) (K.keeps keeper.new) (K.may_find keeper.new) result }
+
+    // Once a 200 to a POST has begun, a reopening finds the state after that step, and no other.
+    ensures begun { (s : State) → K.keeps keeper.old s → K.is_broken keeper.old ≡ false → K.is_sound keeper.new
+        → IsPosted (added (I.given reader.old) (I.given reader.new)) → BeginsAs200 (added (O.taken writer.old) (O.taken writer.new))
+        → IsAfterStep (added (I.given reader.old) (I.given reader.new)) s at (K.may_find keeper.new) }
+
+    // Once 503 has begun, the station works and nothing has changed, or it broke at the very input that the request asks.
+    ensures unavailable { (s : State) → K.keeps keeper.old s → K.is_broken keeper.old ≡ false → K.is_sound keeper.new
+        → BeginsAs503 (added (O.taken writer.old) (O.taken writer.new))
+        → IsUnchangedOrBroken (added (I.given reader.old) (I.given reader.new)) s at (K.is_broken keeper.new) (K.keeps keeper.new) (K.may_find keeper.new) }
 
     // It tells to open the station again exactly where this connection broke it.
     ensures told { (s : State) → K.keeps keeper.old s → K.is_broken keeper.old ≡ false → K.is_sound keeper.new

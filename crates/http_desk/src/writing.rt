@@ -2,11 +2,13 @@
 ghost use Rattle.std.specs.Prelude.{◌≡◌, true, false, Err};
 ghost use Rattle.station_core.specs.Keeping.{IsReadersFault, OnlyReads};
 ghost use Rattle.station_core.specs.Step.{State};
+ghost use Rattle.http_desk.specs.Reply.{ok_answer};
 ghost use Rattle.http_desk.specs.Serving.{unavailable};
 ghost use Rattle.http_desk.specs.Writing.{HasSent, HasEndedReport, HasReported, HasWritten};
 ghost use Rattle.reports.specs.Ended.{IsReopen};
 ghost use Rattle.http_desk.specs.declared.route.Report.{Report as AnyReport};
 
+use crate::accepted::{ROOM, put_accepted};
 use crate::answer::report_head;
 use crate::asking::Told;
 use crate::route::Report;
@@ -42,6 +44,15 @@ fn send_answer<O: ByteOut>(
         Ok(()) => Ok(Served { status, reopen }),
         Err(sent) => Err(ServeFault::Write { sent: sent as u64 }),
     }
+}
+
+/// Writes the answer to an accepted input.
+fn send_accepted<O: ByteOut>(writer: &mut O, count: u32) -> Result<Served, ServeFault>
+    ensures { HasSent 200 false (ok_answer count) (O.taken writer.old) (O.taken writer.new) result }
+{
+    let mut room = [0; ROOM];
+    let len = put_accepted(&mut room, count);
+    send_answer(writer, 200, &room[..len], false)
 }
 
 /// Writes a report behind its head, while it is read.
@@ -124,6 +135,7 @@ pub(crate) fn write_told<K: Keeper, O: ByteOut>(
     ensures read { result ≡ Err ServeFault.Read → ⊥ }
 {
     match told {
+        Told::Accepted(count) => send_accepted(writer, *count),
         Told::Json(status, text) => send_answer(writer, *status, text.as_bytes(), false),
         Told::Report(report) => write_report(alloc, keeper, writer, *report),
         Told::Unavailable(reopen) => send_answer(writer, 503, unavailable(), *reopen),

@@ -5,8 +5,12 @@ use Rattle.http_desk.specs.declared.serve.Served.{Served}
 use Rattle.http_desk.specs.Serving.{added}
 use Rattle.http_desk.specs.Told.{tells_reopen}
 use Rattle.http_desk.specs.Writing.{IsToldFor}
-use Rattle.http_desk.proofs.Joining.{added_is, served, reopen_told, ok_more}
+use Rattle.http_desk.proofs.Begun.{begun}
+use Rattle.http_desk.proofs.Joining.{added_is, served, unavailable_is, reopen_told, ok_more}
 use Rattle.http_desk.proofs.serve.serve_one.Goals as goal
+
+swapped : {A B : Type 0} → A × B → B × A
+swapped (a, b) = (b, a)
 
 pub returns-in-Ok-clause-served : goal.returns-in-Ok-clause-served
 returns-in-Ok-clause-served g c = λ s kept works sound.
@@ -18,10 +22,10 @@ returns-in-Ok-clause-served g c = λ s kept works sound.
     let now = g.I.ByteIn.given c.read_request.new.reader in
     let given = c.told_for-told.ensures.told s kept works (reads.sound sound) in
     let writes = c.write_told.ensures.written s
-    (λ name is. ((subst (λ (t : Told). IsToldFor bytes s c.args.at t (g.K.Keeper.keeps mid) (g.K.Keeper.may_find mid)) is given).2, sym (c.told_for-told.ensures.tells works) ∙ ap tells_reopen is))
+    (λ name is. swapped (subst (λ (t : Told). IsToldFor bytes s c.args.at t (g.K.Keeper.is_broken mid) (g.K.Keeper.keeps mid) (g.K.Keeper.may_find mid)) is given).2)
     sound in
-    served s c.args.at bytes (g.O.ByteOut.taken c.args.writer.now) (g.O.ByteOut.taken c.write_told.new.writer) (g.K.Keeper.keeps mid) (g.K.Keeper.may_find mid) (g.K.Keeper.keeps new) (g.K.Keeper.may_find new)
-    (λ t is. reads.same t is sound) (λ found finds. reads.leaves sound found finds) (λ t is found finds. g.met.K.Keeper.settled new t is sound found finds)
+    served s c.args.at bytes (g.O.ByteOut.taken c.args.writer.now) (g.O.ByteOut.taken c.write_told.new.writer) (g.K.Keeper.is_broken mid) (g.K.Keeper.is_broken new) (g.K.Keeper.keeps mid) (g.K.Keeper.may_find mid) (g.K.Keeper.keeps new) (g.K.Keeper.may_find new)
+    reads.breaks (λ t is. reads.same t is sound) (λ found finds. reads.leaves sound found finds)
     c.told_for-told.result c.write_told.result before now
     (added_is before now bytes (c.in-Ok.ensures.come ∙ ap (λ (b : List ℕ). before.bytes ++ b) (sym c.as_slice.ensures.value)))
     given writes
@@ -34,7 +38,7 @@ returns-in-Ok-clause-told g c = λ s kept works sound.
     let bytes : List ℕ = c.as_slice.result.now in
     let given = c.told_for-told.ensures.told s kept works (reads.sound sound) in
     let writes = c.write_told.ensures.written s
-    (λ name is. ((subst (λ (t : Told). IsToldFor bytes s c.args.at t (g.K.Keeper.keeps mid) (g.K.Keeper.may_find mid)) is given).2, sym (c.told_for-told.ensures.tells works) ∙ ap tells_reopen is))
+    (λ name is. swapped (subst (λ (t : Told). IsToldFor bytes s c.args.at t (g.K.Keeper.is_broken mid) (g.K.Keeper.keeps mid) (g.K.Keeper.may_find mid)) is given).2)
     sound in
     ok_more c.write_told.result (λ (v : Served). v.reopen ≡ tells_reopen c.told_for-told.result) (λ (v : Served). v.reopen ≡ g.K.Keeper.is_broken new)
     (λ v is. is ∙ c.told_for-told.ensures.tells works ∙ sym reads.breaks)
@@ -47,10 +51,10 @@ returns-in-Err-Memory-clause-served g c = λ s kept works sound.
     let reads = c.write_told-in-Err-Memory.ensures.reads in
     let before = g.I.ByteIn.given c.args.reader.now in
     let now = g.I.ByteIn.given c.read_request.new.reader in
-    served s c.args.at (added before now) (g.O.ByteOut.taken c.args.writer.now) (g.O.ByteOut.taken c.write_told-in-Err-Memory.new.writer) (g.K.Keeper.keeps mid) (g.K.Keeper.may_find mid) (g.K.Keeper.keeps new) (g.K.Keeper.may_find new)
-    (λ t is. reads.same t is sound) (λ found finds. reads.leaves sound found finds) (λ t is found finds. g.met.K.Keeper.settled new t is sound found finds)
+    served s c.args.at (added before now) (g.O.ByteOut.taken c.args.writer.now) (g.O.ByteOut.taken c.write_told-in-Err-Memory.new.writer) (g.K.Keeper.is_broken mid) (g.K.Keeper.is_broken new) (g.K.Keeper.keeps mid) (g.K.Keeper.may_find mid) (g.K.Keeper.keeps new) (g.K.Keeper.may_find new)
+    reads.breaks (λ t is. reads.same t is sound) (λ found finds. reads.leaves sound found finds)
     (told.Unavailable false) c.write_told-in-Err-Memory.result before now refl
-    (λ found finds. inl (g.met.K.Keeper.settled mid s kept (reads.sound sound) found finds))
+    (inl (works, kept))
     (c.write_told-in-Err-Memory.ensures.written s (λ name is. cc is) sound)
 
 pub returns-in-Err-Memory-clause-told : goal.returns-in-Err-Memory-clause-told
@@ -60,3 +64,40 @@ returns-in-Err-Memory-clause-told g c = λ s kept works sound.
     ok_more c.write_told-in-Err-Memory.result (λ (v : Served). v.reopen ≡ false) (λ (v : Served). v.reopen ≡ g.K.Keeper.is_broken new)
     (λ v is. is ∙ sym works ∙ sym reads.breaks)
     (reopen_told (told.Unavailable false) s (g.O.ByteOut.taken c.args.writer.now) (g.O.ByteOut.taken c.write_told-in-Err-Memory.new.writer) c.write_told-in-Err-Memory.result (c.write_told-in-Err-Memory.ensures.written s (λ name is. cc is) sound))
+
+pub returns-in-Ok-clause-begun : goal.returns-in-Ok-clause-begun
+returns-in-Ok-clause-begun g c = λ s kept works sound.
+    let new = c.write_told.new.keeper in
+    begun s c.args.at (g.I.ByteIn.given c.args.reader.now) (g.I.ByteIn.given c.read_request.new.reader) (g.O.ByteOut.taken c.args.writer.now) (g.O.ByteOut.taken c.write_told.new.writer)
+    (g.K.Keeper.is_broken new) (g.K.Keeper.keeps new) (g.K.Keeper.may_find new) (λ t is found finds. g.met.K.Keeper.settled new t is sound found finds)
+    c.write_told.result (λ is. absurd (c.write_told.ensures.read is)) (returns-in-Ok-clause-served g c s kept works sound)
+
+pub returns-in-Err-Memory-clause-begun : goal.returns-in-Err-Memory-clause-begun
+returns-in-Err-Memory-clause-begun g c = λ s kept works sound.
+    let new = c.write_told-in-Err-Memory.new.keeper in
+    begun s c.args.at (g.I.ByteIn.given c.args.reader.now) (g.I.ByteIn.given c.read_request.new.reader) (g.O.ByteOut.taken c.args.writer.now) (g.O.ByteOut.taken c.write_told-in-Err-Memory.new.writer)
+    (g.K.Keeper.is_broken new) (g.K.Keeper.keeps new) (g.K.Keeper.may_find new) (λ t is found finds. g.met.K.Keeper.settled new t is sound found finds)
+    c.write_told-in-Err-Memory.result (λ is. absurd (c.write_told-in-Err-Memory.ensures.read is)) (returns-in-Err-Memory-clause-served g c s kept works sound)
+
+pub returns-in-Ok-clause-unavailable : goal.returns-in-Ok-clause-unavailable
+returns-in-Ok-clause-unavailable g c = λ s kept works sound begins.
+    let mid = c.told_for-told.new.keeper in
+    let new = c.write_told.new.keeper in
+    let reads = c.write_told.ensures.reads in
+    let bytes : List ℕ = c.as_slice.result.now in
+    let before = g.I.ByteIn.given c.args.reader.now in
+    let now = g.I.ByteIn.given c.read_request.new.reader in
+    let given = c.told_for-told.ensures.told s kept works (reads.sound sound) in
+    let writes = c.write_told.ensures.written s
+    (λ name is. swapped (subst (λ (t : Told). IsToldFor bytes s c.args.at t (g.K.Keeper.is_broken mid) (g.K.Keeper.keeps mid) (g.K.Keeper.may_find mid)) is given).2)
+    sound in
+    unavailable_is s c.args.at bytes (g.O.ByteOut.taken c.args.writer.now) (g.O.ByteOut.taken c.write_told.new.writer) (g.K.Keeper.is_broken mid) (g.K.Keeper.is_broken new) (g.K.Keeper.keeps mid) (g.K.Keeper.may_find mid) (g.K.Keeper.keeps new) (g.K.Keeper.may_find new)
+    reads.breaks (λ t is. reads.same t is sound) (λ found finds. reads.leaves sound found finds)
+    c.told_for-told.result c.write_told.result before now
+    (added_is before now bytes (c.in-Ok.ensures.come ∙ ap (λ (b : List ℕ). before.bytes ++ b) (sym c.as_slice.ensures.value)))
+    given writes begins
+
+pub returns-in-Err-Memory-clause-unavailable : goal.returns-in-Err-Memory-clause-unavailable
+returns-in-Err-Memory-clause-unavailable g c = λ s kept works sound begins.
+    let reads = c.write_told-in-Err-Memory.ensures.reads in
+    inl (reads.breaks ∙ works, reads.same s kept sound)

@@ -1,0 +1,171 @@
+-- Once a 200 to a POST has begun.
+use Rattle.std.proofs.Common.{arith, ◌≡◌, ◌∙◌, ap, sym, subst, refl, inl, inr, ℕ, ◌≤◌, Bool, true, false, nat_le, Option, Some, None, Result, Ok, Err, List, [], ◌∷◌, ◌++◌, length, take, drop, codes}
+use Rattle.std.specs.Prelude.{◌==◌, ◌||◌, if◌then◌else◌}
+use Rattle.std.specs.Str.{bytes_eq}
+use Rattle.serde_json.specs.Written.{compact_text}
+use Rattle.shipment_machine.specs.declared.plans.Refusal.{Refusal}
+use Rattle.station_core.specs.Texts.{detail_text}
+use Rattle.httparse.specs.Grammar.{RequestHead, print_request}
+use Rattle.imp_fields.specs.Date.{LocalMinute}
+use Rattle.station_core.specs.Given.{Given}
+use Rattle.station_core.specs.declared.answer.Answer.{Answer}
+use Rattle.station_core.specs.declared.answer.Answer.TheVariants as answer
+use Rattle.station_core.specs.Step.{State, accepted, step}
+use Rattle.http_desk.specs.declared.route.Report.{Report}
+use Rattle.http_desk.specs.declared.serve.Served.{Served}
+use Rattle.http_desk.specs.declared.serve.ServeFault.{ServeFault}
+use Rattle.http_desk.specs.declared.serve.ServeFault.TheVariants as serve
+use Rattle.http_desk.specs.Routes.{Posted, posted_command, posted_telegram, Got, Place, posts, gets, place_of}
+use Rattle.http_desk.specs.Request.{Head, Fault, fault, wrong_method, HeadAsks, refuses, looks_up, sends, sends_body, place_asks, head_asks, body_length, length_beside, length_among, within_length, length_told, key_of, values_of, BodyAsks, bad_body, unreadable, for_station, IsAskedUnder, IsAsked}
+use Rattle.http_desk.specs.Reply.{refused_data, answer_reply, refusal_status, body_reply, body_state, IsWritten}
+use Rattle.http_desk.specs.Answer.{head_of, HasHead, Replied, IsAnsweredAs}
+use Rattle.http_desk.specs.Serving.{added, GetsReport, IsAnswer, IsPartOut, HasServed, IsPosted, BeginsAs200, IsAfterStep}
+use Rattle.http_desk.proofs.Arrived.{one_head}
+use Rattle.http_desk.proofs.Beginnings.{first_byte, IsNo200, no_400, no_404, no_405, no_409, no_411, no_413, no_503, begins_as_200}
+use Rattle.http_desk.proofs.Joining.{added_is}
+
+if_no : (b : Bool) (m n : ℕ) → IsNo200 m → IsNo200 n → IsNo200 (if b then m else n)
+if_no true m n first second = first
+if_no false m n first second = second
+
+no_refusal : (n : ℕ) → IsNo200 (refusal_status n)
+no_refusal n = if_no ((n == 301) || (n == 302)) 400 409 no_400 no_409
+
+-- What a head asks: what it refuses is no 200, and only a GET looks up.
+
+abbrev IsTold : List ℕ → HeadAsks → Type 0
+IsTold method (refuses f) = IsNo200 f.status
+IsTold method (looks_up got) = bytes_eq method (codes "GET") ≡ true
+IsTold method (sends posted n) = Unit {0}
+
+abbrev IsLength : Result ℕ Fault → Type 0
+IsLength (Ok n) = Unit {0}
+IsLength (Err f) = IsNo200 f.status
+
+within_told : (n : ℕ) (b : Bool) → IsLength (if b then Ok n else Err (fault 413 []))
+within_told n true = tt
+within_told n false = no_413
+
+in_told : (told : Option ℕ) → IsLength (within_length told)
+in_told None = no_400
+in_told (Some n) = within_told n (nat_le n 65_536)
+
+among_told : (values : List (List ℕ)) → IsLength (length_among values)
+among_told [] = no_411
+among_told (value ∷ []) = in_told (length_told value)
+among_told (value ∷ other ∷ values) = no_400
+
+beside_told : (encodings lengths : List (List ℕ)) → IsLength (length_beside encodings lengths)
+beside_told [] lengths = among_told lengths
+beside_told (encoding ∷ encodings) lengths = no_411
+
+body_told : (method : List ℕ) (posted : Posted) (r : Result ℕ Fault) → IsLength r → IsTold method (sends_body posted r)
+body_told method posted (Ok n) told = tt
+body_told method posted (Err f) told = told
+
+post_told : (b : Bool) (method : List ℕ) (asks : HeadAsks) → IsTold method asks → IsTold method (if b then asks else refuses (wrong_method (codes "POST")))
+post_told true method asks told = told
+post_told false method asks told = no_405
+
+get_told : (b : Bool) (method : List ℕ) (got : Got) → bytes_eq method (codes "GET") ≡ b → IsTold method (if b then looks_up got else refuses (wrong_method (codes "GET")))
+get_told true method got is = is
+get_told false method got is = no_405
+
+place_told : (head : Head) (place : Option Place) → IsTold head.method (place_asks head place)
+place_told head None = no_404
+place_told head (Some (posts posted)) =
+    post_told (bytes_eq head.method (codes "POST")) head.method (sends_body posted (body_length head.fields))
+    (body_told head.method posted (body_length head.fields) (beside_told (values_of (codes "transfer-encoding") head.fields) (values_of (codes "content-length") head.fields)))
+place_told head (Some (gets got)) = get_told (bytes_eq head.method (codes "GET")) head.method got refl
+
+head_told : (head : Head) → IsTold head.method (head_asks head)
+head_told head = place_told head (place_of head.target)
+
+no_get : (method : List ℕ) → method ≡ codes "POST" → ¬ (bytes_eq method (codes "GET") ≡ true)
+no_get method is e = never (ap (λ m. bytes_eq m (codes "GET")) (sym is) ∙ e)
+  where
+    never : ¬ (bytes_eq (codes "POST") (codes "GET") ≡ true)
+    never e = cc e
+
+-- a bad body is no 200
+abbrev IsBodyTold : BodyAsks → Type 0
+IsBodyTold (bad_body f) = IsNo200 f.status
+IsBodyTold _ = Unit {0}
+
+asked_told : (posted : Posted) (key : Option (List ℕ)) (body : List ℕ) (asks : BodyAsks) → IsAskedUnder posted key body asks → IsBodyTold asks
+asked_told (posted_command verb) None body asks is = subst IsBodyTold (sym is) no_400
+asked_told (posted_command verb) (Some key) body asks (inl (command, said, is)) = subst IsBodyTold (sym is) tt
+asked_told (posted_command verb) (Some key) body asks (inr (none, is)) = subst IsBodyTold (sym is) no_400
+asked_told posted_telegram key body asks (inl (t, means, is)) = subst IsBodyTold (sym is) tt
+asked_told posted_telegram key body asks (inr (told, why, is)) = subst IsBodyTold (sym is) tt
+
+-- the bodies of faults and refusals
+abbrev fault_body : Fault → List ℕ
+fault_body f = compact_text (refused_data f.status f.word)
+
+abbrev refusal_body : Refusal → List ℕ
+refusal_body refusal = compact_text (refused_data refusal.number (detail_text refusal.detail))
+
+-- an answer that begins as a 200 does accepts
+accepts : (s : State) (out : List ℕ) (given a : Answer) → given ≡ a → IsWritten s (answer_reply a) out → BeginsAs200 out → (count : ℕ) × (given ≡ accepted count)
+accepts s out given (answer.Done reply) is written begun = (reply.count, is)
+accepts s out given (answer.Refused refusal) is written (rest, e) = absurd (no_refusal refusal.number None (refusal_body refusal) (rest, sym written ∙ e))
+
+append_none : (xs : List ℕ) → xs ++ [] ≡ xs
+append_none [] = refl
+append_none (x ∷ xs) = ap (λ ys. x ∷ ys) (append_none xs)
+
+nothing_begins : (rest : List ℕ) → ¬ ([] ≡ codes "HTTP/1.1 2" ++ rest)
+nothing_begins rest e = nothing (ap first_byte e)
+  where
+    nothing : ¬ (◌≡◌ {A = ℕ} 0 72)
+    nothing e = omega (arith, e)
+
+module _ (s : State) (at : LocalMinute) (bytes : List ℕ) (broken : Bool) (keeps : State → Type 0) (may_find : Option State → Type 0)
+    (settled : (t : State) → keeps t → (found : Option State) → may_find found → found ≡ Some t) where
+  abbrev behind : RequestHead → List ℕ
+  behind h = drop (length (print_request h)) bytes
+
+  -- what a body that came says
+  sent_begun : (h : RequestHead) → HasHead bytes h → (posted : Posted) (n : ℕ) → head_asks (head_of h) ≡ sends posted n → n ≤ length (behind h)
+      → (asks : BodyAsks) → IsAsked posted (head_of h).fields (take n (behind h)) asks → (status : ℕ) (out : List ℕ) (after : State)
+      → Replied s (body_reply s at asks) (body_state s at asks) status out after → keeps after → BeginsAs200 out → IsAfterStep bytes s at may_find
+  sent_begun h has posted n is whole (bad_body f) asked status out after r kept (rest, e) =
+      absurd (asked_told posted (key_of (head_of h).fields) (take n (behind h)) (bad_body f) asked f.allow (fault_body f) (rest, sym r.written ∙ e))
+  sent_begun h has posted n is whole (unreadable refusal) asked status out after r kept (rest, e) = absurd (no_refusal refusal.number None (refusal_body refusal) (rest, sym r.written ∙ e))
+  sent_begun h has posted n is whole (for_station i) asked status out after r kept begun = (
+    i,
+    record { head = h; has = has; posted = posted; size = n; is_sent = is; whole = whole; asked = asked },
+    accepts s out (step s i at).answer (step s i at).answer refl r.written begun,
+    λ found finds. settled (step s i at).state (subst keeps r.state kept) found finds,
+  )
+
+  answered : (h : RequestHead) → HasHead bytes h → h.method ≡ codes "POST" → (asks : HeadAsks) → head_asks (head_of h) ≡ asks → (status : ℕ) (out : List ℕ) (after : State)
+      → IsAnsweredAs asks (head_of h) (behind h) s at status out after → keeps after → BeginsAs200 out → IsAfterStep bytes s at may_find
+  answered h has post (refuses f) is status out after r kept (rest, e) = absurd (subst (IsTold h.method) is (head_told (head_of h)) f.allow (fault_body f) (rest, sym r.written ∙ e))
+  answered h has post (looks_up got) is status out after r kept begun = absurd (no_get h.method post (subst (IsTold h.method) is (head_told (head_of h))))
+  answered h has post (sends posted n) is status out after r kept begun = sent_begun h has posted n is r.whole r.asks r.asked status out after r.replied kept begun
+
+  no_report : (name : Report) → GetsReport bytes name → ¬ (IsPosted bytes)
+  no_report name (k, also, looks) (h, has, post) =
+      no_get k.method (ap (λ (g : RequestHead). g.method) (one_head bytes k h also has) ∙ post) (subst (IsTold k.method) looks (head_told (head_of k)))
+
+  posted_whole : (status : ℕ) (out : List ℕ) → IsAnswer s at bytes status out broken keeps may_find → IsPosted bytes → BeginsAs200 out → IsAfterStep bytes s at may_find
+  posted_whole status out (inl (after, answers, (works, kept))) (h, has, post) begun = answered h has post (head_asks (head_of h)) refl status out after (answers.head h has) kept begun
+  posted_whole status out (inr (inl (is, told, states))) posted (more, e) = absurd (no_503 None (compact_text (refused_data 503 [])) (more, sym is ∙ e))
+  posted_whole status out (inr (inr (name, found, part, told, kept))) posted begun = absurd (no_report name found posted)
+
+  posted_part : (sent : ℕ) (old new : Given) → IsPartOut s at bytes sent old new broken keeps may_find → IsPosted bytes → BeginsAs200 (added old new) → IsAfterStep bytes s at may_find
+  posted_part sent old new (inl (status, out, answer, part)) posted begun =
+      posted_whole status out answer posted (begins_as_200 sent out (subst BeginsAs200 (added_is old new (take sent out) part.1) begun))
+  posted_part sent old new (inr (name, found, kept, part)) posted begun = absurd (no_report name found posted)
+
+pub begun : (s : State) (at : LocalMinute) (before now old new : Given) (broken : Bool) (keeps : State → Type 0) (may_find : Option State → Type 0)
+    → ((t : State) → keeps t → (found : Option State) → may_find found → found ≡ Some t) → (r : Result Served ServeFault) → (r ≡ Err serve.Read → new ≡ old)
+    → HasServed s at before now old new broken keeps may_find r → IsPosted (added before now) → BeginsAs200 (added old new) → IsAfterStep (added before now) s at may_find
+begun s at before now old new broken keeps may_find settled (Ok served) none is posted begins =
+    posted_whole s at (added before now) broken keeps may_find settled served.status (added old new) is posted begins
+begun s at before now old new broken keeps may_find settled (Err serve.Read) none is posted (rest, e) =
+    absurd (nothing_begins rest (sym (added_is old new [] (ap (λ (g : Given). g.bytes) (none refl) ∙ sym (append_none old.bytes))) ∙ e))
+begun s at before now old new broken keeps may_find settled (Err (serve.Write sent)) none (is, why) posted begins =
+    posted_part s at (added before now) broken keeps may_find settled sent old new is posted begins

@@ -1,0 +1,66 @@
+//! The answer to an accepted input. It is written into an array on the stack, so that nothing that wants memory stands between the act
+//! and the first byte of the 200.
+ghost use Rattle.std.specs.Prelude.{◌≡◌, ◌+◌, ◌≤◌, ◌<◌, ◌++◌, ◌∷◌, [], length, take, decimal};
+ghost use Rattle.serde_json.specs.Written.{compact_text};
+ghost use Rattle.http_desk.specs.Reply.{ok_data, ok_answer};
+
+/// The room of the body: `{"count":4294967295,"reply":"ok"}` is the longest.
+const BODY_ROOM: usize = 33;
+
+/// The room of the answer.
+pub(crate) const ROOM: usize = 128;
+
+/// What stands in front of the body's length.
+const FRONT: &str = "HTTP/1.1 200 OK\r\nContent-Type: application/json\r\nContent-Length: ";
+
+/// What stands between the body's length and the body.
+const BEHIND: &str = "\r\nConnection: close\r\n\r\n";
+
+/// Writes bytes at a place, and answers the place behind them.
+fn put(out: &mut [u8], at: usize, bytes: &[u8]) -> usize
+    requires { at + length bytes.now ≤ length out.old }
+    ensures place { result ≡ at + length bytes.now }
+    ensures text { take result out.new ≡ take at out.old ++ bytes.now }
+{
+    let end = at + bytes.len();
+    out[at..end].copy_from_slice(bytes);
+    end
+}
+
+/// Writes a number without leading zeros at a place, and answers the place behind it.
+#[tactic(auto, using(std::proofs::lemmas::Fmt::decimal_digit))]
+fn put_decimal(out: &mut [u8], at: usize, number: u32) -> usize
+    requires { at + length (decimal number) ≤ length out.old }
+    ensures place { result ≡ at + length (decimal number) }
+    ensures text { take result out.new ≡ take at out.old ++ decimal number }
+{
+    let last = [b'0' + (number % 10) as u8];
+    if number < 10 {
+        return put(out, at, &last);
+    }
+    let at = put_decimal(out, at, number / 10);
+    put(out, at, &last)
+}
+
+/// Writes the body to the front of a buffer, and answers how many bytes it has.
+fn put_body(out: &mut [u8; BODY_ROOM], count: u32) -> usize
+    ensures bound { result ≤ 33 }
+    ensures text { take result out.new ≡ compact_text (ok_data count) }
+{
+    let at = put(out, 0, b"{\"count\":");
+    let at = put_decimal(out, at, count);
+    put(out, at, b",\"reply\":\"ok\"}")
+}
+
+/// Writes the answer to an accepted input of that count to the front of a buffer, and answers how many bytes it has.
+pub(crate) fn put_accepted(out: &mut [u8; ROOM], count: u32) -> usize
+    ensures bound { result ≤ 128 }
+    ensures text { take result out.new ≡ ok_answer count }
+{
+    let mut body = [0; BODY_ROOM];
+    let len = put_body(&mut body, count);
+    let at = put(out, 0, FRONT.as_bytes());
+    let at = put_decimal(out, at, len as u32);
+    let at = put(out, at, BEHIND.as_bytes());
+    put(out, at, &body[..len])
+}
