@@ -1,0 +1,4 @@
+pub mod AnySchema
+pub mod RawLemmas
+pub mod WholeLemmas
+pub mod TableLemmas

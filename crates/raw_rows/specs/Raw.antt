@@ -1,0 +1,59 @@
+-- The rows of a table of any database, found by the names of the table and of its columns, as SQL finds them.
+use Rattle.std.specs.Prelude.{◌==◌, ℕ, zero, suc, List, [], ◌∷◌, map, take, slice_get, Option, Some, None, option_map, option_and_then, if◌then◌else◌, false}
+use Rattle.std.specs.List.Sorted.{IsSorted}
+use Rattle.std.specs.declared.cmp.Ordering.{Ordering}
+use Rattle.sqlite.specs.Collation.TheVariants.{Binary}
+use Rattle.sqlite_value.specs.Keys.{collation_code}
+use Rattle.sqlite_value.specs.declared.keys.Key.{Key}
+use Rattle.sqlite.specs.Order.{Row, column}
+use Rattle.sqlite_sql.specs.Query.{key_cmp}
+use Rattle.sqlite.specs.Tree.{Trees}
+use Rattle.sqlite.specs.Table.{Table}
+use Rattle.sqlite.specs.Schema.{Schema}
+use Rattle.sqlite.specs.Effect.{Database}
+use Rattle.sqlite_schema.specs.Names.{table_named, column_named, place_of}
+
+-- the table of this name
+abbrev pub table_by_name : Schema → List ℕ → Option Table
+table_by_name schema name = option_and_then (slice_get schema.tables) (table_named schema name)
+
+-- where a row has the value of a column: the rowid at 0
+abbrev pub place_by_name : Table → List ℕ → Option ℕ
+place_by_name table name =
+    option_and_then (λ at. option_and_then (λ c. if collation_code c.collation == 0 then Some (place_of table at) else None) (slice_get table.columns at)) (column_named table name)
+
+-- the places of these columns, where the table has each of them, in the collation BINARY
+abbrev pub places_by_name : Table → List (List ℕ) → Option (List ℕ)
+places_by_name table [] = Some []
+places_by_name table (name ∷ names) = option_and_then (λ place. option_map (λ places. place ∷ places) (places_by_name table names)) (place_by_name table name)
+
+-- what is found under a name
+pub data Found : Type 0 where
+  no_table : Found
+  no_column : Found
+  -- the values of the columns, for each row
+  rows_of : List Row → Found
+
+abbrev pub found_in : Trees → Table → Option (List ℕ) → Found
+found_in trees table None = no_column
+found_in trees table (Some places) = rows_of (map (λ r. map (column r) places) (trees table.tree))
+
+abbrev pub found_at : Trees → List (List ℕ) → Option Table → Found
+found_at trees names None = no_table
+found_at trees names (Some table) = found_in trees table (places_by_name table names)
+
+abbrev pub found : Database → List ℕ → List (List ℕ) → Found
+found db name names = found_at db.trees names (table_by_name db.schema name)
+
+-- so many columns, each rising in the order of SQLite's values
+abbrev pub rising_keys : ℕ → List Key
+rising_keys zero = []
+rising_keys (suc n) = record { collation = Binary; descending = false } ∷ rising_keys n
+
+-- the order of two rows by so many first columns
+abbrev pub key_order : ℕ → Row → Row → Ordering
+key_order n a b = key_cmp 0 (rising_keys n) (take n a) (take n b)
+
+-- the rows in the order of their first columns
+abbrev pub AreInOrder : ℕ → List Row → Type 0
+AreInOrder n = IsSorted (key_order n)

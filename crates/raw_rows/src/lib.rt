@@ -1,0 +1,11 @@
+//! Tables of any database, whatever its schema: each is found by the names of the table and of its columns, read
+//! by one query, and told as typed rows in the order of their keys, or told to be none.
+#![tactic(auto)]
+
+mod query;
+mod tables;
+mod values;
+
+pub use query::table_rows;
+pub use tables::{KeyedTable, found_rows, held_once};
+pub use values::{number, words};

@@ -1,0 +1,138 @@
+ghost use Rattle.std.specs.Prelude.{◌≡◌, ◌≢◌, ◌<◌, ◌≤◌, ◌+◌, true, false, ℕ, List, map, take, length, IsTrue, IfOk, IfSome, Ok, None};
+ghost use Rattle.std.specs.Ordering.{is_lt};
+ghost use Rattle.std.specs.List.{AllByRecursion};
+ghost use Rattle.std.specs.declared.cmp.Ordering.{Ordering};
+ghost use Rattle.sqlite.specs.Order.{Row as Values};
+ghost use Rattle.sqlite.specs.State.{Survives};
+ghost use Rattle.sqlite.specs.Effect.{Database};
+ghost use Rattle.sqlite.specs.Held.{state};
+ghost use Rattle.raw_rows.specs.Selects.{IsSelect};
+ghost use Rattle.raw_rows.specs.Whole.{AreLawful, AreRowsOf, HoldsTable, IsBelowNext, Agrees, FindsTable};
+
+use crate::query::table_rows;
+use sqlite::{Alter, Connection, Error, Row};
+use std::alloc::Global;
+
+/// How a table's rows are typed, and the order of their keys.
+pub trait KeyedTable {
+    /// A typed row.
+    type Row: Drop;
+
+    /// What a row stands for.
+    ghost Entry: { Type 0 };
+
+    ghost meant: { Self.Row → Entry };
+
+    /// The values of its columns, key first, and back.
+    ghost to_row: { Entry → Values };
+
+    ghost from_row: { Values → Entry };
+
+    /// The order of the keys.
+    ghost cmp: { Entry → Entry → Ordering };
+
+    /// Its texts are texts.
+    ghost IsLawful: { Entry → Type 0 };
+
+    /// The row that the values are, if they are one. An error is want of memory.
+    fn typed(alloc: Global, row: &Row) -> Result<Option<Self::Row>, Error>
+        ensures some { IfOk result (λ o. IfSome o (λ r. row.now ≡ to_row (meant r))) }
+        ensures lawful { IfOk result (λ o. IfSome o (λ r. IsLawful (meant r))) }
+        ensures none { result ≡ Ok None → (e : Entry) → IsLawful e → row.now ≢ to_row e };
+
+    /// Whether the key of the row is below that of the next one.
+    fn is_below(row: &Self::Row, next: &Self::Row) -> bool
+        ensures { result ≡ is_lt (cmp (meant row.now) (meant next.now)) };
+
+    ghost back: { (e : Entry) → from_row (to_row e) ≡ e };
+}
+
+/// The typed rows that the rows are, if each is one. An error is want of memory.
+fn typed_rows<T: KeyedTable>(alloc: Global, rows: &[Row]) -> Result<Option<Vec<T::Row>>, Error>
+    ensures some { IfOk result (λ o. IfSome o (λ all. rows.now ≡ map T.to_row (map T.meant all.items))) }
+    ensures lawful { IfOk result (λ o. IfSome o (λ all. AllByRecursion T.IsLawful (map T.meant all.items))) }
+    ensures none { result ≡ Ok None → (entries : List T.Entry) → AllByRecursion T.IsLawful entries
+        → rows.now ≢ map T.to_row entries }
+{
+    let mut all = Vec::new(alloc);
+    for row in rows {
+        match T::typed(alloc, row)? {
+            Some(next) => all.push(next)?,
+            None => return Ok(None),
+        }
+    }
+    Ok(Some(all))
+}
+
+/// Whether each key is below the next.
+fn rises<T: KeyedTable>(rows: &[T::Row]) -> bool
+    ensures up { IsTrue result → (k : ℕ) → k + 1 < length rows.now → IsBelowNext T.meant T.cmp rows.now k }
+    ensures falls { result ≡ false
+        → (k : ℕ) × (k + 1 < length rows.now) × ¬ IsBelowNext T.meant T.cmp rows.now k }
+{
+    for at in 1..rows.len() {
+        if !T::is_below(&rows[at - 1], &rows[at]) {
+            return false;
+        }
+    }
+    true
+}
+
+/// The typed rows that the rows are, if each is one and the keys rise. An error is want of memory.
+fn ordered_rows<T: KeyedTable>(
+    alloc: Global,
+    rows: &[Row],
+    keys: usize,
+) -> Result<Option<Vec<T::Row>>, Error>
+    requires agrees { Agrees keys T.to_row T.cmp }
+    ensures some { IfOk result (λ o. IfSome o (λ all.
+        AreRowsOf T.to_row (AreLawful T.cmp T.IsLawful) rows.now (map T.meant all.items))) }
+    ensures none { result ≡ Ok None → (entries : List T.Entry)
+        → ¬ AreRowsOf T.to_row (AreLawful T.cmp T.IsLawful) rows.now entries }
+{
+    let Some(all) = typed_rows::<T>(alloc, rows)? else {
+        return Ok(None);
+    };
+    if rises::<T>(&all) {
+        Ok(Some(all))
+    } else {
+        Ok(None)
+    }
+}
+
+/// A table of any database as typed rows in the order of their keys, which are so many of its first columns,
+/// by the text that selects the columns. Nothing where no typed rows are held: the table or a column is
+/// missing, a value is of another type or a text that is no UTF-8, or a key stands twice. The connection is
+/// open. On error memory is out or the database could not be read: nothing was done, or the transaction that
+/// was open is undone.
+pub fn found_rows<S: Alter, T: KeyedTable>(
+    alloc: Global,
+    conn: &mut Connection<S>,
+    text: &str,
+    name: &str,
+    columns: &[&str],
+    keys: usize,
+) -> Result<Option<Vec<T::Row>>, Error>
+    requires few { keys ≤ length columns.now }
+    requires selects { let names = map (λ n. n.now) columns.now in
+        IsSelect text.now name.now names (take keys names) }
+    requires agrees { Agrees keys T.to_row T.cmp }
+    ensures read { FindsTable S.Store conn.old conn.new result T.meant
+        (λ db. HoldsTable db name.now (map (λ n. n.now) columns.now) T.to_row (AreLawful T.cmp T.IsLawful)) }
+    ensures survives { Survives (state S.Store conn.old) (state S.Store conn.new) (λ _. ⊥) }
+{
+    let Some(rows) = table_rows(conn, text, name, columns, keys)? else {
+        return Ok(None);
+    };
+    ordered_rows::<T>(alloc, &rows, keys)
+}
+
+/// A database holds one list of entries at most.
+pub fn held_once<T: KeyedTable>(keys: usize)
+    requires agrees { Agrees keys T.to_row T.cmp }
+    ensures once { (db : Database) (name : List ℕ) (columns : List (List ℕ)) (xs ys : List T.Entry)
+        → HoldsTable db name columns T.to_row (AreLawful T.cmp T.IsLawful) xs
+        → HoldsTable db name columns T.to_row (AreLawful T.cmp T.IsLawful) ys → xs ≡ ys }
+{
+    let _keys = keys;
+}
