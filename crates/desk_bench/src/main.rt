@@ -2,6 +2,7 @@
 //! `data/`.
 #![tactic(auto)]
 
+mod cargo;
 mod messages;
 mod mixed;
 mod planning;
@@ -53,6 +54,9 @@ const OTHERS: [(Work, &str); 4] = [
     (Work::PlanDeparture, "departure of 500 waybills planned"),
     (Work::PlanManifest, "FFM of 500 lines planned"),
 ];
+
+/// How many moves the stations over tables have on which cargo is measured.
+const MOVES: [u32; 4] = [1_000, 10_000, 40_000, 100_000];
 
 /// Does the work, and tells how often; nothing where it couldn't be done.
 fn done(alloc: Global, work: Work, text: &[u8]) -> Option<Done> {
@@ -108,6 +112,9 @@ fn measure_all(rt: &HostRuntime) -> Result<(), io::Error> {
     }
     for (work, what) in OTHERS {
         measure(rt, what, work, b"")?;
+    }
+    for moves in MOVES {
+        cargo::measure(rt, moves)?;
     }
     Ok(())
 }

@@ -3,10 +3,10 @@ use crate::report::{Done, counted};
 use agent_stock::{AgentCode, Order, Run, RunCount};
 use awb_number::Awb;
 use desk_commands::Command;
-use imp_fields::Moment;
+use imp_fields::{Airport, Moment};
 use sqlite::MemStore;
 use station_core::{Input, Keeper, Key};
-use station_rows::{Rows, open_memory};
+use station_rows::open_memory;
 use station_tables::{Station, create};
 use std::alloc::Global;
 
@@ -26,10 +26,10 @@ pub enum Work {
     Singles,
 }
 
-/// A new station in memory.
-fn station(alloc: Global) -> Option<Station<Rows<MemStore>>> {
+/// A new station in memory, in Frankfurt.
+pub fn station(alloc: Global) -> Option<Station<MemStore>> {
     let conn = open_memory(alloc).ok()?;
-    match create(alloc, conn) {
+    match create(alloc, conn, Airport::read(b"FRA")?) {
         Ok(station) => Some(station),
         Err(_) => None,
     }
@@ -124,7 +124,7 @@ fn singles(alloc: Global, keeper: &mut impl Keeper) -> Option<Done> {
 }
 
 /// A new station in memory where the work can begin.
-pub fn prepared(alloc: Global, work: Work) -> Option<Station<Rows<MemStore>>> {
+pub fn prepared(alloc: Global, work: Work) -> Option<Station<MemStore>> {
     let mut station = station(alloc)?;
     if work == Work::Singles {
         take_in(alloc, &mut station, 0, 0, 10_000)?;

@@ -9,11 +9,10 @@ use reports::{
     trail_report,
 };
 use sqlite::MemStore;
-use station_core::{ActFault, Answer, Counted, Input, Keeper, Waybill, answer_one};
-use station_rows::{Rows, open_memory};
+use station_core::{ActFault, Answer, Counted, Input, Keeper, Waybill, act_all, answer_one};
+use station_rows::open_memory;
+use station_tables::{Station, create};
 use std::alloc::Global;
-use stored_station::Station;
-use table_state::{TableState, create};
 
 /// A kind of keeper.
 #[derive(Clone, Copy, Debug, PartialEq, Eq)]
@@ -38,7 +37,7 @@ impl Kind {
 #[derive(Drop)]
 pub enum Desk {
     Plain(PlainStation),
-    Tables(Station<TableState<Rows<MemStore>>>),
+    Tables(Station<MemStore>),
 }
 
 /// A report.
@@ -71,7 +70,7 @@ fn tables(alloc: Global, here: Airport) -> Result<Desk, ActFault> {
         return Err(ActFault::Memory);
     };
     match create(alloc, conn, here) {
-        Ok(tables) => Ok(Desk::Tables(Station::over(alloc, tables))),
+        Ok(station) => Ok(Desk::Tables(station)),
         Err(_) => Err(ActFault::Store),
     }
 }
@@ -90,6 +89,22 @@ impl Desk {
         match self {
             Desk::Plain(station) => answer_one(station, input, at),
             Desk::Tables(station) => answer_one(station, input, at),
+        }
+    }
+
+    /// The answers to a list of inputs, each at its moment, unless a fault ends it.
+    pub fn answer_all(
+        &mut self,
+        alloc: Global,
+        inputs: &[(Input<'_>, Moment)],
+    ) -> Option<Vec<Answer>> {
+        let all = match self {
+            Desk::Plain(station) => act_all(alloc, station, inputs),
+            Desk::Tables(station) => act_all(alloc, station, inputs),
+        };
+        match all.fault {
+            None => Some(all.answers),
+            Some(_) => None,
         }
     }
 

@@ -16,6 +16,9 @@
 //! A line `| TEXT` belongs to the statement above it. `take` sends such lines ended by CR and LF, `take lf` and `beginnings` by LF,
 //! and `take hex` sends the bytes that their digits tell. `|998 TEXT` stands for 998 such lines. A line `= TEXT` is what must be printed,
 //! one for each line, where a CR at the end of a printed line doesn't count. Empty lines and those that begin with `#` are for the reader.
+//!
+//! The word `by-rule` in place of a script gives each keeper two hundred inputs by a fixed rule, one by one and as one list: their answers,
+//! and all that their readers hand out, have to be equal.
 #![tactic(auto)]
 
 mod compare;
@@ -24,6 +27,7 @@ mod desk;
 mod objects;
 mod play;
 mod reading;
+mod rule;
 mod statement;
 mod telegram;
 
@@ -33,6 +37,9 @@ use play::Played;
 use std::alloc::{AllocError, Global};
 use std::process::ExitCode;
 use std::{env, fs, io};
+
+/// The word that asks for two hundred inputs by a rule in place of a script.
+const RULE: &str = "by-rule";
 
 /// Whether a day went as told.
 #[derive(Clone, Copy, Debug, PartialEq, Eq)]
@@ -93,6 +100,18 @@ fn run(alloc: Global, name: &str, script: &str) -> Result<(Outcome, String), All
     }
 }
 
+/// Gives the keepers inputs by a rule.
+fn by_rule(alloc: Global) -> (Outcome, &'static str) {
+    match rule::are_equal(alloc) {
+        Some(true) => (Outcome::AsTold, "200 inputs with equal answers and rows"),
+        Some(false) => (Outcome::Differs, "answers or rows differ"),
+        None => (
+            Outcome::Unplayed,
+            "a keeper failed, or too few inputs were accepted or refused",
+        ),
+    }
+}
+
 /// The exit status of an outcome, or a worse one from before.
 fn status_after(status: u8, outcome: Outcome) -> u8 {
     let own = match outcome {
@@ -112,6 +131,12 @@ fn main(rt: HostRuntime) -> Result<ExitCode, io::Error> {
         status = 2;
     }
     for name in words.iter().skip(1) {
+        if name.as_str() == RULE {
+            let (outcome, text) = by_rule(rt.alloc());
+            println!(rt; "{RULE}: {text}")?;
+            status = status_after(status, outcome);
+            continue;
+        }
         let Ok(script) = fs::read_to_string(&rt, name.as_str()) else {
             println!(rt; "{name}: can't be read")?;
             status = 2;

@@ -6,6 +6,7 @@
 
 mod cargo;
 mod ends;
+mod fused;
 mod memory;
 mod plain;
 mod rows;
@@ -75,6 +76,10 @@ fn try_memory(rt: &HostRuntime) -> Result<bool, io::Error> {
         ),
         ("cargo in memory", cargo::is_memory_told(alloc)),
         ("a station in memory", plain::is_memory_told(alloc)),
+        (
+            "a station over tables",
+            plain::is_memory_told_of_tables(alloc),
+        ),
     ] {
         let word = if is_told { "told" } else { "not told" };
         println!(rt; "memory: {what}: {word}")?;

@@ -6,6 +6,8 @@ use desk_commands::read_command_text;
 use imp_fields::{Airport, Moment};
 use plain_station::PlainStation;
 use station_core::{ActFault, Answer, BookRow, Input, Keeper, Key, Sink, act_all, answer_one};
+use station_rows::open_memory;
+use station_tables::{AttachFault, create};
 use std::alloc::Global;
 
 /// Takes so many rows, and wants no more then.
@@ -61,7 +63,7 @@ fn departure<'a>() -> Option<Input<'a>> {
 }
 
 /// Whether an input is accepted.
-fn is_done(station: &mut PlainStation, input: &Input<'_>, at: Moment) -> bool {
+fn is_done(station: &mut impl Keeper, input: &Input<'_>, at: Moment) -> bool {
     matches!(answer_one(station, input, at), Ok(Answer::Done(_)))
 }
 
@@ -107,7 +109,7 @@ pub fn at_once(alloc: Global) -> Option<String> {
 }
 
 /// The pieces of the waybill that were taken over, if it was declared.
-fn pieces_taken(station: &mut PlainStation) -> Option<u32> {
+fn pieces_taken(station: &mut impl Keeper) -> Option<u32> {
     let number = Awb::read(b"020-12345675").ok()?;
     match station.waybill(&number) {
         Ok(Some(waybill)) => Some(waybill.taken.pieces),
@@ -115,42 +117,95 @@ fn pieces_taken(station: &mut PlainStation) -> Option<u32> {
     }
 }
 
-/// Whether an input is accepted, at the second attempt if memory was wanting at the first, after which nothing has changed.
-fn is_done_at_last(station: &mut PlainStation, input: &Input<'_>, at: Moment) -> bool {
+/// What came of an input.
+#[derive(Clone, Copy, Debug, PartialEq, Eq)]
+enum Outcome {
+    /// It was accepted, at the second attempt if memory was refused at the first, after which nothing had changed.
+    Accepted,
+    /// The station has to be opened again.
+    Broken,
+    /// Anything else.
+    Wrong,
+}
+
+/// Gives an input to a station, and again where memory was refused.
+fn give(station: &mut impl Keeper, input: &Input<'_>, at: Moment) -> Outcome {
     let before = pieces_taken(station);
     match answer_one(station, input, at) {
-        Ok(answer) => matches!(answer, Answer::Done(_)),
-        Err(ActFault::Memory) => pieces_taken(station) == before && is_done(station, input, at),
-        Err(_) => false,
+        Ok(Answer::Done(_)) => Outcome::Accepted,
+        Err(ActFault::Memory) => {
+            if pieces_taken(station) == before && is_done(station, input, at) {
+                Outcome::Accepted
+            } else {
+                Outcome::Wrong
+            }
+        }
+        Err(ActFault::Store) => match answer_one(station, input, at) {
+            Err(ActFault::Reopen) => Outcome::Broken,
+            _ => Outcome::Wrong,
+        },
+        _ => Outcome::Wrong,
     }
 }
 
-/// Whether the readers tell want of memory before they hand out a row, and tell the book's rows then.
-fn is_book_told(alloc: Global, station: &mut PlainStation) -> bool {
+/// Whether a reader hands out all of the book's rows, at the second attempt if memory was refused at the first, and no row then.
+fn is_book_told(alloc: Global, station: &mut impl Keeper) -> bool {
     let mut sink: Taken<BookRow> = Taken {
         rows: Vec::new(alloc),
         wanted: usize::MAX,
     };
     match station.book(&mut sink) {
         Ok(()) => true,
-        Err(ActFault::Memory) => sink.rows.is_empty() && station.book(&mut sink).is_ok(),
+        Err(ActFault::Memory) | Err(ActFault::Store) => {
+            sink.rows.is_empty() && station.book(&mut sink).is_ok()
+        }
         Err(_) => false,
     }
 }
 
-/// Whether want of memory is told, changes nothing, and the input acts when it comes again.
-pub fn is_memory_told(alloc: Global) -> bool {
-    is_told_in_turn(alloc) == Some(true)
+/// Whether so many pieces are taken over, at the second attempt if memory was refused at the first.
+fn has_taken(station: &mut impl Keeper, pieces: u32) -> bool {
+    pieces_taken(station) == Some(pieces) || pieces_taken(station) == Some(pieces)
 }
 
-fn is_told_in_turn(alloc: Global) -> Option<bool> {
-    let mut station = station(alloc)?;
-    let is_booked = is_done_at_last(&mut station, &booking()?, at(10, 0)?);
-    let is_declared = pieces_taken(&mut station) == Some(0);
-    let is_received = is_done_at_last(&mut station, &receipt()?, at(10, 30)?);
-    let is_taken = pieces_taken(&mut station) == Some(10);
-    let is_repeated = is_done_at_last(&mut station, &receipt()?, at(11, 0)?);
-    let is_same = pieces_taken(&mut station) == Some(10);
-    let is_told = is_book_told(alloc, &mut station);
-    Some(is_booked && is_declared && is_received && is_taken && is_repeated && is_same && is_told)
+/// Whether want of memory is told, changes nothing, and the input acts when it comes again, or the station may break.
+fn is_told_in_turn(alloc: Global, station: &mut impl Keeper, may_break: bool) -> Option<bool> {
+    let steps = [
+        (booking()?, at(10, 0)?, 0),
+        (receipt()?, at(10, 30)?, 10),
+        (receipt()?, at(11, 0)?, 10),
+    ];
+    for (input, at, pieces) in &steps {
+        match give(station, input, *at) {
+            Outcome::Accepted => {}
+            Outcome::Broken => return Some(may_break),
+            Outcome::Wrong => return Some(false),
+        }
+        if !has_taken(station, *pieces) {
+            return Some(false);
+        }
+    }
+    Some(is_book_told(alloc, station))
+}
+
+/// Whether a station in memory tells want of memory, and goes on.
+pub fn is_memory_told(alloc: Global) -> bool {
+    match station(alloc) {
+        Some(mut station) => is_told_in_turn(alloc, &mut station, false) == Some(true),
+        None => false,
+    }
+}
+
+/// The same of a station over tables, which has to be opened again where memory was refused once its store had been asked.
+pub fn is_memory_told_of_tables(alloc: Global) -> bool {
+    let Some(here) = Airport::read(b"FRA") else {
+        return false;
+    };
+    let Ok(conn) = open_memory(alloc) else {
+        return true;
+    };
+    match create(alloc, conn, here) {
+        Ok(mut station) => is_told_in_turn(alloc, &mut station, true) == Some(true),
+        Err((_, fault)) => fault == AttachFault::Store,
+    }
 }

@@ -1,31 +1,49 @@
-//! A store that fails at its n-th call, for every n: what is found afterwards is the station before or after.
+//! A store that fails at its n-th call, for every n: what is found afterwards is the station before or after the interrupted step.
+use crate::fused::Fused;
 use crate::said::say;
-use agent_stock::{Order, Run, RunCount};
 use awb_number::Awb;
-use desk_commands::Command;
-use imp_fields::Moment;
-use sqlite::{Connection, FileStore, Files, Options};
+use desk_commands::read_command_text;
+use imp_fields::{Airport, Moment};
+use sqlite::{Alter, Connection, Files, Options};
 use sqlite_disk::{Crash, Fuse, Memory};
-use station_core::{Input, Keeper, Key};
+use station_core::{ActFault, Input, Keeper, Key};
+use station_rows::open_memory;
 use station_tables::create;
 use std::alloc::Global;
+use stored_station::StoredStation;
 
-type Fused = Fuse<Memory>;
+type FusedDisk = Fuse<Memory>;
 
-/// How far a run came.
-#[derive(Clone, Copy, Debug, PartialEq, Eq)]
-enum Stage {
-    /// Not even opened.
-    Nothing,
-    /// Opened, and `create` failed.
-    Opened,
-    /// The station was made, and `take-in` failed.
-    Created,
-    /// The numbers were taken in.
-    TakenIn,
-}
+/// The commands of a day, each with its key: numbers are taken in, and four of ten pieces that were received depart.
+const DAY: [(&str, &str); 5] = [
+    ("t1", "take-in\n055\n0000010\n10"),
+    ("b1", "book\n020-12345675\nFRA\nJFK\n10\n1000\nCARGO"),
+    ("r1", "receive\n020-12345675\n10\n1000\nACME"),
+    ("m1", "manifest\n020-12345675\nLH400\n2026-01-12\nJFK\n4"),
+    ("d1", "depart\nLH400\n2026-01-12"),
+];
 
-fn files(alloc: Global, log_calls: u64, db_calls: u64) -> Files<Fused> {
+/// The steps of the day: a station is made, and each command is accepted.
+const STEPS: usize = 6;
+
+/// The tables of a station.
+const TABLES: [&str; 13] = [
+    "station",
+    "waybill",
+    "stock",
+    "flight",
+    "moves",
+    "expected",
+    "part",
+    "trail",
+    "outbox",
+    "kept_key",
+    "kept_text",
+    "counts",
+    "build",
+];
+
+fn files(alloc: Global, log_calls: u64, db_calls: u64) -> Files<FusedDisk> {
     Files {
         log: Fuse::new(Memory::new(alloc), log_calls),
         db: Fuse::new(Memory::new(alloc), db_calls),
@@ -33,106 +51,179 @@ fn files(alloc: Global, log_calls: u64, db_calls: u64) -> Files<Fused> {
 }
 
 /// The files after a crash, with fuses that no longer blow.
-fn crashed(mut files: Files<Fused>) -> Files<Fused> {
+fn crashed(mut files: Files<FusedDisk>) -> Files<FusedDisk> {
     files.log.crash();
     files.db.crash();
     files
 }
 
-/// Ten numbers to be taken in: the first, with the key and the moment of the order.
-#[derive(Clone, Copy)]
-struct TenNumbers {
-    key: Key,
-    run: Run,
-    at: Moment,
+/// Whether a command of the day is accepted, at noon of its flight's day.
+fn is_done(station: &mut impl Keeper, key: &str, text: &str) -> bool {
+    let (Some(key), Some(command), Some(noon)) = (
+        Key::read(key.as_bytes()),
+        read_command_text(text.as_bytes()),
+        Moment::new(20465, 720),
+    ) else {
+        return false;
+    };
+    station.act(&Input::Keyed(key, command), noon).is_ok()
 }
 
-fn ten_numbers() -> Option<TenNumbers> {
-    let key = Key::read(b"k1")?;
-    let first = Awb::new(20, 1234567)?;
-    let count = RunCount::new(10)?;
-    let run = Run { first, count };
-    let at = Moment::new(20465, 720)?;
-    Some(TenNumbers { key, run, at })
+/// How many of the day's first commands were accepted, one after another.
+fn act_on_day(station: &mut impl Keeper, wanted: usize) -> usize {
+    for (done, (key, text)) in DAY.iter().take(wanted).enumerate() {
+        if !is_done(station, key, text) {
+            return done;
+        }
+    }
+    wanted.min(DAY.len())
 }
 
-/// Makes a station and takes in ten numbers, on files that fail after so many calls.
-fn run(alloc: Global, log_calls: u64, db_calls: u64, ten: &TenNumbers) -> (Stage, Files<Fused>) {
-    let fresh = files(alloc, log_calls, db_calls);
-    if !fresh.may_be_used() {
-        return (Stage::Nothing, fresh);
+/// Makes a station and gives it commands, up to so many steps. How many were done, and the files.
+fn play(alloc: Global, fresh: Files<FusedDisk>, wanted: usize) -> (usize, Files<FusedDisk>) {
+    let Some(here) = Airport::read(b"FRA") else {
+        return (0, fresh);
+    };
+    if wanted == 0 || !fresh.may_be_used() {
+        return (0, fresh);
     }
     let conn = match Connection::open_files(alloc, fresh, Options::new(7)) {
         Ok(conn) => conn,
-        Err((_, left)) => return (Stage::Nothing, left.into_files()),
+        Err((_, left)) => return (0, left.into_files()),
     };
-    let mut station = match create(alloc, conn) {
+    let mut station = match create(alloc, conn, here) {
         Ok(station) => station,
-        Err((conn, _)) => return (Stage::Opened, conn.into_store().close()),
+        Err((conn, _)) => return (0, conn.into_store().close()),
     };
-    let order = Order::TakeIn(ten.run);
-    let input = Input::Keyed(ten.key, Command::Stock(order));
-    let stage = match station.act(&input, ten.at) {
-        Ok(_) => Stage::TakenIn,
-        Err(_) => Stage::Created,
-    };
-    (stage, station.release().into_store().close())
+    let commands = act_on_day(&mut station, wanted.saturating_sub(1));
+    let files = station.release().into_store().close();
+    (commands.saturating_add(1), files)
 }
 
-/// How many numbers and how many keys a reopening finds, or nothing where there is no station; nothing at all where it can't be opened.
-fn found(alloc: Global, files: Files<Fused>) -> Option<Option<(i64, i64)>> {
+/// How many rows each table has, or that there is no station; nothing at all where the files can't be opened.
+fn found(alloc: Global, files: Files<FusedDisk>) -> Option<String> {
     if !files.may_be_used() {
         return None;
     }
-    let mut conn = match Connection::open_files(alloc, files, Options::new(7)) {
-        Ok(conn) => conn,
-        Err(_) => return None,
-    };
-    let numbers: i64 = match conn.query_row("SELECT count(*) FROM stock", &[]) {
-        Ok(row) => row.get(0).ok()?,
-        Err(_) => return Some(None),
-    };
-    let keys: i64 = conn
-        .query_row("SELECT count(*) FROM kept_key", &[])
-        .ok()?
-        .get(0)
-        .ok()?;
-    Some(Some((numbers, keys)))
-}
-
-/// Whether what is found is what was acknowledged, or that and the interrupted call.
-fn is_before_or_after(stage: Stage, found: Option<(i64, i64)>) -> bool {
-    match stage {
-        Stage::Nothing => found == None,
-        Stage::Opened => found == None || found == Some((0, 0)),
-        Stage::Created => found == Some((0, 0)) || found == Some((10, 1)),
-        Stage::TakenIn => found == Some((10, 1)),
+    match Connection::open_files(alloc, files, Options::new(7)) {
+        Ok(mut conn) => row_counts(alloc, &mut conn),
+        Err(_) => None,
     }
 }
 
-/// One stop after another, up to the first run that isn't stopped.
-fn stops(alloc: Global, in_log: bool) -> Option<String> {
-    let ten = ten_numbers()?;
-    for calls in 0..1000 {
-        let (stage, left) = if in_log {
-            run(alloc, calls, u64::MAX, &ten)
-        } else {
-            run(alloc, u64::MAX, calls, &ten)
+/// How many rows each table has, or that there is no station.
+fn row_counts<S: Alter>(alloc: Global, conn: &mut Connection<S>) -> Option<String> {
+    let mut said = String::new(alloc);
+    for table in TABLES {
+        let Some(rows) = row_count(alloc, conn, table) else {
+            return say(alloc, "no station");
         };
-        let found = found(alloc, crashed(left))?;
-        if !is_before_or_after(stage, found) {
-            return format!(in alloc; "{calls}: {stage:?} {found:?}").ok();
+        let counted = format!(in alloc; "{table} {rows}; ").ok()?;
+        said.push_str(counted.as_str()).ok()?;
+    }
+    Some(said)
+}
+
+/// How many rows a table has, if there is such a table.
+fn row_count<S: Alter>(alloc: Global, conn: &mut Connection<S>, table: &str) -> Option<i64> {
+    let text = format!(in alloc; "SELECT count(*) FROM {table}").ok()?;
+    let row = conn.query_row(text.as_str(), &[]).ok()?;
+    row.get(0).ok()
+}
+
+/// What is found after each number of steps that no failure stops.
+fn states(alloc: Global) -> Option<Vec<String>> {
+    let mut states = Vec::new(alloc);
+    for wanted in 0..=STEPS {
+        let (steps, left) = play(alloc, files(alloc, u64::MAX, u64::MAX), wanted);
+        if steps != wanted {
+            return None;
         }
-        if stage == Stage::TakenIn {
+        let found = found(alloc, left)?;
+        // Each step can be told from the one before it.
+        if steps > 0 && is_state(&states, steps - 1, found.as_str()) {
+            return None;
+        }
+        states.push(found).ok()?;
+    }
+    Some(states)
+}
+
+/// Whether this is found after so many steps.
+fn is_state(states: &[String], steps: usize, found: &str) -> bool {
+    match states.get(steps) {
+        Some(state) => state.as_str() == found,
+        None => false,
+    }
+}
+
+/// One stop after another, up to the first day that isn't stopped.
+fn stops(alloc: Global, in_log: bool) -> Option<String> {
+    let states = states(alloc)?;
+    for calls in 0..5000 {
+        let fresh = if in_log {
+            files(alloc, calls, u64::MAX)
+        } else {
+            files(alloc, u64::MAX, calls)
+        };
+        let (steps, left) = play(alloc, fresh, STEPS);
+        let found = found(alloc, crashed(left))?;
+        let found = found.as_str();
+        if !is_state(&states, steps, found) && !is_state(&states, steps.saturating_add(1), found) {
+            return format!(in alloc; "{calls} calls, {steps} steps: {found}").ok();
+        }
+        if steps == STEPS {
             return say(alloc, "before or after");
         }
     }
-    say(alloc, "no run came to its end")
+    say(alloc, "no day came to its end")
 }
 
-/// What is found after stops at each call of a file.
+/// Whether a station answers that it has to be opened again.
+fn is_broken(station: &mut impl Keeper) -> bool {
+    let Some(number) = Awb::new(20, 1_234_567) else {
+        return false;
+    };
+    matches!(station.holder(&number), Err(ActFault::Reopen))
+}
+
+/// Plays the day over tables in memory that serve so many calls of the station. How many steps were done, and what is found then:
+/// nothing where the station goes on after a failed call.
+fn play_in_memory(alloc: Global, calls: u32) -> Option<(usize, String)> {
+    let here = Airport::read(b"FRA")?;
+    let tables = match table_state::create(alloc, open_memory(alloc).ok()?, here) {
+        Ok(tables) => tables,
+        Err(_) => return None,
+    };
+    let mut station = StoredStation::over(alloc, Fused::new(tables, calls));
+    let steps = act_on_day(&mut station, DAY.len()).saturating_add(1);
+    if steps < STEPS && !is_broken(&mut station) {
+        return None;
+    }
+    let mut conn = station.into_store().into_store().release();
+    Some((steps, row_counts(alloc, &mut conn)?))
+}
+
+/// One failing call after another, up to the first day that has none: what is found is what was acknowledged.
+fn failing_calls(alloc: Global) -> Option<String> {
+    let states = states(alloc)?;
+    for calls in 0..5000 {
+        let (steps, found) = play_in_memory(alloc, calls)?;
+        let found = found.as_str();
+        if !is_state(&states, steps, found) {
+            return format!(in alloc; "{calls} calls, {steps} steps: {found}").ok();
+        }
+        if steps == STEPS {
+            return say(alloc, "as acknowledged");
+        }
+    }
+    say(alloc, "no day came to its end")
+}
+
+/// What is found after stops at each call of a file, or of a store of tables.
 pub fn answer(alloc: Global, asked: &str) -> Option<String> {
     match asked {
+        "calls" => failing_calls(alloc),
         "log" => stops(alloc, true),
         "database" => stops(alloc, false),
         _ => None,

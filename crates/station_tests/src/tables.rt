@@ -1,15 +1,15 @@
 //! A station over the tables of a database in memory.
 use crate::said::{holder_said, next_whole, runs_said, say, shown};
-use agent_stock::{AgentCode, Held, Order, Run, RunCount, StockRun};
+use agent_stock::{AgentCode, Order, Run, RunCount, StockRun};
 use awb_number::Awb;
 use desk_commands::Command;
-use imp_fields::Moment;
+use imp_fields::{Airport, Moment};
 use sqlite::{Connection, MemStore};
 use station_core::{
     Answer, Input, Keeper, Key, Sink, act_all, answer_one, refusal_text, reply_text,
 };
 use station_rows::{Rows, StockRow, TableStore, open_memory};
-use station_tables::{AttachFault, Desk, Station, create};
+use station_tables::{AttachFault, Station, create};
 use std::alloc::Global;
 use std::slice;
 use std::str::SplitWhitespace;
@@ -18,7 +18,7 @@ use std::str::SplitWhitespace;
 #[derive(Drop)]
 pub struct TableAnswers {
     alloc: Global,
-    station: Option<Station<Rows<MemStore>>>,
+    station: Option<Station<MemStore>>,
 }
 
 impl TableAnswers {
@@ -40,7 +40,7 @@ impl TableAnswers {
             }
             "made-inside" => made_inside(alloc),
             "made-again" => fault_of(alloc, self.station.take()?.release()),
-            "numbers-of-row" => numbers_of_row(alloc, shown(text)),
+            "runs-of-row" => runs_of_row(alloc, shown(text)),
             "list" => list(alloc, self.station.as_mut()?),
             "act" => told(alloc, self.station.as_mut()?, &asked_by(shown(text))?),
             "holder" => holder(alloc, self.station.as_mut()?, text),
@@ -52,8 +52,12 @@ impl TableAnswers {
     }
 }
 
-fn station(alloc: Global) -> Option<Station<Rows<MemStore>>> {
-    match create(alloc, open_memory(alloc).ok()?) {
+fn here() -> Option<Airport> {
+    Airport::read(b"FRA")
+}
+
+fn station(alloc: Global) -> Option<Station<MemStore>> {
+    match create(alloc, open_memory(alloc).ok()?, here()?) {
         Ok(station) => Some(station),
         Err(_) => None,
     }
@@ -61,7 +65,7 @@ fn station(alloc: Global) -> Option<Station<Rows<MemStore>>> {
 
 /// Why no station is made over a connection, and whether it is outside a transaction.
 fn fault_of(alloc: Global, conn: Connection<MemStore>) -> Option<String> {
-    match create(alloc, conn) {
+    match create(alloc, conn, here()?) {
         Ok(_) => None,
         Err((conn, fault)) => {
             let word = match fault {
@@ -231,8 +235,8 @@ fn cargo_rows(alloc: Global, keeper: &mut impl Keeper) -> Option<String> {
     format!(in alloc; "{}", seen.rows).ok()
 }
 
-/// The numbers of a stock of one row, which is told by its prefix, its serial, its holder and perhaps an agent.
-fn numbers_of_row(alloc: Global, text: &str) -> Option<String> {
+/// The runs of a stock of one row, which is told by its prefix, its serial, its holder and perhaps an agent.
+fn runs_of_row(alloc: Global, text: &str) -> Option<String> {
     let mut words = text.split_whitespace();
     let prefix = next_whole(&mut words)?;
     let low = next_whole(&mut words)?;
@@ -243,19 +247,16 @@ fn numbers_of_row(alloc: Global, text: &str) -> Option<String> {
         holder: next_whole(&mut words)?,
         agent: String::from_str(alloc, words.next().unwrap_or("")).ok()?,
     };
-    let mut desk = Desk {
-        alloc,
-        store: store_of(alloc, &row)?,
-    };
-    match desk.numbers() {
-        Ok(numbers) => numbers_said(alloc, &numbers),
+    let mut store = store_of(alloc, &row)?;
+    match stock_tables::runs(alloc, &mut store) {
+        Ok(runs) => runs_said(alloc, &runs),
         Err(_) => say(alloc, "fault"),
     }
 }
 
 /// Tables with one row of stock.
 fn store_of(alloc: Global, row: &StockRow) -> Option<Rows<MemStore>> {
-    let mut store = match Rows::create(open_memory(alloc).ok()?, "XXX") {
+    let mut store = match Rows::create(open_memory(alloc).ok()?, "FRA") {
         Ok(rows) => rows,
         Err(_) => return None,
     };
@@ -263,14 +264,4 @@ fn store_of(alloc: Global, row: &StockRow) -> Option<Rows<MemStore>> {
     store.insert_stock(row).ok()?;
     store.commit().ok()?;
     Some(store)
-}
-
-fn numbers_said(alloc: Global, numbers: &[Held]) -> Option<String> {
-    let mut said = format!(in alloc; "{}", numbers.len()).ok()?;
-    for held in numbers {
-        let holder = holder_said(alloc, &held.holder)?;
-        let held = format!(in alloc; "; {} {holder}", held.number).ok()?;
-        said.push_str(held.as_str()).ok()?;
-    }
-    Some(said)
 }

@@ -1,0 +1,330 @@
+//! Two hundred inputs by a fixed rule: each keeper has to give the same answers, one by one and to the list of all, and to hand out
+//! the same rows.
+use crate::day::Report;
+use crate::desk::{Desk, Kind};
+use crate::objects::{holder_object, waybill_object};
+use awb_number::Awb;
+use desk_commands::read_command_text;
+use imp_fields::{Airport, Moment};
+use station_core::{ActFault, Answer, Input, Key, refusal_text, reply_text};
+use std::alloc::Global;
+use telegrams::read_telegram;
+
+/// How many inputs there are.
+const INPUTS: u32 = 200;
+
+/// The first serial of the waybills that they speak of, and the last one.
+const FIRST: u32 = 1_234_560;
+
+const LAST: u32 = 1_234_565;
+
+/// Numbers that follow from one another.
+#[derive(Drop)]
+struct Rule {
+    state: u64,
+}
+
+impl Rule {
+    /// The next number from one to another, both included.
+    fn between(&mut self, low: u32, high: u32) -> u32 {
+        self.state = self
+            .state
+            .wrapping_mul(6_364_136_223_846_793_005)
+            .wrapping_add(1_442_695_040_888_963_407);
+        let span = u64::from(high.saturating_sub(low)) + 1;
+        let step = u32::try_from((self.state >> 33) % span).unwrap_or(0);
+        low.saturating_add(step)
+    }
+
+    /// A waybill's number.
+    fn awb(&mut self) -> Option<Awb> {
+        Awb::new(20, self.between(FIRST, LAST))
+    }
+}
+
+/// An input as a text: a command under a key, or a telegram without one.
+#[derive(Drop)]
+struct Asked {
+    key: Option<String>,
+    text: String,
+}
+
+/// The text of an order on the stock.
+fn order_text(alloc: Global, rule: &mut Rule) -> Option<String> {
+    let serial = rule.between(FIRST, FIRST + 11);
+    let count = rule.between(1, 4);
+    match rule.between(0, 4) {
+        0 | 1 => format!(in alloc; "take-in\n020\n{serial}\n{count}").ok(),
+        2 => format!(in alloc; "issue\n020\n{serial}\n{count}\nACME").ok(),
+        3 => format!(in alloc; "return\n020\n{serial}\n{count}\nACME").ok(),
+        _ => format!(in alloc; "void\n020\n{serial}\n1").ok(),
+    }
+}
+
+/// The text of a command that declares a waybill, out of Frankfurt or into it.
+fn booking_text(alloc: Global, awb: Awb) -> Option<String> {
+    if awb.serial() % 2 == 0 {
+        format!(in alloc; "book\n{awb}\nFRA\nJFK\n10\n1000\nCARGO").ok()
+    } else {
+        format!(in alloc; "book\n{awb}\nJFK\nFRA\n9\n77\nTOOLS").ok()
+    }
+}
+
+/// The text of a command on an outbound flight or on what goes out by it.
+fn outbound_text(alloc: Global, rule: &mut Rule, awb: Awb) -> Option<String> {
+    let pieces = rule.between(1, 5);
+    let day = rule.between(12, 13);
+    match rule.between(0, 5) {
+        0 | 1 => format!(in alloc; "receive\n{awb}\n{pieces}\n250\nACME").ok(),
+        2 | 3 => { format!(in alloc; "manifest\n{awb}\nLH400\n2026-01-{day}\nJFK\n{pieces}").ok() }
+        4 => format!(in alloc; "offload\n{awb}\nLH400\n2026-01-{day}\n{pieces}").ok(),
+        _ => format!(in alloc; "depart\nLH400\n2026-01-{day}").ok(),
+    }
+}
+
+/// The text of a command on what came in.
+fn inbound_text(alloc: Global, rule: &mut Rule, awb: Awb) -> Option<String> {
+    let pieces = rule.between(1, 6);
+    match rule.between(0, 6) {
+        0 | 1 => format!(in alloc; "check-in\n{awb}\nLH401\n2026-01-12\n{pieces}").ok(),
+        2 => format!(in alloc; "notify\n{awb}\nSMITH").ok(),
+        3 => format!(in alloc; "deliver\n{awb}\n{pieces}\nSMITH").ok(),
+        4 => format!(in alloc; "missing\n{awb}\n1\nLH401\n2026-01-12").ok(),
+        5 => format!(in alloc; "found\n{awb}\n{pieces}\n33\n\n").ok(),
+        _ => format!(in alloc; "confirm\n{pieces}").ok(),
+    }
+}
+
+/// The text of a telegram.
+fn telegram_text(alloc: Global, rule: &mut Rule, awb: Awb) -> Option<String> {
+    let pieces = rule.between(1, 5);
+    match rule.between(0, 3) {
+        0 => format!(in alloc; "FWB/16\r\n{awb}FRAJFK/T10K100MC0.5\r\nSHP\r\n/ACME\r\n").ok(),
+        1 | 2 => format!(in alloc;
+            "FFM/8\r\n{pieces}/LH401/12JAN/JFK\r\nFRA\r\n{awb}JFKFRA/P{pieces}K20.0T9/TOOLS\r\nLAST\r\n"
+        ).ok(),
+        _ => format!(in alloc; "FSU/12\r\n{awb}FRAJFK/T10K100.0\r\nARR/LH400/12JAN/JFK\r\n").ok(),
+    }
+}
+
+/// The n-th input: the first ones declare the waybills, and each eighth one has the key of an earlier one.
+fn next_asked(alloc: Global, rule: &mut Rule, n: u32) -> Option<Asked> {
+    if n <= LAST - FIRST {
+        let text = booking_text(alloc, Awb::new(20, FIRST + n)?)?;
+        let key = Some(format!(in alloc; "k{n}").ok()?);
+        return Some(Asked { key, text });
+    }
+    let awb = rule.awb()?;
+    let text = match rule.between(0, 8) {
+        0 | 1 => order_text(alloc, rule)?,
+        2 => booking_text(alloc, awb)?,
+        3 | 4 | 5 => outbound_text(alloc, rule, awb)?,
+        6 | 7 => inbound_text(alloc, rule, awb)?,
+        _ => {
+            let text = telegram_text(alloc, rule, awb)?;
+            return Some(Asked { key: None, text });
+        }
+    };
+    let number = if n % 8 == 7 { n / 2 } else { n };
+    let key = Some(format!(in alloc; "k{number}").ok()?);
+    Some(Asked { key, text })
+}
+
+/// The same input again.
+fn copied(alloc: Global, asked: &Asked) -> Option<Asked> {
+    let key = match &asked.key {
+        Some(key) => Some(String::from_str(alloc, key.as_str()).ok()?),
+        None => None,
+    };
+    let text = String::from_str(alloc, asked.text.as_str()).ok()?;
+    Some(Asked { key, text })
+}
+
+/// The inputs as texts. Some repeat the one before them.
+fn all_asked(alloc: Global) -> Option<Vec<Asked>> {
+    let mut rule = Rule { state: 20_260_112 };
+    let mut all = Vec::new(alloc);
+    for n in 0..INPUTS {
+        let next = match all.last() {
+            Some(last) if n % 8 == 3 && n > 8 => copied(alloc, last)?,
+            _ => next_asked(alloc, &mut rule, n)?,
+        };
+        all.push(next).ok()?;
+    }
+    Some(all)
+}
+
+/// The input that a text stands for.
+fn input_of<'a>(alloc: Global, asked: &'a Asked) -> Option<Input<'a>> {
+    match &asked.key {
+        Some(key) => Some(Input::Keyed(
+            Key::read(key.as_bytes())?,
+            read_command_text(asked.text.as_bytes())?,
+        )),
+        None => match read_telegram(alloc, asked.text.as_bytes()) {
+            Ok(telegram) => Some(Input::Wire(telegram)),
+            Err(_) => None,
+        },
+    }
+}
+
+/// The inputs, each a minute after the one before it.
+fn inputs_of<'a>(alloc: Global, all: &'a [Asked]) -> Option<Vec<(Input<'a>, Moment)>> {
+    let mut inputs = Vec::new(alloc);
+    for (n, asked) in all.iter().enumerate() {
+        let minute = u16::try_from(n).unwrap_or(0).saturating_add(600);
+        let at = Moment::new(20465, minute)?;
+        inputs.push((input_of(alloc, asked)?, at)).ok()?;
+    }
+    Some(inputs)
+}
+
+/// Appends the line of an answer. Whether it accepts.
+fn answer_told(alloc: Global, answer: &Answer, out: &mut Vec<u8>) -> Option<bool> {
+    let text = match answer {
+        Answer::Done(reply) => reply_text(alloc, reply).ok()?,
+        Answer::Refused(refusal) => refusal_text(alloc, refusal).ok()?,
+    };
+    out.extend_from_slice(text.as_bytes()).ok()?;
+    out.push(b'\n').ok()?;
+    Some(matches!(answer, Answer::Done(_)))
+}
+
+/// Gives an input, and tells the answer. Whether it accepts.
+fn give(
+    alloc: Global,
+    desk: &mut Desk,
+    input: &Input<'_>,
+    at: Moment,
+    out: &mut Vec<u8>,
+) -> Option<bool> {
+    let answer = desk.answer(input, at);
+    match &answer {
+        Ok(answer) => answer_told(alloc, answer, out),
+        Err(_) => None,
+    }
+}
+
+/// Gives the inputs one by one, and tells the answers. How many accept.
+fn one_by_one(
+    alloc: Global,
+    desk: &mut Desk,
+    inputs: &[(Input<'_>, Moment)],
+    out: &mut Vec<u8>,
+) -> Option<usize> {
+    let mut accepted: usize = 0;
+    for (input, at) in inputs {
+        if give(alloc, desk, input, *at, out)? {
+            accepted = accepted.saturating_add(1);
+        }
+    }
+    Some(accepted)
+}
+
+/// Gives the inputs as one list, and tells the answers. How many accept.
+fn at_once(
+    alloc: Global,
+    desk: &mut Desk,
+    inputs: &[(Input<'_>, Moment)],
+    out: &mut Vec<u8>,
+) -> Option<usize> {
+    let answers = desk.answer_all(alloc, inputs)?;
+    let mut accepted: usize = 0;
+    for answer in &answers {
+        if answer_told(alloc, answer, out)? {
+            accepted = accepted.saturating_add(1);
+        }
+    }
+    Some(accepted)
+}
+
+/// All rows that the readers hand out, and what is known of each waybill and number.
+fn rows_told(alloc: Global, desk: &mut Desk, out: &mut Vec<u8>) -> Result<(), ActFault> {
+    for report in [
+        Report::Stock,
+        Report::Irregularities,
+        Report::Movements,
+        Report::Trail,
+        Report::Pending,
+    ] {
+        let text = desk.report(alloc, report)?;
+        if out.extend_from_slice(&text).is_err() {
+            return Err(ActFault::Memory);
+        }
+    }
+    for serial in FIRST..FIRST + 16 {
+        number_told(alloc, desk, serial, out)?;
+    }
+    Ok(())
+}
+
+/// What is known of a number.
+fn number_told(
+    alloc: Global,
+    desk: &mut Desk,
+    serial: u32,
+    out: &mut Vec<u8>,
+) -> Result<(), ActFault> {
+    let Some(number) = Awb::new(20, serial) else {
+        return Ok(());
+    };
+    if let Some(waybill) = desk.waybill(&number)?
+        && let Ok(text) = waybill_object(alloc, &number, &waybill)
+        && out.extend_from_slice(text.as_bytes()).is_err()
+    {
+        return Err(ActFault::Memory);
+    }
+    if let Some(holder) = desk.holder(&number)?
+        && let Ok(text) = holder_object(alloc, &number, &holder)
+        && out.extend_from_slice(text.as_bytes()).is_err()
+    {
+        return Err(ActFault::Memory);
+    }
+    Ok(())
+}
+
+/// All that a keeper of a kind answers and hands out, where the inputs come one by one or as a list; nothing where too few of them
+/// are accepted or refused.
+fn told(
+    alloc: Global,
+    kind: Kind,
+    inputs: &[(Input<'_>, Moment)],
+    as_list: bool,
+) -> Option<Vec<u8>> {
+    let mut desk = Desk::new(alloc, kind, Airport::read(b"FRA")?).ok()?;
+    let mut out = Vec::new(alloc);
+    let accepted = if as_list {
+        at_once(alloc, &mut desk, inputs, &mut out)?
+    } else {
+        one_by_one(alloc, &mut desk, inputs, &mut out)?
+    };
+    if !is_mixed(inputs.len(), accepted) {
+        return None;
+    }
+    rows_told(alloc, &mut desk, &mut out).ok()?;
+    Some(out)
+}
+
+/// Whether at least a fifth of the inputs are accepted, and at least a fifth are refused.
+fn is_mixed(inputs: usize, accepted: usize) -> bool {
+    let fifth = inputs / 5;
+    accepted >= fifth && inputs.saturating_sub(accepted) >= fifth
+}
+
+/// Whether each keeper tells the same, in either way.
+pub fn are_equal(alloc: Global) -> Option<bool> {
+    let all = all_asked(alloc)?;
+    let inputs = inputs_of(alloc, &all)?;
+    let first = told(alloc, Kind::Plain, &inputs, false)?;
+    for (kind, as_list) in [
+        (Kind::Plain, true),
+        (Kind::Tables, false),
+        (Kind::Tables, true),
+    ] {
+        let other = told(alloc, kind, &inputs, as_list)?;
+        if other.as_slice() != first.as_slice() {
+            return Some(false);
+        }
+    }
+    Some(true)
+}
