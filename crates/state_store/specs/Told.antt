@@ -7,6 +7,7 @@ use Rattle.shipment_machine.specs.declared.moves.Move.{Move}
 use Rattle.shipment_machine.specs.Book.{built, waybills_on}
 use Rattle.shipment_machine.specs.Cargo.{Cargo}
 use Rattle.desk_commands.specs.Command.{command_text}
+use Rattle.desk_commands.specs.Ranges.{IsCommand}
 use Rattle.desk_commands.specs.declared.command.Command.{Command}
 use Rattle.station_core.specs.Step.{State, Kept, keeping, keeping_text, sent}
 use Rattle.state_store.specs.declared.store.KeptReply.{KeptReply}
@@ -16,9 +17,10 @@ use Rattle.state_store.specs.declared.store.Sizes.{Sizes}
 abbrev pub kept_of : KeptReply → Kept
 kept_of row = record { request = string_bytes row.request; count = row.count }
 
--- the text of a command
+-- the text of a command in range
 pub record IsRequest (text : List ℕ) : Type 0 where
   pub command : Command
+  pub in_range : IsCommand command
   pub is : text ≡ command_text command
 
 abbrev pub sizes_of : Cargo → Sizes

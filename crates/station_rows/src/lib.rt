@@ -11,9 +11,9 @@ mod stock;
 mod store;
 
 pub use cargo_rows::{BuildRow, CountRow, ExpectedRow, FlightRow, MoveRow, WaybillRow};
-pub use memory::memory_is_sound;
+pub use memory::{files_are_sound, memory_is_sound};
 pub use row_schema::open_memory;
-pub use rows::{CreateFault, Rows};
+pub use rows::{CreateFault, Rows, crash_leaves_station};
 pub use station::StationRow;
 pub use stock::StockRow;
 pub use store::{StoreFault, TableStore};

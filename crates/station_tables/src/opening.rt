@@ -1,6 +1,7 @@
 ghost use Rattle.std.specs.Prelude.{◌≡◌, ◌⊎◌, true, false, Some, Option, IfOk, IfErr, OnOk};
 ghost use Rattle.station_core.specs.Step.{State, opening};
 ghost use Rattle.row_schema.specs.Connection.{connection_view, IsVacant};
+ghost use Rattle.station_rows.specs.Own.{are_declared};
 ghost use Rattle.station_tables.specs.Found.{Finds};
 
 use crate::station::Station;
@@ -27,6 +28,7 @@ pub fn create<S: Alter>(
     here: Airport,
 ) -> Result<Station<S>, (Connection<S>, AttachFault)>
     ensures empty { OnOk result (IsVacant S.Store conn) }
+    ensures declared { IfOk result (λ station. are_declared station.stored.store.store ≡ true) }
     ensures works { IfOk result (λ station. ⟦<Station<S> as Keeper>⟧.is_broken station ≡ false) }
     ensures sound { IfOk result (λ station. ⟦<Station<S> as Keeper>⟧.is_sound station
         → (connection_view S.Store conn).IsSound) }

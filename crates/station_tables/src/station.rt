@@ -1,6 +1,8 @@
 ghost use Rattle.std.specs.Prelude.{◌≡◌, true, Option};
 ghost use Rattle.row_schema.specs.Connection.{connection_view};
 ghost use Rattle.station_core.specs.Step.{State};
+ghost use Rattle.station_rows.specs.Own.{are_declared};
+ghost use Rattle.station_rows.specs.Shown.{rows_view};
 ghost use Rattle.table_state.specs.Shown.{IfGivenBack};
 ghost use Rattle.station_tables.specs.Found.{Finds};
 
@@ -40,12 +42,12 @@ impl<S: Alter> Station<S> {
         ensures leaves { (connection_view S.Store result).IsSound → (found : Option State)
             → Finds (connection_view S.Store result) found
             → ⟦<Station<S> as Keeper>⟧.may_find self found }
-        ensures sound { (connection_view S.Store result).IsSound
+        ensures sound { (rows_view S.Store result (are_declared self.stored.store.store)).IsSound
             → ⟦<Station<S> as Keeper>⟧.is_sound self }
 
         // If it is open, it is outside a transaction, and its tables mean the state that the station kept.
         ensures shown { (s : State) → ⟦<Station<S> as Keeper>⟧.keeps self s
-            → IfGivenBack (connection_view S.Store result) s }
+            → IfGivenBack (rows_view S.Store result (are_declared self.stored.store.store)) s }
     {
         let Station { stored } = self;
         stored.into_store().release()

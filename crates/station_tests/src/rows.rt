@@ -24,6 +24,15 @@ impl RowAnswers {
         match asked {
             "new" => self.start(),
             "made-over" => made_over(alloc, shown(text)),
+            "opened-again" => {
+                let conn = self.rows.take()?.release();
+                self.open(conn)
+            }
+            "opened-over" => {
+                let mut conn = open_memory(alloc).ok()?;
+                conn.execute(shown(text), &[]).ok()?;
+                self.open(conn)
+            }
             "made-again" => fault_of(alloc, self.rows.take()?.release()),
             "station-row" => station_row(alloc, self.rows.take()?.release()),
             "stock-summed" => stock_summed(alloc, self.rows.take()?.release()),
@@ -38,6 +47,24 @@ impl RowAnswers {
             Err(_) => return None,
         }
         say(self.alloc, "ok")
+    }
+
+    /// Goes on with the tables of a connection, as they are.
+    fn open(&mut self, conn: Connection<MemStore>) -> Option<String> {
+        match Rows::opened(conn) {
+            Ok(rows) => {
+                self.rows = Some(rows);
+                say(self.alloc, "ok")
+            }
+            Err(conn) => say(
+                self.alloc,
+                if conn.is_autocommit() {
+                    "refused"
+                } else {
+                    "refused, inside a transaction"
+                },
+            ),
+        }
     }
 }
 

@@ -1,5 +1,6 @@
-ghost use Rattle.std.specs.Prelude.{◌≡◌, ◌⊎◌, ℕ, ◌+◌, false, List, ◌++◌, Some, Option, IfOk, IfErr, OnOk, take, string_bytes};
+ghost use Rattle.std.specs.Prelude.{◌≡◌, ◌⊎◌, ℕ, ◌+◌, false, List, ◌++◌, Some, Option, IfOk, IfErr, OnErr, OnOk, take, string_bytes};
 ghost use Rattle.csv.specs.Records.{fields_of};
+ghost use Rattle.station_core.specs.Ends.{HasCause};
 ghost use Rattle.station_core.specs.Step.{State};
 ghost use Rattle.stock_list.specs.Ended.{run_fault, IsAnswered, IsStopped};
 ghost use Rattle.stock_list.specs.Lines.{answer_text, answer_line, bad_line};
@@ -26,8 +27,10 @@ pub enum RunFault {
     Store,
 }
 
-/// An answer as it is printed.
-fn answer_text(alloc: Global, answer: &Answer) -> Result<String, AllocError>
+/// An answer as it is printed: `ok 10`, or `refused 102 020-12345723`.
+///
+/// Returns [`AllocError`] for want of memory.
+pub fn answer_text(alloc: Global, answer: &Answer) -> Result<String, AllocError>
     ensures { IfOk result (λ text. string_bytes text ≡ answer_text answer.now) }
 {
     match answer {
@@ -52,8 +55,11 @@ fn bad_line(alloc: Global, number: u64) -> Result<String, AllocError>
 }
 
 /// Writes a line.
-fn send_line<W: ByteOut>(writer: &mut W, line: &str) -> Result<(), RunFault>
+///
+/// Returns [`RunFault::Write`] where the writer fails or takes no byte.
+pub fn send_line<W: ByteOut>(writer: &mut W, line: &str) -> Result<(), RunFault>
     ensures all { OnOk result ((W.taken writer.new).bytes ≡ (W.taken writer.old).bytes ++ line.now) }
+    ensures cause { OnErr result (HasCause (W.taken writer.old) (W.taken writer.new)) }
     ensures part { IfErr result (λ e. (e ≡ RunFault.Write) × ((sent : ℕ) × ((W.taken writer.new).bytes ≡ (W.taken writer.old).bytes ++ take sent line.now))) }
 {
     match send(writer, line.as_bytes()) {
@@ -62,8 +68,8 @@ fn send_line<W: ByteOut>(writer: &mut W, line: &str) -> Result<(), RunFault>
     }
 }
 
-/// Why a run ends where a keeper doesn't answer.
-fn keeper_fault(fault: ActFault) -> RunFault
+/// Why a run ends where a keeper doesn't answer: `Memory` for want of memory, else `Store`.
+pub fn keeper_fault(fault: ActFault) -> RunFault
     ensures { result ≡ run_fault fault }
 {
     match fault {

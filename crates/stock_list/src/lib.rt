@@ -5,6 +5,6 @@ mod answer;
 mod row;
 mod run;
 
-pub use answer::{RunFault, answer_row};
+pub use answer::{RunFault, answer_row, answer_text, keeper_fault, send_line};
 pub use row::read_row;
 pub use run::run_stock;

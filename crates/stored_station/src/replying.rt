@@ -6,7 +6,7 @@ ghost use Rattle.stored_station.specs.Serving.{request_of};
 ghost use Rattle.state_store.specs.Store.{Seen, inside, Survives};
 ghost use Rattle.state_store.specs.Told.{kept_of};
 
-use desk_commands::command_text;
+use desk_commands::{command_range_law, command_text};
 use shipment_machine::{Detail, Refusal};
 use state_store::{KeptReply, StateStore, StoreFault};
 use station_core::{Answer, Input, Reply};
@@ -93,7 +93,10 @@ pub(crate) fn keep<S: StateStore>(
     ensures survives { Survives S.is_sound S.may_find store.old store.new }
 {
     match input {
-        Input::Keyed(key, _command) => store.keep_key(key, request, count),
+        Input::Keyed(key, command) => {
+            command_range_law(command);
+            store.keep_key(key, request, count)
+        }
         Input::Wire(telegram) => store.keep_text(telegram.text().as_bytes(), count),
     }
 }

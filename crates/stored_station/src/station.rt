@@ -38,6 +38,7 @@ impl<S: StateStore> StoredStation<S> {
             → ⟦<StoredStation<S> as Keeper>⟧.keeps result s }
         ensures sound { ⟦<StoredStation<S> as Keeper>⟧.is_sound result → S.is_sound store }
         ensures works { ⟦<StoredStation<S> as Keeper>⟧.is_broken result ≡ false }
+        ensures same { result.store ≡ store }
     {
         StoredStation {
             alloc,
@@ -48,6 +49,7 @@ impl<S: StateStore> StoredStation<S> {
 
     /// The store comes back, whatever state it is in.
     pub fn into_store(self) -> S
+        ensures same { result ≡ self.store }
         ensures shows { (s : State) → ⟦<StoredStation<S> as Keeper>⟧.keeps self s
             → S.shows result (at_rest s) }
         ensures sound { S.is_sound result → ⟦<StoredStation<S> as Keeper>⟧.is_sound self }

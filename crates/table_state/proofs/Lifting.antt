@@ -23,11 +23,11 @@ pub finds_on : (old new : View) → row.Survives old new → new.IsSound → (fo
 finds_on old new survives sound found finds = record { tables = finds.tables; left = survives.crash sound finds.tables finds.left; means = finds.means }
 
 -- what an open store gives back when its transaction is undone
-pub given_back : (old new : View) (here : List ℕ) (sizes : Sizes) (confirmed : ℕ) (x : Seen) → Shows old here sizes confirmed x → row.Survives old new
+pub given_back : (old new : View) (here : List ℕ) (sizes : Sizes) (confirmed : ℕ) (x : Seen) → Shows old here sizes confirmed x → (new.IsSound → old.IsSound)
     → (new.IsSound → new.is_open ≡ true → row.Shows old new old.committed old.committed false) → IfGivenBack new x.committed
-given_back old new here sizes confirmed x was survives undone sound up =
+given_back old new here sizes confirmed x was down undone sound up =
     let d = undone sound up in
-    let stands = (was (survives.sound sound)).holds.stands d.was_open in
+    let stands = (was (down sound)).holds.stands d.was_open in
     (d.mode, subst (λ t. Means t (Some x.committed)) (sym d.now_is) stands.committed)
 
 pub survives_so : {K : Type 0} (is_sound : K → Type 0) (may_find : K → Option State → Type 0) (old new : K) (v w : View) → row.Survives v w

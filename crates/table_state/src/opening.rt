@@ -1,6 +1,8 @@
 ghost use Rattle.std.specs.Prelude.{◌≡◌, ◌⊎◌, true, false, Some, Option, IfOk, IfErr, OnOk};
 ghost use Rattle.station_core.specs.Step.{State, opening};
 ghost use Rattle.row_schema.specs.Connection.{connection_view, IsVacant};
+ghost use Rattle.station_rows.specs.Shown.{rows_view};
+ghost use Rattle.station_rows.specs.Own.{are_declared};
 ghost use Rattle.state_store.specs.Store.{Seen, at_rest};
 ghost use Rattle.table_state.specs.Shown.{Finds, IfGivenBack};
 
@@ -20,6 +22,7 @@ pub fn create<S: Alter>(
     here: Airport,
 ) -> Result<TableState<Rows<S>>, (Connection<S>, CreateFault)>
     ensures empty { OnOk result (IsVacant S.Store conn) }
+    ensures declared { IfOk result (λ tables. are_declared tables.store ≡ true) }
     ensures sound { IfOk result (λ tables. ⟦<TableState<Rows<S>> as StateStore>⟧.is_sound tables → (connection_view S.Store conn).IsSound) }
 
     // It shows the opening state, and a crash leaves that alone.
@@ -46,11 +49,11 @@ impl<S: Alter> TableState<Rows<S>> {
     /// what a crash may leave is as before.
     pub fn release(self) -> Connection<S>
         ensures leaves { (connection_view S.Store result).IsSound → (found : Option State) → Finds (connection_view S.Store result) found → ⟦<TableState<Rows<S>> as StateStore>⟧.may_find self found }
-        ensures sound { (connection_view S.Store result).IsSound → ⟦<TableState<Rows<S>> as StateStore>⟧.is_sound self }
+        ensures sound { (rows_view S.Store result (are_declared self.store)).IsSound → ⟦<TableState<Rows<S>> as StateStore>⟧.is_sound self }
 
         // A connection that is open is outside a transaction, and its tables mean the state of the last commit.
         ensures shown { (x : Seen) → ⟦<TableState<Rows<S>> as StateStore>⟧.shows self x
-            → IfGivenBack (connection_view S.Store result) x.committed }
+            → IfGivenBack (rows_view S.Store result (are_declared self.store)) x.committed }
     {
         self.into_store().release()
     }

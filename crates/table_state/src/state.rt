@@ -47,6 +47,7 @@ impl<S: TableStore> TableState<S> {
     pub(crate) fn new(alloc: Global, store: S, here: Airport) -> TableState<S>
         ensures shows { ((S.view store).IsSound → IsOpening here (S.view store)) → ⟦<TableState<S> as StateStore>⟧.shows result (at_rest (opening here)) }
         ensures sound { ⟦<TableState<S> as StateStore>⟧.is_sound result → (S.view store).IsSound }
+        ensures same { result.store ≡ store }
     {
         TableState {
             alloc,

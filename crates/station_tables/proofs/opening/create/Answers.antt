@@ -1,5 +1,9 @@
+use Rattle.station_core.specs.Step.{opening}
 use Rattle.station_tables.proofs.Made.{made_or_before, opened_lawful}
 use Rattle.station_tables.proofs.opening.create.Goals as goal
+
+pub returns-in-Ok-clause-keeps : goal.returns-in-Ok-clause-keeps
+returns-in-Ok-clause-keeps g c = rw c.over-in-Ok.ensures (c.over.ensures.keeps (opening c.args.here) (opened_lawful c.args.here) c.in-Ok.ensures.shows)
 
 pub returns-in-Err-default-Occupied-clause-leaves : goal.returns-in-Err-default-Occupied-clause-leaves
 returns-in-Err-default-Occupied-clause-leaves g c = λ sound found finds.

@@ -1,8 +1,14 @@
-use Rattle.table_state.proofs.Lifting.{finds_on, given_back}
+use Rattle.station_rows.specs.Shown.{rows_view}
+use Rattle.table_state.proofs.Lifting.{given_back}
 use Rattle.table_state.proofs.opening.TableState+Rows+S.release.Goals as goal
 
 pub returns-clause-leaves : goal.returns-clause-leaves
-returns-clause-leaves g c = λ sound found finds. rw c.into_store.ensures at (finds_on _ _ c.release.ensures.survives sound found finds)
+returns-clause-leaves g c = λ sound found finds.
+    record { tables = finds.tables; left = (rw c.into_store.ensures at c.release.ensures.crash) sound finds.tables finds.left; means = finds.means }
 
 pub returns-clause-shown : goal.returns-clause-shown
-returns-clause-shown g c = λ x was. given_back _ _ _ _ _ x was (rw c.into_store.ensures at c.release.ensures.survives) (rw c.into_store.ensures at c.release.ensures.undone)
+returns-clause-shown g c = λ x was.
+    let store = c.args.self.store in
+    given_back (rows_view g.S.Store store.conn store.declared) (rows_view g.S.Store c.release.result store.declared) _ _ _ x was (rw c.into_store.ensures at c.release.ensures.sound)
+    (λ sound up. let d = (rw c.into_store.ensures at c.release.ensures.undone) sound.0 up in
+    record { was_open = d.was_open; is_open = d.is_open; now_is = d.now_is; committed_is = d.committed_is; mode = d.mode })

@@ -1,0 +1,44 @@
+-- Entries in the order of their keys: those of a map, and those of another that is made of them.
+use Rattle.std.proofs.Common.{◌≡◌, Bool, true, false, cond, ◌&&◌, T, List, [], ◌∷◌, Some, refl, sym, ap, subst, ◌∙◌, is_eq, is_lt, Ordering, Less}
+use Rattle.std.specs.List.{AllByRecursion}
+use Rattle.std.specs.List.Sorted.{IsStrictlySortedBy}
+use Rattle.std.specs.Cmp.{IsTotalOrder}
+use Rattle.std.specs.FinMap.{FinMap, find, is_sorted, entries, get, from_sorted, get-from_sorted, entries-from_sorted, same_map, IsAntisymmetric}
+use Rattle.std.specs.FinMap.Entries.{below_all}
+use Rattle.std.specs.BTreeMap.{is_at}
+use Rattle.std.specs.Map.{lookup, keys_of}
+use Rattle.count_tables.proofs.Entries.{each_entry}
+
+pub both : (a b : Bool) → T a → T b → T (a && b)
+both true b p q = q
+both false b p q = p
+
+less : (o : Ordering) → o ≡ Less → T (is_lt o)
+less o h = subst (λ x. T (is_lt x)) (sym h) tt
+
+module _ {K V : Type 0} (R : K → K → Ordering) where
+  lookup_is : (es : List (K × V)) (q : K) → lookup (is_at (R q)) es ≡ find R q es
+  lookup_is [] q = refl
+  lookup_is (e ∷ es) q = ap (cond (is_eq (R q e.0)) (Some e.1)) (lookup_is es q)
+
+  keys_below : (k : K) (es : List (K × V)) → AllByRecursion (λ q. R k q ≡ Less) (keys_of es) → T (below_all R k es)
+  keys_below k [] all = tt
+  keys_below k (e ∷ es) all = both (is_lt (R k e.0)) (below_all R k es) (less (R k e.0) all.0) (keys_below k es all.1)
+
+  pub keys_sorted : (es : List (K × V)) → IsStrictlySortedBy R (keys_of es) → T (is_sorted R es)
+  unfolding IsStrictlySortedBy
+  keys_sorted [] up = tt
+  keys_sorted (e ∷ es) up = both (below_all R e.0 es) (is_sorted R es) (keys_below e.0 es up.0) (keys_sorted es up.1)
+
+  -- each entry is what its key finds
+  pub each_looked_up : IsTotalOrder R → (es : List (K × V)) → IsStrictlySortedBy R (keys_of es) → (P : K × V → Type 0) → ((q : K) (v : V) → lookup (is_at (R q)) es ≡ Some v → P (q, v)) → AllByRecursion P es
+  each_looked_up total es up P h =
+      let sorted : T (is_sorted R es) = keys_sorted es up in
+      subst (AllByRecursion P) (entries-from_sorted R es sorted)
+      (each_entry R total P (from_sorted es) (λ q v is. h q v (lookup_is es q ∙ sym (get-from_sorted R es q sorted) ∙ is)))
+
+  -- a map that answers as sorted entries do has those entries
+  pub entries_are : IsTotalOrder R → IsAntisymmetric R → (m : FinMap R V) (es : List (K × V)) → T (is_sorted R es) → ((q : K) → get m q ≡ find R q es) → entries m ≡ es
+  entries_are total same m es sorted is =
+      let one : m ≡ from_sorted es = same_map total same m (from_sorted es) (λ q. is q ∙ sym (get-from_sorted R es q sorted)) in
+      ap entries one ∙ entries-from_sorted R es sorted

@@ -1,0 +1,28 @@
+-- What a clock shows in a zone, and the moment that it is.
+use Rattle.std.specs.Prelude.{◌≡◌, ℕ, ◌+◌, ◌*◌, ℤ, pos, ◌+ℤ◌, List}
+use Rattle.imp_fields.specs.Date.{LocalMinute}
+use Rattle.jiff.specs.Placed.{IsPosixZone}
+use Rattle.jiff.specs.ZoneView.{plain_zone}
+use Rattle.jiff_core.specs.Calendar.{IsBetween}
+use Rattle.jiff_core.specs.Date.{epoch_day}
+use Rattle.jiff_core.specs.DateTime.{civil_nanos}
+use Rattle.jiff_core.specs.Timestamp.{nanos_of_seconds}
+use Rattle.jiff_core.specs.declared.civil.datetime.DateTime.{DateTime}
+use Rattle.jiff_tz.specs.Zone.{offset_at}
+use Rattle.desk_clock.specs.declared.zone.Zone.{Zone}
+
+-- the zone is that of the rule's text
+abbrev pub FollowsRule : List ℕ → Zone → Type 0
+FollowsRule rule zone = IsPosixZone rule (plain_zone zone.zone)
+
+-- a clock in the zone shows this date and time at the instant, in nanoseconds since 1970-01-01 in UTC
+abbrev pub Shows : Zone → ℤ → DateTime → Type 0
+Shows zone instant local = civil_nanos local ≡ instant +ℤ nanos_of_seconds (offset_at (plain_zone zone.zone) instant)
+
+-- the moment has that day, and that minute of it
+abbrev pub IsMinuteOf : DateTime → LocalMinute → Type 0
+IsMinuteOf local m = (pos m.day ≡ epoch_day local.date) × (m.minute ≡ local.time.hour * 60 + local.time.minute)
+
+-- from 2000-01-01 to 2099-12-31
+abbrev pub IsWithinDays : DateTime → Type 0
+IsWithinDays local = IsBetween (pos 10_957) (pos 47_481) (epoch_day local.date)

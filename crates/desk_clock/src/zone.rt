@@ -1,0 +1,80 @@
+ghost use Rattle.std.specs.Prelude.{◌≡◌, ◌↔◌, ◌+◌, ◌*◌, ◌<◌, IsSome, IfSome};
+ghost use Rattle.jiff_core.specs.declared.civil.datetime.DateTime.{DateTime as AnyDateTime};
+ghost use Rattle.jiff_tz.specs.PosixReader.{read_whole};
+ghost use Rattle.desk_clock.specs.Clock.{FollowsRule, Shows, IsMinuteOf, IsWithinDays};
+
+use imp_fields::Moment;
+use jiff::Timestamp;
+use jiff::civil::DateTime;
+use jiff::tz::TimeZone;
+use std::time::Clock;
+
+/// The first and the last day that count: 2000-01-01 and 2099-12-31, in days since 1970-01-01.
+const FIRST_DAY: i32 = 10_957;
+
+const LAST_DAY: i32 = 47_481;
+
+/// A zone, by its POSIX rule.
+#[derive(Clone, Copy, PartialEq, Eq)]
+pub struct Zone {
+    zone: TimeZone<'static>,
+}
+
+impl Zone {
+    /// The zone of a rule such as `UTC0` or `CET-1CEST,M3.5.0,M10.5.0/3`; `None` for any other text, a name such as
+    /// `Europe/Berlin` too.
+    pub fn read(rule: &str) -> Option<Zone>
+        ensures read { IsSome result ↔ IsSome (read_whole rule.now) }
+        ensures rule { IfSome result (FollowsRule rule.now) }
+    {
+        match TimeZone::posix(rule) {
+            Ok(zone) => Some(Zone { zone }),
+            Err(_) => None,
+        }
+    }
+
+    /// What a clock in this zone shows at an instant.
+    fn local(&self, now: Timestamp) -> DateTime
+        ensures { Shows self.now now.nanosecond result }
+    {
+        self.zone.to_datetime(now)
+    }
+}
+
+/// The minute of a day that a clock shows, in minutes since midnight.
+fn minute_of(local: DateTime) -> u16
+    ensures value { result ≡ local.time.hour * 60 + local.time.minute }
+    ensures bound { result < 1440 }
+{
+    let time = local.to_plain().time;
+    u16::from(time.hour) * 60 + u16::from(time.minute)
+}
+
+/// The moment of a date and a time; `None` before 2000-01-01 and after 2099-12-31.
+fn moment_at(local: DateTime) -> Option<Moment>
+    ensures within { IsSome result ↔ IsWithinDays local }
+    ensures value { IfSome result (IsMinuteOf local) }
+{
+    let day = local.date().to_plain().to_unix_epoch_day();
+    if day < FIRST_DAY || day > LAST_DAY {
+        return None;
+    }
+    Moment::new(day as u32, minute_of(local))
+}
+
+/// The moment that a clock in a zone shows at an instant: its local day and minute. `None` where that day is before
+/// 2000-01-01 or after 2099-12-31.
+pub fn moment_of(zone: &Zone, now: Timestamp) -> Option<Moment>
+    ensures { (local : AnyDateTime) × Shows zone.now now.nanosecond local × (IsSome result ↔ IsWithinDays local) × IfSome result (IsMinuteOf local) }
+{
+    moment_at(zone.local(now))
+}
+
+/// The moment that a clock shows now, in a zone. `None` where the clock can't be read, or shows a day before 2000-01-01 or after
+/// 2099-12-31.
+pub fn moment_now(clock: &impl Clock, zone: &Zone) -> Option<Moment> {
+    match Timestamp::now(clock) {
+        Ok(now) => moment_of(zone, now),
+        Err(_) => None,
+    }
+}

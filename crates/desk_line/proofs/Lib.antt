@@ -1,0 +1,4 @@
+pub mod Grown
+pub mod Ran
+pub mod Reported
+pub mod Unanswered

@@ -1,0 +1,10 @@
+use Rattle.desk_line.specs.Asked.{IsTelegramAsked}
+use Rattle.desk_line.proofs.Ran.{has_run}
+use Rattle.desk_line.proofs.take.run_take.Goals as goal
+
+pub returns-in-Ok-clause-ran : goal.returns-in-Ok-clause-ran
+returns-in-Ok-clause-ran g c = λ s keeps works sound.
+    has_run IsTelegramAsked s c.args.at (g.I.ByteIn.given c.args.reader.now) (g.I.ByteIn.given c.read_input.new.reader) (g.O.ByteOut.taken c.args.writer.now).bytes
+    (g.O.ByteOut.taken c.answer_asked.new.writer).bytes (g.K.Keeper.keeps c.answer_asked.new.keeper) (g.K.Keeper.may_find c.answer_asked.new.keeper)
+    c.in_ok-bytes.bytes.items c.in-Ok.asked c.answer_asked.result c.in_ok-bytes.ensures.come (rw c.as_slice.ensures.value at c.in-Ok.ensures)
+    (c.answer_asked.ensures.answered s keeps works sound) (c.answer_asked.ensures.stopped s keeps works sound)

@@ -1,0 +1,29 @@
+-- What has come of a command's input.
+use Rattle.std.specs.Prelude.{◌≡◌, ◌⊎◌, ℕ, ◌+◌, ◌<◌, ◌≤◌, List, ◌++◌, length}
+use Rattle.station_core.specs.Given.{Given}
+
+-- the most bytes of a telegram and of a body
+abbrev pub longest : ℕ
+longest = 65_536
+
+-- some reads more, whose bytes stand behind those that had come; no read failed
+pub record HasGrown (old new : Given) (before after : List ℕ) : Type 0 where
+  pub part : List ℕ
+  pub bytes : after ≡ before ++ part
+  pub given : new.bytes ≡ old.bytes ++ part
+  pub failures : new.failures ≡ old.failures
+  pub idle : old.idle ≤ new.idle
+
+-- These bytes have come, and no read failed. The input has ended: a read that had room brought nothing; or it is too long.
+pub record HasCome (old new : Given) (bytes : List ℕ) : Type 0 where
+  pub given : new.bytes ≡ old.bytes ++ bytes
+  pub failures : new.failures ≡ old.failures
+  pub whole : (old.idle < new.idle) ⊎ (longest < length bytes)
+
+-- the most reads of an input
+abbrev pub most_reads : ℕ
+most_reads = 18_446_744_073_709_551_615
+
+-- a read failed, or so many reads didn't come to the end
+abbrev pub HasFailed : Given → Given → Type 0
+HasFailed old new = (old.failures < new.failures) ⊎ (old.calls + most_reads ≤ new.calls)

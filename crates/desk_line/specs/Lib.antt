@@ -1,0 +1,4 @@
+pub mod Asked
+pub mod Came
+pub mod Ended
+pub mod Report

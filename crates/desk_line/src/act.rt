@@ -1,0 +1,48 @@
+ghost use Rattle.std.specs.Prelude.{◌≡◌, false, Err, OnOk};
+ghost use Rattle.station_core.specs.Ends.{HasCause};
+ghost use Rattle.station_core.specs.Step.{State};
+ghost use Rattle.desk_line.specs.Asked.{IsCommandAsked};
+ghost use Rattle.desk_line.specs.Came.{HasFailed};
+ghost use Rattle.desk_line.specs.Ended.{HasRun};
+
+use crate::answer::answer_asked;
+use crate::asked::command_asked;
+use crate::reading::read_input;
+use desk_commands::Verb;
+use imp_fields::Moment;
+use station_core::{ByteIn, ByteOut, Keeper, Key};
+use std::alloc::Global;
+use stock_list::RunFault;
+
+/// Reads the body of one command, hands it to the station under a key at a moment, and writes the line of its answer: `ok 3`,
+/// `refused 102 020-12345723`, or `body bad` where the body is no JSON that says a command of the verb, or has more than 65,536
+/// bytes. `Ok` tells whether it was accepted.
+///
+/// Returns [`RunFault::Read`] where the reader fails, and [`RunFault::Memory`] where memory is wanting before the station is asked:
+/// nothing was done or written. Returns [`RunFault::Store`] where the store fails, or failed before: nothing was written, and the
+/// command was done wholly or not at all. Returns [`RunFault::Write`] where the writer fails, and [`RunFault::Memory`] where memory
+/// for the line is wanting: the command was answered, and a beginning of the line was written.
+pub fn run_act<K: Keeper, I: ByteIn, O: ByteOut>(
+    alloc: Global,
+    keeper: &mut K,
+    verb: Verb,
+    key: Key,
+    reader: &mut I,
+    writer: &mut O,
+    at: Moment,
+) -> Result<bool, RunFault>
+    ensures sound { K.is_sound keeper.new → K.is_sound keeper.old }
+    ensures works { K.is_broken keeper.old ≡ false → OnOk result (K.is_broken keeper.new ≡ false) }
+    ensures ran { (s : State) → K.keeps keeper.old s → K.is_broken keeper.old ≡ false → K.is_sound keeper.new
+        → HasRun (IsCommandAsked verb key) s at (I.given reader.old) (I.given reader.new) (O.taken writer.old).bytes (O.taken writer.new).bytes
+        (K.keeps keeper.new) (K.may_find keeper.new) result }
+    ensures unread { result ≡ Err RunFault.Read → (keeper.new ≡ keeper.old) × (O.taken writer.new ≡ O.taken writer.old) }
+    ensures read_cause { result ≡ Err RunFault.Read → HasFailed (I.given reader.old) (I.given reader.new) }
+    ensures write_cause { result ≡ Err RunFault.Write → HasCause (O.taken writer.old) (O.taken writer.new) }
+{
+    let bytes = read_input(alloc, reader)?;
+    match command_asked(alloc, verb, key, bytes.as_slice()) {
+        Ok(asked) => answer_asked(alloc, keeper, writer, &asked, at),
+        Err(_) => Err(RunFault::Memory),
+    }
+}

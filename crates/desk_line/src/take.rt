@@ -1,0 +1,45 @@
+ghost use Rattle.std.specs.Prelude.{◌≡◌, false, Err, OnOk};
+ghost use Rattle.station_core.specs.Ends.{HasCause};
+ghost use Rattle.station_core.specs.Step.{State};
+ghost use Rattle.desk_line.specs.Asked.{IsTelegramAsked};
+ghost use Rattle.desk_line.specs.Came.{HasFailed};
+ghost use Rattle.desk_line.specs.Ended.{HasRun};
+
+use crate::answer::answer_asked;
+use crate::asked::telegram_asked;
+use crate::reading::read_input;
+use imp_fields::Moment;
+use station_core::{ByteIn, ByteOut, Keeper};
+use std::alloc::Global;
+use stock_list::RunFault;
+
+/// Reads one telegram, hands it to the station at a moment, and writes the line of its answer: `ok 10`,
+/// `refused 213 LH400/2026-01-12/FRA/1`, or `refused 301 4 ending` where it can't be read. Of an input with more than 65,536 bytes,
+/// which is refused, only a beginning is read. `Ok` tells whether it was accepted.
+///
+/// Returns [`RunFault::Read`] where the reader fails, and [`RunFault::Memory`] where memory is wanting before the station is asked:
+/// nothing was done or written. Returns [`RunFault::Store`] where the store fails, or failed before: nothing was written, and the
+/// telegram was taken wholly or not at all. Returns [`RunFault::Write`] where the writer fails, and [`RunFault::Memory`] where memory
+/// for the line is wanting: the telegram was answered, and a beginning of the line was written.
+pub fn run_take<K: Keeper, I: ByteIn, O: ByteOut>(
+    alloc: Global,
+    keeper: &mut K,
+    reader: &mut I,
+    writer: &mut O,
+    at: Moment,
+) -> Result<bool, RunFault>
+    ensures sound { K.is_sound keeper.new → K.is_sound keeper.old }
+    ensures works { K.is_broken keeper.old ≡ false → OnOk result (K.is_broken keeper.new ≡ false) }
+    ensures ran { (s : State) → K.keeps keeper.old s → K.is_broken keeper.old ≡ false → K.is_sound keeper.new
+        → HasRun IsTelegramAsked s at (I.given reader.old) (I.given reader.new) (O.taken writer.old).bytes (O.taken writer.new).bytes
+        (K.keeps keeper.new) (K.may_find keeper.new) result }
+    ensures unread { result ≡ Err RunFault.Read → (keeper.new ≡ keeper.old) × (O.taken writer.new ≡ O.taken writer.old) }
+    ensures read_cause { result ≡ Err RunFault.Read → HasFailed (I.given reader.old) (I.given reader.new) }
+    ensures write_cause { result ≡ Err RunFault.Write → HasCause (O.taken writer.old) (O.taken writer.new) }
+{
+    let bytes = read_input(alloc, reader)?;
+    match telegram_asked(alloc, bytes.as_slice()) {
+        Ok(asked) => answer_asked(alloc, keeper, writer, &asked, at),
+        Err(_) => Err(RunFault::Memory),
+    }
+}

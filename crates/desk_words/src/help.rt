@@ -1,0 +1,92 @@
+//! What the help says.
+
+pub(crate) const DESK: &str = "The cargo desk of one air cargo station";
+
+pub(crate) const DESK_EXAMPLES: &str = "\
+Statuses: 0 done; 1 something was refused, or a row or a body was bad; 2 other words;
+3 the store, memory, the clock, a file or a stream failed.
+
+Examples:
+  cargo_desk stock < list.csv
+  cargo_desk --station FRA take telegram.txt
+  cargo_desk --zone CET-1CEST,M3.5.0,M10.5.0/3 act issue k9 < body.json
+
+`cargo_desk COMMAND --help` has more of each.";
+
+pub(crate) const DB: &str = "The file that keeps the station";
+
+pub(crate) const STATION: &str = "The station's airport, three letters; XXX if absent";
+
+pub(crate) const ZONE: &str = "The zone of local time, as a POSIX rule; UTC0 if absent";
+
+pub(crate) const INIT: &str = "Makes a station in a new file";
+
+pub(crate) const INIT_EXAMPLES: &str = "\
+Prints `ok FRA`.
+
+Example:
+  cargo_desk --db fra.db --station FRA init";
+
+pub(crate) const STOCK: &str = "Answers a stock list, CSV on standard input, row by row";
+
+pub(crate) const STOCK_EXAMPLES: &str = "\
+A row has six fields: key, verb (take-in, issue, return, void), prefix (3 digits), serial (7 digits),
+count (1 to 7 digits), agent (empty for take-in and void). A row of another shape is told as `row N bad`.
+
+Example:
+  printf 'k1,take-in,020,1234567,10,\\nk2,issue,020,1234570,3,ACME\\n' | cargo_desk stock
+prints
+  k1 ok 10
+  k2 ok 3";
+
+pub(crate) const TAKE: &str = "Takes one telegram (FWB, FFM or FSU)";
+
+pub(crate) const TAKE_EXAMPLES: &str = "\
+Prints `ok 10`, with what it counted, or the refusal, as `refused 301 4 ending`.
+
+Example:
+  cargo_desk --station FRA take telegram.txt";
+
+pub(crate) const ACT: &str = "Does one command, whose body is JSON on standard input";
+
+pub(crate) const ACT_EXAMPLES: &str = "\
+Prints `ok 3`, the refusal, as `refused 102 020-12345723`, or `body bad`.
+
+Example:
+  echo '{\"agent\":\"ACME\",\"count\":3,\"prefix\":\"020\",\"serial\":\"1234570\"}' | cargo_desk act issue k2";
+
+pub(crate) const VERBS: &str =
+    "take-in, issue, return, void, book, receive, manifest, offload, depart, check-in, notify, deliver, missing, found or confirm";
+
+pub(crate) const KEY: &str =
+    "The command's own key, 1 to 40 printable characters: the same key again is the same command again";
+
+pub(crate) const OUTBOX: &str = "Prints the messages that weren't confirmed yet";
+
+pub(crate) const OUTBOX_EXAMPLES: &str = "\
+Each stands below a line with its number and its length, as `MESSAGE 4 74`; the last line is `END n`.
+
+Example:
+  cargo_desk outbox";
+
+pub(crate) const REPORT: &str = "Prints a report";
+
+pub(crate) const REPORT_EXAMPLES: &str = "\
+The last line is `END n`, with the number of rows.
+
+Example:
+  cargo_desk report stock";
+
+pub(crate) const REPORT_NAMES: &str = "stock, irregularities, movements or trail";
+
+pub(crate) const SERVE: &str = "Serves HTTP on 127.0.0.1, one connection after another";
+
+pub(crate) const SERVE_EXAMPLES: &str = "\
+Prints `listening`. Ends after K connections, where `--count` is given.
+
+Example:
+  cargo_desk serve --port 8080 --count 1";
+
+pub(crate) const PORT: &str = "The port, 1 to 65535";
+
+pub(crate) const COUNT: &str = "How many connections are served, 1 to 4294967295";

@@ -1,0 +1,13 @@
+//! The words of a call, read to what they ask.
+#![tactic(auto)]
+
+mod fault;
+mod help;
+mod line;
+mod number;
+mod read;
+mod words;
+
+pub use fault::{WordsFault, usage_fault};
+pub use line::{Line, LineCommand};
+pub use read::parse_words;

@@ -1,0 +1,166 @@
+//! The words as `clap` sorts them. No value is read here but by its place.
+
+use crate::fault::WordsFault;
+use crate::help;
+use clap::error::ErrorKind;
+use clap::{Arg, ArgAction, ArgMatches, Command, Error};
+use std::alloc::{AllocError, Global};
+use std::convert::AsStr;
+
+/// What the words ask for, by the command and its words.
+#[derive(Clone, Copy, Debug, PartialEq, Eq)]
+pub(crate) enum Request<'a> {
+    Init,
+    Stock,
+    Take(&'a str),
+    Act {
+        verb: &'a str,
+        key: &'a str,
+    },
+    Outbox,
+    Report(&'a str),
+    Serve {
+        port: &'a str,
+        count: Option<&'a str>,
+    },
+}
+
+/// The words of a call, sorted.
+#[derive(Clone, Copy, Debug, PartialEq, Eq)]
+pub(crate) struct Words<'a> {
+    pub(crate) db: Option<&'a str>,
+    pub(crate) station: Option<&'a str>,
+    pub(crate) zone: Option<&'a str>,
+    pub(crate) request: Request<'a>,
+}
+
+/// An option with a value, given once at most.
+fn option<'a>(alloc: Global, name: &'a str, value: &'a str, help: &'a str) -> Arg<'a> {
+    Arg::new(alloc, name)
+        .long(name)
+        .value_name(value)
+        .action(ArgAction::Set)
+        .help(help)
+}
+
+/// A word that must stand there.
+fn word<'a>(alloc: Global, name: &'a str, help: &'a str) -> Arg<'a> {
+    Arg::new(alloc, name)
+        .required(true)
+        .action(ArgAction::Set)
+        .help(help)
+}
+
+/// A command without words of its own.
+fn command<'a>(alloc: Global, name: &'a str, about: &'a str, examples: &'a str) -> Command<'a> {
+    Command::new(alloc, name).about(about).after_help(examples)
+}
+
+/// The commands that change a station.
+fn changing<'a>(alloc: Global, top: Command<'a>) -> Result<Command<'a>, AllocError> {
+    let init = command(alloc, "init", help::INIT, help::INIT_EXAMPLES).hide(true);
+    let stock = command(alloc, "stock", help::STOCK, help::STOCK_EXAMPLES);
+    let take = command(alloc, "take", help::TAKE, help::TAKE_EXAMPLES).arg(word(
+        alloc,
+        "FILE",
+        "The telegram",
+    ))?;
+    let act = command(alloc, "act", help::ACT, help::ACT_EXAMPLES)
+        .arg(word(alloc, "VERB", help::VERBS))?
+        .arg(word(alloc, "KEY", help::KEY))?;
+    top.subcommand(init)?
+        .subcommand(stock)?
+        .subcommand(take)?
+        .subcommand(act)
+}
+
+/// The commands that tell of a station, and the one that serves.
+fn telling<'a>(alloc: Global, top: Command<'a>) -> Result<Command<'a>, AllocError> {
+    let outbox = command(alloc, "outbox", help::OUTBOX, help::OUTBOX_EXAMPLES);
+    let report = command(alloc, "report", help::REPORT, help::REPORT_EXAMPLES).arg(word(
+        alloc,
+        "NAME",
+        help::REPORT_NAMES,
+    ))?;
+    let serve = command(alloc, "serve", help::SERVE, help::SERVE_EXAMPLES)
+        .hide(true)
+        .arg(option(alloc, "port", "N", help::PORT).required(true))?
+        .arg(option(alloc, "count", "K", help::COUNT))?;
+    top.subcommand(outbox)?
+        .subcommand(report)?
+        .subcommand(serve)
+}
+
+/// The whole command line.
+fn desk<'a>(alloc: Global) -> Result<Command<'a>, AllocError> {
+    let top = command(alloc, "cargo_desk", help::DESK, help::DESK_EXAMPLES)
+        .arg(option(alloc, "db", "FILE", help::DB).hide(true))?
+        .arg(option(alloc, "station", "AAA", help::STATION))?
+        .arg(option(alloc, "zone", "RULE", help::ZONE))?
+        .subcommand_required(true)
+        .disable_help_subcommand(true);
+    let top = changing(alloc, top)?;
+    telling(alloc, top)
+}
+
+/// What a command asks for.
+fn asked<'a>(name: &str, words: &ArgMatches<'a>) -> Option<Request<'a>> {
+    match name {
+        "init" => Some(Request::Init),
+        "stock" => Some(Request::Stock),
+        "take" => Some(Request::Take(words.get_str("FILE")?)),
+        "act" => Some(Request::Act {
+            verb: words.get_str("VERB")?,
+            key: words.get_str("KEY")?,
+        }),
+        "outbox" => Some(Request::Outbox),
+        "report" => Some(Request::Report(words.get_str("NAME")?)),
+        "serve" => Some(Request::Serve {
+            port: words.get_str("port")?,
+            count: words.get_str("count"),
+        }),
+        _ => None,
+    }
+}
+
+/// What the words say, where `clap` took them.
+fn sorted<'a>(matches: &ArgMatches<'a>) -> Option<Words<'a>> {
+    let (name, words) = matches.subcommand()?;
+    Some(Words {
+        db: matches.get_str("db"),
+        station: matches.get_str("station"),
+        zone: matches.get_str("zone"),
+        request: asked(name, words)?,
+    })
+}
+
+/// Why `clap` refused the words, with its text.
+fn words_fault(alloc: Global, error: &Error) -> WordsFault {
+    if error.kind() == ErrorKind::OutOfMemory {
+        return WordsFault::Memory;
+    }
+    let Ok(text) = format!(in alloc; "{error}") else {
+        return WordsFault::Memory;
+    };
+    if error.kind() == ErrorKind::DisplayHelp {
+        return WordsFault::Help(text);
+    }
+    WordsFault::Usage(text)
+}
+
+/// Sorts the words of a call; the first is the program's name.
+pub(crate) fn sort_words<'a, S: AsStr>(
+    alloc: Global,
+    words: &'a [S],
+) -> Result<Words<'a>, WordsFault> {
+    let Ok(command) = desk(alloc) else {
+        return Err(WordsFault::Memory);
+    };
+    match command.try_get_matches_from(words) {
+        Ok(matches) => match sorted(&matches) {
+            Some(words) => Ok(words),
+            None => Err(WordsFault::Usage(String::new(alloc))),
+        },
+        Err(error) => Err(words_fault(alloc, &error)),
+    }
+}

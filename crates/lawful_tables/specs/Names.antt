@@ -1,0 +1,19 @@
+-- The names of the tables in the database.
+use Rattle.std.specs.Prelude.{ℕ, List, codes}
+use Rattle.lawful_tables.specs.declared.name.TableName.{TableName}
+use Rattle.lawful_tables.specs.declared.name.TableName.TheVariants.{Station, Waybill, Stock, Flight, Moves, Expected, Part, Trail, Outbox, KeptKey, KeptText, Counts, Build}
+
+abbrev pub name_text : TableName → List ℕ
+name_text Station = codes "station"
+name_text Waybill = codes "waybill"
+name_text Stock = codes "stock"
+name_text Flight = codes "flight"
+name_text Moves = codes "moves"
+name_text Expected = codes "expected"
+name_text Part = codes "part"
+name_text Trail = codes "trail"
+name_text Outbox = codes "outbox"
+name_text KeptKey = codes "kept_key"
+name_text KeptText = codes "kept_text"
+name_text Counts = codes "counts"
+name_text Build = codes "build"

@@ -1,0 +1,11 @@
+ghost use Rattle.std.specs.Prelude.{◌↔◌};
+ghost use Rattle.station_core.specs.Step.{IsLawfulState};
+ghost use Rattle.row_schema.specs.Tables.{Tables};
+ghost use Rattle.row_values.specs.Meaning.{meaning_of, IsReadable};
+ghost use Rattle.lawful_tables.specs.declared.name.TableName.{TableName};
+ghost use Rattle.lawful_tables.specs.Lawful.{IsLawfulTable};
+
+/// The law that tables which are lawful one by one are those that mean a lawful state.
+pub fn lawful_tables_mean()
+    ensures { (t : Tables) → ((name : TableName) → IsLawfulTable name t) ↔ (IsReadable t × IsLawfulState (meaning_of t)) }
+{}

@@ -1,0 +1,58 @@
+-- The rows of `flight` are lawful exactly where the table is.
+use Rattle.std.proofs.Common.{◌≡◌, ℕ, Bool, true, false, cond, not, Option, Some, None, option_map, List, refl, sym, ap, ap₂, subst, ◌∙◌}
+use Rattle.std.specs.Prelude.{IfSome}
+use Rattle.std.specs.List.{list_all}
+use Rattle.std.specs.Str.{bytes_eq}
+use Rattle.std.specs.FinMap.{entries, get}
+use Rattle.std.proofs.lemmas.Bool.{and_parts, and_from, cond-true}
+use Rattle.sqlite_keyed.proofs.ListLemmas.{all_from_test, test_from_all}
+use Rattle.shipment_machine.specs.declared.flight.FlightDate.{FlightDate}
+use Rattle.shipment_machine.specs.declared.moves.Outbound.{Outbound}
+use Rattle.row_schema.specs.Tables.{Tables, Flight, FlightKey, flight_cmp}
+use Rattle.row_schema.proofs.Keys.{flight_total, flight_same}
+use Rattle.row_values.specs.Flights.{is_designator, flight_key, outbound_by, flights_in, is_flight_row}
+use Rattle.row_values.specs.Meaning.{airport_in}
+use Rattle.row_values.proofs.MapLaws.{at_key, each_entry}
+use Rattle.lawful_tables.specs.Lawful.{AreFlights, cargo_in}
+use Rattle.table_audits.specs.Rows.{is_lawful_flight}
+use Rattle.table_audits.proofs.Each.{both_lists}
+use Rattle.table_audits.proofs.FlightRows.{flight_at}
+
+not_true : (b : Bool) → not b ≡ true → b ≡ false
+not_true true h = absurd (cc)
+not_true false h = refl
+
+not_false : (b : Bool) → b ≡ false → not b ≡ true
+not_false true h = absurd (cc)
+not_false false h = refl
+
+module _ (t : Tables) (here : List ℕ) (at : airport_in t.stations ≡ here) where
+  abbrev IsElsewhere : Option Outbound → Type 0
+  IsElsewhere o = IfSome o (λ o. bytes_eq o.unload (cargo_in t).here ≡ false)
+
+  elsewhere : (row : FlightKey × Flight) → is_lawful_flight here row ≡ true → bytes_eq row.1.unload (airport_in t.stations) ≡ false
+  elsewhere row h = ap (bytes_eq row.1.unload) at ∙ not_true (bytes_eq row.1.unload here) (and_parts (is_flight_row row) (not (bytes_eq row.1.unload here)) h).1
+
+  pub are_flights : list_all (is_lawful_flight here) (entries t.flights) ≡ true → AreFlights t
+  are_flights all = record {
+    rows = (both_lists is_flight_row (λ row. not (bytes_eq row.1.unload here)) (entries t.flights) all).0;
+    outbound = λ f. go f (is_designator f.flight) (get t.flights (flight_key f)) refl;
+  }
+    where
+      go : (f : FlightDate) (b : Bool) (o : Option Flight) → get t.flights (flight_key f) ≡ o → IsElsewhere (cond b (option_map outbound_by o) None)
+      go f false o is = tt
+      go f true None is = tt
+      go f true (Some row) is = elsewhere (flight_key f, row) (at_key flight_cmp flight_total flight_same (λ e. is_lawful_flight here e ≡ true) t.flights (all_from_test (is_lawful_flight here) (entries t.flights) all) (flight_key f) row is)
+
+  pub lawful_flights : AreFlights t → list_all (is_lawful_flight here) (entries t.flights) ≡ true
+  lawful_flights law = test_from_all (is_lawful_flight here) (entries t.flights) (each_entry flight_cmp flight_total flight_same (λ e. is_lawful_flight here e ≡ true) t.flights go)
+    where
+      go : (key : FlightKey) (row : Flight) → get t.flights key ≡ Some row → is_lawful_flight here (key, row) ≡ true
+      go key row has =
+          let fits : is_flight_row (key, row) ≡ true = at_key flight_cmp flight_total flight_same (λ e. is_flight_row e ≡ true) t.flights (all_from_test is_flight_row (entries t.flights) law.rows) key row has in
+          let a = and_parts _ _ (and_parts _ _ (and_parts _ _ fits).0).0 in
+          let f = flight_at key.0 key.1 a.0 a.1 in
+          let same : flight_key f.0 ≡ key = ap₂ (λ x y. (x, y)) f.2 f.3 in
+          let seen : flights_in t.flights f.0 ≡ Some (outbound_by row) = cond-true (is_designator (f.0).flight) (option_map outbound_by (get t.flights (flight_key f.0))) None f.1 ∙ ap (option_map outbound_by) (ap (get t.flights) same ∙ has) in
+          let away : bytes_eq row.unload (airport_in t.stations) ≡ false = subst IsElsewhere seen (law.outbound f.0) in
+          and_from _ _ fits (not_false (bytes_eq row.unload here) (ap (bytes_eq row.unload) (sym at) ∙ away))

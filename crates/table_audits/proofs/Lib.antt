@@ -1,0 +1,12 @@
+pub mod Searches
+pub mod Each
+pub mod WaybillLaws
+pub mod FlightRows
+pub mod FlightLaws
+pub mod DeclaredLaws
+pub mod ExpectedLaws
+pub mod NumberLaws
+pub mod TrailLaws
+pub mod KeptTextLaws
+pub mod KeptKeyLaws
+pub mod StockLaws

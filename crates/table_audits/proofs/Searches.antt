@@ -1,0 +1,114 @@
+-- What a binary search finds among rows in the order of their keys, each key once.
+use Rattle.std.proofs.Common.{◌≡◌, ℕ, zero, suc, ◌<◌, ◌≤◌, ℤ, Bool, true, false, cond, ◌||◌, List, [], ◌∷◌, map, length, slice_index_or, is_some, Option, Some, None, Result, Ok, Err, refl, sym, ap, ap₂, ◌∙◌, subst, int_cmp, int_eq, is_eq, Ordering, Less, Equal, arith}
+use Rattle.std.specs.Prelude.{find}
+use Rattle.std.specs.Result.{is_ok}
+use Rattle.std.specs.List.{list_any, AllByRecursion}
+use Rattle.std.specs.List.Sorted.{IsBinarySearchResult, IsSearchInRange}
+use Rattle.std.specs.Cmp.{IsTotalOrder, on_total, int_cmp_total}
+use Rattle.std.specs.Ordering.{eq_by_cmp}
+use Rattle.std.proofs.lemmas.List.Sorted.{searchable_from_sorted}
+use Rattle.std.proofs.lemmas.Bool.{cases_Bool}
+use Rattle.std.proofs.Common.{nat_lt, inl, inr}
+use Rattle.std.proofs.lemmas.Bool.Decides.{nat_tests}
+use Rattle.std.specs.FinMap.{FinMap, IsAntisymmetric, entries, get, contains_key, get-entries}
+use Rattle.std.specs.FinMap.{find as find_entry}
+use Rattle.std.specs.Cmp.{eq_by_cmp_equiv}
+use Rattle.row_laws.proofs.Maps.{entries_rise}
+use Rattle.row_values.proofs.MapLaws.{each_entry}
+use Rattle.sqlite.specs.Tree.{IsAscending}
+use Rattle.sqlite_keyed.specs.Keyed.{has_key}
+use Rattle.raw_rows.proofs.TableLemmas.{ascending_sorted}
+use Rattle.row_laws.proofs.Keys.{int_tied}
+use Rattle.row_schema.specs.Tables.{waybill_id}
+use Rattle.cargo_rows.specs.declared.waybills.WaybillRow.{WaybillRow}
+use Rattle.cargo_rows.specs.Meant.{waybill_meant}
+use Rattle.table_audits.specs.Order.{RisesByNumber}
+
+-- ---- lists
+
+all_from_map : {X Y : Type 0} (f : X → Y) (P : Y → Type 0) (xs : List X) → AllByRecursion P (map f xs) → AllByRecursion (λ x. P (f x)) xs
+all_from_map f P [] h = tt
+all_from_map f P (x ∷ xs) h = (h.0, all_from_map f P xs h.1)
+
+pub rising_from_map : {X Y : Type 0} (f : X → Y) (R : Y → Y → Type 0) (xs : List X) → IsAscending R (map f xs) → IsAscending (λ a b. R (f a) (f b)) xs
+rising_from_map f R [] h = tt
+rising_from_map f R (x ∷ xs) h = (all_from_map f (R (f x)) xs h.0, rising_from_map f R xs h.1)
+
+or_true : (a : Bool) → (a || true) ≡ true
+or_true true = refl
+or_true false = refl
+
+any_at : {X : Type 0} (p : X → Bool) (xs : List X) (i : ℕ) → i < length xs → ((d : X) → p (slice_index_or xs i d) ≡ true) → list_any p xs ≡ true
+any_at p [] i low h = absurd (omega arith)
+any_at p (x ∷ xs) zero low h = ap (λ b. b || list_any p xs) (h x)
+any_at p (x ∷ xs) (suc i) low h = ap (λ b. p x || b) (any_at p xs i (omega arith) h) ∙ or_true (p x)
+
+none_at : {X : Type 0} (p : X → Bool) (xs : List X) → ((i : ℕ) (d : X) → i < length xs → p (slice_index_or xs i d) ≡ false) → list_any p xs ≡ false
+none_at p [] h = refl
+none_at p (x ∷ xs) h = ap₂ ◌||◌ (h 0 x (omega arith)) (none_at p xs (λ i d low. h (suc i) d (omega arith)))
+
+-- ---- a search by a key
+
+module _ {K X : Type 0} (R : K → K → Ordering) (total : IsTotalOrder R) (key : X → K) (q : K) where
+  abbrev ties : X → Bool
+  ties x = eq_by_cmp R (key x) q
+
+  pub is_found : (xs : List X) → IsAscending (λ a b. R (key a) (key b) ≡ Less) xs → (r : Result ℕ ℕ) → IsSearchInRange r (length xs) → IsBinarySearchResult (λ y. R (key y) q) xs r → is_ok r ≡ list_any ties xs
+  is_found xs up (Ok i) low h = sym (any_at ties xs i low (λ d. ap is_eq (h d)))
+  is_found xs up (Err i) low h =
+      let parts = h (searchable_from_sorted total key xs q (ascending_sorted (λ a b. R (key a) (key b)) (on_total key total) xs up)) in
+      sym (none_at ties xs (λ k d below. elim (cases_Bool (nat_lt k i)) [
+        | inl early ↦ ap is_eq (parts.0 k d (omega arith) (grind (arith, nat_tests)))
+        | inr late ↦ ap is_eq (parts.1 k d (grind (arith, nat_tests)) below)
+      ]))
+
+-- ---- rows under a number
+
+has_key-any : {X Y : Type 0} (f : X → Y) (key : Y → ℤ) (xs : List X) (id : ℤ) → list_any (λ x. eq_by_cmp int_cmp (key (f x)) id) xs ≡ has_key key (map f xs) id
+has_key-any f key [] id = refl
+has_key-any f key (x ∷ xs) id = ap (λ b. b || list_any (λ y. eq_by_cmp int_cmp (key (f y)) id) xs) (int_tied (key (f x)) id) ∙ go (int_eq (key (f x)) id) (has_key-any f key xs id)
+  where
+    go : (b : Bool) → list_any (λ y. eq_by_cmp int_cmp (key (f y)) id) xs ≡ has_key key (map f xs) id → (b || list_any (λ y. eq_by_cmp int_cmp (key (f y)) id) xs) ≡ is_some (cond b (Some (f x)) (find (λ y. int_eq (key y) id) (map f xs)))
+    go true h = refl
+    go false h = h
+
+pub has_number : (rows : List WaybillRow) (id : ℤ) (r : Result ℕ ℕ) → RisesByNumber (map waybill_meant rows) → IsSearchInRange r (length rows) → IsBinarySearchResult (λ row. int_cmp row.awb id) rows r
+    → is_ok r ≡ has_key waybill_id (map waybill_meant rows) id
+has_number rows id r up low h = is_found int_cmp int_cmp_total (λ (row : WaybillRow). row.awb) id rows (rising_from_map waybill_meant _ rows up) r low h ∙ has_key-any waybill_meant waybill_id rows id
+
+-- ---- the rows of a map
+
+at_index : {X : Type 0} (P : X → Type 0) (xs : List X) → AllByRecursion P xs → (i : ℕ) (d : X) → i < length xs → P (slice_index_or xs i d)
+at_index P [] all i d low = absurd (omega arith)
+at_index P (x ∷ xs) all zero d low = all.0
+at_index P (x ∷ xs) all (suc i) d low = at_index P xs all.1 i d (omega arith)
+
+not_some : {X : Type 0} (o : Option X) → is_some o ≡ false → o ≡ None
+not_some None h = refl
+not_some (Some x) h = cc
+
+module _ {X K V : Type 0} (R : K → K → Ordering) (total : IsTotalOrder R) (same : IsAntisymmetric R) (f : X → K × V) where
+  found_any : (q : K) (xs : List X) → is_some (find_entry R q (map f xs)) ≡ list_any (λ x. eq_by_cmp R (f x).0 q) xs
+  found_any q [] = refl
+  found_any q (x ∷ xs) = go (eq_by_cmp R q (f x).0) (eq_by_cmp R (f x).0 q) ((eq_by_cmp_equiv total).symm q (f x).0) (found_any q xs)
+    where
+      go : (b c : Bool) → b ≡ c → is_some (find_entry R q (map f xs)) ≡ list_any (λ y. eq_by_cmp R (f y).0 q) xs → is_some (cond b (Some (f x).1) (find_entry R q (map f xs))) ≡ (c || list_any (λ y. eq_by_cmp R (f y).0 q) xs)
+      go true true e h = refl
+      go true false e h = cc
+      go false true e h = cc
+      go false false e h = h
+
+  module _ (m : FinMap R V) (xs : List X) (are : entries m ≡ map f xs) (q : K) where
+    rows_rise : IsAscending (λ a b. R (f a).0 (f b).0 ≡ Less) xs
+    rows_rise = rising_from_map f (λ a b. R a.0 b.0 ≡ Less) xs (subst (IsAscending (λ a b. R a.0 b.0 ≡ Less)) are (entries_rise R total m))
+
+    pub has_entry : (r : Result ℕ ℕ) → IsSearchInRange r (length xs) → IsBinarySearchResult (λ x. R (f x).0 q) xs r → is_ok r ≡ contains_key m q
+    has_entry r low h = is_found R total (λ x. (f x).0) q xs rows_rise r low h ∙ sym (ap is_some (get-entries m q ∙ ap (find_entry R q) are) ∙ found_any q xs)
+
+    pub entry_at : (i : ℕ) (d : X) → i < length xs → ((e : X) → R (f (slice_index_or xs i e)).0 q ≡ Equal) → get m q ≡ Some (f (slice_index_or xs i d)).1
+    entry_at i d low h =
+        let is : get m (f (slice_index_or xs i d)).0 ≡ Some (f (slice_index_or xs i d)).1 = at_index (λ x. get m (f x).0 ≡ Some (f x).1) xs (all_from_map f (λ e. get m e.0 ≡ Some e.1) xs (subst (AllByRecursion (λ e. get m e.0 ≡ Some e.1)) are (each_entry R total same (λ e. get m e.0 ≡ Some e.1) m (λ k v has. has)))) i d low in
+        subst (λ k. get m k ≡ Some (f (slice_index_or xs i d)).1) (same _ q (h d)) is
+
+    pub no_entry : (i : ℕ) → i ≤ length xs → IsBinarySearchResult (λ x. R (f x).0 q) xs (Err i) → get m q ≡ None
+    no_entry i low h = not_some (get m q) (sym (has_entry (Err i) low h))

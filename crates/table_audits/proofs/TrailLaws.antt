@@ -1,0 +1,42 @@
+-- The rows of `trail` are lawful exactly where the table is.
+use Rattle.std.proofs.Common.{◌≡◌, ℕ, Bool, true, List, sym, ap, ◌∙◌}
+use Rattle.std.specs.Prelude.{IsTrue, IsSome}
+use Rattle.std.specs.List.{list_all}
+use Rattle.std.proofs.lemmas.Bool.{and_parts, and_from}
+use Rattle.sqlite_keyed.proofs.ListLemmas.{all_map, all_unmap, all_weaker, all_both, all_from_test, test_from_all}
+use Rattle.imp_fields.specs.Characters.{is_line}
+use Rattle.row_schema.specs.Tables.{Tables, TrailLine, trail_id}
+use Rattle.row_values.specs.Numbers.{natural, is_number, AreNumbered}
+use Rattle.row_values.specs.Logs.{line_by, is_trail_row}
+use Rattle.lawful_tables.specs.Lawful.{AreTrailLines, cargo_in}
+use Rattle.table_audits.specs.Rows.{has_waybill, is_lawful_line}
+use Rattle.table_audits.proofs.Each.{both_lists, natural_again}
+use Rattle.table_audits.proofs.DeclaredLaws.{declared_from, declared_back}
+
+module _ (t : Tables) where
+  abbrev passes : TrailLine → Bool
+  passes = is_lawful_line t.waybills
+
+  abbrev IsKnown : ℕ × List ℕ → Type 0
+  IsKnown row = IsSome ((cargo_in t).declared row.0) × IsTrue (is_line row.1)
+
+  known : (row : TrailLine) → passes row ≡ true → IsKnown (line_by row)
+  known row h =
+      let a = and_parts (is_trail_row row) (has_waybill t.waybills row.awb) h in
+      let b = and_parts (is_number row.awb) (is_line row.line) a.0 in
+      (declared_from t.waybills (natural row.awb) (ap (has_waybill t.waybills) (natural_again 0 9_999_999_999 row.awb b.0) ∙ a.1), b.1)
+
+  known_back : (row : TrailLine) → is_trail_row row ≡ true → IsKnown (line_by row) → passes row ≡ true
+  known_back row h k =
+      let b = and_parts (is_number row.awb) (is_line row.line) h in
+      and_from _ _ h (ap (has_waybill t.waybills) (sym (natural_again 0 9_999_999_999 row.awb b.0)) ∙ declared_back t.waybills (natural row.awb) k.0)
+
+  pub are_lines : list_all passes t.trail ≡ true → AreNumbered trail_id t.trail → AreTrailLines t
+  are_lines all numbers = record {
+    rows = (both_lists is_trail_row (λ row. has_waybill t.waybills row.awb) t.trail all).0;
+    numbers = numbers;
+    lines = all_map IsKnown line_by t.trail (all_weaker (λ row. passes row ≡ true) (λ row. IsKnown (line_by row)) known t.trail (all_from_test passes t.trail all));
+  }
+
+  pub lawful_lines : AreTrailLines t → list_all passes t.trail ≡ true
+  lawful_lines law = test_from_all passes t.trail (all_both (λ row. is_trail_row row ≡ true) (λ row. IsKnown (line_by row)) (λ row. passes row ≡ true) known_back t.trail (all_from_test is_trail_row t.trail law.rows) (all_unmap IsKnown line_by t.trail law.lines))

@@ -1,0 +1,44 @@
+-- The rows of `waybill` are lawful exactly where the table is.
+use Rattle.std.proofs.Common.{◌≡◌, ℕ, pos, true, Option, Some, None, option_map, refl, ap, subst, ◌∙◌}
+use Rattle.std.specs.Prelude.{int_le, IfSome}
+use Rattle.std.specs.List.{list_all}
+use Rattle.std.proofs.lemmas.Bool.{and_parts, and_from}
+use Rattle.sqlite_keyed.specs.Keyed.{get_by}
+use Rattle.sqlite_keyed.proofs.ListLemmas.{all_both, all_from_test, test_from_all}
+use Rattle.shipment_machine.specs.Lawful.{IsLawfulAmount}
+use Rattle.row_schema.specs.Tables.{Tables, Waybill, waybill_id}
+use Rattle.row_values.specs.Numbers.{natural, is_within, is_number}
+use Rattle.row_values.specs.Waybills.{declared_by, is_waybill_row}
+use Rattle.lawful_tables.specs.Lawful.{AreWaybills, cargo_in}
+use Rattle.table_audits.specs.Order.{RisesByNumber}
+use Rattle.table_audits.specs.Rows.{is_lawful_waybill}
+use Rattle.table_audits.proofs.Each.{found_passes, both_lists, each_by_number, natural_again, amount_of, amount_back}
+
+-- its number, its pieces and its weight
+pub in_range : (x : Waybill) → is_waybill_row x ≡ true → (is_number x.awb ≡ true) × (is_within 1 9999 x.pieces ≡ true) × (is_within 0 999_999 x.tenths ≡ true)
+in_range x h =
+    let a = (and_parts _ _ (and_parts _ _ h).0).0 in
+    let b = and_parts _ _ a in
+    let c = and_parts _ _ b.0 in
+    ((and_parts _ _ (and_parts _ _ c.0).0).0, c.1, b.1)
+
+module _ (t : Tables) where
+  abbrev IsEnough : ℕ → Type 0
+  IsEnough w = IfSome ((cargo_in t).declared w) (λ d. IsLawfulAmount d.pieces d.tenths)
+
+  pub are_waybills : list_all is_lawful_waybill t.waybills ≡ true → AreWaybills t
+  are_waybills all = record { rows = (both_lists is_waybill_row (λ x. int_le x.pieces x.tenths) t.waybills all).0; amounts = λ w. go w (get_by waybill_id t.waybills (pos w)) refl }
+    where
+      go : (w : ℕ) (o : Option Waybill) → get_by waybill_id t.waybills (pos w) ≡ o → IfSome (option_map declared_by o) (λ d. IsLawfulAmount d.pieces d.tenths)
+      go w None is = tt
+      go w (Some x) is =
+          let h = and_parts (is_waybill_row x) (int_le x.pieces x.tenths) (found_passes is_lawful_waybill _ t.waybills x all is) in
+          let r = in_range x h.0 in
+          amount_of x.pieces x.tenths r.1 r.2 h.1
+
+  pub lawful_waybills : RisesByNumber t.waybills → AreWaybills t → list_all is_lawful_waybill t.waybills ≡ true
+  lawful_waybills up law = test_from_all is_lawful_waybill t.waybills (all_both (λ x. is_waybill_row x ≡ true) (λ x. get_by waybill_id t.waybills (waybill_id x) ≡ Some x) (λ x. is_lawful_waybill x ≡ true)
+      (λ x h is. let r = in_range x h in
+      let here : get_by waybill_id t.waybills (pos (natural x.awb)) ≡ Some x = ap (get_by waybill_id t.waybills) (natural_again 0 9_999_999_999 x.awb r.0) ∙ is in
+      and_from _ _ h (amount_back x.pieces x.tenths r.1 r.2 (subst (λ o. IfSome (option_map declared_by o) (λ d. IsLawfulAmount d.pieces d.tenths)) here (law.amounts (natural x.awb)))))
+      t.waybills (all_from_test is_waybill_row t.waybills law.rows) (each_by_number waybill_id t.waybills up))

@@ -1,0 +1,8 @@
+use Rattle.std.proofs.Common.{rules}
+use Rattle.std.proofs.lemmas.Fn.{always_returns_same}
+use Rattle.row_schema.specs.Tables.{flight_cmp}
+use Rattle.found_tables.specs.Held.{flight_entry}
+use Rattle.table_audits.proofs.lookups.flight_place.Goals as goal
+
+pub returns-clause-place : goal.returns-clause-place
+returns-clause-place c = c.binary_search_by.ensures.position (λ row. flight_cmp (flight_entry row).0 (c.args.flight.now, c.args.day.now)) (always_returns_same _ _ _ (λ a r q k. search rules))

@@ -1,0 +1,7 @@
+use Rattle.std.proofs.Common.{rules}
+use Rattle.std.proofs.lemmas.List.Sorted.{answers_always}
+use Rattle.table_audits.proofs.Searches.{has_number}
+use Rattle.table_audits.proofs.lookups.place_of.Goals as goal
+
+pub returns : goal.returns
+returns c = λ up. has_number c.args.waybills.now c.args.awb.now c.binary_search_by_key.result up c.binary_search_by_key.ensures.bound (c.binary_search_by_key.ensures.position (λ row. row.awb) (answers_always _ _ _ (λ f a r q k. search rules)))

@@ -1,0 +1,8 @@
+use Rattle.std.proofs.Common.{rules}
+use Rattle.std.proofs.lemmas.Fn.{always_returns_same}
+use Rattle.row_schema.specs.Tables.{kept_text_cmp}
+use Rattle.found_tables.specs.Held.{kept_text_entry}
+use Rattle.table_audits.proofs.lookups.text_place.Goals as goal
+
+pub returns-clause-place : goal.returns-clause-place
+returns-clause-place c = c.binary_search_by.ensures.position (λ row. kept_text_cmp (kept_text_entry row).0 c.args.text.now) (always_returns_same _ _ _ (λ a r q k. search rules))

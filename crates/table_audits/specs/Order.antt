@@ -1,0 +1,10 @@
+-- Rows in the order of their keys, each key once.
+use Rattle.std.specs.Prelude.{◌≡◌, List}
+use Rattle.std.specs.declared.cmp.Ordering.TheVariants.{Less}
+use Rattle.sqlite.specs.Tree.{IsAscending}
+use Rattle.row_schema.specs.Tables.{Waybill, waybill_id}
+use Rattle.found_tables.specs.Held.{by_number}
+
+-- the waybills are in the order of their numbers
+abbrev pub RisesByNumber : List Waybill → Type 0
+RisesByNumber = IsAscending (λ a b. by_number waybill_id a b ≡ Less)

@@ -1,0 +1,44 @@
+-- Rows that are lawful by themselves and against the rows of the tables before.
+use Rattle.std.specs.Prelude.{ℕ, ℤ, pos, int_le, ◌+ℤ◌, ◌*ℤ◌, Bool, ◌&&◌, ◌||◌, not, List}
+use Rattle.std.specs.Ordering.{int_eq}
+use Rattle.std.specs.Str.{bytes_eq}
+use Rattle.std.specs.FinMap.{FinMap, contains_key}
+use Rattle.sqlite_keyed.specs.Keyed.{has_key}
+use Rattle.row_schema.specs.Tables.{Waybill, waybill_id, Stock, StockKey, Flight, FlightKey, Expected, ExpectedKey, PartKey, TrailLine, kept_text_cmp}
+use Rattle.row_values.specs.Waybills.{is_waybill_row}
+use Rattle.row_values.specs.Stock.{is_stock_row}
+use Rattle.row_values.specs.Flights.{is_flight_row}
+use Rattle.row_values.specs.Manifests.{is_expected_row}
+use Rattle.row_values.specs.Logs.{is_trail_row}
+
+-- within range, and at least a tenth a piece
+abbrev pub is_lawful_waybill : Waybill → Bool
+is_lawful_waybill row = is_waybill_row row && int_le row.pieces row.tenths
+
+-- there is a row of the waybill
+abbrev pub has_waybill : List Waybill → ℤ → Bool
+has_waybill = has_key waybill_id
+
+-- the number of a row's lowest serial
+abbrev pub lowest : StockKey → ℤ
+lowest key = (key.0 *ℤ pos 10_000_000) +ℤ key.1
+
+-- within range, and declared where it is used
+abbrev pub is_lawful_stock : List Waybill → StockKey × Stock → Bool
+is_lawful_stock waybills row = is_stock_row row && (not (int_eq row.1.holder (pos 2)) || has_waybill waybills (lowest row.0))
+
+-- within range, and unloaded elsewhere
+abbrev pub is_lawful_flight : List ℕ → FlightKey × Flight → Bool
+is_lawful_flight here row = is_flight_row row && not (bytes_eq row.1.unload here)
+
+-- within range, at least a tenth a piece, and of a declared waybill
+abbrev pub is_lawful_expected : List Waybill → ExpectedKey × Expected → Bool
+is_lawful_expected waybills row = is_expected_row row && int_le row.1.pieces row.1.tenths && has_waybill waybills row.0.1.1
+
+-- within range, and of a declared waybill
+abbrev pub is_lawful_line : List Waybill → TrailLine → Bool
+is_lawful_line waybills row = is_trail_row row && has_waybill waybills row.awb
+
+-- the telegram of a part is among the accepted texts
+abbrev pub has_text : FinMap kept_text_cmp ℤ → PartKey × List ℕ → Bool
+has_text texts row = contains_key texts row.1

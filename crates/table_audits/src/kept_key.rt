@@ -1,0 +1,60 @@
+ghost use Rattle.std.specs.Prelude.{◌≡◌, ◌↔◌, map, IsTrue};
+ghost use Rattle.std.specs.List.{list_all, AllByRecursion};
+ghost use Rattle.std.specs.FinMap.{entries};
+ghost use Rattle.row_schema.specs.Tables.{Tables};
+ghost use Rattle.found_tables.specs.Held.{kept_key_entry};
+ghost use Rattle.lawful_tables.specs.Lawful.{IsLawfulTable};
+ghost use Rattle.lawful_tables.specs.declared.name.TableName.TheVariants as table;
+ghost use Rattle.state_store.specs.Told.{IsRequest};
+ghost use Rattle.row_values.specs.Replies.{is_kept_row};
+
+use crate::ranges::is_count;
+use desk_commands::read_command_text;
+use found_tables::KeptKeyEntry;
+use station_core::Key;
+
+/// Whether the row is within range.
+fn is_in_range(row: &KeptKeyEntry) -> bool
+    ensures { result ≡ is_kept_row (kept_key_entry row.now) }
+{
+    if Key::read(row.id.as_bytes()).is_none() {
+        return false;
+    }
+    is_count(row.count)
+}
+
+/// Whether each row is.
+fn are_in_range(rows: &[KeptKeyEntry]) -> bool
+    ensures { result ≡ list_all is_kept_row (map kept_key_entry rows.now) }
+{
+    rows.iter().all(|row| is_in_range(row))
+}
+
+/// Whether it is the text of a command.
+fn is_request(text: &str) -> bool
+    ensures request { IsTrue result → IsRequest text.now }
+    ensures other { IsRequest text.now → IsTrue result }
+{
+    read_command_text(text.as_bytes()).is_some()
+}
+
+/// Whether the text of each row is that of a command.
+fn are_requests(rows: &[KeptKeyEntry]) -> bool
+    ensures { IsTrue result ↔ AllByRecursion (λ row. IsRequest row.1.command) (map kept_key_entry rows.now) }
+{
+    for row in rows {
+        if !is_request(&row.command) {
+            return false;
+        }
+    }
+    true
+}
+
+/// Whether these rows of `kept_key`, in the order of their keys, are lawful.
+pub fn are_kept_keys_lawful(rows: &[KeptKeyEntry]) -> bool
+    ensures exact { (t : Tables) → entries t.kept ≡ map kept_key_entry rows.now → (IsTrue result ↔ IsLawfulTable table.KeptKey t) }
+{
+    let in_range = are_in_range(rows);
+    let requests = are_requests(rows);
+    in_range && requests
+}

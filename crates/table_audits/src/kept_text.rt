@@ -1,0 +1,37 @@
+ghost use Rattle.std.specs.Prelude.{◌≡◌, ◌↔◌, map, IsTrue, ℤ};
+ghost use Rattle.std.specs.List.{list_all};
+ghost use Rattle.std.specs.FinMap.{FinMap, entries, contains_key};
+ghost use Rattle.row_schema.specs.Tables.{Tables, kept_text_cmp};
+ghost use Rattle.found_tables.specs.Held.{kept_text_entry, part_entry};
+ghost use Rattle.lawful_tables.specs.Lawful.{IsLawfulTable};
+ghost use Rattle.lawful_tables.specs.declared.name.TableName.TheVariants as table;
+ghost use Rattle.row_values.specs.Replies.{is_kept_text_row};
+ghost use Rattle.table_audits.specs.Rows.{has_text};
+
+use crate::lookups::is_kept;
+use crate::ranges::is_count;
+use found_tables::{KeptTextEntry, PartEntry};
+
+/// Whether each row is within range.
+fn are_in_range(rows: &[KeptTextEntry]) -> bool
+    ensures { result ≡ list_all is_kept_text_row (map kept_text_entry rows.now) }
+{
+    rows.iter().all(|row| is_count(row.count))
+}
+
+/// Whether the telegram of each part is among the texts.
+fn are_kept(parts: &[PartEntry], texts: &[KeptTextEntry]) -> bool
+    ensures { (rows : FinMap kept_text_cmp ℤ) → entries rows ≡ map kept_text_entry texts.now → result ≡ list_all (has_text rows) (map part_entry parts.now) }
+{
+    parts.iter().all(|part| is_kept(texts, &part.body))
+}
+
+/// Whether these rows of `kept_text` are lawful beside these of `part`, which are lawful. Both are in the order of their
+/// keys.
+pub fn are_kept_texts_lawful(rows: &[KeptTextEntry], parts: &[PartEntry]) -> bool
+    ensures exact { (t : Tables) → IsLawfulTable table.Part t → entries t.parts ≡ map part_entry parts.now → entries t.kept_texts ≡ map kept_text_entry rows.now → (IsTrue result ↔ IsLawfulTable table.KeptText t) }
+{
+    let in_range = are_in_range(rows);
+    let kept = are_kept(parts, rows);
+    in_range && kept
+}

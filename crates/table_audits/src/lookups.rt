@@ -1,0 +1,79 @@
+ghost use Rattle.std.specs.Prelude.{◌≡◌, ◌↔◌, map, length, pos, ℕ, ℤ, IsTrue, IsSome};
+ghost use Rattle.std.specs.Result.{is_ok};
+ghost use Rattle.std.specs.List.Sorted.{IsBinarySearchResult, IsSearchInRange};
+ghost use Rattle.std.specs.Option.{option_map};
+ghost use Rattle.std.specs.FinMap.{FinMap, entries, get, contains_key};
+ghost use Rattle.sqlite_keyed.specs.Keyed.{has_key};
+ghost use Rattle.row_schema.specs.Tables.{waybill_id, Flight, flight_cmp, kept_text_cmp};
+ghost use Rattle.cargo_rows.specs.Meant.{waybill_meant};
+ghost use Rattle.row_values.specs.Waybills.{declared_in};
+ghost use Rattle.found_tables.specs.Held.{flight_entry, kept_text_entry};
+ghost use Rattle.table_audits.specs.Order.{RisesByNumber};
+
+use found_tables::{FlightEntry, KeptTextEntry};
+use station_rows::WaybillRow;
+use std::cmp::Ordering;
+
+/// Where the row of a number is, or where it would be.
+fn place_of(waybills: &[WaybillRow], awb: &i64) -> Result<usize, usize>
+    ensures { RisesByNumber (map waybill_meant waybills.now) → is_ok result ≡ has_key waybill_id (map waybill_meant waybills.now) awb.now }
+{
+    waybills.binary_search_by_key(awb, |row| row.awb)
+}
+
+/// Whether there is a row of the waybill with this number. The rows are all of `waybill`, in the order of their numbers.
+#[tactic(auto, using(crate::proofs::DeclaredLaws::declared_from, crate::proofs::DeclaredLaws::declared_back))]
+pub fn is_declared(waybills: &[WaybillRow], awb: i64) -> bool
+    ensures row { RisesByNumber (map waybill_meant waybills.now) → result ≡ has_key waybill_id (map waybill_meant waybills.now) awb }
+    ensures declared { (w : ℕ) → awb ≡ pos w → RisesByNumber (map waybill_meant waybills.now) → (IsTrue result ↔ IsSome (declared_in (map waybill_meant waybills.now) w)) }
+{
+    place_of(waybills, &awb).is_ok()
+}
+
+/// How a row of `flight` is ordered against a flight and a day.
+fn compare_flight(row: &FlightEntry, flight: &str, day: &i64) -> Ordering
+    ensures { result ≡ flight_cmp (flight_entry row.now).0 (flight.now, day.now) }
+{
+    match row.flight.as_str().cmp(flight) {
+        Ordering::Less => Ordering::Less,
+        Ordering::Equal => row.day.cmp(day),
+        Ordering::Greater => Ordering::Greater,
+    }
+}
+
+/// Where the row of a flight and a day is, or where it would be.
+fn flight_place(flights: &[FlightEntry], flight: &str, day: &i64) -> Result<usize, usize>
+    ensures bound { IsSearchInRange result (length flights.now) }
+    ensures place { IsBinarySearchResult (λ row. flight_cmp (flight_entry row).0 (flight.now, day.now)) flights.now result }
+{
+    flights.binary_search_by(|row| compare_flight(row, flight, day))
+}
+
+/// Where the row of a text is, or where it would be.
+fn text_place(texts: &[KeptTextEntry], text: &str) -> Result<usize, usize>
+    ensures bound { IsSearchInRange result (length texts.now) }
+    ensures place { IsBinarySearchResult (λ row. kept_text_cmp (kept_text_entry row).0 text.now) texts.now result }
+{
+    texts.binary_search_by(|row| row.body.as_str().cmp(text))
+}
+
+/// The row of a flight and a day, if there is one. The rows are all of `flight`, in the order of their keys.
+pub fn find_flight<'a>(
+    flights: &'a [FlightEntry],
+    flight: &str,
+    day: i64,
+) -> Option<&'a FlightEntry>
+    ensures { (rows : FinMap flight_cmp Flight) → entries rows ≡ map flight_entry flights.now → option_map (λ row. (flight_entry row.now).1) result ≡ get rows (flight.now, day) }
+{
+    match flight_place(flights, flight, &day) {
+        Ok(at) => Some(&flights[at]),
+        Err(_) => None,
+    }
+}
+
+/// Whether a text was accepted. The rows are all of `kept_text`, in the order of their keys.
+pub fn is_kept(texts: &[KeptTextEntry], text: &str) -> bool
+    ensures { (rows : FinMap kept_text_cmp ℤ) → entries rows ≡ map kept_text_entry texts.now → result ≡ contains_key rows text.now }
+{
+    text_place(texts, text).is_ok()
+}

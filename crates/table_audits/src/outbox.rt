@@ -1,0 +1,29 @@
+ghost use Rattle.std.specs.Prelude.{◌≡◌, ◌↔◌, ◌≤◌, length, map, IsTrue};
+ghost use Rattle.text_rows.specs.Meant.{message_meant};
+ghost use Rattle.row_schema.specs.Tables.{Tables};
+ghost use Rattle.lawful_tables.specs.Lawful.{IsLawfulTable};
+ghost use Rattle.lawful_tables.specs.declared.name.TableName.TheVariants as table;
+ghost use Rattle.row_values.specs.Numbers.{natural};
+ghost use Rattle.row_values.specs.Meaning.{confirmed_in};
+
+use crate::numbers::are_messages_numbered;
+use station_rows::MessageRow;
+
+/// Whether there are at least as many messages as were confirmed. None was where the number is negative.
+fn has_confirmed(rows: &[MessageRow], confirmed: i64) -> bool
+    ensures { IsTrue result ↔ (natural confirmed ≤ length rows.now) }
+{
+    match usize::try_from(confirmed) {
+        Ok(confirmed) => confirmed <= rows.len(),
+        Err(_) => confirmed < 0,
+    }
+}
+
+/// Whether these rows of `outbox`, in the order of their numbers, are lawful where so many messages were confirmed.
+pub fn is_outbox_lawful(rows: &[MessageRow], confirmed: i64) -> bool
+    ensures exact { (t : Tables) → confirmed_in t.stations ≡ natural confirmed → t.outbox ≡ map message_meant rows.now → (IsTrue result ↔ IsLawfulTable table.Outbox t) }
+{
+    let numbered = are_messages_numbered(rows);
+    let confirmed = has_confirmed(rows, confirmed);
+    numbered && confirmed
+}

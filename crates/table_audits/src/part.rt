@@ -1,0 +1,41 @@
+ghost use Rattle.std.specs.Prelude.{◌≡◌, ◌↔◌, map, IsTrue};
+ghost use Rattle.std.specs.FinMap.{entries};
+ghost use Rattle.std.specs.List.{list_all};
+ghost use Rattle.found_tables.specs.Held.{part_entry};
+ghost use Rattle.row_schema.specs.Tables.{Tables};
+ghost use Rattle.lawful_tables.specs.Lawful.{IsLawfulTable};
+ghost use Rattle.lawful_tables.specs.declared.name.TableName.TheVariants as table;
+ghost use Rattle.row_values.specs.Manifests.{is_part_row};
+
+use crate::ranges::{is_airport, is_day, is_flight_text, is_pieces};
+use found_tables::PartEntry;
+
+/// Whether the row is within range.
+fn is_lawful(row: &PartEntry) -> bool
+    ensures { result ≡ is_part_row (part_entry row.now) }
+{
+    if !is_flight_text(&row.flight) {
+        return false;
+    }
+    if !is_day(row.day) {
+        return false;
+    }
+    if !is_airport(&row.airport) {
+        return false;
+    }
+    is_pieces(row.seq)
+}
+
+/// Whether each row is.
+fn are_lawful(rows: &[PartEntry]) -> bool
+    ensures { result ≡ list_all is_part_row (map part_entry rows.now) }
+{
+    rows.iter().all(|row| is_lawful(row))
+}
+
+/// Whether these rows of `part`, in the order of their keys, are lawful.
+pub fn are_parts_lawful(rows: &[PartEntry]) -> bool
+    ensures exact { (t : Tables) → entries t.parts ≡ map part_entry rows.now → (IsTrue result ↔ IsLawfulTable table.Part t) }
+{
+    are_lawful(rows)
+}

@@ -1,0 +1,15 @@
+ghost use Rattle.std.specs.Prelude.{◌≡◌, ◌↔◌, ◌∷◌, [], IsTrue};
+ghost use Rattle.row_schema.specs.Tables.{Tables};
+ghost use Rattle.found_tables.specs.Verdict.{new_row};
+ghost use Rattle.lawful_tables.specs.Lawful.{IsLawfulTable};
+ghost use Rattle.lawful_tables.specs.declared.name.TableName.TheVariants as table;
+
+use crate::ranges::{is_airport, is_count};
+
+/// Whether the one row of `station`, with this airport and this number of the last message that was confirmed, is
+/// lawful.
+pub fn is_station_lawful(airport: &str, confirmed: i64) -> bool
+    ensures exact { (t : Tables) → t.stations ≡ new_row airport.now confirmed ∷ [] → (IsTrue result ↔ IsLawfulTable table.Station t) }
+{
+    is_airport(airport) && is_count(confirmed)
+}

@@ -1,0 +1,58 @@
+ghost use Rattle.std.specs.Prelude.{◌≡◌, ◌↔◌, map, IsTrue};
+ghost use Rattle.std.specs.List.{list_all};
+ghost use Rattle.cargo_rows.specs.Meant.{waybill_meant};
+ghost use Rattle.row_schema.specs.Tables.{Tables};
+ghost use Rattle.table_audits.specs.Order.{RisesByNumber};
+ghost use Rattle.lawful_tables.specs.Lawful.{IsLawfulTable};
+ghost use Rattle.lawful_tables.specs.declared.name.TableName.TheVariants as table;
+ghost use Rattle.row_values.specs.Waybills.{is_waybill_row};
+ghost use Rattle.table_audits.specs.Rows.{is_lawful_waybill};
+
+use crate::ranges::{is_airport, is_flag, is_goods, is_number, is_pieces, is_tenths};
+use station_rows::WaybillRow;
+
+/// Whether the row is within range.
+fn is_in_range(row: &WaybillRow) -> bool
+    ensures { result ≡ is_waybill_row (waybill_meant row.now) }
+{
+    if !is_number(row.awb) {
+        return false;
+    }
+    if !is_airport(&row.origin) {
+        return false;
+    }
+    if !is_airport(&row.destination) {
+        return false;
+    }
+    if !is_pieces(row.pieces) {
+        return false;
+    }
+    if !is_tenths(row.tenths) {
+        return false;
+    }
+    if !is_goods(&row.goods) {
+        return false;
+    }
+    is_flag(row.notified)
+}
+
+/// Whether the row is within range, and its weight at least a tenth a piece.
+fn is_lawful(row: &WaybillRow) -> bool
+    ensures { result ≡ is_lawful_waybill (waybill_meant row.now) }
+{
+    is_in_range(row) && row.pieces <= row.tenths
+}
+
+/// Whether each row is.
+fn are_lawful(rows: &[WaybillRow]) -> bool
+    ensures { result ≡ list_all is_lawful_waybill (map waybill_meant rows.now) }
+{
+    rows.iter().all(|row| is_lawful(row))
+}
+
+/// Whether these rows of `waybill`, in the order of their numbers, are lawful.
+pub fn are_waybills_lawful(rows: &[WaybillRow]) -> bool
+    ensures exact { (t : Tables) → RisesByNumber (map waybill_meant rows.now) → t.waybills ≡ map waybill_meant rows.now → (IsTrue result ↔ IsLawfulTable table.Waybill t) }
+{
+    are_lawful(rows)
+}
