@@ -4,3 +4,7 @@ pub mod Compared
 pub mod Rows
 pub mod Made
 pub mod Walk
+pub mod Runs
+pub mod Stocked
+pub mod Aboard
+pub mod Balanced

@@ -26,7 +26,7 @@ use Rattle.book_audits.specs.Sums.{build_of, build_due, build_entry, build_place
 use Rattle.book_audits.proofs.Sorted.{both, each_looked_up, entries_are}
 use Rattle.book_audits.proofs.Rows.{entry, entry_is, told_builds}
 
-build_places_total : IsTotalOrder build_place_cmp
+pub build_places_total : IsTotalOrder build_place_cmp
 build_places_total = then_total (on_total (λ (p : BuildPlace). p.flight) nat_cmp_total) (on_total (λ (p : BuildPlace). p.awb) int_cmp_total)
 
 -- ---- flights in the order of their keys

@@ -62,7 +62,7 @@ same_nat : (i j : ℕ) → i ≡ j → (i == j) ≡ true
 same_nat i j h = eq-eqb i j h
 
 -- a flight stands in a list, or doesn't
-index_of : (flights : List FlightDate) (f : FlightDate) → ((i : ℕ) × (slice_get flights i ≡ Some f)) ⊎ ((i : ℕ) → slice_get flights i ≢ Some f)
+pub index_of : (flights : List FlightDate) (f : FlightDate) → ((i : ℕ) × (slice_get flights i ≡ Some f)) ⊎ ((i : ℕ) → slice_get flights i ≢ Some f)
 index_of [] f = inr (λ i h. absurd (true≢false (sym (none_is f h))))
 index_of (g ∷ flights) f = go (same_flight_date g f) refl (index_of flights f)
   where
