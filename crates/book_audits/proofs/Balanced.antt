@@ -1,11 +1,11 @@
 -- The balances of a station are lawful exactly where each sum is, and no flight has more than 500 of them.
-use Rattle.std.proofs.Common.{◌≡◌, ◌≢◌, ◌⊎◌, inl, inr, ℕ, zero, suc, ◌≤◌, arith, ℤ, pos, negsuc, Bool, true, false, cond, ◌&&◌, nat_lt, List, [], ◌∷◌, map, length, Option, Some, None, option_map, refl, sym, ap, ap₂, subst, ◌∙◌, true≢false, nat_cmp, int_cmp, int_eq, is_eq, slice_get, Ordering, Less, Equal, Greater}
+use Rattle.std.proofs.Common.{◌≡◌, ◌≢◌, ◌⊎◌, inl, inr, ℕ, zero, suc, ◌≤◌, arith, ℤ, pos, negsuc, Bool, true, false, cond, nat_lt, List, [], ◌∷◌, map, length, Option, Some, None, option_map, refl, sym, ap, ap₂, subst, ◌∙◌, true≢false, nat_cmp, int_cmp, is_eq, slice_get, Ordering, Less, Equal, Greater}
 use Rattle.std.specs.Prelude.{int_lt, not}
 use Rattle.std.specs.List.{AllByRecursion, list_all}
 use Rattle.std.specs.List.Sorted.{IsStrictlySortedBy}
 use Rattle.std.specs.Ordering.{eq_by_cmp}
 use Rattle.std.specs.Cmp.{IsTotalOrder, on_total, then_total, int_cmp_total}
-use Rattle.std.specs.FinMap.{FinMap, find, entries, get, get-entries, IsAntisymmetric, nat_cmp-IsAntisymmetric, int_cmp-IsAntisymmetric}
+use Rattle.std.specs.FinMap.{find, entries, get, get-entries, IsAntisymmetric, nat_cmp-IsAntisymmetric, int_cmp-IsAntisymmetric}
 use Rattle.std.specs.BTreeMap.{is_at}
 use Rattle.std.specs.Map.{lookup, keys_of}
 use Rattle.std.proofs.lemmas.Bool.{and_parts, and_from}
@@ -15,11 +15,9 @@ use Rattle.shipment_machine.specs.declared.flight.FlightDate.{FlightDate}
 use Rattle.shipment_machine.specs.declared.moves.Move.{Move}
 use Rattle.shipment_machine.specs.declared.moves.Place.{Place}
 use Rattle.shipment_machine.specs.declared.moves.Place.TheVariants.{Hand, Surplus, Free, Built, Departed, Delivered, Missing}
-use Rattle.shipment_machine.specs.declared.moves.Outbound.{Outbound}
 use Rattle.shipment_machine.specs.Amount.{plus, fits}
 use Rattle.shipment_machine.specs.Book.{built, taken_and_found, waybills_on}
 use Rattle.shipment_machine.specs.Effect.{is_closed}
-use Rattle.shipment_machine.specs.Flights.{same_flight_date}
 use Rattle.shipment_machine.specs.Lawful.{is_outside, IsStocked}
 use Rattle.shipment_machine.proofs.FlightKeys.{same-is}
 use Rattle.row_laws.proofs.Keys.{pair_total, pair_same, texts_total}

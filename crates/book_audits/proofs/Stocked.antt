@@ -1,10 +1,9 @@
 -- What a sum at a place says of the place.
-use Rattle.std.proofs.Common.{◌≡◌, ◌≢◌, ℕ, zero, suc, ◌+◌, ◌-◌, ◌<◌, ◌≤◌, ◌==◌, arith, ℤ, pos, negsuc, ◌-ℤ◌, ◌<ℤ◌, ◌≤ℤ◌, neg_ℤ, Bool, true, false, cond, ◌&&◌, nat_lt, List, Option, Some, None, option_map, refl, sym, ap, ap₂, subst, ◌∙◌, true≢false, int_eq}
+use Rattle.std.proofs.Common.{◌≡◌, ◌≢◌, ℕ, zero, suc, ◌+◌, ◌-◌, ◌<◌, ◌≤◌, ◌==◌, arith, ℤ, pos, negsuc, ◌-ℤ◌, ◌<ℤ◌, ◌≤ℤ◌, neg_ℤ, Bool, true, false, cond, ◌&&◌, nat_lt, List, Option, Some, None, option_map, refl, sym, ap, ap₂, ◌∙◌, true≢false, int_eq}
 use Rattle.std.specs.Prelude.{int_le, nat_le, unsigned_abs}
 use Rattle.std.proofs.lemmas.Bool.{and_parts, and_from}
 use Rattle.std.proofs.lemmas.Bool.Decides.{nat_tests}
 use Rattle.std.proofs.lemmas.Int.{ints}
-use Rattle.shipment_machine.specs.declared.amount.Amount.{Amount}
 use Rattle.shipment_machine.specs.declared.flight.FlightDate.{FlightDate}
 use Rattle.shipment_machine.specs.declared.moves.Move.{Move}
 use Rattle.shipment_machine.specs.declared.moves.Place.{Place}
@@ -12,10 +11,9 @@ use Rattle.shipment_machine.specs.declared.moves.Place.TheVariants.{Built}
 use Rattle.shipment_machine.specs.Amount.{amount}
 use Rattle.shipment_machine.specs.Book.{pieces_of, tenths_of, same_place, moved_in, moved_out, built, drawn}
 use Rattle.shipment_machine.specs.Lawful.{IsStocked}
-use Rattle.row_schema.specs.Tables.{Count, Build}
 use Rattle.row_values.specs.Counts.{Running, running, is_nothing, unless_nothing, running_in, running_on, count_row, build_row}
 use Rattle.row_values.specs.Numbers.{natural}
-use Rattle.count_tables.proofs.Tests.{some_is, none_is, is_int}
+use Rattle.count_tables.proofs.Tests.{some_is, is_int}
 use Rattle.book_audits.specs.declared.tally.Tally.{Tally}
 use Rattle.book_audits.specs.declared.sums.BookSums.{BookSums}
 use Rattle.book_audits.specs.Sums.{meant, count_of, build_of}

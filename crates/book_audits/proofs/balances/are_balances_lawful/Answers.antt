@@ -1,6 +1,5 @@
-use Rattle.std.proofs.Common.{map, sym, ap, ◌∙◌, true≢false}
+use Rattle.std.proofs.Common.{sym, ap, ◌∙◌, true≢false}
 use Rattle.std.specs.List.{list_all}
-use Rattle.found_tables.specs.Held.{flight_entry}
 use Rattle.book_audits.specs.Balances.{is_lawful_build}
 use Rattle.book_audits.proofs.Balanced.{lawful_counts, lawful_builds, lawful_balances, room_at}
 use Rattle.book_audits.proofs.balances.are_balances_lawful.Goals as goal
