@@ -8,10 +8,10 @@ mod flight;
 mod kept_key;
 mod kept_text;
 pub mod lookups;
-mod numbers;
+pub mod numbers;
 mod outbox;
 mod part;
-mod ranges;
+pub mod ranges;
 mod station;
 mod stock;
 #[cfg(test)]

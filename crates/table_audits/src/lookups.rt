@@ -42,7 +42,7 @@ fn compare_flight(row: &FlightEntry, flight: &str, day: &i64) -> Ordering
 }
 
 /// Where the row of a flight and a day is, or where it would be.
-fn flight_place(flights: &[FlightEntry], flight: &str, day: &i64) -> Result<usize, usize>
+pub fn flight_place(flights: &[FlightEntry], flight: &str, day: &i64) -> Result<usize, usize>
     ensures bound { IsSearchInRange result (length flights.now) }
     ensures place { IsBinarySearchResult (λ row. flight_cmp (flight_entry row).0 (flight.now, day.now)) flights.now result }
 {

@@ -1,9 +1,12 @@
+//! The numbers of rows that are numbered from 1.
+
 ghost use Rattle.std.specs.Prelude.{◌≡◌, ◌↔◌, ◌+◌, ◌<◌, ◌^◌, pos, map, IsTrue};
+ghost use Rattle.cargo_rows.specs.Meant.{move_meant};
 ghost use Rattle.text_rows.specs.Meant.{trail_meant, message_meant};
-ghost use Rattle.row_schema.specs.Tables.{trail_id, message_id};
+ghost use Rattle.row_schema.specs.Tables.{move_id, trail_id, message_id};
 ghost use Rattle.row_values.specs.Numbers.{AreNumbered};
 
-use station_rows::{MessageRow, TrailRow};
+use station_rows::{MessageRow, MoveRow, TrailRow};
 
 /// Whether the row at this place, counted from 0, has the number of its place, counted from 1.
 fn is_numbered(number: &i64, at: usize) -> bool
@@ -14,6 +17,18 @@ fn is_numbered(number: &i64, at: usize) -> bool
         Ok(number) => number == at + 1,
         Err(_) => false,
     }
+}
+
+/// Whether the moves are numbered from 1, in order.
+pub fn are_moves_numbered(rows: &[MoveRow]) -> bool
+    ensures { IsTrue result ↔ AreNumbered move_id (map move_meant rows.now) }
+{
+    for (at, row) in rows.iter().enumerate() {
+        if !is_numbered(&row.number, at) {
+            return false;
+        }
+    }
+    true
 }
 
 /// Whether the lines are numbered from 1, in order.

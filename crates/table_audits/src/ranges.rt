@@ -1,3 +1,5 @@
+//! What the columns of a row may hold.
+
 ghost use Rattle.std.specs.Prelude.{◌≡◌, pos};
 ghost use Rattle.imp_fields.specs.Airport.{is_airport};
 ghost use Rattle.imp_fields.specs.Characters.{is_printable, is_line};
@@ -13,7 +15,7 @@ use agent_stock::AgentCode;
 use imp_fields::{Airport, Flight, Goods};
 
 /// Whether it is the key of a waybill's number.
-pub(crate) fn is_number(number: i64) -> bool
+pub fn is_number(number: i64) -> bool
     ensures { result ≡ is_number number }
 {
     0 <= number && number <= 9_999_999_999
@@ -27,7 +29,7 @@ pub(crate) fn is_count(number: i64) -> bool
 }
 
 /// Whether it is a day from 2000-01-01 to 2099-12-31, in days since 1970-01-01.
-pub(crate) fn is_day(number: i64) -> bool
+pub fn is_day(number: i64) -> bool
     ensures { result ≡ is_day number }
 {
     10_957 <= number && number <= 47_481
@@ -41,14 +43,14 @@ pub(crate) fn is_flag(number: i64) -> bool
 }
 
 /// Whether it is a number of pieces, or of a part: 1 to 9999.
-pub(crate) fn is_pieces(number: i64) -> bool
+pub fn is_pieces(number: i64) -> bool
     ensures { result ≡ is_within 1 9999 number }
 {
     1 <= number && number <= 9999
 }
 
 /// Whether it is a weight in tenths of a kilogram that the book can have.
-pub(crate) fn is_tenths(number: i64) -> bool
+pub fn is_tenths(number: i64) -> bool
     ensures { result ≡ is_within 0 999_999 number }
 {
     0 <= number && number <= 999_999
@@ -113,7 +115,7 @@ fn is_written(flight: &Flight, text: &[u8]) -> bool
 }
 
 /// Whether it is a flight in its written form.
-pub(crate) fn is_flight_text(text: &str) -> bool
+pub fn is_flight_text(text: &str) -> bool
     ensures { result ≡ is_flight_text text.now }
 {
     match Flight::read(text.as_bytes()) {

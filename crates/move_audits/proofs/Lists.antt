@@ -1,0 +1,58 @@
+-- Lists, index by index and one element more.
+use Rattle.std.proofs.Common.{◌≡◌, ℕ, zero, suc, ◌<◌, Bool, true, false, ◌||◌, Option, Some, None, option_map, List, [], ◌∷◌, ◌++◌, map, length, get_or, slice_get, refl, sym, ap, subst, ◌∙◌, true≢false, arith}
+use Rattle.std.specs.List.{AllByRecursion, AllZip, list_any}
+use Rattle.std.proofs.lemmas.List.Folds.{list_any-append}
+use Rattle.count_tables.proofs.Tests.{some_is, none_is}
+
+pub or_no : (b : Bool) → (b || false) ≡ b
+or_no true = refl
+or_no false = refl
+
+pub or_yes : (b : Bool) → (b || true) ≡ true
+or_yes true = refl
+or_yes false = refl
+
+pub all_at : {X : Type 0} (P : X → Type 0) (xs : List X) → AllByRecursion P xs → (i : ℕ) (d : X) → i < length xs → P (get_or xs i d)
+all_at P [] all i d low = absurd (omega arith)
+all_at P (x ∷ xs) all zero d low = all.0
+all_at P (x ∷ xs) all (suc i) d low = all_at P xs all.1 i d (omega arith)
+
+pub all_got : {X : Type 0} (P : X → Type 0) (xs : List X) → AllByRecursion P xs → (i : ℕ) (x : X) → slice_get xs i ≡ Some x → P x
+all_got P [] all i x is = absurd (true≢false (sym (none_is x is)))
+all_got P (y ∷ xs) all zero x is = subst P (some_is y x is) all.0
+all_got P (y ∷ xs) all (suc i) x is = all_got P xs all.1 i x is
+
+-- what stands at an index of a list that is made of another
+pub got_of : {X Y : Type 0} (f : X → Y) (xs : List X) (i : ℕ) (y : Y) → slice_get (map f xs) i ≡ Some y → (x : X) × (slice_get xs i ≡ Some x) × (f x ≡ y)
+got_of f [] i y is = absurd (true≢false (sym (none_is y is)))
+got_of f (x ∷ xs) zero y is = (x, refl, some_is (f x) y is)
+got_of f (x ∷ xs) (suc i) y is = got_of f xs i y is
+
+pub got_map : {X Y : Type 0} (f : X → Y) (xs : List X) (i : ℕ) (x : X) → slice_get xs i ≡ Some x → slice_get (map f xs) i ≡ Some (f x)
+got_map f [] i x is = absurd (true≢false (sym (none_is x is)))
+got_map f (y ∷ xs) zero x is = ap (λ z. Some (f z)) (some_is y x is)
+got_map f (y ∷ xs) (suc i) x is = got_map f xs i x is
+
+pub got_at : {X : Type 0} (xs : List X) (i : ℕ) (d : X) → i < length xs → slice_get xs i ≡ Some (get_or xs i d)
+got_at [] i d low = absurd (omega arith)
+got_at (x ∷ xs) zero d low = refl
+got_at (x ∷ xs) (suc i) d low = got_at xs i d (omega arith)
+
+pub zip_push : {X Y : Type 0} (R : X → Y → Type 0) (xs : List X) (ys : List Y) (x : X) (y : Y) → AllZip R xs ys → R x y → AllZip R (xs ++ x ∷ []) (ys ++ y ∷ [])
+zip_push R [] [] x y all is = (is, tt)
+zip_push R [] (b ∷ ys) x y all is = absurd all
+zip_push R (a ∷ xs) [] x y all is = absurd all
+zip_push R (a ∷ xs) (b ∷ ys) x y all is = (all.0, zip_push R xs ys x y all.1 is)
+
+pub any_push : {X : Type 0} (p : X → Bool) (xs : List X) (x : X) → list_any p (xs ++ x ∷ []) ≡ (list_any p xs || p x)
+any_push p xs x = list_any-append p xs (x ∷ []) ∙ ap (λ b. list_any p xs || b) (or_no (p x))
+
+pub any_within : {X : Type 0} (p : X → Bool) (xs : List X) (x : X) (ys : List X) → p x ≡ true → list_any p (xs ++ x ∷ ys) ≡ true
+any_within p [] x ys is = ap (λ b. b || list_any p ys) is
+any_within p (a ∷ xs) x ys is = ap (λ b. p a || b) (any_within p xs x ys is) ∙ or_yes (p a)
+
+-- what stands at an index within a list
+pub element : {X : Type 0} (xs : List X) (i : ℕ) → i < length xs → (x : X) × (slice_get xs i ≡ Some x) × ((d : X) → get_or xs i d ≡ x)
+element [] i low = absurd (omega arith)
+element (x ∷ xs) zero low = (x, refl, λ d. refl)
+element (x ∷ xs) (suc i) low = element xs i (omega arith)

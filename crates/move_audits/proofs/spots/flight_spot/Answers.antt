@@ -1,0 +1,14 @@
+use Rattle.row_schema.specs.Tables.{flight_cmp}
+use Rattle.row_schema.proofs.Keys.{flight_total, flight_same}
+use Rattle.cargo_rows.specs.Meant.{move_meant}
+use Rattle.found_tables.specs.Held.{flight_entry}
+use Rattle.table_audits.proofs.Searches.{no_entry}
+use Rattle.move_audits.proofs.PostedLaws.{found_spot, lost_spot}
+use Rattle.move_audits.proofs.spots.flight_spot.Goals as goal
+
+pub returns-in-Ok : goal.returns-in-Ok
+returns-in-Ok c = λ t ws by columns. found_spot t ws c.args.flights.now by (move_meant c.args.row.now) c.in-Ok.at c.in-Ok.ensures.bound (λ d. c.in-Ok.ensures.place d)
+
+pub returns-in-Err : goal.returns-in-Err
+returns-in-Err c = λ t ws by columns. lost_spot t (move_meant c.args.row.now) columns
+    (no_entry flight_cmp flight_total flight_same flight_entry t.flights c.args.flights.now by.flights_are ((move_meant c.args.row.now).flight, c.args.row.now.fday) c.in-Err.field-0 c.in-Err.ensures.bound c.in-Err.ensures.place)

@@ -1,0 +1,3 @@
+pub mod Audited
+pub mod Posted
+pub mod Departed
