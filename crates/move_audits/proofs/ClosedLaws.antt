@@ -30,7 +30,7 @@ use Rattle.book_audits.specs.declared.sums.Posting.{Posting}
 use Rattle.book_audits.specs.Sums.{AreDistinct, IsSpot, IsPosting, ArePostings}
 use Rattle.book_audits.proofs.Made.{distinct}
 use Rattle.move_audits.specs.Audited.{flight_in, flights_of, AreDepartures}
-use Rattle.move_audits.specs.Departed.{departs_in, marks_of, IsDeparted}
+use Rattle.move_audits.specs.Departed.{departs_in, marks_of, IsDeparted, IsWalked}
 use Rattle.move_audits.specs.Posted.{listed_in}
 use Rattle.move_audits.proofs.Listed.{IsNamed, named, named_by, listed_noted, flights_are}
 use Rattle.move_audits.proofs.DepartedLaws.{plain_off}
@@ -72,7 +72,7 @@ module _ (t : Tables) (within : list_all is_flight_row (entries t.flights) ≡ t
   noted_departing f [] [] are h = absurd (true≢false (sym h))
   noted_departing f [] (m ∷ moves) are h = absurd are
   noted_departing f (p ∷ ps) [] are h = absurd are
-  noted_departing f (p ∷ ps) (m ∷ moves) are h = go (departs_with f m) refl h
+  noted_departing f (p ∷ ps) (m ∷ moves) are h = go (departs_with f m) refl h (noted_departing f ps moves are.1)
     where
       at : (spot : Spot) → IsSpot (listed_in t) spot m.from → same_place m.from (Built f) ≡ true → IsSome (flights_in t.flights f)
       at (Plain code) from e = absurd (true≢false (sym e ∙ plain_off m.from f from.0))
@@ -80,9 +80,9 @@ module _ (t : Tables) (within : list_all is_flight_row (entries t.flights) ≡ t
           let one : from.0 ≡ f = same-is from.0 f (ap (λ q. same_place q (Built f)) (sym from.1) ∙ e) in
           subst (λ (g : FlightDate). IsSome (flights_in t.flights g)) one (listed_noted t.flights within i from.0 from.2)
 
-      go : (b : Bool) → departs_with f m ≡ b → (b || departs_in moves f) ≡ true → IsSome (flights_in t.flights f)
-      go true e k = at p.from are.0.from_is (and_parts (same_place m.from (Built f)) (same_place m.to Departed) e).0
-      go false e k = noted_departing f ps moves are.1 k
+      go : (b : Bool) → departs_with f m ≡ b → (b || departs_in moves f) ≡ true → (departs_in moves f ≡ true → IsSome (flights_in t.flights f)) → IsSome (flights_in t.flights f)
+      go true e k more = at p.from are.0.from_is (and_parts (same_place m.from (Built f)) (same_place m.to Departed) e).0
+      go false e k more = more k
 
   closed_is : (ps : List Posting) → ArePostings (listed_in t) ps book → AllByRecursion IsSameAt (entries t.flights) → (f : FlightDate) → is_closed (flights_in t.flights f) ≡ departs_in book f
   closed_is ps are each f = go (is_designator f.flight) refl (get t.flights (flight_key f)) refl
@@ -120,13 +120,25 @@ module _ (t : Tables) (within : list_all is_flight_row (entries t.flights) ≡ t
     right : map (λ (mark : Bool). mark) marks ≡ map (λ row. departs_in book (flight_in row)) (entries t.flights)
     right = map_itself marks ∙ departed.marks_are ∙ map-map (departs_in book) flight_in (entries t.flights)
 
-    pub closed_so : (ps : List Posting) → ArePostings (listed_in t) ps book → (b : Bool) → (IsTrue b ↔ IsAlike) → IsTrue b ↔ AreDepartures t
-    closed_so ps are b says = (
+    marks_closed : (ps : List Posting) → ArePostings (listed_in t) ps book → (b : Bool) → (IsTrue b ↔ IsAlike) → IsTrue b ↔ AreDepartures t
+    marks_closed ps are b says = (
       λ h.
           let same : (f : FlightDate) → is_closed (flights_in t.flights f) ≡ departs_in book f = closed_is ps are (each_same is_closed_row (λ row. departs_in book (flight_in row)) (entries t.flights) (sym left ∙ says.0 h ∙ right)) in
           record { closed = λ f. (λ k. sym (same f) ∙ k, λ k. same f ∙ k); departed = departed.stays },
       λ law. says.1 (left ∙ all_same is_closed_row (λ row. departs_in book (flight_in row)) (entries t.flights) (each_closed law.closed) ∙ sym right),
     )
+
+    pub closed_so : (ps : List Posting) → ArePostings (listed_in t) ps book → (b : Bool) (seen : List Bool) → seen ≡ marks → (IsTrue b ↔ (map (λ row. is_closed_row (flight_entry row)) fs ≡ map (λ mark. mark) seen))
+        → IsTrue b ↔ AreDepartures t
+    closed_so ps are b seen same says = marks_closed ps are b (subst (λ l. IsTrue b ↔ (map (λ row. is_closed_row (flight_entry row)) fs ≡ map (λ mark. mark) l)) same says)
+
+-- ---- what a walk found
+
+pub found_marks : {V : Type 0} (items : V → List Bool) (flights : List FlightDate) (moves : List Move) (o : Option V) (v : V) → o ≡ Some v → IsWalked flights moves (option_map items o) → IsDeparted flights moves (items v)
+found_marks items flights moves o v is h = subst (λ x. IsWalked flights moves (option_map items x)) is h
+
+pub found_none : {V : Type 0} (items : V → List Bool) (flights : List FlightDate) (moves : List Move) (o : Option V) → o ≡ None → IsWalked flights moves (option_map items o) → ((f : FlightDate) → StaysDeparted f moves) → ⊥
+found_none items flights moves o is h = subst (λ x. IsWalked flights moves (option_map items x)) is h
 
 pub never_departed : (t : Tables) → (((f : FlightDate) → StaysDeparted f (book_in t.moves)) → ⊥) → IsTrue false ↔ AreDepartures t
 never_departed t never = (λ h. absurd (true≢false (sym h)), λ law. absurd (never law.departed))

@@ -36,11 +36,11 @@ stays_push f (a ∷ past) m stays none = (
 
 pub broken : (f : FlightDate) (past : List Move) (m : Move) (next : List Move) → list_any (departs_with f) past ≡ true → builds_on f m ≡ true → StaysDeparted f (past ++ m ∷ next) → ⊥
 broken f [] m next some builds stays = true≢false (sym some)
-broken f (a ∷ past) m next some builds stays = go (departs_with f a) refl some
+broken f (a ∷ past) m next some builds stays = go (departs_with f a) refl some (λ h. broken f past m next h builds stays.1)
   where
-    go : (b : Bool) → departs_with f a ≡ b → (b || list_any (departs_with f) past) ≡ true → ⊥
-    go true e h = true≢false (sym (any_within (builds_on f) past m next builds) ∙ stays.0 e)
-    go false e h = broken f past m next h builds stays.1
+    go : (b : Bool) → departs_with f a ≡ b → (b || list_any (departs_with f) past) ≡ true → (list_any (departs_with f) past ≡ true → ⊥) → ⊥
+    go true e h more = true≢false (sym (any_within (builds_on f) past m next builds) ∙ stays.0 e)
+    go false e h more = more h
 
 -- ---- places of a move
 
@@ -186,11 +186,11 @@ step flights distinct old new p ahead past (m ∷ next) book free then all depar
   rest = are.1;
 }
 
-pub walked : (count : ℕ) (old new : List Bool) (moves : List Posting) (k : ℕ) (d : Posting) → k < length moves → is_marked old (get_or moves k d).to ≡ false → new ≡ marked old (get_or moves k d).from (get_or moves k d).to
-    → AllWalked count old (drop k moves) moves → AllWalked count new (drop (k + 1) moves) moves
-walked count old new moves k d inside free then was flights book distinct long are =
+pub walked : (count : ℕ) (old seen new : List Bool) (b : Bool) (moves : List Posting) (k : ℕ) (d : Posting) → k < length moves → seen ≡ old → b ≡ is_marked seen (get_or moves k d).to → b ≡ false
+    → new ≡ marked old (get_or moves k d).from (get_or moves k d).to → AllWalked count old (drop k moves) moves → AllWalked count new (drop (k + 1) moves) moves
+walked count old seen new b moves k d inside same says free then was flights book distinct long are =
     let a = was flights book distinct long are in
-    step flights distinct old new (get_or moves k d) (drop (k + 1) moves) a.past a.next book free then a.all a.departed (subst (λ l. ArePostings flights l a.next) (drop_more moves k d inside) a.rest)
+    step flights distinct old new (get_or moves k d) (drop (k + 1) moves) a.past a.next book (ap (λ l. is_marked l (get_or moves k d).to) (sym same) ∙ sym says ∙ free) then a.all a.departed (subst (λ l. ArePostings flights l a.next) (drop_more moves k d inside) a.rest)
 
 stop : (flights : List FlightDate) → AreDistinct flights → (marks : List Bool) (p : Posting) (ahead : List Posting) (past next book : List Move) → is_marked marks p.to ≡ true
     → book ≡ past ++ next → IsDeparted flights past marks → ArePostings flights (p ∷ ahead) next → ((f : FlightDate) → StaysDeparted f book) → ⊥
@@ -199,11 +199,11 @@ stop flights distinct marks p ahead past (m ∷ next) book gone all departed are
     let f = may_not_build flights distinct past m p are.0 (ap (λ l. is_marked l p.to) (sym departed.marks_are) ∙ gone) in
     broken f.0 past m next f.1 f.2 (subst (StaysDeparted f.0) all (stays f.0))
 
-pub stopped : (count : ℕ) (marks : List Bool) (moves : List Posting) (k : ℕ) (d : Posting) → k < length moves → is_marked marks (get_or moves k d).to ≡ true → AllWalked count marks (drop k moves) moves
+pub stopped : (count : ℕ) (marks seen : List Bool) (b : Bool) (moves : List Posting) (k : ℕ) (d : Posting) → k < length moves → seen ≡ marks → b ≡ is_marked seen (get_or moves k d).to → b ≡ true → AllWalked count marks (drop k moves) moves
     → (flights : List FlightDate) (book : List Move) → AreDistinct flights → length flights ≡ count → ArePostings flights moves book → ((f : FlightDate) → StaysDeparted f book) → ⊥
-stopped count marks moves k d inside gone was flights book distinct long are =
+stopped count marks seen b moves k d inside same says gone was flights book distinct long are =
     let a = was flights book distinct long are in
-    stop flights distinct marks (get_or moves k d) (drop (k + 1) moves) a.past a.next book gone a.all a.departed (subst (λ l. ArePostings flights l a.next) (drop_more moves k d inside) a.rest)
+    stop flights distinct marks (get_or moves k d) (drop (k + 1) moves) a.past a.next book (ap (λ l. is_marked l (get_or moves k d).to) (sym same) ∙ sym says ∙ gone) a.all a.departed (subst (λ l. ArePostings flights l a.next) (drop_more moves k d inside) a.rest)
 
 none_left : (flights : List FlightDate) (marks : List Bool) (past next book : List Move) → book ≡ past ++ next → IsDeparted flights past marks → ArePostings flights [] next → IsDeparted flights book marks
 none_left flights marks past [] book all departed rest = subst (λ b. IsDeparted flights b marks) (sym (all ∙ append-nil past)) departed

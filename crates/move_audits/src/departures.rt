@@ -31,8 +31,8 @@ fn is_marked(marks: &[bool], spot: &Spot) -> bool
 }
 
 /// Marks the flight with which a move departs.
-fn mark(marks: &mut [bool], movement: &Posting)
-    ensures { marks.new ≡ marked marks.old movement.now.from movement.now.to }
+fn mark(marks: &mut Vec<bool>, movement: &Posting)
+    ensures { marks.new.items ≡ marked marks.old.items movement.now.from movement.now.to }
 {
     let Spot::OnFlight(flight) = movement.from else {
         return;
