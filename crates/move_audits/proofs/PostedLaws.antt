@@ -38,7 +38,7 @@ use Rattle.book_audits.specs.declared.sums.Spot.TheVariants.{Plain, OnFlight}
 use Rattle.book_audits.specs.declared.sums.Posting.{Posting}
 use Rattle.book_audits.specs.Sums.{IsSpot, IsPosting}
 use Rattle.move_audits.specs.Audited.{flight_in, flights_of, has_numbers, is_code_pair, is_fit_move}
-use Rattle.move_audits.specs.Posted.{AreBeside, listed_in, place_in, IsSpotOf, IsSpotFound, IsGoodRow, IsPosted}
+use Rattle.move_audits.specs.Posted.{AreBeside, listed_in, place_in, posting_in, IsSpotOf, IsSpotFound, IsGoodRow, IsPosted}
 use Rattle.move_audits.proofs.Lists.{element, got_map}
 use Rattle.move_audits.proofs.Listed.{IsNamed, row_named, noted_row}
 use Rattle.move_audits.proofs.Places.{code_is, names_flight, pair_of, plain_there, not_built}
@@ -179,9 +179,6 @@ within_from row is =
 some_place : (o : Option Place) → is_some o ≡ true → (p : Place) × (o ≡ Some p)
 some_place None h = absurd (true≢false (sym h))
 some_place (Some p) h = (p, refl)
-
-abbrev pub posting_in : table.Move → Spot → Spot → Posting
-posting_in row from to = record { awb = row.awb; from = from; to = to; amount = record { pieces = row.pieces; tenths = row.tenths } }
 
 module _ (t : table.Tables) (ws : List Waybill) (fs : List (FlightKey × Flight)) (by : AreBeside t ws fs) (row : table.Move) where
   abbrev named_in : Option FlightDate

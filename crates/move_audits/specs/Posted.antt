@@ -41,6 +41,10 @@ abbrev pub IsSpotFound : table.Tables → table.Move → ℤ → Option Spot →
 IsSpotFound t row code None = (p : Place) → place_in row code ≡ Some p → IsNoted (cargo_in t) p → ⊥
 IsSpotFound t row code (Some spot) = IsSpotOf t row code spot
 
+-- what a row says as a posting, from one place to another
+abbrev pub posting_in : table.Move → Spot → Spot → Posting
+posting_in row from to = record { awb = row.awb; from = from; to = to; amount = record { pieces = row.pieces; tenths = row.tenths } }
+
 -- a row within range, and a lawful move by itself
 pub record IsGoodRow (t : table.Tables) (row : table.Move) : Type 0 where
   pub within : is_move_row row ≡ true

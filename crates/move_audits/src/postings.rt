@@ -10,15 +10,30 @@ ghost use Rattle.row_values.specs.Moves.{book_in};
 ghost use Rattle.table_audits.specs.Order.{RisesByNumber};
 ghost use Rattle.book_audits.specs.Sums.{ArePostings};
 ghost use Rattle.move_audits.specs.Audited.{flights_of, AreMoveRows};
-ghost use Rattle.move_audits.specs.Posted.{AreBeside, IsPostedOr, ArePosted};
+ghost use Rattle.move_audits.specs.Posted.{AreBeside, posting_in, IsPostedOr, ArePosted};
 
 use crate::rows::is_fit;
 use crate::spots::spot_of;
-use book_audits::{NoRoom, Posting, Tally};
+use book_audits::{NoRoom, Posting, Spot, Tally};
 use found_tables::FlightEntry;
 use station_rows::{MoveRow, WaybillRow};
 use std::alloc::Global;
 use table_audits::numbers::are_moves_numbered;
+
+/// What a row says as a posting, from one place to another.
+fn posted(row: &MoveRow, from: Spot, to: Spot) -> Posting
+    ensures { result ≡ posting_in (move_meant row.now) from to }
+{
+    Posting {
+        awb: row.awb,
+        from,
+        to,
+        amount: Tally {
+            pieces: row.pieces,
+            tenths: row.tenths,
+        },
+    }
+}
 
 /// A row as it is posted. `None`: it isn't within range, or not a lawful move.
 fn posting_of(row: &MoveRow, waybills: &[WaybillRow], flights: &[FlightEntry]) -> Option<Posting>
@@ -29,15 +44,7 @@ fn posting_of(row: &MoveRow, waybills: &[WaybillRow], flights: &[FlightEntry]) -
     }
     let from = spot_of(&row.src, row, flights)?;
     let to = spot_of(&row.dst, row, flights)?;
-    Some(Posting {
-        awb: row.awb,
-        from,
-        to,
-        amount: Tally {
-            pieces: row.pieces,
-            tenths: row.tenths,
-        },
-    })
+    Some(posted(row, from, to))
 }
 
 /// Puts a posting behind the others.

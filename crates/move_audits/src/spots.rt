@@ -1,4 +1,5 @@
 ghost use Rattle.std.specs.Prelude.{◌≡◌, map, is_some, true, pos, List};
+ghost use Rattle.std.specs.Ordering.{int_eq};
 ghost use Rattle.cargo_rows.specs.Meant.{move_meant};
 ghost use Rattle.found_tables.specs.Held.{flight_entry};
 ghost use Rattle.row_schema.specs.Tables.{Tables, Waybill};
@@ -9,6 +10,13 @@ use book_audits::Spot;
 use found_tables::FlightEntry;
 use station_rows::MoveRow;
 use table_audits::lookups::flight_place;
+
+/// Whether it is the code of a built place.
+fn is_built(code: &i64) -> bool
+    ensures { result ≡ int_eq code.now (pos 3) }
+{
+    *code == 3
+}
 
 /// Whether it is the code of a place that isn't built.
 fn is_plain(code: &i64) -> bool
@@ -33,7 +41,7 @@ pub(crate) fn spot_of(code: &i64, row: &MoveRow, flights: &[FlightEntry]) -> Opt
     ensures { (t : Tables) (ws : List Waybill) → AreBeside t ws (map flight_entry flights.now) → are_flight_columns (move_meant row.now).flight row.now.fday ≡ true
         → IsSpotFound t (move_meant row.now) code.now result }
 {
-    if *code == 3 {
+    if is_built(code) {
         return flight_spot(row, flights);
     }
     if is_plain(code) {
