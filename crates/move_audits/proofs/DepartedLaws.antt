@@ -44,7 +44,7 @@ broken f (a ∷ past) m next some builds stays = go (departs_with f a) refl some
 
 -- ---- places of a move
 
-plain_off : (p : Place) (f : FlightDate) → is_built p ≡ false → same_place p (Built f) ≡ false
+pub plain_off : (p : Place) (f : FlightDate) → is_built p ≡ false → same_place p (Built f) ≡ false
 plain_off Hand f h = refl
 plain_off Surplus f h = refl
 plain_off Free f h = refl

@@ -1,7 +1,7 @@
 use Rattle.std.proofs.Common.{◌∙◌, map, sym, subst, true≢false}
 use Rattle.cargo_rows.specs.Meant.{move_meant, waybill_meant}
 use Rattle.found_tables.specs.Held.{flight_entry}
-use Rattle.move_audits.specs.Posted.{IsPosted}
+use Rattle.move_audits.specs.Posted.{IsPosted, IsPostedOr}
 use Rattle.move_audits.proofs.PostedLaws.{posted_row, good_fits, fit_columns, nowhere_from, nowhere_to}
 use Rattle.move_audits.proofs.postings.posting_of.Goals as goal
 
@@ -13,13 +13,15 @@ pub returns-in_err-from : goal.returns-in_err-from
 returns-in_err-from c = λ t by.
     let ws = map waybill_meant c.args.waybills.now in
     let fs = map flight_entry c.args.flights.now in
-    nowhere_from t ws fs by (move_meant c.args.row.now) (c.in_err-from.ensures t ws by (fit_columns ws (move_meant c.args.row.now) (sym (c.is_fit.ensures by.up) ∙ c.if-not-is_fit.false)))
+    subst (IsPostedOr t (move_meant c.args.row.now)) (sym c.from_residual.ensures)
+    (nowhere_from t ws fs by (move_meant c.args.row.now) (c.in_err-from.ensures t ws by (fit_columns ws (move_meant c.args.row.now) (sym (c.is_fit.ensures by.up) ∙ c.if-not-is_fit.false))))
 
 pub returns-in_err-to : goal.returns-in_err-to
 returns-in_err-to c = λ t by.
     let ws = map waybill_meant c.args.waybills.now in
     let fs = map flight_entry c.args.flights.now in
-    nowhere_to t ws fs by (move_meant c.args.row.now) (c.in_err-to.ensures t ws by (fit_columns ws (move_meant c.args.row.now) (sym (c.is_fit.ensures by.up) ∙ c.if-not-is_fit.false)))
+    subst (IsPostedOr t (move_meant c.args.row.now)) (sym c.from_residual-in_err-to.ensures)
+    (nowhere_to t ws fs by (move_meant c.args.row.now) (c.in_err-to.ensures t ws by (fit_columns ws (move_meant c.args.row.now) (sym (c.is_fit.ensures by.up) ∙ c.if-not-is_fit.false))))
 
 pub returns : goal.returns
 returns c = λ t by.
