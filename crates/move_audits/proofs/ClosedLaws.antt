@@ -1,7 +1,7 @@
 -- Flights are closed exactly where they departed, row by row.
-use Rattle.std.proofs.Common.{◌≡◌, ◌↔◌, ℕ, Bool, true, false, cond, ◌&&◌, ◌||◌, is_some, Option, Some, None, option_map, List, [], ◌∷◌, map, length, refl, sym, ap, ap₂, subst, ◌∙◌, true≢false}
+use Rattle.std.proofs.Common.{◌≡◌, ◌↔◌, Bool, true, false, cond, ◌||◌, is_some, Option, Some, None, option_map, List, [], ◌∷◌, map, length, refl, sym, ap, ap₂, subst, ◌∙◌, true≢false}
 use Rattle.std.specs.Prelude.{IsSome, IsTrue}
-use Rattle.std.specs.List.{AllByRecursion, AllZip, list_all, list_any}
+use Rattle.std.specs.List.{AllByRecursion, list_all}
 use Rattle.std.specs.FinMap.{entries, get}
 use Rattle.std.proofs.lemmas.Bool.{and_parts, cond-true}
 use Rattle.std.proofs.lemmas.List.{length-map}
@@ -10,7 +10,6 @@ use Rattle.found_tables.specs.declared.flight.FlightEntry.{FlightEntry}
 use Rattle.found_tables.specs.Held.{flight_entry}
 use Rattle.shipment_machine.specs.Book.{same_place}
 use Rattle.shipment_machine.specs.Effect.{is_closed}
-use Rattle.shipment_machine.specs.Flights.{same_flight_date}
 use Rattle.shipment_machine.specs.declared.flight.FlightDate.{FlightDate}
 use Rattle.shipment_machine.specs.declared.moves.Move.{Move}
 use Rattle.shipment_machine.specs.declared.moves.Outbound.{Outbound}
@@ -27,10 +26,10 @@ use Rattle.count_tables.proofs.Tests.{same_bool, is_false}
 use Rattle.book_audits.specs.declared.sums.Spot.{Spot}
 use Rattle.book_audits.specs.declared.sums.Spot.TheVariants.{Plain, OnFlight}
 use Rattle.book_audits.specs.declared.sums.Posting.{Posting}
-use Rattle.book_audits.specs.Sums.{AreDistinct, IsSpot, IsPosting, ArePostings}
+use Rattle.book_audits.specs.Sums.{AreDistinct, IsSpot, ArePostings}
 use Rattle.book_audits.proofs.Made.{distinct}
-use Rattle.move_audits.specs.Audited.{flight_in, flights_of, AreDepartures}
-use Rattle.move_audits.specs.Departed.{departs_in, marks_of, IsDeparted, IsWalked}
+use Rattle.move_audits.specs.Audited.{flight_in, AreDepartures}
+use Rattle.move_audits.specs.Departed.{departs_in, IsDeparted, IsWalked}
 use Rattle.move_audits.specs.Posted.{listed_in}
 use Rattle.move_audits.proofs.Listed.{IsNamed, named, named_by, listed_noted, flights_are}
 use Rattle.move_audits.proofs.DepartedLaws.{plain_off}

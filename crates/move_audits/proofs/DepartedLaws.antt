@@ -1,7 +1,7 @@
 -- Flights that have departed, marked move by move.
-use Rattle.std.proofs.Common.{◌≡◌, ◌≢◌, ◌==◌, ℕ, zero, suc, ◌<◌, ◌≤◌, ◌+◌, ℤ, pos, Bool, true, false, cond, ◌&&◌, ◌||◌, Option, Some, None, option_map, unwrap_or, List, [], ◌∷◌, ◌++◌, map, length, drop, get_or, slice_get, replicate, refl, sym, ap, ap₂, subst, ◌∙◌, true≢false, arith, int_eq, append_assoc, append-nil}
-use Rattle.std.specs.Prelude.{slice_set, IsTrue}
-use Rattle.std.specs.List.{AllByRecursion, AllZip, list_any}
+use Rattle.std.proofs.Common.{◌≡◌, ◌≢◌, ℕ, zero, suc, ◌<◌, ◌≤◌, ◌+◌, ℤ, pos, Bool, true, false, cond, ◌&&◌, ◌||◌, Some, unwrap_or, List, [], ◌∷◌, ◌++◌, map, length, drop, get_or, slice_get, replicate, refl, sym, ap, ap₂, subst, ◌∙◌, true≢false, arith, int_eq, append_assoc, append-nil}
+use Rattle.std.specs.Prelude.{slice_set}
+use Rattle.std.specs.List.{list_any}
 use Rattle.std.proofs.lemmas.List.{drop_more, drop_all}
 use Rattle.shipment_machine.specs.Book.{same_place}
 use Rattle.shipment_machine.specs.Flights.{same_flight_date}
@@ -13,12 +13,12 @@ use Rattle.shipment_machine.specs.Lawful.{departs_with, builds_on, StaysDeparted
 use Rattle.shipment_machine.proofs.FlightKeys.{same-is, same-refl}
 use Rattle.row_values.specs.Moves.{place_code}
 use Rattle.count_tables.specs.Sums.{is_built}
-use Rattle.count_tables.proofs.Tests.{some_is, none_is, is_false, is_int}
+use Rattle.count_tables.proofs.Tests.{some_is, none_is, is_false}
 use Rattle.book_audits.specs.declared.sums.Spot.{Spot}
 use Rattle.book_audits.specs.declared.sums.Spot.TheVariants.{Plain, OnFlight}
 use Rattle.book_audits.specs.declared.sums.Posting.{Posting}
 use Rattle.book_audits.specs.Sums.{AreDistinct, IsSpot, IsPosting, ArePostings}
-use Rattle.move_audits.specs.Departed.{departs_in, marks_of, is_marked, marked, IsDeparted, IsWalked}
+use Rattle.move_audits.specs.Departed.{departs_in, marks_of, is_marked, marked, IsDeparted}
 use Rattle.move_audits.proofs.Lists.{or_no, or_yes, any_push, any_within, got_map}
 
 -- ---- one move more
@@ -75,11 +75,6 @@ departed_code Missing code is = ap (λ c. int_eq c (pos 4)) is
 map_alike : {X Y : Type 0} (f g : X → Y) → ((x : X) → f x ≡ g x) → (xs : List X) → map f xs ≡ map g xs
 map_alike f g h [] = refl
 map_alike f g h (x ∷ xs) = ap₂ (λ y ys. y ∷ ys) (h x) (map_alike f g h xs)
-
-pub set_over : (marks : List Bool) (i : ℕ) → length marks ≤ i → slice_set marks i true ≡ marks
-set_over [] i over = refl
-set_over (b ∷ marks) zero over = absurd (omega arith)
-set_over (b ∷ marks) (suc i) over = ap (λ l. b ∷ l) (set_over marks i (omega arith))
 
 module _ (h : FlightDate → Bool) (g : FlightDate) where
   off_list : (flights : List FlightDate) → ((j : ℕ) → slice_get flights j ≢ Some g) → map h flights ≡ map (λ f. h f || same_flight_date g f) flights

@@ -1,5 +1,5 @@
 -- Lists, index by index and one element more.
-use Rattle.std.proofs.Common.{◌≡◌, ℕ, zero, suc, ◌<◌, Bool, true, false, ◌||◌, Option, Some, None, option_map, List, [], ◌∷◌, ◌++◌, map, length, get_or, slice_get, refl, sym, ap, subst, ◌∙◌, true≢false, arith}
+use Rattle.std.proofs.Common.{◌≡◌, ℕ, zero, suc, ◌<◌, Bool, true, false, ◌||◌, Some, List, [], ◌∷◌, ◌++◌, map, length, get_or, slice_get, refl, sym, ap, subst, ◌∙◌, true≢false, arith}
 use Rattle.std.specs.List.{AllByRecursion, AllZip, list_any}
 use Rattle.std.proofs.lemmas.List.Folds.{list_any-append}
 use Rattle.count_tables.proofs.Tests.{some_is, none_is}
@@ -32,11 +32,6 @@ pub got_map : {X Y : Type 0} (f : X → Y) (xs : List X) (i : ℕ) (x : X) → s
 got_map f [] i x is = absurd (true≢false (sym (none_is x is)))
 got_map f (y ∷ xs) zero x is = ap (λ z. Some (f z)) (some_is y x is)
 got_map f (y ∷ xs) (suc i) x is = got_map f xs i x is
-
-pub got_at : {X : Type 0} (xs : List X) (i : ℕ) (d : X) → i < length xs → slice_get xs i ≡ Some (get_or xs i d)
-got_at [] i d low = absurd (omega arith)
-got_at (x ∷ xs) zero d low = refl
-got_at (x ∷ xs) (suc i) d low = got_at xs i d (omega arith)
 
 pub zip_push : {X Y : Type 0} (R : X → Y → Type 0) (xs : List X) (ys : List Y) (x : X) (y : Y) → AllZip R xs ys → R x y → AllZip R (xs ++ x ∷ []) (ys ++ y ∷ [])
 zip_push R [] [] x y all is = (is, tt)

@@ -1,5 +1,5 @@
 -- Places by their codes.
-use Rattle.std.proofs.Common.{◌≡◌, ℕ, ℤ, pos, Bool, true, false, cond, is_some, Option, Some, None, option_map, refl, sym, ap, ap₂, ◌∙◌, true≢false, int_eq}
+use Rattle.std.proofs.Common.{◌≡◌, ℤ, pos, Bool, true, false, cond, Option, Some, None, option_map, refl, sym, ap, ap₂, ◌∙◌, true≢false, int_eq}
 use Rattle.shipment_machine.specs.declared.flight.FlightDate.{FlightDate}
 use Rattle.shipment_machine.specs.declared.moves.Place.{Place}
 use Rattle.shipment_machine.specs.declared.moves.Place.TheVariants.{Hand, Surplus, Free, Built, Departed, Delivered, Missing}
@@ -7,7 +7,7 @@ use Rattle.shipment_machine.specs.Lawful.{is_pair, NamesFlight}
 use Rattle.row_values.specs.Moves.{place_code, plain_place, place_of}
 use Rattle.count_tables.specs.Sums.{is_built}
 use Rattle.count_tables.proofs.Codes.{plain_code}
-use Rattle.count_tables.proofs.Tests.{some_is, none_is, is_int}
+use Rattle.count_tables.proofs.Tests.{none_is, is_int}
 use Rattle.move_audits.specs.Audited.{is_code_pair}
 
 -- pairs of places, by their codes

@@ -1,29 +1,24 @@
 -- A row of `moves` as it is posted.
-use Rattle.std.proofs.Common.{◌≡◌, ◌==◌, ℕ, zero, suc, ◌<◌, ◌≤◌, ◌+◌, ℤ, pos, negsuc, Bool, true, false, cond, ◌&&◌, ◌||◌, is_some, Option, Some, None, option_map, unwrap_or, List, [], ◌∷◌, ◌++◌, map, length, take, get_or, slice_get, refl, sym, ap, ap₂, subst, ◌∙◌, true≢false, arith, int_eq, Equal, Result, Ok, Err}
-use Rattle.std.specs.Prelude.{IsSome, IsTrue}
-use Rattle.std.specs.List.{AllByRecursion, AllZip, list_all}
-use Rattle.std.specs.List.Sorted.{IsBinarySearchResult, IsSearchInRange}
+use Rattle.std.proofs.Common.{◌≡◌, ◌==◌, ℕ, ◌<◌, ◌≤◌, ℤ, pos, negsuc, Bool, true, false, cond, ◌&&◌, ◌||◌, is_some, Option, Some, None, option_map, unwrap_or, List, [], ◌∷◌, map, length, get_or, slice_get, refl, sym, ap, ap₂, subst, ◌∙◌, true≢false, arith, int_eq, Equal}
+use Rattle.std.specs.Prelude.{IsSome}
 use Rattle.std.specs.FinMap.{entries, get}
 use Rattle.std.proofs.lemmas.Bool.{and_parts, and_from}
 use Rattle.std.proofs.lemmas.Bool.Decides.{nat_tests}
 use Rattle.std.proofs.lemmas.Int.{ints}
-use Rattle.std.proofs.lemmas.List.{take_more}
-use Rattle.sqlite_keyed.proofs.ListLemmas.{all_from_test, test_from_all, all_map, all_unmap, all_both, all_weaker}
 use Rattle.found_tables.specs.declared.flight.FlightEntry.{FlightEntry}
 use Rattle.found_tables.specs.Held.{flight_entry}
 use Rattle.shipment_machine.specs.Cargo.{Cargo}
 use Rattle.shipment_machine.specs.declared.flight.FlightDate.{FlightDate}
-use Rattle.shipment_machine.specs.declared.moves.Move.{Move}
 use Rattle.shipment_machine.specs.declared.moves.Outbound.{Outbound}
 use Rattle.shipment_machine.specs.declared.moves.Place.{Place}
 use Rattle.shipment_machine.specs.declared.moves.Place.TheVariants.{Hand, Surplus, Free, Built, Departed, Delivered, Missing}
-use Rattle.shipment_machine.specs.Lawful.{is_pair, IsNoted, NamesFlight, IsLawfulMove}
+use Rattle.shipment_machine.specs.Lawful.{is_pair, IsNoted, NamesFlight}
 use Rattle.row_schema.specs.Tables as table
 use Rattle.row_schema.specs.Tables.{Flight, FlightKey, Waybill, flight_cmp}
-use Rattle.row_schema.proofs.Keys.{flight_total, flight_same}
+use Rattle.row_schema.proofs.Keys.{flight_same}
 use Rattle.row_values.specs.Numbers.{natural, is_within, is_number, is_day}
-use Rattle.row_values.specs.Flights.{is_flight_text, is_designator, flight_key, flight_date_of, outbound_by, flights_in}
-use Rattle.row_values.specs.Moves.{place_code, plain_place, place_of, move_by, is_move_row, are_flight_columns}
+use Rattle.row_values.specs.Flights.{is_flight_text, is_designator, flight_key, flight_date_of, outbound_by}
+use Rattle.row_values.specs.Moves.{place_code, plain_place, move_by, is_move_row, are_flight_columns}
 use Rattle.row_values.proofs.MoveRows.{columns_again}
 use Rattle.lawful_tables.specs.Lawful.{cargo_in}
 use Rattle.table_audits.specs.Rows.{has_waybill}
@@ -32,13 +27,11 @@ use Rattle.table_audits.proofs.Each.{natural_again}
 use Rattle.table_audits.proofs.FlightRows.{flight_at}
 use Rattle.count_tables.specs.Sums.{is_built}
 use Rattle.count_tables.proofs.Tests.{some_is, none_is}
-use Rattle.book_audits.specs.declared.tally.Tally.{Tally}
 use Rattle.book_audits.specs.declared.sums.Spot.{Spot}
 use Rattle.book_audits.specs.declared.sums.Spot.TheVariants.{Plain, OnFlight}
-use Rattle.book_audits.specs.declared.sums.Posting.{Posting}
-use Rattle.book_audits.specs.Sums.{IsSpot, IsPosting}
-use Rattle.move_audits.specs.Audited.{flight_in, flights_of, has_numbers, is_code_pair, is_fit_move}
-use Rattle.move_audits.specs.Posted.{AreBeside, listed_in, place_in, posting_in, IsSpotOf, IsSpotFound, IsGoodRow, IsPosted}
+use Rattle.book_audits.specs.Sums.{IsSpot}
+use Rattle.move_audits.specs.Audited.{flight_in, is_code_pair, is_fit_move}
+use Rattle.move_audits.specs.Posted.{AreBeside, listed_in, place_in, posting_in, IsSpotOf, IsGoodRow, IsPosted}
 use Rattle.move_audits.proofs.Lists.{element, got_map}
 use Rattle.move_audits.proofs.Listed.{IsNamed, row_named, noted_row}
 use Rattle.move_audits.proofs.Places.{code_is, names_flight, pair_of, plain_there, not_built}

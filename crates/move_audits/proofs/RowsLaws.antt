@@ -1,7 +1,7 @@
 -- The rows of `moves` are lawful exactly where each is posted.
-use Rattle.std.proofs.Common.{◌≡◌, ◌↔◌, ℕ, ◌+◌, ◌<◌, ◌≤◌, true, false, Bool, Option, Some, None, option_map, List, [], ◌∷◌, ◌++◌, map, length, take, get_or, refl, sym, ap, subst, ◌∙◌, true≢false, Result, Ok, Err}
-use Rattle.std.specs.Prelude.{IsSome, IfSome, IfOk, IsTrue}
-use Rattle.std.specs.List.{AllByRecursion, AllZip, list_all}
+use Rattle.std.proofs.Common.{◌≡◌, ◌↔◌, ℕ, ◌+◌, ◌<◌, ◌≤◌, true, Option, Some, None, option_map, List, [], ◌∷◌, ◌++◌, map, length, take, get_or, refl, sym, subst, true≢false, Result, Ok, Err}
+use Rattle.std.specs.Prelude.{IsSome, IfSome, IfOk}
+use Rattle.std.specs.List.{AllByRecursion, AllZip}
 use Rattle.std.proofs.lemmas.List.{take_more, take_all}
 use Rattle.sqlite_keyed.proofs.ListLemmas.{all_from_test, test_from_all, all_map, all_unmap, all_both, all_weaker}
 use Rattle.shipment_machine.specs.Lawful.{IsLawfulMove}

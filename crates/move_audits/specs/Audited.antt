@@ -1,5 +1,5 @@
 -- What is lawful of the rows of `moves` beside the waybills and the flights, apart from balances.
-use Rattle.std.specs.Prelude.{ℕ, ℤ, pos, Bool, ◌&&◌, ◌||◌, ◌↔◌, false, None, if◌then◌else◌, IsTrue, List, [], map}
+use Rattle.std.specs.Prelude.{ℤ, pos, Bool, ◌&&◌, ◌||◌, ◌↔◌, false, None, if◌then◌else◌, IsTrue, List, [], map}
 use Rattle.std.specs.Option.{unwrap_or}
 use Rattle.std.specs.Ordering.{int_eq}
 use Rattle.std.specs.List.{AllByRecursion, list_all, list_any}

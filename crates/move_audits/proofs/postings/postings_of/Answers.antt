@@ -1,6 +1,5 @@
-use Rattle.std.proofs.Common.{map, refl, sym, true≢false, ◌∙◌}
+use Rattle.std.proofs.Common.{map, sym, true≢false, ◌∙◌}
 use Rattle.cargo_rows.specs.Meant.{move_meant}
-use Rattle.move_audits.specs.Posted.{AreBeside}
 use Rattle.move_audits.proofs.RowsLaws.{if_ok, audited, book_posted, not_numbered}
 use Rattle.move_audits.proofs.postings.postings_of.Goals as goal
 

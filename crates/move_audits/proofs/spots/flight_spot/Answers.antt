@@ -1,4 +1,4 @@
-use Rattle.std.proofs.Common.{◌≡◌, ℕ, List, Equal, Ok, Err, get_or, subst}
+use Rattle.std.proofs.Common.{◌≡◌, ℕ, List, Equal, Err, get_or, subst}
 use Rattle.std.specs.List.Sorted.{IsBinarySearchResult}
 use Rattle.row_schema.specs.Tables.{flight_cmp}
 use Rattle.row_schema.proofs.Keys.{flight_total, flight_same}

@@ -1,4 +1,4 @@
-use Rattle.std.proofs.Common.{◌∙◌, pos, subst, sym, ap, rules, of_z, to_z, w64}
+use Rattle.std.proofs.Common.{◌∙◌, pos, subst, sym, rules, w64}
 use Rattle.std.proofs.lemmas.Int.{to_z-of_z}
 use Rattle.cargo_rows.specs.Meant.{move_meant}
 use Rattle.book_audits.specs.declared.sums.Spot.TheVariants.{Plain}
