@@ -1,0 +1,7 @@
+//! The desk of a station over HTTP, on a port of this machine.
+#![tactic(auto)]
+
+mod server;
+mod timed;
+
+pub use server::{ServerFault, listen, serve};
