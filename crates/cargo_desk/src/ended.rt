@@ -1,7 +1,8 @@
 //! How a call ends.
 ghost use Rattle.std.specs.Prelude.{◌≡◌};
-ghost use Rattle.cargo_desk.specs.Ended.{fault_line, status_of};
+ghost use Rattle.cargo_desk.specs.Ended.{fault_line, run_line, server_fault, status_of};
 
+use desk_server::ServerFault;
 use station_core::{ByteOut, send};
 use stock_list::RunFault;
 
@@ -14,16 +15,36 @@ pub enum DeskFault {
     Run(RunFault),
 }
 
+/// Why a call ends where its service does.
+pub fn server_fault(fault: ServerFault) -> DeskFault
+    ensures { result ≡ server_fault fault }
+{
+    match fault {
+        ServerFault::Listener => DeskFault::Run(RunFault::Read),
+        ServerFault::Clock => DeskFault::Clock,
+        ServerFault::Store => DeskFault::Run(RunFault::Store),
+    }
+}
+
+/// The line that tells a run's fault.
+fn run_line(fault: RunFault) -> &'static str
+    ensures { result.now ≡ run_line fault }
+{
+    match fault {
+        RunFault::Read => "fault read\n",
+        RunFault::Write => "fault write\n",
+        RunFault::Memory => "fault memory\n",
+        RunFault::Store => "fault store\n",
+    }
+}
+
 /// The line that tells a fault.
 fn fault_line(fault: DeskFault) -> &'static str
     ensures { result.now ≡ fault_line fault }
 {
     match fault {
         DeskFault::Clock => "fault clock\n",
-        DeskFault::Run(RunFault::Read) => "fault read\n",
-        DeskFault::Run(RunFault::Write) => "fault write\n",
-        DeskFault::Run(RunFault::Memory) => "fault memory\n",
-        DeskFault::Run(RunFault::Store) => "fault store\n",
+        DeskFault::Run(fault) => run_line(fault),
     }
 }
 

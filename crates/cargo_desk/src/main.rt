@@ -5,14 +5,14 @@ mod ended;
 mod run;
 
 use desk_clock::{Zone, moment_now};
+use desk_server::listen;
 use desk_words::{Line, LineCommand, WordsFault, parse_words, usage_fault};
-use ended::{DeskFault, end};
+use ended::DeskFault;
 use imp_fields::Moment;
-use run::run_line;
-use station_core::Counted;
+use run::{Task, end_call, run_line};
 use station_rows::open_memory;
 use std::fs::File;
-use std::io::{BufWriter, ErrorKind, Read, Write};
+use std::io::{ErrorKind, Read};
 use std::process::ExitCode;
 use std::{env, io};
 use stock_list::RunFault;
@@ -24,22 +24,14 @@ const NO_ZONE: &str = "--zone takes a POSIX rule, as UTC0 or CET-1CEST,M3.5.0,M1
 const NO_FILES: &str =
     "a station in a file comes later: for now each call has a new station in memory";
 
-/// What is said of `serve`.
-const NO_SERVICE: &str = "serve comes later";
-
-/// What is said of a line that can't be run yet.
-fn not_yet(line: &Line<'_>) -> Option<&'static str> {
-    match line.command {
-        LineCommand::Serve { .. } => Some(NO_SERVICE),
-        LineCommand::Init => Some(NO_FILES),
-        _ if line.db.is_some() => Some(NO_FILES),
-        _ => None,
-    }
+/// Whether a line can't be run yet.
+fn is_early(line: &Line<'_>) -> bool {
+    line.db.is_some() || line.command == LineCommand::Init
 }
 
-/// Ends a call by a fault, told on standard error.
-fn faulted(rt: &HostRuntime, fault: DeskFault) -> u8 {
-    end(&mut Counted::new(rt.stderr()), Err(fault))
+/// Ends a call by a run's fault, told on standard error.
+fn faulted(rt: &HostRuntime, fault: RunFault) -> u8 {
+    end_call(rt, Err(DeskFault::Run(fault)))
 }
 
 /// Ends a call by what is said of its words: a usage on standard error, or the help on standard output.
@@ -47,53 +39,68 @@ fn refuse_words(rt: &HostRuntime, fault: &WordsFault) -> u8 {
     match fault {
         WordsFault::Help(text) => match print!(rt; "{text}") {
             Ok(()) => 0,
-            Err(_) => faulted(rt, DeskFault::Run(RunFault::Write)),
+            Err(_) => faulted(rt, RunFault::Write),
         },
         WordsFault::Usage(text) => {
             let _told = eprint!(rt; "{text}");
             2
         }
-        WordsFault::Memory => faulted(rt, DeskFault::Run(RunFault::Memory)),
+        WordsFault::Memory => faulted(rt, RunFault::Memory),
     }
 }
 
-/// Runs a line over an input. What it writes is gathered, and goes out before the end.
-fn run_over<R: Read + Drop>(rt: &HostRuntime, line: &Line<'_>, reader: R, at: Moment) -> u8 {
-    let alloc = rt.alloc();
-    let (Ok(gathered), Ok(conn)) = (BufWriter::new(alloc, rt.stdout()), open_memory(alloc)) else {
-        return faulted(rt, DeskFault::Run(RunFault::Memory));
-    };
-    let mut output = Counted::new(gathered);
-    let mut errors = Counted::new(rt.stderr());
-    let (status, _conn) = run_line(alloc, line, conn, reader, &mut output, &mut errors, at);
-    if output.into_inner().flush().is_err() && status < 3 {
-        return faulted(rt, DeskFault::Run(RunFault::Write));
+/// Does a line's task over its station: a new one in memory.
+fn run_over<R: Read + Drop>(rt: &HostRuntime, line: &Line<'_>, task: Task<'_, R>) -> u8 {
+    match open_memory(rt.alloc()) {
+        Ok(conn) => {
+            let (status, _conn) = run_line(rt, line, conn, task);
+            status
+        }
+        Err(_) => faulted(rt, RunFault::Memory),
     }
-    status
 }
 
 /// Runs a line at a moment, over its file or standard input.
 fn run_at(rt: &HostRuntime, line: &Line<'_>, at: Moment) -> u8 {
     let LineCommand::Take(path) = line.command else {
-        return run_over(rt, line, rt.stdin(), at);
+        let reader = rt.stdin();
+        return run_over(rt, line, Task::Run { reader, at });
     };
     match File::open(rt, path) {
-        Ok(file) => run_over(rt, line, file, at),
-        Err(_) => faulted(rt, DeskFault::Run(RunFault::Read)),
+        Ok(reader) => run_over(rt, line, Task::Run { reader, at }),
+        Err(_) => faulted(rt, RunFault::Read),
     }
 }
 
-/// Runs a line. The clock is read once.
+/// Serves a line's station on a port.
+fn serve_at(rt: &HostRuntime, line: &Line<'_>, zone: &Zone, port: u16, count: Option<u32>) -> u8 {
+    match listen(rt, port) {
+        Ok(listener) => {
+            let task: Task<'_, &[u8]> = Task::Serve {
+                listener: &listener,
+                zone,
+                count,
+            };
+            run_over(rt, line, task)
+        }
+        Err(_) => faulted(rt, RunFault::Read),
+    }
+}
+
+/// Runs a line. The clock is read once, but by `serve`, which reads it once for each connection.
 fn run_now(rt: &HostRuntime, line: &Line<'_>) -> u8 {
-    if let Some(told) = not_yet(line) {
-        return refuse_words(rt, &usage_fault(rt.alloc(), told));
+    if is_early(line) {
+        return refuse_words(rt, &usage_fault(rt.alloc(), NO_FILES));
     }
     let Some(zone) = Zone::read(line.zone) else {
         return refuse_words(rt, &usage_fault(rt.alloc(), NO_ZONE));
     };
+    if let LineCommand::Serve { port, count } = line.command {
+        return serve_at(rt, line, &zone, port, count);
+    }
     match moment_now(rt, &zone) {
         Some(at) => run_at(rt, line, at),
-        None => faulted(rt, DeskFault::Clock),
+        None => end_call(rt, Err(DeskFault::Clock)),
     }
 }
 
@@ -116,7 +123,7 @@ fn refuse_call(rt: &HostRuntime, error: &io::Error) -> u8 {
     if error.kind() == ErrorKind::InvalidData {
         return refuse_words(rt, &usage_fault(rt.alloc(), "a word is no UTF-8"));
     }
-    faulted(rt, DeskFault::Run(RunFault::Memory))
+    faulted(rt, RunFault::Memory)
 }
 
 /// The status is 0; 1 where something was refused, or a row or a body was bad; 2 for other words; 3 at a fault.

@@ -4,7 +4,7 @@ pub(crate) const DESK: &str = "The cargo desk of one air cargo station";
 
 pub(crate) const DESK_EXAMPLES: &str = "\
 Statuses: 0 done; 1 something was refused, or a row or a body was bad; 2 other words;
-3 the store, memory, the clock, a file or a stream failed.
+3 the store, memory, the clock, a file, a socket or a stream failed.
 
 Examples:
   cargo_desk stock < list.csv
@@ -13,7 +13,7 @@ Examples:
 
 `cargo_desk COMMAND --help` has more of each.";
 
-pub(crate) const DB: &str = "The file that keeps the station";
+pub(crate) const DB: &str = "The file that keeps the station; in memory if absent";
 
 pub(crate) const STATION: &str = "The station's airport, three letters; XXX if absent";
 

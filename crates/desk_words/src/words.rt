@@ -83,7 +83,6 @@ fn telling<'a>(alloc: Global, top: Command<'a>) -> Result<Command<'a>, AllocErro
         help::REPORT_NAMES,
     ))?;
     let serve = command(alloc, "serve", help::SERVE, help::SERVE_EXAMPLES)
-        .hide(true)
         .arg(option(alloc, "port", "N", help::PORT).required(true))?
         .arg(option(alloc, "count", "K", help::COUNT))?;
     top.subcommand(outbox)?
