@@ -27,7 +27,8 @@ use Rattle.row_values.specs.Replies.{kept_by}
 use Rattle.row_values.specs.Meaning.{meaning_of, IsReadable, Means}
 use Rattle.state_store.specs.Store.{at_rest}
 use Rattle.table_state.specs.Laws.{same_meaning}
-use Rattle.table_state.specs.Shown.{Shows}
+use Rattle.state_store.specs.declared.store.Sizes.{Sizes}
+use Rattle.table_state.specs.Shown.{Knows, HasThese, Shows}
 
 none_of : {X : Type 0} (xs : List X) → length xs ≡ 0 → xs ≡ []
 none_of [] e = refl
@@ -107,26 +108,32 @@ opening_readable here airport = record {
 pub opening_means : (here : List ℕ) → IsTrue (is_airport here) → Means (opening here) (Some (step.opening here))
 opening_means here airport = (opening_readable here airport, meaning_opening here)
 
--- a store whose tables are those of a new station
-pub opening_shown : (v : View) (here : List ℕ) → IsTrue (is_airport here) → (v.IsSound → IsOpening here v) → ((t : Tables) → v.is_open ≡ true → v.IsSound → v.may_leave t → t ≡ v.committed)
-    → Shows v here (record { moves = 0; lines = 0; messages = 0 }) 0 (at_rest (step.opening here))
-opening_shown v here airport is settled sound =
-    let new = is sound in
-    let committed : v.committed ≡ opening here = sym new.at_rest.same ∙ new.now_is in
-    let means = opening_means here airport in
+-- a store whose tables mean a state
+pub shown : (v : View) (t : Tables) (s : State) (here : List ℕ) (sizes : Sizes) (confirmed : ℕ) → Means t (Some s) → Knows here sizes confirmed (at_rest s) → (v.IsSound → HasThese t v)
+    → ((u : Tables) → v.is_open ≡ true → v.IsSound → v.may_leave u → u ≡ v.committed) → Shows v here sizes confirmed (at_rest s)
+shown v t s here sizes confirmed means knows has settled sound =
+    let these = has sound in
+    let committed : v.committed ≡ t = sym these.at_rest.same ∙ these.now_is in
     record {
       holds = record {
         inside = λ e. absurd (cc);
         stands = λ _. record {
-          mode = new.at_rest.mode;
-          rest = λ _. new.at_rest.same;
-          now = subst (λ t. Means t (Some (step.opening here))) (sym new.now_is) means;
-          committed = subst (λ t. Means t (Some (step.opening here))) (sym committed) means;
+          mode = these.at_rest.mode;
+          rest = λ _. these.at_rest.same;
+          now = subst (λ u. Means u (Some s)) (sym these.now_is) means;
+          committed = subst (λ u. Means u (Some s)) (sym committed) means;
         };
-        found = λ t left. subst (λ u. Means u (Some (step.opening here))) (sym (settled t new.is_open sound left ∙ committed)) means;
+        found = λ u left. subst (λ x. Means x (Some s)) (sym (settled u these.is_open sound left ∙ committed)) means;
       };
-      knows = record { here_is = refl; sizes_are = refl; confirmed_is = refl };
+      knows = knows;
     }
+
+-- a store whose tables are those of a new station
+pub new_has : (v : View) (here : List ℕ) → IsOpening here v → HasThese (opening here) v
+new_has v here new = record { is_open = new.is_open; at_rest = new.at_rest; now_is = new.now_is }
+
+pub new_knows : (here : List ℕ) → Knows here (record { moves = 0; lines = 0; messages = 0 }) 0 (at_rest (step.opening here))
+new_knows here = record { here_is = refl; sizes_are = refl; confirmed_is = refl }
 
 -- tables of a new station mean a station with nothing in it
 pub opening_found : (here : List ℕ) → IsTrue (is_airport here) → (t : Tables) (found : Option State) → t ≡ opening here → Means t found → found ≡ Some (step.opening here)

@@ -2,7 +2,7 @@
 use Rattle.std.specs.Prelude.{◌≡◌, ℕ, true, false, List, Option, Some}
 use Rattle.station_core.specs.Step.{State}
 use Rattle.row_schema.specs.Tables.{Tables}
-use Rattle.row_schema.specs.Store.{View}
+use Rattle.row_schema.specs.Store.{View, IsAtRest}
 use Rattle.row_values.specs.Meaning.{Means}
 use Rattle.state_store.specs.Store.{Seen}
 use Rattle.state_store.specs.Told.{sizes_of}
@@ -44,3 +44,9 @@ pub record Finds (v : View) (found : Option State) : Type 0 where
 -- a sound connection that is open is outside a transaction, and its tables mean this state
 abbrev pub IfGivenBack : View → State → Type 0
 IfGivenBack v s = v.IsSound → v.is_open ≡ true → (v.in_transaction ≡ false) × Means v.now (Some s)
+
+-- a store is open and at rest, and its tables are these
+pub record HasThese (t : Tables) (v : View) : Type 0 where
+  pub is_open : v.is_open ≡ true
+  pub at_rest : IsAtRest v
+  pub now_is : v.now ≡ t

@@ -1,9 +1,11 @@
-ghost use Rattle.std.specs.Prelude.{◌≡◌, ◌≤◌};
-ghost use Rattle.station_core.specs.Step.{opening};
+ghost use Rattle.std.specs.Prelude.{◌≡◌, ◌≤◌, Some};
+ghost use Rattle.station_core.specs.Step.{State, opening};
+ghost use Rattle.row_schema.specs.Tables.{Tables};
+ghost use Rattle.row_values.specs.Meaning.{Means};
 ghost use Rattle.row_schema.specs.Connection.{IsOpening};
 ghost use Rattle.state_store.specs.Store.{at_rest};
 ghost use Rattle.table_state.specs.Laws.{finds_what_it_shows, all_numbered};
-ghost use Rattle.table_state.specs.Shown.{Shows, Finds};
+ghost use Rattle.table_state.specs.Shown.{Shows, Finds, HasThese, Knows};
 
 use crate::moved::waybills_moved;
 use crate::recording::record_move;
@@ -42,10 +44,17 @@ pub struct TableState<S: TableStore> {
 }
 
 impl<S: TableStore> TableState<S> {
-    /// The state of a new station at an airport.
-    #[tactic(auto, using(crate::proofs::NewState::opening_shown))]
-    pub(crate) fn new(alloc: Global, store: S, here: Airport) -> TableState<S>
-        ensures shows { ((S.view store).IsSound → IsOpening here (S.view store)) → ⟦<TableState<S> as StateStore>⟧.shows result (at_rest (opening here)) }
+    /// The state that the tables of a store mean, of a station at this airport with so many rows and confirmed messages.
+    #[tactic(auto, using(crate::proofs::NewState::shown))]
+    pub fn over(
+        alloc: Global,
+        store: S,
+        here: Airport,
+        sizes: Sizes,
+        confirmed: u32,
+    ) -> TableState<S>
+        ensures shows { (t : Tables) (s : State) → Means t (Some s) → Knows here sizes confirmed (at_rest s) → ((S.view store).IsSound → HasThese t (S.view store))
+            → ⟦<TableState<S> as StateStore>⟧.shows result (at_rest s) }
         ensures sound { ⟦<TableState<S> as StateStore>⟧.is_sound result → (S.view store).IsSound }
         ensures same { result.store ≡ store }
     {
@@ -53,15 +62,23 @@ impl<S: TableStore> TableState<S> {
             alloc,
             store,
             here,
-            counted: Counted {
-                sizes: Sizes {
-                    moves: 0,
-                    lines: 0,
-                    messages: 0,
-                },
-            },
-            confirmed: 0,
+            counted: Counted { sizes },
+            confirmed,
         }
+    }
+
+    /// The state of a new station at an airport.
+    pub(crate) fn new(alloc: Global, store: S, here: Airport) -> TableState<S>
+        ensures shows { ((S.view store).IsSound → IsOpening here (S.view store)) → ⟦<TableState<S> as StateStore>⟧.shows result (at_rest (opening here)) }
+        ensures sound { ⟦<TableState<S> as StateStore>⟧.is_sound result → (S.view store).IsSound }
+        ensures same { result.store ≡ store }
+    {
+        let sizes = Sizes {
+            moves: 0,
+            lines: 0,
+            messages: 0,
+        };
+        TableState::over(alloc, store, here, sizes, 0)
     }
 
     /// The store comes back, whatever state it is in.

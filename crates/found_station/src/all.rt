@@ -1,0 +1,132 @@
+ghost use Rattle.sqlite.specs.State.{Survives};
+ghost use Rattle.sqlite.specs.Held.{state};
+ghost use Rattle.found_station.specs.All.{AreCargo, AreMessages, AreReplies, AreCounts, AreTables, FindsTables};
+
+use cargo_rows::{BuildRow, CountRow, MoveRow, WaybillRow};
+use found_tables::{
+    ExpectedEntry, FlightEntry, KeptKeyEntry, KeptTextEntry, PartEntry, found_builds, found_counts,
+    found_expected, found_flights, found_kept_keys, found_kept_texts, found_moves, found_outbox,
+    found_parts, found_stock, found_trail, found_waybills,
+};
+use sqlite::{Alter, Connection, Error};
+use station_rows::StockRow;
+use std::alloc::Global;
+use text_rows::{MessageRow, TrailRow};
+
+/// What is declared, held and moved. Nothing stands for a table that isn't there.
+#[derive(Debug, Drop)]
+pub struct FoundCargo {
+    pub waybills: Option<Vec<WaybillRow>>,
+    pub stock: Option<Vec<StockRow>>,
+    pub flights: Option<Vec<FlightEntry>>,
+    pub moves: Option<Vec<MoveRow>>,
+}
+
+/// What messages brought, and what was sent. Nothing stands for a table that isn't there.
+#[derive(Debug, Drop)]
+pub struct FoundMessages {
+    pub expected: Option<Vec<ExpectedEntry>>,
+    pub parts: Option<Vec<PartEntry>>,
+    pub trail: Option<Vec<TrailRow>>,
+    pub outbox: Option<Vec<MessageRow>>,
+}
+
+/// What was accepted. Nothing stands for a table that isn't there.
+#[derive(Debug, Drop)]
+pub struct FoundReplies {
+    pub kept_keys: Option<Vec<KeptKeyEntry>>,
+    pub kept_texts: Option<Vec<KeptTextEntry>>,
+}
+
+/// Running counts. Nothing stands for a table that isn't there.
+#[derive(Debug, Drop)]
+pub struct FoundCounts {
+    pub counts: Option<Vec<CountRow>>,
+    pub builds: Option<Vec<BuildRow>>,
+}
+
+/// All tables of a station but `station` itself, each in the order of its keys.
+#[derive(Debug, Drop)]
+pub struct FoundTables {
+    pub cargo: FoundCargo,
+    pub messages: FoundMessages,
+    pub replies: FoundReplies,
+    pub counts: FoundCounts,
+}
+
+/// Reads `waybill`, `stock`, `flight` and `moves`.
+fn found_cargo<S: Alter>(alloc: Global, conn: &mut Connection<S>) -> Result<FoundCargo, Error>
+    ensures read { FindsTables S.Store conn.old conn.new result AreCargo }
+    ensures survives { Survives (state S.Store conn.old) (state S.Store conn.new) (λ _. ⊥) }
+{
+    let waybills = found_waybills(alloc, conn)?;
+    let stock = found_stock(alloc, conn)?;
+    let flights = found_flights(alloc, conn)?;
+    let moves = found_moves(alloc, conn)?;
+    Ok(FoundCargo {
+        waybills,
+        stock,
+        flights,
+        moves,
+    })
+}
+
+/// Reads `expected`, `part`, `trail` and `outbox`.
+fn found_messages<S: Alter>(alloc: Global, conn: &mut Connection<S>) -> Result<FoundMessages, Error>
+    ensures read { FindsTables S.Store conn.old conn.new result AreMessages }
+    ensures survives { Survives (state S.Store conn.old) (state S.Store conn.new) (λ _. ⊥) }
+{
+    let expected = found_expected(alloc, conn)?;
+    let parts = found_parts(alloc, conn)?;
+    let trail = found_trail(alloc, conn)?;
+    let outbox = found_outbox(alloc, conn)?;
+    Ok(FoundMessages {
+        expected,
+        parts,
+        trail,
+        outbox,
+    })
+}
+
+/// Reads `kept_key` and `kept_text`.
+fn found_replies<S: Alter>(alloc: Global, conn: &mut Connection<S>) -> Result<FoundReplies, Error>
+    ensures read { FindsTables S.Store conn.old conn.new result AreReplies }
+    ensures survives { Survives (state S.Store conn.old) (state S.Store conn.new) (λ _. ⊥) }
+{
+    let kept_keys = found_kept_keys(alloc, conn)?;
+    let kept_texts = found_kept_texts(alloc, conn)?;
+    Ok(FoundReplies {
+        kept_keys,
+        kept_texts,
+    })
+}
+
+/// Reads `counts` and `build`.
+fn found_sums<S: Alter>(alloc: Global, conn: &mut Connection<S>) -> Result<FoundCounts, Error>
+    ensures read { FindsTables S.Store conn.old conn.new result AreCounts }
+    ensures survives { Survives (state S.Store conn.old) (state S.Store conn.new) (λ _. ⊥) }
+{
+    let counts = found_counts(alloc, conn)?;
+    let builds = found_builds(alloc, conn)?;
+    Ok(FoundCounts { counts, builds })
+}
+
+/// All tables of a station in any database but `station` itself, each by one statement, in the order of its keys. Nothing
+/// stands for a table where it or a column is missing, a value is of another type or a text that is no UTF-8, or a key
+/// stands twice. The connection is open. On error memory is out or the database could not be read: nothing was done, or the
+/// transaction that was open is undone.
+pub fn all_tables<S: Alter>(alloc: Global, conn: &mut Connection<S>) -> Result<FoundTables, Error>
+    ensures read { FindsTables S.Store conn.old conn.new result AreTables }
+    ensures survives { Survives (state S.Store conn.old) (state S.Store conn.new) (λ _. ⊥) }
+{
+    let cargo = found_cargo(alloc, conn)?;
+    let messages = found_messages(alloc, conn)?;
+    let replies = found_replies(alloc, conn)?;
+    let counts = found_sums(alloc, conn)?;
+    Ok(FoundTables {
+        cargo,
+        messages,
+        replies,
+        counts,
+    })
+}

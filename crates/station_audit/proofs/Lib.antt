@@ -1,0 +1,4 @@
+pub mod Entries
+pub mod ReadLists
+pub mod Judged
+pub mod WholeBook

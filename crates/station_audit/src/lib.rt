@@ -1,0 +1,14 @@
+//! The audit of a database that was found: whether it is a station's, and if not, which table is the first that isn't good.
+#![tactic(auto)]
+
+mod book;
+mod counted;
+mod good;
+mod judge;
+mod law;
+mod state;
+mod unfit;
+
+pub use law::station_is_fit;
+pub use state::{FoundState, found_state};
+pub use unfit::Unfit;

@@ -1,0 +1,12 @@
+use lawful_tables::TableName;
+
+/// Why a database is no station's.
+#[derive(Clone, Copy, Debug, PartialEq, Eq)]
+pub enum Unfit {
+    /// There is no table `station`, or it has no row.
+    NoStation,
+    /// The station's file is of this version, which is not 1.
+    OtherVersion(i64),
+    /// This is the first table that is missing or isn't lawful.
+    Unlawful(TableName),
+}

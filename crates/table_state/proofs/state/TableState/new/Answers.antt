@@ -1,0 +1,11 @@
+use Rattle.std.proofs.Common.{rules, ◌≡◌, true}
+use Rattle.imp_fields.specs.Airport.{is_airport}
+use Rattle.row_schema.specs.Connection.{opening}
+use Rattle.station_core.specs.Step as step
+use Rattle.table_state.proofs.NewState.{opening_means, new_has, new_knows}
+use Rattle.table_state.proofs.state.TableState.new.Goals as goal
+
+pub returns-clause-shows : goal.returns-clause-shows
+returns-clause-shows g c is =
+    let airport : is_airport c.args.here ≡ true = search rules in
+    c.over.ensures.shows (opening c.args.here) (step.opening c.args.here) (opening_means c.args.here airport) (new_knows c.args.here) (λ sound. new_has _ c.args.here (is sound))
