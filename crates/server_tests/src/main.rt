@@ -1,0 +1,151 @@
+//! The service on a port of this machine: listened for, connected to, asked, served and read, all in one process and one thread.
+//!
+//! A case is printed by its name, with the lines of each answer behind `|`, and how the service ended. The connections of a case
+//! wait in the listener's queue until they are served.
+#![tactic(auto)]
+
+mod clock;
+
+use clock::Stepped;
+use desk_clock::Zone;
+use desk_server::{ServerFault, listen, serve};
+use imp_fields::Airport;
+use plain_station::PlainStation;
+use station_core::Keeper;
+use std::cell::Cell;
+use std::io;
+use std::io::{ErrorKind, Write};
+use std::net::{Shutdown, SocketAddr, TcpListener, TcpStream};
+
+/// 2026-01-12 10:30, in seconds since 1970-01-01.
+const MORNING: u64 = 1_768_213_800;
+
+/// Ten numbers are taken in.
+const TAKE_IN: &str =
+    "POST /v1/act/take-in HTTP/1.1\r\nHost: desk\r\nRequest-Key: k1\r\nContent-Length: 48\r\n\r\n\
+{\"count\":10,\"prefix\":\"020\",\"serial\":\"1234567\"}  ";
+
+/// Who holds one of them.
+const HOLDER: &str = "GET /v1/stock/020-12345675 HTTP/1.1\r\nHost: desk\r\n\r\n";
+
+/// The stock.
+const STOCK: &str = "GET /v1/reports/stock HTTP/1.1\r\nHost: desk\r\n\r\n";
+
+/// A clock that stands still.
+fn still(shown: u64) -> Stepped {
+    Stepped {
+        shown,
+        gone: Cell::new(0),
+        step: 0,
+    }
+}
+
+/// Connects, and writes a request.
+fn ask(rt: &HostRuntime, address: SocketAddr, request: &str) -> io::Result<TcpStream> {
+    let client = TcpStream::connect(rt, address)?;
+    let mut asking = &client;
+    asking.write_all(request.as_bytes())?;
+    client.shutdown(Shutdown::Write)?;
+    Ok(client)
+}
+
+/// Prints the answer that came, up to the connection's end.
+fn tell(rt: &HostRuntime, client: TcpStream) -> io::Result<()> {
+    let text = match io::read_to_string(rt.alloc(), client) {
+        Ok(text) => text,
+        Err(_) => String::new(rt.alloc()),
+    };
+    if text.is_empty() {
+        return println!(rt; "no answer");
+    }
+    for line in text.lines() {
+        println!(rt; "| {line}")?;
+    }
+    Ok(())
+}
+
+/// Serves a station to so many connections, and listens no more.
+fn serve_all<K: Keeper>(
+    rt: &HostRuntime,
+    clock: &Stepped,
+    station: &mut K,
+    listener: TcpListener,
+    count: usize,
+) -> io::Result<Result<(), ServerFault>> {
+    let Some(zone) = Zone::read("UTC0") else {
+        return Err(io::Error::from(ErrorKind::InvalidInput));
+    };
+    let count = u32::try_from(count).ok();
+    Ok(serve(rt.alloc(), clock, &zone, station, &listener, count))
+}
+
+/// Serves a station to a connection for each request.
+fn play<K: Keeper>(
+    rt: &HostRuntime,
+    name: &str,
+    clock: &Stepped,
+    station: &mut K,
+    requests: &[&str],
+) -> io::Result<()> {
+    println!(rt; "{name}")?;
+    let listener = listen(rt, 0)?;
+    let address = listener.local_addr()?;
+    let mut clients = Vec::new(rt.alloc());
+    for request in requests {
+        clients.push(ask(rt, address, request)?)?;
+    }
+    let ended = serve_all(rt, clock, station, listener, requests.len())?;
+    for client in clients {
+        tell(rt, client)?;
+    }
+    println!(rt; "{ended:?}")
+}
+
+/// A request with a body that is too long, all of which is sent.
+fn long_request(rt: &HostRuntime) -> io::Result<String> {
+    let mut request = String::new(rt.alloc());
+    request.push_str("POST /v1/telegrams HTTP/1.1\r\nContent-Length: 70000\r\n\r\n")?;
+    for _ in 0..7000 {
+        request.push_str("0123456789")?;
+    }
+    Ok(request)
+}
+
+/// The cases.
+fn play_all(rt: &HostRuntime, here: Airport) -> io::Result<()> {
+    let mut station = PlainStation::new(rt.alloc(), here);
+    let clock = still(MORNING);
+    let day = [TAKE_IN, HOLDER, TAKE_IN, STOCK];
+    play(rt, "one after another", &clock, &mut station, &day)?;
+    let cut = [&TAKE_IN[..90], HOLDER];
+    play(rt, "an input that ends early", &clock, &mut station, &cut)?;
+    let long = long_request(rt)?;
+    let longs = [long.as_str(), HOLDER];
+    play(rt, "a body that is too long", &clock, &mut station, &longs)?;
+    let slow = Stepped {
+        step: 31,
+        ..still(MORNING)
+    };
+    play(
+        rt,
+        "a request that takes too long",
+        &slow,
+        &mut station,
+        &[HOLDER],
+    )?;
+    let early = still(0);
+    play(
+        rt,
+        "a clock out of range",
+        &early,
+        &mut station,
+        &[HOLDER, HOLDER],
+    )
+}
+
+fn main(rt: HostRuntime) -> io::Result<()> {
+    let Some(here) = Airport::read(b"FRA") else {
+        return Err(io::Error::from(ErrorKind::InvalidInput));
+    };
+    play_all(&rt, here)
+}
