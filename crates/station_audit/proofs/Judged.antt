@@ -99,11 +99,14 @@ one_damaged : (a : List ℕ) (c : ℤ) → one_row a c ≡ damaged → ⊥
 one_damaged a c h = absurd (cc)
 
 pub damaged_stops : (db : Database) → station_of db ≡ damaged → IsTrue (is_ours (station_of db)) × IsFirstBad db Station
-damaged_stops db says = (ap is_ours says, record {
-  tables = opening [];
-  so_far = tt;
-  no_further = λ t all. one_damaged all.0.held.0 all.0.held.1 (sym all.0.held.2 ∙ says);
-})
+damaged_stops db says = (
+  ap is_ours says,
+  record {
+    tables = opening [];
+    so_far = tt;
+    no_further = λ t all. one_damaged all.0.held.0 all.0.held.1 (sym all.0.held.2 ∙ says);
+  },
+)
 
 -- a call that read, and then judged what it read
 pub reads_so : {X : Type 0} (old new : State) (r : Result X Error) (P : X → Type 0) → IsUnchanged old new → IfOk r P → Reads old new r P

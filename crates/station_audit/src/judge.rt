@@ -78,11 +78,7 @@ fn bad_message(found: &FoundTables, confirmed: i64, sums: &BookSums) -> Option<T
 }
 
 /// The first table that isn't good, from `moves` on.
-fn bad_move(
-    alloc: Global,
-    found: &FoundTables,
-    confirmed: i64,
-) -> Result<Option<TableName>, NoRoom>
+fn bad_move(alloc: Global, found: &FoundTables, confirmed: i64) -> Result<Option<TableName>, NoRoom>
     ensures { (db : Database) (airport : List ℕ) → AreTables db found.now → station_of db ≡ one_row airport confirmed
         → AreGood db (tables_from airport confirmed found.now) (before table.Moves)
         → NamesFirst db (tables_from airport confirmed found.now) result }

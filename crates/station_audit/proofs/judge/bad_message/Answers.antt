@@ -19,4 +19,4 @@ returns c = λ db airport tables says sums so_far.
     let tz = to_z-of_z w64 c.args.confirmed c.ranges.confirmed in
     let past = (goes_past db (tables_from airport c.args.confirmed c.args.found.now) table.Part c.are_parts_good.result (goes_past db (tables_from airport c.args.confirmed c.args.found.now) table.Expected c.are_expected_good.result so_far (λ u good held. c.are_expected_good.ensures.exact db u tables good held) c.if-not-are_expected_good.false (expected_held db c.args.found.now tables (c.are_expected_good.ensures.some c.if-not-are_expected_good.false))) (λ u good held. c.are_parts_good.ensures.exact db u tables good held) c.if-not-are_parts_good.false (part_held db c.args.found.now tables (c.are_parts_good.ensures.some c.if-not-are_parts_good.false))) in
     subst (λ z. NamesFirst db (tables_from airport z c.args.found.now) (Ok c.bad_log.result)) tz
-        (c.bad_log.ensures db airport tables (says ∙ ap (one_row airport) (sym tz)) sums (subst (λ z. AreGood db (tables_from airport z c.args.found.now) (before table.Trail)) (sym tz) past))
+    (c.bad_log.ensures db airport tables (says ∙ ap (one_row airport) (sym tz)) sums (subst (λ z. AreGood db (tables_from airport z c.args.found.now) (before table.Trail)) (sym tz) past))

@@ -27,4 +27,4 @@ returns-in-Some c = λ db airport tables says so_far.
     let past = goes_past db (tables_from airport c.args.confirmed c.args.found.now) table.Moves (is_some c.in_ok-good_book.field-0) so_far (λ u good held. c.in_ok-good_book.ensures.exact db u tables good held) some (moves_held db c.args.found.now tables (c.in_ok-good_book.ensures.some some)) in
     let tz = to_z-of_z w64 c.args.confirmed c.ranges.confirmed in
     subst (λ z. NamesFirst db (tables_from airport z c.args.found.now) (Ok c.bad_message.result)) tz
-        (c.bad_message.ensures db airport tables (says ∙ ap (one_row airport) (sym tz)) (λ u good. rw c.in-Some.is at (c.in_ok-good_book.ensures.sums db u tables good.1 good.0.held)) (subst (λ z. AreGood db (tables_from airport z c.args.found.now) (before table.Expected)) (sym tz) past))
+    (c.bad_message.ensures db airport tables (says ∙ ap (one_row airport) (sym tz)) (λ u good. rw c.in-Some.is at (c.in_ok-good_book.ensures.sums db u tables good.1 good.0.held)) (subst (λ z. AreGood db (tables_from airport z c.args.found.now) (before table.Expected)) (sym tz) past))

@@ -8,12 +8,13 @@ use Rattle.station_audit.proofs.Judged.{is_our_row, reads_so, row_stops}
 use Rattle.station_audit.proofs.state.found_from.Goals as goal
 
 pub returns-in_default-clause-read : goal.returns-in_default-clause-read
-returns-in_default-clause-read g c = λ clean up says.
-    (
-      (is_our_row (state g.S.Store c.args.conn.now).now c.args.airport.now c.args.confirmed says,
-        row_stops (state g.S.Store c.args.conn.now).now c.args.airport.now c.args.confirmed says (λ t is lawful. rw c.in_default.is at ((rw (to_z-of_z w64 c.args.confirmed c.ranges.confirmed) at (c.own_row.ensures.exact t) is).1 lawful))),
-      at_rest (state g.S.Store c.args.conn.now) up,
-    )
+returns-in_default-clause-read g c = λ clean up says. (
+  (
+    is_our_row (state g.S.Store c.args.conn.now).now c.args.airport.now c.args.confirmed says,
+    row_stops (state g.S.Store c.args.conn.now).now c.args.airport.now c.args.confirmed says (λ t is lawful. rw c.in_default.is at ((rw (to_z-of_z w64 c.args.confirmed c.ranges.confirmed) at (c.own_row.ensures.exact t) is).1 lawful)),
+  ),
+  at_rest (state g.S.Store c.args.conn.now) up,
+)
 
 pub returns-clause-read : goal.returns-clause-read
 returns-clause-read g c = λ clean up says.
