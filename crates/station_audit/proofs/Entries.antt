@@ -1,5 +1,5 @@
 -- Entries in the order of their keys are the entries of the map that they make.
-use Rattle.std.proofs.Common.{◌≡◌, List, subst, sym, Ordering, Less, Equal, Greater, false, ap, refl, ◌∙◌}
+use Rattle.std.proofs.Common.{◌≡◌, List, Ordering, Less, false, refl}
 use Rattle.std.specs.Cmp.{IsTotalOrder, on_total}
 use Rattle.std.specs.Ordering.{eq_by_cmp}
 use Rattle.std.specs.FinMap.{FinMap, entries, from_entries}

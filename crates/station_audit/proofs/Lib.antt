@@ -2,3 +2,4 @@ pub mod Entries
 pub mod ReadLists
 pub mod Judged
 pub mod WholeBook
+pub mod Declared

@@ -1,8 +1,8 @@
 -- The rows that were read are the rows that are held.
-use Rattle.std.proofs.Common.{◌≡◌, ◌∙◌, ℕ, ℤ, List, map, refl, sym, subst, Ordering, Less, Option, Some, None, ap, true}
+use Rattle.std.proofs.Common.{◌≡◌, ◌∙◌, ℕ, ℤ, List, map, refl, sym, subst, Option, Some, None, ap}
 use Rattle.std.specs.Prelude.{Vec, IsSome}
 use Rattle.std.specs.declared.alloc.Global.{Global}
-use Rattle.std.specs.FinMap.{FinMap, entries, from_entries}
+use Rattle.std.specs.FinMap.{entries, from_entries}
 use Rattle.sqlite.specs.Effect.{Database}
 use Rattle.raw_rows.specs.Whole.{TellsTable}
 use Rattle.raw_rows.proofs.TableLemmas.{held_once}
