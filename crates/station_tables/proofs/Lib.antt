@@ -1,2 +1,5 @@
 mod Around
+mod Attached
+mod Looked
 mod Made
+mod Restarted

@@ -4,6 +4,7 @@ ghost use Rattle.row_schema.specs.Connection.{connection_view, IsVacant};
 ghost use Rattle.station_rows.specs.Own.{are_declared};
 ghost use Rattle.station_tables.specs.Found.{Finds};
 
+use crate::fault::AttachFault;
 use crate::station::Station;
 use imp_fields::Airport;
 use sqlite::{Alter, Connection};
@@ -11,15 +12,6 @@ use station_core::Keeper;
 use station_rows::CreateFault;
 use std::alloc::Global;
 use stored_station::StoredStation;
-
-/// Why there is no station. The connection comes back beside it.
-#[derive(Clone, Copy, Debug, PartialEq, Eq)]
-pub enum AttachFault {
-    /// A table, an index or a view has the name of one of a station's. The store is as it was.
-    Occupied,
-    /// The store failed, or the connection was inside a transaction. The store is as it was, or a station was made.
-    Store,
-}
 
 /// Makes the tables of a station at an airport with nothing in it, in one transaction, in a store that has none of them.
 pub fn create<S: Alter>(

@@ -1,0 +1,99 @@
+-- A station whose tables were found goes on from what they mean.
+use Rattle.std.proofs.Common.{◌≡◌, ◌∙◌, ℕ, ◌≤◌, ◌⊎◌, inl, inr, Bool, true, false, List, length, map, Option, Some, None, Result, Ok, Err, refl, sym, ap, subst}
+use Rattle.std.specs.Prelude.{IsTrue, IfOk, IfErr}
+use Rattle.std.proofs.lemmas.List.{length-map}
+use Rattle.sqlite.specs.Effect.{Database}
+use Rattle.sqlite.specs.State as sqlite
+use Rattle.station_core.specs.Step.{State, IsLawfulState}
+use Rattle.shipment_machine.specs.Cargo.{Cargo}
+use Rattle.row_schema.specs.Connection.{view_of}
+use Rattle.row_schema.specs.Schema.{station_schema}
+use Rattle.row_schema.specs.Store.{View, IsUnchanged}
+use Rattle.row_schema.specs.Tables.{Tables, Message, IsStation, tables_of}
+use Rattle.row_values.specs.Logs.{line_by}
+use Rattle.row_values.specs.Meaning.{meaning_of, IsReadable, Means}
+use Rattle.row_values.specs.Moves.{move_by}
+use Rattle.state_store.specs.Store.{at_rest}
+use Rattle.table_state.specs.Shown.{Knows, HasThese}
+use Rattle.lawful_tables.proofs.Laws.{lawful_each}
+use Rattle.station_audit.proofs.Declared.{each_lawful, same_tables}
+use Rattle.station_audit.proofs.Judged.{fit}
+use Rattle.station_audit.specs.Good.{IsStationOf}
+use Rattle.station_audit.specs.Verdict.{Tells, Judges}
+use Rattle.station_audit.specs.declared.state.FoundState.{FoundState}
+use Rattle.station_audit.specs.declared.unfit.Unfit.{Unfit}
+use Rattle.station_audit.specs.declared.unfit.Unfit.TheVariants as unfit
+use Rattle.sqlite.specs.declared.error.Error.{Error}
+use Rattle.row_laws.specs.Calls.{Reads}
+use Rattle.station_tables.specs.Attached.{IsStateIn, IsTypedState, IsFoundIn, IsJudged, Refuses, IsBreakdown}
+use Rattle.station_tables.specs.declared.fault.AttachFault.{AttachFault}
+use Rattle.station_tables.specs.declared.fault.AttachFault.TheVariants as fault
+
+both : (db : Database) (t : Tables) → IsStationOf db t → IsReadable t × IsLawfulState (meaning_of t)
+both db t all = (lawful_each t).0 (each_lawful db t all)
+
+-- the state that a station's tables mean is lawful
+pub is_lawful : (db : Database) (s : State) → IsStateIn db s → IsLawfulState s
+is_lawful db s in_ = subst IsLawfulState in_.means (both db in_.tables in_.is_station).1
+
+-- they mean it
+pub means : (db : Database) (s : State) (in_ : IsStateIn db s) → Means in_.tables (Some s)
+means db s in_ = ((both db in_.tables in_.is_station).0, in_.means)
+
+-- where a station declared the tables, they are the typed ones
+pub means_typed : (db : Database) (s : State) → IsStation db → IsStateIn db s → IsTypedState db s
+means_typed db s was in_ = record { means = subst (λ t. Means t (Some s)) (sym (same_tables db in_.tables was in_.is_station)) (means db s in_) }
+
+-- what was counted is known of it
+known : (found : FoundState) (t : Tables) → Tells found t → Knows found.here found.sizes found.confirmed (at_rest (meaning_of t))
+known found t tells = record {
+  here_is = tells.here;
+  sizes_are = λ i. record {
+    moves = (tells.moves ∙ sym (length-map t.moves move_by)) i;
+    lines = (tells.lines ∙ sym (length-map t.trail line_by)) i;
+    messages = (tells.messages ∙ sym (length-map t.outbox (λ (row : Message). row.body))) i;
+  };
+  confirmed_is = tells.confirmed;
+}
+
+pub knows : (found : FoundState) (db : Database) (s : State) (in_ : IsStateIn db s) → Tells found in_.tables → Knows found.here found.sizes found.confirmed (at_rest s)
+knows found db s in_ tells = subst (λ x. Knows found.here found.sizes found.confirmed (at_rest x)) in_.means (known found in_.tables tells)
+
+-- what is judged, with a state in place of its tables
+judged : (db : Database) (r : Result FoundState Unfit) → Judges db r → IsJudged db r
+judged db (Ok found) was = record { state = meaning_of was.0; is_in = record { tables = was.0; is_station = was.1; means = refl }; tells = was.2 }
+judged db (Err why) was = was
+
+pub reads : (old new : sqlite.State) (db : Database) (r : Result (Result FoundState Unfit) Error) → Reads old new r (Judges db) → Reads old new r (IsJudged db)
+reads old new db (Ok r) read = (judged db r read.0, read.1)
+reads old new db (Err e) read = read
+
+-- tables that were read and not changed since
+pub has : (s : sqlite.State) (v : View) (t : Tables) → tables_of s.now.trees ≡ t → s.in_transaction ≡ false → s.now ≡ s.committed → IsUnchanged (view_of s) v → HasThese t v
+has s v t same outside rest was = record {
+  is_open = was.is_open;
+  at_rest = record { mode = was.mode ∙ outside; same = was.now_is ∙ ap (λ (d : Database). tables_of d.trees) rest ∙ sym was.committed_is };
+  now_is = was.now_is ∙ same;
+}
+
+pub has_these : (c : sqlite.State) (v : View) (s : State) (in_ : IsStateIn c.now s) → IsStation c.now → c.in_transaction ≡ false → c.now ≡ c.committed → IsUnchanged (view_of c) v → HasThese in_.tables v
+has_these c v s in_ was outside rest unchanged = has c v in_.tables (same_tables c.now in_.tables was in_.is_station) outside rest unchanged
+
+-- what is refused is no station's, unless the fault says nothing of it
+pub breaks_down : (db : Database) (s : State) (fault : AttachFault) → IsStateIn db s → Refuses db fault → IsBreakdown fault
+breaks_down db s (fault.Unlawful name) in_ why = absurd (fit db in_.tables in_.is_station (unfit.Unlawful name) why)
+breaks_down db s fault.NoStation in_ why = absurd (fit db in_.tables in_.is_station unfit.NoStation why)
+breaks_down db s (fault.Version n) in_ why = absurd (fit db in_.tables in_.is_station (unfit.OtherVersion n) why)
+breaks_down db s fault.Occupied in_ why = why
+breaks_down db s fault.Store in_ why = tt
+breaks_down db s fault.Memory in_ why = tt
+
+-- a station that goes on from what was found
+pub kept_on : {K E : Type 0} (db : Database) (found : FoundState) (keeps : K → State → Type 0) (r : Result K E) → IsFoundIn db found
+    → ((s : State) (in_ : IsStateIn db s) → Tells found in_.tables → IfOk r (λ k. keeps k s)) → IfOk r (λ k. (s : State) × IsStateIn db s × keeps k s)
+kept_on db found keeps (Ok k) at goes = (at.state, at.is_in, goes at.state at.is_in at.tells)
+kept_on db found keeps (Err e) at goes = tt
+
+pub store_says_nothing : {K C : Type 0} (db : Database) (r : Result K (C × AttachFault)) → IfErr r (λ e. e.1 ≡ fault.Store) → IfErr r (λ e. Refuses db e.1)
+store_says_nothing db (Ok k) is = tt
+store_says_nothing db (Err e) is = subst (Refuses db) (sym is) tt

@@ -1,0 +1,128 @@
+-- What is seen of a connection that was looked at and not changed.
+use Rattle.std.proofs.Common.{◌≡◌, ◌∙◌, ℕ, ◌≤◌, ◌⊎◌, inl, inr, Bool, true, false, Option, Some, None, Result, Ok, Err, refl, sym, ap, subst, arith}
+use Rattle.std.specs.Prelude.{IsTrue, IfOk, IfErr, not}
+use Rattle.sqlite.specs.Effect.{Database}
+use Rattle.sqlite.specs.State as sqlite
+use Rattle.sqlite.specs.State.{HasCleanDisk}
+use Rattle.sqlite_trees.specs.View.{doubt}
+use Rattle.row_laws.specs.Calls.{Reads}
+use Rattle.station_core.specs.Step.{State}
+use Rattle.declared_tables.specs.Own.{IsOwn}
+use Rattle.row_schema.specs.Connection.{view_of}
+use Rattle.row_schema.specs.Store as store
+use Rattle.row_schema.specs.Store.{View}
+use Rattle.row_schema.specs.Tables.{Tables}
+use Rattle.table_state.specs.Shown as tables
+use Rattle.station_audit.specs.declared.state.FoundState.{FoundState}
+use Rattle.station_audit.specs.declared.unfit.Unfit.{Unfit}
+use Rattle.station_tables.specs.Attached.{IsStateIn, IsTypedState, IsJudged, Refuses, IsBreakdown}
+use Rattle.station_tables.specs.Found.{Finds}
+use Rattle.station_tables.specs.declared.fault.AttachFault.{AttachFault}
+use Rattle.station_tables.proofs.Attached.{breaks_down}
+use Rattle.station_tables.proofs.Made.{finds_up}
+
+no_less : (a b : ℕ) → a ≤ b → b ≡ 0 → a ≡ 0
+no_less a b below none = omega (arith, below, none)
+
+-- a disk that is clean was clean
+pub was_clean : (a b : sqlite.State) → sqlite.Survives a b (λ _. ⊥) → HasCleanDisk b → HasCleanDisk a
+was_clean a b s clean = no_less (doubt a.is_clean) (doubt b.is_clean) s.clean clean
+
+either : {X : Type 0} → X ⊎ ⊥ → X
+either (inl x) = x
+either (inr never) = absurd never
+
+-- and a crash leaves what it left before
+pub left_before : (a b : sqlite.State) → sqlite.Survives a b (λ _. ⊥) → HasCleanDisk b → (t : Tables) → (view_of b).may_leave t → (view_of a).may_leave t
+left_before a b s clean t left = (left.0, either (s.crash clean left.0 left.1), left.2)
+
+-- so that a reopening finds what it found before
+pub finds_before : (old new : View) → ((t : Tables) → new.may_leave t → old.may_leave t) → (found : Option State) → Finds new found → Finds old found
+finds_before old new back found = finds_up (tables.Finds new) (tables.Finds old) (λ f x. record { tables = x.tables; left = back x.tables x.left; means = x.means }) found
+
+pub finds_after_one : (a b : sqlite.State) → sqlite.Survives a b (λ _. ⊥) → HasCleanDisk b → (found : Option State) → Finds (view_of b) found → Finds (view_of a) found
+finds_after_one a b s clean found = finds_before (view_of a) (view_of b) (left_before a b s clean) found
+
+pub finds_after : (a b c : sqlite.State) → sqlite.Survives a b (λ _. ⊥) → sqlite.Survives b c (λ _. ⊥) → HasCleanDisk c → (found : Option State) → Finds (view_of c) found → Finds (view_of a) found
+finds_after a b c s u clean found finds = finds_after_one a b s (was_clean b c u clean) found (finds_after_one b c u clean found finds)
+
+pub finds_after_store : (a b c : sqlite.State) (v : View) → sqlite.Survives a b (λ _. ⊥) → sqlite.Survives b c (λ _. ⊥) → store.Survives (view_of c) v → v.IsSound → (found : Option State) → Finds v found → Finds (view_of a) found
+finds_after_store a b c v s u w sound found finds = finds_after a b c s u (w.sound sound) found (finds_before (view_of c) v (w.crash sound) found finds)
+
+-- A connection that was outside a transaction and open, was looked at twice, and is as it was.
+pub record IsSeen (a d : sqlite.State) : Type 0 where
+  pub same : d.now ≡ a.now
+  pub outside : d.in_transaction ≡ false
+  pub rest : d.now ≡ d.committed
+
+is_outside : (auto in_ : Bool) → auto ≡ not in_ → IsTrue auto → in_ ≡ false
+is_outside auto true says is = absurd (cc)
+is_outside auto false says is = refl
+
+module _ (a b d : sqlite.State) (auto : Bool) (value : auto ≡ not a.in_transaction) (settled : IsTrue auto → IsTrue a.is_open → a.now ≡ a.committed) (is_auto : IsTrue auto)
+    (live : HasCleanDisk b → sqlite.IsUnchanged a b) (survived : sqlite.Survives b d (λ _. ⊥)) where
+  pub is_open : HasCleanDisk d → IsTrue b.is_open
+  is_open clean = (live (was_clean b d survived clean)).0.is_open
+
+  seen : HasCleanDisk d → sqlite.IsUnchanged b d → IsSeen a d
+  seen clean same =
+      let one = (live (was_clean b d survived clean)).0 in
+      let two = same.0 in
+      let rest = settled is_auto one.was_open in
+      record {
+        same = two.now_is ∙ one.now_is;
+        outside = two.mode ∙ one.mode ∙ is_outside auto a.in_transaction value is_auto;
+        rest = two.now_is ∙ one.now_is ∙ rest ∙ sym one.committed_is ∙ sym two.committed_is;
+      }
+
+  -- a station that was found there
+  -- what is judged of it is so of it as it was and as it is
+  pub judged_there : (r : Result FoundState Unfit) → (HasCleanDisk d → IsTrue b.is_open → Reads b d (Ok r) (IsJudged b.now)) → HasCleanDisk d → IsSeen a d × IsJudged d.now r
+  judged_there r reads clean =
+      let read = reads clean (is_open clean) in
+      (seen clean read.1, subst (λ db. IsJudged db r) (sym read.1.0.now_is) read.0)
+
+-- what holds of a station that goes on, in terms of the connection before
+module _ {K E : Type 0} (a d : sqlite.State) (judged : Result FoundState Unfit) (Clean : K → Type 0) (look : HasCleanDisk d → IsSeen a d × IsJudged d.now judged) where
+  pub found_on : (keeps : K → State → Type 0) (r : Result K E) → IfOk r (λ k. Clean k → HasCleanDisk d)
+      → (d.in_transaction ≡ false → d.now ≡ d.committed → IsJudged d.now judged → IfOk r (λ k. (s : State) × IsStateIn d.now s × keeps k s))
+      → IfOk r (λ k. Clean k → (s : State) × IsStateIn a.now s × keeps k s)
+  found_on keeps (Ok k) clean goes = λ on.
+      let l = look (clean on) in
+      let at = goes l.0.outside l.0.rest l.1 in
+      (at.0, subst (λ db. IsStateIn db at.0) l.0.same at.1, at.2)
+  found_on keeps (Err e) clean goes = tt
+
+  pub own_on : (D : K → Type 0) (r : Result K E) → IfOk r (λ k. Clean k → HasCleanDisk d)
+      → IfOk r (λ k. Clean k → IsOwn d.now.trees → D k) → IfOk r (λ k. Clean k → IsOwn a.now.trees → D k)
+  own_on D (Ok k) clean own = λ on is. own on (subst (λ (db : Database). IsOwn db.trees) (sym (look (clean on)).0.same) is)
+  own_on D (Err e) clean own = tt
+
+  pub typed_on : (r : Result K E) → IfOk r (λ k. Clean k → HasCleanDisk d)
+      → IfOk r (λ k. Clean k → d.now ≡ d.committed → (s : State) → IsStateIn d.now s → IsTypedState d.now s)
+      → IfOk r (λ k. Clean k → (s : State) → IsStateIn a.now s → IsTypedState a.now s)
+  typed_on (Ok k) clean typed = λ on s in_.
+      let l = look (clean on) in
+      subst (λ db. IsTypedState db s) l.0.same (typed on l.0.rest s (subst (λ db. IsStateIn db s) (sym l.0.same) in_))
+  typed_on (Err e) clean typed = tt
+
+-- an error of a call that a crash survives
+module _ {K C : Type 0} (view : C → View) (a d : sqlite.State) (judged : Result FoundState Unfit) (look : HasCleanDisk d → IsSeen a d × IsJudged d.now judged) where
+  pub refused_on : (r : Result K (C × AttachFault)) → IfErr r (λ e. store.Survives (view_of d) (view e.0))
+      → (IsJudged d.now judged → IfErr r (λ e. Refuses d.now e.1)) → IfErr r (λ e. (view e.0).IsSound → Refuses a.now e.1)
+  refused_on (Ok k) spares why = tt
+  refused_on (Err e) spares why = λ sound.
+      let l = look (spares.sound sound) in
+      subst (λ db. Refuses db e.1) l.0.same (why l.1)
+
+  pub fit_on : (r : Result K (C × AttachFault)) → IfErr r (λ e. store.Survives (view_of d) (view e.0))
+      → (IsJudged d.now judged → IfErr r (λ e. Refuses d.now e.1)) → IfErr r (λ e. (view e.0).IsSound → (s : State) → IsStateIn a.now s → IsBreakdown e.1)
+  fit_on (Ok k) spares why = tt
+  fit_on (Err e) spares why = λ sound s in_.
+      let l = look (spares.sound sound) in
+      breaks_down a.now s e.1 in_ (subst (λ db. Refuses db e.1) l.0.same (why l.1))
+
+pub leaves_on : {K C F : Type 0} (view : C → View) (a b c : sqlite.State) → sqlite.Survives a b (λ _. ⊥) → sqlite.Survives b c (λ _. ⊥) → (r : Result K (C × F))
+    → IfErr r (λ e. store.Survives (view_of c) (view e.0)) → IfErr r (λ e. (view e.0).IsSound → (found : Option State) → Finds (view e.0) found → Finds (view_of a) found)
+leaves_on view a b c s u (Ok k) w = tt
+leaves_on view a b c s u (Err e) w = λ sound found finds. finds_after_store a b c (view e.0) s u w sound found finds

@@ -1,0 +1,57 @@
+-- What a station that stopped may leave, and what is found of it.
+use Rattle.std.proofs.Common.{◌≡◌, ℕ, List, Option, Some, Result, Ok, Err, refl}
+use Rattle.std.specs.Prelude.{IfOk}
+use Rattle.imp_fields.specs.Date.{LocalMinute}
+use Rattle.sqlite.specs.Tree.{Trees}
+use Rattle.sqlite.specs.Effect.{Database}
+use Rattle.sqlite.specs.Held.{state}
+use Rattle.sqlite_trees.specs.declared.store.Store.{Ghosts}
+use Rattle.shipment_machine.proofs.Conserved.{is_conserved}
+use Rattle.shipment_machine.proofs.Shown.{are_balances}
+use Rattle.station_core.specs.declared.answer.ActFault.{ActFault}
+use Rattle.station_core.specs.declared.input.Input.{Input}
+use Rattle.station_core.specs.Keeping.{IsAfterAnswered}
+use Rattle.station_core.specs.Step.{State}
+use Rattle.row_schema.specs.Store.{View}
+use Rattle.row_schema.specs.Tables.{tables_of}
+use Rattle.declared_tables.specs.Own.{IsOwn, LiesInOrder}
+use Rattle.station_rows.specs.Own.{are_declared}
+use Rattle.station_rows.specs.Shown.{rows_view}
+use Rattle.station_tables.proofs.Attached.{is_lawful}
+use Rattle.station_tables.specs.Attached.{connection_in, IsStateIn, IsTypedState}
+use Rattle.station_tables.specs.Found.{Finds}
+use Rattle.station_tables.specs.Restarted.{IsRestored}
+use Rattle.station_tables.specs.declared.station.Station.{Station}
+
+-- trees that a station leaves have the schema of one
+pub leaves_own : {S : Type 0} (g : Ghosts S) (station : Station S g) → (rows_view g (connection_in station) (are_declared station.stored.store.store)).IsSound
+    → (db : Trees) → (state g (connection_in station)).may_leave db → IsOwn db
+leaves_own g station sound db left = station.stored.store.store.leaves sound.0 sound.1 sound.2 db left
+
+-- a state that is found in what a crash may leave
+pub finds : (v : View) (found : Database) (it : State) → v.may_leave (tables_of found.trees) → IsStateIn found it → IsTypedState found it → Finds v (Some it)
+finds v found it left in_ typed = (record { tables = tables_of found.trees; left = left; means = typed.means }, is_lawful found it in_)
+
+restored : (s : State) (inputs : List (Input × LocalMinute)) (answered : ℕ) (ended : Option ActFault) (db : Database) (keeps : State → Type 0) (it : State)
+    → IsAfterAnswered s inputs answered ended (Some it) → IsStateIn db it → IsTypedState db it → keeps it → IsRestored s inputs answered ended db keeps
+restored s inputs answered ended db keeps it after in_ means kept = record {
+  state = it;
+  is_after = after;
+  is_meant = means;
+  is_kept = kept;
+  is_lawful = is_lawful db it in_;
+  conserved = λ w. is_conserved it.cargo w (is_lawful db it in_).cargo;
+  shown = λ w. are_balances it.cargo w (is_lawful db it in_).cargo;
+}
+
+pub restored_on : {K E : Type 0} (s : State) (inputs : List (Input × LocalMinute)) (answered : ℕ) (ended : Option ActFault) (db : Database)
+    (Clean Declared Sound : K → Type 0) (keeps : K → State → Type 0) (r : Result K E)
+    → IfOk r (λ k. Clean k → (it : State) × IsStateIn db it × keeps k it) → IfOk r (λ k. Clean k → IsOwn db.trees → Declared k)
+    → IfOk r (λ k. Sound k → (it : State) → IsStateIn db it → IsTypedState db it) → IsOwn db.trees → ((k : K) → Clean k → Declared k → Sound k)
+    → ((it : State) → IsStateIn db it → IsTypedState db it → IsAfterAnswered s inputs answered ended (Some it))
+    → IfOk r (λ k. Clean k → IsRestored s inputs answered ended db (keeps k))
+restored_on s inputs answered ended db Clean Declared Sound keeps (Ok k) found own typed is_own make after = λ clean.
+    let f = found clean in
+    let t = typed (make k clean (own clean is_own)) f.0 f.1 in
+    restored s inputs answered ended db (keeps k) f.0 (after f.0 f.1 t) f.1 t f.2
+restored_on s inputs answered ended db Clean Declared Sound keeps (Err e) found own typed is_own make after = tt

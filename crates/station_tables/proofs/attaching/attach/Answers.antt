@@ -1,0 +1,37 @@
+use Rattle.std.proofs.Common.{◌≡◌}
+use Rattle.station_tables.proofs.Looked.{finds_after, finds_after_one, fit_on, found_on, judged_there, leaves_on, own_on, refused_on, typed_on}
+use Rattle.station_tables.proofs.attaching.attach.Goals as goal
+
+pub returns-then-not-is_live-clause-leaves : goal.returns-then-not-is_live-clause-leaves
+returns-then-not-is_live-clause-leaves g c = λ sound found finds. finds_after_one _ _ c.is_live.ensures.survives sound found finds
+
+pub returns-in-Ok-clause-found : goal.returns-in-Ok-clause-found
+returns-in-Ok-clause-found g c = found_on _ _ _ _
+    (judged_there _ _ _ _ c.is_autocommit.ensures.value c.is_autocommit.ensures.settled c.if-not-is_autocommit.false (c.is_live.ensures.same c.if-not-is_live.false) c.in-Ok.ensures.survives _ c.in-Ok.ensures.read)
+    _ _ c.settle.ensures.clean c.settle.ensures.found
+
+pub returns-in-Ok-clause-own : goal.returns-in-Ok-clause-own
+returns-in-Ok-clause-own g c = own_on _ _ _ _
+    (judged_there _ _ _ _ c.is_autocommit.ensures.value c.is_autocommit.ensures.settled c.if-not-is_autocommit.false (c.is_live.ensures.same c.if-not-is_live.false) c.in-Ok.ensures.survives _ c.in-Ok.ensures.read)
+    _ _ c.settle.ensures.clean c.settle.ensures.own
+
+pub returns-in-Ok-clause-typed : goal.returns-in-Ok-clause-typed
+returns-in-Ok-clause-typed g c = typed_on _ _ _ _
+    (judged_there _ _ _ _ c.is_autocommit.ensures.value c.is_autocommit.ensures.settled c.if-not-is_autocommit.false (c.is_live.ensures.same c.if-not-is_live.false) c.in-Ok.ensures.survives _ c.in-Ok.ensures.read)
+    _ c.settle.ensures.sound c.settle.ensures.typed
+
+pub returns-in-Ok-clause-refused : goal.returns-in-Ok-clause-refused
+returns-in-Ok-clause-refused g c = refused_on _ _ _ _
+    (judged_there _ _ _ _ c.is_autocommit.ensures.value c.is_autocommit.ensures.settled c.if-not-is_autocommit.false (c.is_live.ensures.same c.if-not-is_live.false) c.in-Ok.ensures.survives _ c.in-Ok.ensures.read)
+    _ c.settle.ensures.spares c.settle.ensures.refused
+
+pub returns-in-Ok-clause-fit : goal.returns-in-Ok-clause-fit
+returns-in-Ok-clause-fit g c = fit_on _ _ _ _
+    (judged_there _ _ _ _ c.is_autocommit.ensures.value c.is_autocommit.ensures.settled c.if-not-is_autocommit.false (c.is_live.ensures.same c.if-not-is_live.false) c.in-Ok.ensures.survives _ c.in-Ok.ensures.read)
+    _ c.settle.ensures.spares c.settle.ensures.refused
+
+pub returns-in-Ok-clause-leaves : goal.returns-in-Ok-clause-leaves
+returns-in-Ok-clause-leaves g c = leaves_on _ _ _ _ c.is_live.ensures.survives c.in-Ok.ensures.survives _ c.settle.ensures.spares
+
+pub returns-in-Err-clause-leaves : goal.returns-in-Err-clause-leaves
+returns-in-Err-clause-leaves g c = λ sound found finds. finds_after _ _ _ c.is_live.ensures.survives c.in-Err.ensures.survives sound found finds

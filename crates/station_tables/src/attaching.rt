@@ -1,0 +1,175 @@
+ghost use Rattle.std.specs.Prelude.{◌≡◌, true, false, Option, Some, Err, IsTrue, IfOk, IfErr};
+ghost use Rattle.sqlite.specs.State.{HasCleanDisk, Survives};
+ghost use Rattle.row_laws.specs.Calls.{Reads};
+ghost use Rattle.sqlite.specs.Held.{state};
+ghost use Rattle.sqlite.specs.Effect.{Database};
+ghost use Rattle.station_core.specs.Step.{State, IsLawfulState};
+ghost use Rattle.row_schema.specs.Connection.{connection_view};
+ghost use Rattle.row_schema.specs.Schema.{station_schema};
+ghost use Rattle.row_schema.specs.Store as store;
+ghost use Rattle.row_schema.specs.Tables.{IsStation, Tables};
+ghost use Rattle.row_values.specs.Meaning.{Means};
+ghost use Rattle.state_store.specs.Store.{at_rest};
+ghost use Rattle.table_state.specs.Shown.{HasThese, Knows};
+ghost use Rattle.declared_tables.specs.Own.{IsOwn, LiesInOrder};
+ghost use Rattle.station_rows.specs.Own.{are_declared};
+ghost use Rattle.station_audit.specs.Verdict.{IsUnfit, Tells};
+ghost use Rattle.station_tables.specs.Attached.{connection_in, IsBreakdown, IsJudged, IsStateIn, IsTypedState, Refuses};
+ghost use Rattle.station_tables.specs.Found.{Finds};
+
+use crate::fault::AttachFault;
+use crate::station::Station;
+use declared_tables::has_station;
+use sqlite::{Alter, Connection, Error, ErrorCode};
+use station_audit::{FoundState, Unfit, found_state};
+use station_core::Keeper;
+use station_rows::{Rows, TableStore};
+use std::alloc::Global;
+use stored_station::StoredStation;
+use table_state::TableState;
+
+/// The fault that says why a database is no station's.
+fn unfit_fault(unfit: Unfit) -> AttachFault
+    ensures { (db : Database) → IsUnfit db unfit → Refuses db result }
+{
+    match unfit {
+        Unfit::NoStation => AttachFault::NoStation,
+        Unfit::OtherVersion(version) => AttachFault::Version(version),
+        Unfit::Unlawful(name) => AttachFault::Unlawful(name),
+    }
+}
+
+/// The fault that a failed read is.
+fn breakdown(error: &Error) -> AttachFault
+    ensures { IsBreakdown result }
+{
+    match error {
+        Error::SqliteFailure(ErrorCode::OutOfMemory) => AttachFault::Memory,
+        _ => AttachFault::Store,
+    }
+}
+
+/// The law that an open connection at rest, with a station's schema, shows a station's tables.
+fn shows_station<S: Alter>(conn: &Connection<S>)
+    ensures { (state S.Store conn.now).now.schema ≡ station_schema → IsTrue (state S.Store conn.now).is_open
+        → (state S.Store conn.now).now ≡ (state S.Store conn.now).committed → LiesInOrder S.Store → IsStation (state S.Store conn.now).now }
+{
+    let _ = has_station(conn);
+}
+
+/// A station over a store whose tables were found to be one's.
+fn over_store<T: TableStore>(
+    alloc: Global,
+    store: T,
+    found: FoundState,
+) -> StoredStation<TableState<T>>
+    ensures works { ⟦<StoredStation<TableState<T>> as Keeper>⟧.is_broken result ≡ false }
+    ensures same { result.store.store ≡ store }
+    ensures keeps { (t : Tables) (s : State) → Means t (Some s) → IsLawfulState s → Knows found.here found.sizes found.confirmed (at_rest s)
+        → ((T.view store).IsSound → HasThese t (T.view store)) → ⟦<StoredStation<TableState<T>> as Keeper>⟧.keeps result s }
+    ensures sound { ⟦<StoredStation<TableState<T>> as Keeper>⟧.is_sound result → (T.view store).IsSound }
+{
+    let tables = TableState::over(alloc, store, found.here, found.sizes, found.confirmed);
+    StoredStation::over(alloc, tables)
+}
+
+/// A station over a connection whose tables were found to be one's.
+fn go_on<S: Alter>(
+    alloc: Global,
+    conn: Connection<S>,
+    found: FoundState,
+) -> Result<Station<S>, (Connection<S>, AttachFault)>
+    ensures works { IfOk result (λ station. ⟦<Station<S> as Keeper>⟧.is_broken station ≡ false) }
+    ensures sound { IfOk result (λ station. ⟦<Station<S> as Keeper>⟧.is_sound station → (connection_view S.Store conn).IsSound) }
+    ensures clean { IfOk result (λ station. HasCleanDisk (state S.Store (connection_in station)) → HasCleanDisk (state S.Store conn)) }
+    ensures own { IfOk result (λ station. HasCleanDisk (state S.Store (connection_in station)) → IsOwn (state S.Store conn).now.trees → are_declared station.stored.store.store ≡ true) }
+    ensures keeps { (s : State) (in_ : IsStateIn (state S.Store conn).now s) → Tells found in_.tables → (state S.Store conn).in_transaction ≡ false
+        → (state S.Store conn).now ≡ (state S.Store conn).committed → IfOk result (λ station. ⟦<Station<S> as Keeper>⟧.keeps station s) }
+    ensures typed { IfOk result (λ station. ⟦<Station<S> as Keeper>⟧.is_sound station → (state S.Store conn).now ≡ (state S.Store conn).committed
+        → (s : State) → IsStateIn (state S.Store conn).now s → IsTypedState (state S.Store conn).now s) }
+    ensures fault { IfErr result (λ e. e.1 ≡ AttachFault.Store) }
+    ensures spares { IfErr result (λ e. store.Survives (connection_view S.Store conn) (connection_view S.Store e.0)) }
+{
+    shows_station(&conn);
+    match Rows::opened(conn) {
+        Ok(rows) => Ok(Station::over(over_store(alloc, rows, found))),
+        Err(conn) => Err((conn, AttachFault::Store)),
+    }
+}
+
+/// Reads and judges the tables of any database.
+fn judge<S: Alter>(
+    alloc: Global,
+    conn: &mut Connection<S>,
+) -> Result<Result<FoundState, Unfit>, Error>
+    ensures read { HasCleanDisk (state S.Store conn.new) → IsTrue (state S.Store conn.old).is_open
+        → Reads (state S.Store conn.old) (state S.Store conn.new) result (IsJudged (state S.Store conn.old).now) }
+    ensures survives { Survives (state S.Store conn.old) (state S.Store conn.new) (λ _. ⊥) }
+{
+    found_state(alloc, conn)
+}
+
+/// A station over a connection whose tables were judged, or why there is none.
+fn settle<S: Alter>(
+    alloc: Global,
+    conn: Connection<S>,
+    judged: Result<FoundState, Unfit>,
+) -> Result<Station<S>, (Connection<S>, AttachFault)>
+    ensures works { IfOk result (λ station. ⟦<Station<S> as Keeper>⟧.is_broken station ≡ false) }
+    ensures sound { IfOk result (λ station. ⟦<Station<S> as Keeper>⟧.is_sound station → (connection_view S.Store conn).IsSound) }
+    ensures clean { IfOk result (λ station. HasCleanDisk (state S.Store (connection_in station)) → HasCleanDisk (state S.Store conn)) }
+    ensures own { IfOk result (λ station. HasCleanDisk (state S.Store (connection_in station)) → IsOwn (state S.Store conn).now.trees → are_declared station.stored.store.store ≡ true) }
+    ensures found { (state S.Store conn).in_transaction ≡ false → (state S.Store conn).now ≡ (state S.Store conn).committed → IsJudged (state S.Store conn).now judged
+        → IfOk result (λ station. (s : State) × IsStateIn (state S.Store conn).now s × ⟦<Station<S> as Keeper>⟧.keeps station s) }
+    ensures typed { IfOk result (λ station. ⟦<Station<S> as Keeper>⟧.is_sound station → (state S.Store conn).now ≡ (state S.Store conn).committed
+        → (s : State) → IsStateIn (state S.Store conn).now s → IsTypedState (state S.Store conn).now s) }
+    ensures refused { IsJudged (state S.Store conn).now judged → IfErr result (λ e. Refuses (state S.Store conn).now e.1) }
+    ensures spares { IfErr result (λ e. store.Survives (connection_view S.Store conn) (connection_view S.Store e.0)) }
+{
+    match judged {
+        Ok(found) => go_on(alloc, conn, found),
+        Err(unfit) => Err((conn, unfit_fault(unfit))),
+    }
+}
+
+/// A station over the tables that a store has already. Each table is read whole, by one statement, and they are tested in
+/// the order of `TableName`: the station goes on from the state that they mean. Nothing is written.
+pub fn attach<S: Alter>(
+    alloc: Global,
+    mut conn: Connection<S>,
+) -> Result<Station<S>, (Connection<S>, AttachFault)>
+    ensures inside { (connection_view S.Store conn).in_transaction ≡ true → result ≡ Err (conn, AttachFault.Store) }
+    ensures works { IfOk result (λ station. ⟦<Station<S> as Keeper>⟧.is_broken station ≡ false) }
+    ensures sound { IfOk result (λ station. ⟦<Station<S> as Keeper>⟧.is_sound station → (connection_view S.Store conn).IsSound) }
+
+    // The tables are a station's, all of them lawful, and it keeps the state that they mean.
+    ensures found { IfOk result (λ station. HasCleanDisk (state S.Store (connection_in station))
+        → (s : State) × IsStateIn (state S.Store conn).now s × ⟦<Station<S> as Keeper>⟧.keeps station s) }
+    ensures own { IfOk result (λ station. HasCleanDisk (state S.Store (connection_in station)) → IsOwn (state S.Store conn).now.trees
+        → are_declared station.stored.store.store ≡ true) }
+
+    ensures typed { IfOk result (λ station. ⟦<Station<S> as Keeper>⟧.is_sound station → (s : State) → IsStateIn (state S.Store conn).now s
+        → IsTypedState (state S.Store conn).now s) }
+
+    // A fault names what is so. Where the tables are a station's and lawful, the store failed or memory was out.
+    ensures refused { IfErr result (λ e. HasCleanDisk (state S.Store e.0) → Refuses (state S.Store conn).now e.1) }
+    ensures fit { IfErr result (λ e. HasCleanDisk (state S.Store e.0) → (s : State) → IsStateIn (state S.Store conn).now s → IsBreakdown e.1) }
+
+    // A crash leaves what it left before.
+    ensures leaves { IfErr result (λ e. (connection_view S.Store e.0).IsSound → (found : Option State)
+        → Finds (connection_view S.Store e.0) found → Finds (connection_view S.Store conn) found) }
+{
+    if !conn.is_autocommit() {
+        return Err((conn, AttachFault::Store));
+    }
+    if !row_laws::is_live(&mut conn) {
+        return Err((conn, AttachFault::Store));
+    }
+    match judge(alloc, &mut conn) {
+        Ok(judged) => settle(alloc, conn, judged),
+        Err(error) => {
+            let fault = breakdown(&error);
+            Err((conn, fault))
+        }
+    }
+}

@@ -1,0 +1,53 @@
+ghost use Rattle.std.specs.Prelude.{◌≡◌, false, length, IfOk, IfErr};
+ghost use Rattle.sqlite.specs.State.{HasCleanDisk};
+ghost use Rattle.sqlite.specs.Held.{state};
+ghost use Rattle.station_core.specs.Step.{State};
+ghost use Rattle.station_tables.specs.Attached.{connection_in};
+ghost use Rattle.station_tables.specs.Restarted.{IsRestored};
+
+use crate::attaching::attach;
+use crate::fault::AttachFault;
+use crate::station::Station;
+use imp_fields::Moment;
+use sqlite::{Alter, Connection};
+use station_core::{AllAnswers, Input, Keeper, act_all};
+use std::alloc::Global;
+
+/// A station that was given inputs, and what was opened after it.
+#[derive(Drop)]
+pub struct Restart<S: Alter> {
+    /// The answers, and the fault that ended them.
+    pub given: AllAnswers,
+    /// The station that answered.
+    pub stopped: Station<S>,
+    /// The station that was opened.
+    pub opened: Result<Station<S>, (Connection<S>, AttachFault)>,
+}
+
+/// Gives inputs to a station, and then opens another connection.
+///
+/// This is what a crash comes to: where the other connection has what a crash of the first one may leave at that moment,
+/// a station that is opened over it goes on after every input that was answered and at most the one that was interrupted.
+pub fn act_and_restart<S: Alter>(
+    alloc: Global,
+    mut station: Station<S>,
+    inputs: &[(Input<'_>, Moment)],
+    other: Connection<S>,
+) -> Restart<S>
+    ensures restored { (s : State) → ⟦<Station<S> as Keeper>⟧.keeps station s → ⟦<Station<S> as Keeper>⟧.is_broken station ≡ false → ⟦<Station<S> as Keeper>⟧.is_sound result.stopped
+        → (state S.Store (connection_in result.stopped)).may_leave (state S.Store other).now.trees
+        → IfOk result.opened (λ again. HasCleanDisk (state S.Store (connection_in again))
+        → IsRestored s inputs.now (length result.given.answers.items) result.given.fault (state S.Store other).now (⟦<Station<S> as Keeper>⟧.keeps again)) }
+
+    // It goes on: its premise holds as long as its own disk has returned what was written.
+    ensures sound { ⟦<Station<S> as Keeper>⟧.is_sound result.stopped → (state S.Store (connection_in result.stopped)).may_leave (state S.Store other).now.trees
+        → IfOk result.opened (λ again. HasCleanDisk (state S.Store (connection_in again)) → ⟦<Station<S> as Keeper>⟧.is_sound again) }
+{
+    let given = act_all(alloc, &mut station, inputs);
+    let opened = attach(alloc, other);
+    Restart {
+        given,
+        stopped: station,
+        opened,
+    }
+}
