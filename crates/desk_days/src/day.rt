@@ -3,6 +3,7 @@ use awb_number::Awb;
 use desk_commands::Verb;
 use imp_fields::{Airport, Moment};
 use station_core::Key;
+use station_tables::AttachFault;
 use std::alloc::AllocError;
 
 /// Why a day can't be played.
@@ -10,6 +11,8 @@ use std::alloc::AllocError;
 pub enum DayFault {
     /// A line of the script, counted from 1, is no line of one.
     Bad { line: u32, why: &'static str },
+    /// The tables that the statement of this line finds aren't a station's.
+    Unopened { line: u32, fault: AttachFault },
     Memory,
 }
 

@@ -11,7 +11,7 @@ use reports::{
 use sqlite::MemStore;
 use station_core::{ActFault, Answer, Counted, Input, Keeper, Waybill, act_all, answer_one};
 use station_rows::open_memory;
-use station_tables::{Station, create};
+use station_tables::{AttachFault, Station, attach, create};
 use std::alloc::Global;
 
 /// A kind of keeper.
@@ -21,6 +21,8 @@ pub enum Kind {
     Plain,
     /// The tables of a store in memory.
     Tables,
+    /// The same, where the station is given back and its tables are opened again in the midst of the day.
+    Reopened,
 }
 
 impl Kind {
@@ -29,6 +31,7 @@ impl Kind {
         match self {
             Kind::Plain => "the plain station",
             Kind::Tables => "tables",
+            Kind::Reopened => "tables that were opened again",
         }
     }
 }
@@ -80,7 +83,18 @@ impl Desk {
     pub fn new(alloc: Global, kind: Kind, here: Airport) -> Result<Desk, ActFault> {
         match kind {
             Kind::Plain => Ok(Desk::Plain(PlainStation::new(alloc, here))),
-            Kind::Tables => tables(alloc, here),
+            Kind::Tables | Kind::Reopened => tables(alloc, here),
+        }
+    }
+
+    /// The station over its tables as they are found, where it is over tables.
+    pub fn opened_again(self, alloc: Global) -> Result<Desk, AttachFault> {
+        match self {
+            Desk::Plain(station) => Ok(Desk::Plain(station)),
+            Desk::Tables(station) => match attach(alloc, station.release()) {
+                Ok(station) => Ok(Desk::Tables(station)),
+                Err((_, fault)) => Err(fault),
+            },
         }
     }
 

@@ -17,6 +17,8 @@
 //! and `take hex` sends the bytes that their digits tell. `|998 TEXT` stands for 998 such lines. A line `= TEXT` is what must be printed,
 //! one for each line, where a CR at the end of a printed line doesn't count. Empty lines and those that begin with `#` are for the reader.
 //!
+//! One of the keepers has its tables opened again before each statement, and in a long day before each tenth.
+//!
 //! The word `by-rule` in place of a script gives each keeper two hundred inputs by a fixed rule, one by one and as one list: their answers,
 //! and all that their readers hand out, have to be equal.
 #![tactic(auto)]
@@ -62,7 +64,8 @@ fn verdict(
         let log = &played.log;
         return format!(in alloc; "{log}{name}: lines that differ: {differences}\n");
     }
-    format!(in alloc; "{name}: {told} lines as told\n")
+    let openings = played.openings;
+    format!(in alloc; "{name}: {told} lines as told, opened again {openings} times\n")
 }
 
 /// Plays a day on each keeper.
@@ -70,6 +73,7 @@ fn play_on_all(alloc: Global, name: &str, day: &Day<'_>) -> Result<Played, DayFa
     let mut played = Played::new(alloc);
     play::play(alloc, name, day, Kind::Plain, &mut played)?;
     play::play(alloc, name, day, Kind::Tables, &mut played)?;
+    play::play(alloc, name, day, Kind::Reopened, &mut played)?;
     Ok(played)
 }
 
@@ -77,6 +81,9 @@ fn play_on_all(alloc: Global, name: &str, day: &Day<'_>) -> Result<Played, DayFa
 fn fault_text(alloc: Global, name: &str, fault: &DayFault) -> Result<String, AllocError> {
     match fault {
         DayFault::Bad { line, why } => format!(in alloc; "{name}:{line}: {why}\n"),
+        DayFault::Unopened { line, fault } => {
+            format!(in alloc; "{name}:{line}: can't be opened again: {fault:?}\n")
+        }
         DayFault::Memory => format!(in alloc; "{name}: out of memory\n"),
     }
 }

@@ -12,6 +12,9 @@ use station_core::{ActFault, Answer, Input, Key, refusal_text, reply_text};
 use std::alloc::{AllocError, Global};
 use telegrams::{TelegramFault, read_telegram};
 
+/// A day that says more lines than these is a long one.
+const LONG: u64 = 300;
+
 /// What came of a day so far.
 #[derive(Drop)]
 pub struct Played {
@@ -19,6 +22,8 @@ pub struct Played {
     pub differences: u64,
     /// Each of them.
     pub log: String,
+    /// How often a station was opened again.
+    pub openings: u64,
 }
 
 impl Played {
@@ -27,6 +32,7 @@ impl Played {
         Played {
             differences: 0,
             log: String::new(alloc),
+            openings: 0,
         }
     }
 }
@@ -257,6 +263,31 @@ fn new_desk(alloc: Global, kind: Kind, here: Airport, line: u32) -> Result<Desk,
     }
 }
 
+/// Whether the station is opened again before a statement, counted from 0: in a long day before each tenth one, since an opening
+/// reads all that the station has.
+fn is_opened_again(kind: Kind, day_is_long: bool, statement: usize) -> bool {
+    kind == Kind::Reopened && (!day_is_long || statement % 10 == 9)
+}
+
+/// The station as a statement finds it that opens it again.
+fn opened_again(
+    alloc: Global,
+    desk: Desk,
+    step: &Step<'_>,
+    played: &mut Played,
+) -> Result<Desk, DayFault> {
+    match desk.opened_again(alloc) {
+        Ok(desk) => {
+            played.openings = played.openings.saturating_add(1);
+            Ok(desk)
+        }
+        Err(fault) => Err(DayFault::Unopened {
+            line: step.line,
+            fault,
+        }),
+    }
+}
+
 /// Plays a day on a kind of keeper, and adds what differed.
 pub fn play(
     alloc: Global,
@@ -266,7 +297,11 @@ pub fn play(
     played: &mut Played,
 ) -> Result<(), DayFault> {
     let mut desk = new_desk(alloc, kind, day.here, 1)?;
-    for step in &day.steps {
+    let day_is_long = day.told() > LONG;
+    for (statement, step) in day.steps.iter().enumerate() {
+        if is_opened_again(kind, day_is_long, statement) {
+            desk = opened_again(alloc, desk, step, played)?;
+        }
         if let Ask::Station(here) = step.ask {
             desk = new_desk(alloc, kind, here, step.line)?;
         }

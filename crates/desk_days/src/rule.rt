@@ -205,29 +205,33 @@ fn give(
     }
 }
 
-/// Gives the inputs one by one, and tells the answers. How many accept.
+/// Gives the inputs one by one, and tells the answers. The station, and how many it accepts.
 fn one_by_one(
     alloc: Global,
-    desk: &mut Desk,
+    mut desk: Desk,
+    kind: Kind,
     inputs: &[(Input<'_>, Moment)],
     out: &mut Vec<u8>,
-) -> Option<usize> {
+) -> Option<(Desk, usize)> {
     let mut accepted: usize = 0;
     for (input, at) in inputs {
-        if give(alloc, desk, input, *at, out)? {
+        if kind == Kind::Reopened {
+            desk = desk.opened_again(alloc).ok()?;
+        }
+        if give(alloc, &mut desk, input, *at, out)? {
             accepted = accepted.saturating_add(1);
         }
     }
-    Some(accepted)
+    Some((desk, accepted))
 }
 
-/// Gives the inputs as one list, and tells the answers. How many accept.
+/// Gives the inputs as one list, and tells the answers. The station, and how many it accepts.
 fn at_once(
     alloc: Global,
-    desk: &mut Desk,
+    mut desk: Desk,
     inputs: &[(Input<'_>, Moment)],
     out: &mut Vec<u8>,
-) -> Option<usize> {
+) -> Option<(Desk, usize)> {
     let answers = desk.answer_all(alloc, inputs)?;
     let mut accepted: usize = 0;
     for answer in &answers {
@@ -235,7 +239,7 @@ fn at_once(
             accepted = accepted.saturating_add(1);
         }
     }
-    Some(accepted)
+    Some((desk, accepted))
 }
 
 /// All rows that the readers hand out, and what is known of each waybill and number.
@@ -291,12 +295,12 @@ fn told(
     inputs: &[(Input<'_>, Moment)],
     as_list: bool,
 ) -> Option<Vec<u8>> {
-    let mut desk = Desk::new(alloc, kind, Airport::read(b"FRA")?).ok()?;
+    let desk = Desk::new(alloc, kind, Airport::read(b"FRA")?).ok()?;
     let mut out = Vec::new(alloc);
-    let accepted = if as_list {
-        at_once(alloc, &mut desk, inputs, &mut out)?
+    let (mut desk, accepted) = if as_list {
+        at_once(alloc, desk, inputs, &mut out)?
     } else {
-        one_by_one(alloc, &mut desk, inputs, &mut out)?
+        one_by_one(alloc, desk, kind, inputs, &mut out)?
     };
     if !is_mixed(inputs.len(), accepted) {
         return None;
@@ -320,6 +324,7 @@ pub fn are_equal(alloc: Global) -> Option<bool> {
         (Kind::Plain, true),
         (Kind::Tables, false),
         (Kind::Tables, true),
+        (Kind::Reopened, false),
     ] {
         let other = told(alloc, kind, &inputs, as_list)?;
         if other.as_slice() != first.as_slice() {
