@@ -1,9 +1,15 @@
 -- How a call of the program ends.
-use Rattle.std.specs.Prelude.{ℕ, Bool, true, false, List, codes, Result, Ok, Err}
+use Rattle.std.specs.Prelude.{ℕ, Bool, true, false, List, ◌++◌, codes, Result, Ok, Err}
+use Rattle.std.specs.Fmt.{signed_decimal}
+use Rattle.lawful_tables.specs.Names.{name_text}
+use Rattle.station_core.specs.Given.{Given}
 use Rattle.stock_list.specs.declared.answer.RunFault.{RunFault}
 use Rattle.stock_list.specs.declared.answer.RunFault.TheVariants as run
 use Rattle.desk_server.specs.declared.server.ServerFault.{ServerFault}
 use Rattle.desk_server.specs.declared.server.ServerFault.TheVariants as server
+use Rattle.station_tables.specs.declared.fault.AttachFault.{AttachFault}
+use Rattle.station_tables.specs.declared.fault.AttachFault.TheVariants as attach
+use Rattle.cargo_desk.specs.Sent.{HasSent}
 use Rattle.cargo_desk.specs.declared.ended.DeskFault.{DeskFault}
 use Rattle.cargo_desk.specs.declared.ended.DeskFault.TheVariants as fault
 
@@ -14,10 +20,24 @@ run_line run.Write = codes "fault write\n"
 run_line run.Memory = codes "fault memory\n"
 run_line run.Store = codes "fault store\n"
 
+-- where there is no station
+abbrev pub attach_line : AttachFault → List ℕ
+attach_line (attach.Unlawful table) = codes "fault 601 " ++ name_text table ++ codes "\n"
+attach_line attach.NoStation = codes "fault 602\n"
+attach_line (attach.Version version) = codes "fault 603 " ++ signed_decimal version ++ codes "\n"
+attach_line attach.Occupied = codes "fault 604\n"
+attach_line attach.Store = codes "fault store\n"
+attach_line attach.Memory = codes "fault memory\n"
+
 -- the same, of any fault
 abbrev pub fault_line : DeskFault → List ℕ
 fault_line fault.Clock = codes "fault clock\n"
 fault_line (fault.Run e) = run_line e
+fault_line (fault.Attach e) = attach_line e
+
+-- its line went out, or a beginning of it
+abbrev pub HasTold : DeskFault → Given → Given → Type 0
+HasTold e old new = HasSent (fault_line e) old new
 
 -- a service's fault, as the call's
 abbrev pub server_fault : ServerFault → DeskFault
@@ -25,8 +45,15 @@ server_fault server.Listener = fault.Run run.Read
 server_fault server.Clock = fault.Clock
 server_fault server.Store = fault.Run run.Store
 
--- the exit status: all was accepted, something wasn't, or the call ended before its end
+-- the exit status where there is no station: the store failed or memory was wanting, or the file has none
+abbrev pub attach_status : AttachFault → ℕ
+attach_status attach.Store = 3
+attach_status attach.Memory = 3
+attach_status _ = 4
+
+-- the exit status: all was accepted, something wasn't, the call ended before its end, or there was no station
 abbrev pub status_of : Result Bool DeskFault → ℕ
 status_of (Ok true) = 0
 status_of (Ok false) = 1
+status_of (Err (fault.Attach e)) = attach_status e
 status_of (Err e) = 3

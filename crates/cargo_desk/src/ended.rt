@@ -1,9 +1,13 @@
 //! How a call ends.
-ghost use Rattle.std.specs.Prelude.{◌≡◌};
-ghost use Rattle.cargo_desk.specs.Ended.{fault_line, run_line, server_fault, status_of};
+ghost use Rattle.std.specs.Prelude.{◌≡◌, ◌++◌, ◌∷◌, [], IfErr, OnOk};
+ghost use Rattle.cargo_desk.specs.Ended.{attach_status, run_line, server_fault, status_of, HasTold};
+ghost use Rattle.cargo_desk.specs.Sent.{HasSent};
 
+use crate::sent::{send_part, send_word};
 use desk_server::ServerFault;
-use station_core::{ByteOut, send};
+use itoa::Buffer;
+use station_core::ByteOut;
+use station_tables::AttachFault;
 use stock_list::RunFault;
 
 /// Why a call ends before its end.
@@ -13,6 +17,8 @@ pub enum DeskFault {
     Clock,
     /// The run's.
     Run(RunFault),
+    /// There is no station to run on.
+    Attach(AttachFault),
 }
 
 /// Why a call ends where its service does.
@@ -38,33 +44,77 @@ fn run_line(fault: RunFault) -> &'static str
     }
 }
 
-/// The line that tells a fault.
-fn fault_line(fault: DeskFault) -> &'static str
-    ensures { result.now ≡ fault_line fault }
+/// Writes a line, or a beginning of it.
+fn tell_line<E: ByteOut>(errors: &mut E, line: &str)
+    ensures { HasSent line.now (E.taken errors.old) (E.taken errors.new) }
+{
+    let _told = send_part(errors, line.as_bytes());
+}
+
+/// Writes a line of a head and a word, or a beginning of it.
+fn tell_word<E: ByteOut>(errors: &mut E, head: &str, word: &str)
+    ensures { HasSent (head.now ++ word.now ++ 10 ∷ []) (E.taken errors.old) (E.taken errors.new) }
+{
+    let _told = send_word(errors, head, word.as_bytes());
+}
+
+/// Tells why there is no station.
+fn tell_attach<E: ByteOut>(errors: &mut E, fault: AttachFault)
+    ensures { HasTold (DeskFault.Attach fault) (E.taken errors.old) (E.taken errors.new) }
 {
     match fault {
-        DeskFault::Clock => "fault clock\n",
-        DeskFault::Run(fault) => run_line(fault),
+        AttachFault::Unlawful(table) => tell_word(errors, "fault 601 ", table.as_str()),
+        AttachFault::NoStation => tell_line(errors, "fault 602\n"),
+        AttachFault::Version(version) => {
+            tell_word(errors, "fault 603 ", Buffer::new().format(version));
+        }
+        AttachFault::Occupied => tell_line(errors, "fault 604\n"),
+        AttachFault::Store => tell_line(errors, run_line(RunFault::Store)),
+        AttachFault::Memory => tell_line(errors, run_line(RunFault::Memory)),
     }
 }
 
-/// The exit status of a call. 0: all was accepted; 1: something wasn't; 3: it ended before its end.
+/// Tells a fault: its line goes out, or a beginning of it.
+fn tell<E: ByteOut>(errors: &mut E, fault: DeskFault)
+    ensures { HasTold fault (E.taken errors.old) (E.taken errors.new) }
+{
+    match fault {
+        DeskFault::Clock => tell_line(errors, "fault clock\n"),
+        DeskFault::Run(fault) => tell_line(errors, run_line(fault)),
+        DeskFault::Attach(fault) => tell_attach(errors, fault),
+    }
+}
+
+/// The exit status where there is no station. 3: the store failed, or memory was wanting; 4: the file has none.
+fn attach_status(fault: AttachFault) -> u8
+    ensures { result ≡ attach_status fault }
+{
+    match fault {
+        AttachFault::Store | AttachFault::Memory => 3,
+        _ => 4,
+    }
+}
+
+/// The exit status of a call. 0: all was accepted; 1: something wasn't; 3: it ended before its end; 4: the file has no station for it.
 fn status_of(ended: Result<bool, DeskFault>) -> u8
     ensures { result ≡ status_of ended }
 {
     match ended {
         Ok(true) => 0,
         Ok(false) => 1,
+        Err(DeskFault::Attach(fault)) => attach_status(fault),
         Err(_) => 3,
     }
 }
 
 /// Ends a call: its fault is told, and the status is answered.
 pub fn end<E: ByteOut>(errors: &mut E, ended: Result<bool, DeskFault>) -> u8
-    ensures { result ≡ status_of ended }
+    ensures status { result ≡ status_of ended }
+    ensures told { IfErr ended (λ fault. HasTold fault (E.taken errors.old) (E.taken errors.new)) }
+    ensures silent { OnOk ended (errors.new ≡ errors.old) }
 {
     if let Err(fault) = ended {
-        let _told = send(errors, fault_line(fault).as_bytes());
+        tell(errors, fault);
     }
     status_of(ended)
 }

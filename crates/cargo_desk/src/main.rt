@@ -2,37 +2,27 @@
 #![tactic(auto)]
 
 mod ended;
+mod files;
 mod run;
+mod sent;
+mod service;
+mod task;
 
 use desk_clock::{Zone, moment_now};
 use desk_server::listen;
 use desk_words::{Line, LineCommand, WordsFault, parse_words, usage_fault};
 use ended::DeskFault;
 use imp_fields::Moment;
-use run::{Task, end_call, run_line};
-use station_rows::open_memory;
+use service::Service;
 use std::fs::File;
-use std::io::{ErrorKind, Read};
+use std::io::ErrorKind;
 use std::process::ExitCode;
 use std::{env, io};
 use stock_list::RunFault;
+use task::{Task, end_call, faulted, run_over};
 
 /// What is said of a text that is no zone's rule.
 const NO_ZONE: &str = "--zone takes a POSIX rule, as UTC0 or CET-1CEST,M3.5.0,M10.5.0/3";
-
-/// What is said of a station in a file.
-const NO_FILES: &str =
-    "a station in a file comes later: for now each call has a new station in memory";
-
-/// Whether a line can't be run yet.
-fn is_early(line: &Line<'_>) -> bool {
-    line.db.is_some() || line.command == LineCommand::Init
-}
-
-/// Ends a call by a run's fault, told on standard error.
-fn faulted(rt: &HostRuntime, fault: RunFault) -> u8 {
-    end_call(rt, Err(DeskFault::Run(fault)))
-}
 
 /// Ends a call by what is said of its words: a usage on standard error, or the help on standard output.
 fn refuse_words(rt: &HostRuntime, fault: &WordsFault) -> u8 {
@@ -49,18 +39,7 @@ fn refuse_words(rt: &HostRuntime, fault: &WordsFault) -> u8 {
     }
 }
 
-/// Does a line's task over its station: a new one in memory.
-fn run_over<R: Read + Drop>(rt: &HostRuntime, line: &Line<'_>, task: Task<'_, R>) -> u8 {
-    match open_memory(rt.alloc()) {
-        Ok(conn) => {
-            let (status, _conn) = run_line(rt, line, conn, task);
-            status
-        }
-        Err(_) => faulted(rt, RunFault::Memory),
-    }
-}
-
-/// Runs a line at a moment, over its file or standard input.
+/// Runs a line at a moment, over its telegram's file or standard input.
 fn run_at(rt: &HostRuntime, line: &Line<'_>, at: Moment) -> u8 {
     let LineCommand::Take(path) = line.command else {
         let reader = rt.stdin();
@@ -76,11 +55,11 @@ fn run_at(rt: &HostRuntime, line: &Line<'_>, at: Moment) -> u8 {
 fn serve_at(rt: &HostRuntime, line: &Line<'_>, zone: &Zone, port: u16, count: Option<u32>) -> u8 {
     match listen(rt, port) {
         Ok(listener) => {
-            let task: Task<'_, &[u8]> = Task::Serve {
+            let task: Task<'_, &[u8]> = Task::Serve(Service {
                 listener: &listener,
                 zone,
                 count,
-            };
+            });
             run_over(rt, line, task)
         }
         Err(_) => faulted(rt, RunFault::Read),
@@ -89,9 +68,6 @@ fn serve_at(rt: &HostRuntime, line: &Line<'_>, zone: &Zone, port: u16, count: Op
 
 /// Runs a line. The clock is read once, but by `serve`, which reads it once for each connection.
 fn run_now(rt: &HostRuntime, line: &Line<'_>) -> u8 {
-    if is_early(line) {
-        return refuse_words(rt, &usage_fault(rt.alloc(), NO_FILES));
-    }
     let Some(zone) = Zone::read(line.zone) else {
         return refuse_words(rt, &usage_fault(rt.alloc(), NO_ZONE));
     };
@@ -126,7 +102,8 @@ fn refuse_call(rt: &HostRuntime, error: &io::Error) -> u8 {
     faulted(rt, RunFault::Memory)
 }
 
-/// The status is 0; 1 where something was refused, or a row or a body was bad; 2 for other words; 3 at a fault.
+/// The status is 0; 1 where something was refused, or a row or a body was bad; 2 for other words; 3 at a fault; 4 where there is no
+/// station in the file, or `init` finds one.
 fn main(rt: HostRuntime) -> ExitCode {
     let status = match words_of(&rt) {
         Ok(words) => run_words(&rt, words.as_slice()),

@@ -4,25 +4,27 @@ pub(crate) const DESK: &str = "The cargo desk of one air cargo station";
 
 pub(crate) const DESK_EXAMPLES: &str = "\
 Statuses: 0 done; 1 something was refused, or a row or a body was bad; 2 other words;
-3 the store, memory, the clock, a file, a socket or a stream failed.
+3 the store, memory, the clock, a file, a socket or a stream failed; 4 the file has no station that can
+be used (601 to 603), or `init` found something in it (604).
 
 Examples:
-  cargo_desk stock < list.csv
-  cargo_desk --station FRA take telegram.txt
-  cargo_desk --zone CET-1CEST,M3.5.0,M10.5.0/3 act issue k9 < body.json
+  cargo_desk --db fra.db --station FRA init
+  cargo_desk --db fra.db stock < list.csv
+  cargo_desk --db fra.db take telegram.txt
+  cargo_desk --db fra.db --zone CET-1CEST,M3.5.0,M10.5.0/3 act issue k9 < body.json
 
 `cargo_desk COMMAND --help` has more of each.";
 
 pub(crate) const DB: &str = "The file that keeps the station; in memory if absent";
 
-pub(crate) const STATION: &str = "The station's airport, three letters; XXX if absent";
+pub(crate) const STATION: &str = "A new station's airport, three letters; XXX if absent";
 
 pub(crate) const ZONE: &str = "The zone of local time, as a POSIX rule; UTC0 if absent";
 
-pub(crate) const INIT: &str = "Makes a station in a new file";
+pub(crate) const INIT: &str = "Makes a station in a file";
 
 pub(crate) const INIT_EXAMPLES: &str = "\
-Prints `ok FRA`.
+Needs --db and --station before it. Makes the file if it is missing, and prints `ok FRA`.
 
 Example:
   cargo_desk --db fra.db --station FRA init";

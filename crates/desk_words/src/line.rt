@@ -18,7 +18,7 @@ pub struct Line<'a> {
 /// A command, with its words.
 #[derive(Clone, Copy, Debug, PartialEq, Eq)]
 pub enum LineCommand<'a> {
-    /// Make a station in a new file.
+    /// Make a station in a file.
     Init,
     /// Answer a stock list.
     Stock,

@@ -58,7 +58,7 @@ fn command<'a>(alloc: Global, name: &'a str, about: &'a str, examples: &'a str) 
 
 /// The commands that change a station.
 fn changing<'a>(alloc: Global, top: Command<'a>) -> Result<Command<'a>, AllocError> {
-    let init = command(alloc, "init", help::INIT, help::INIT_EXAMPLES).hide(true);
+    let init = command(alloc, "init", help::INIT, help::INIT_EXAMPLES);
     let stock = command(alloc, "stock", help::STOCK, help::STOCK_EXAMPLES);
     let take = command(alloc, "take", help::TAKE, help::TAKE_EXAMPLES).arg(word(
         alloc,
@@ -93,7 +93,7 @@ fn telling<'a>(alloc: Global, top: Command<'a>) -> Result<Command<'a>, AllocErro
 /// The whole command line.
 fn desk<'a>(alloc: Global) -> Result<Command<'a>, AllocError> {
     let top = command(alloc, "cargo_desk", help::DESK, help::DESK_EXAMPLES)
-        .arg(option(alloc, "db", "FILE", help::DB).hide(true))?
+        .arg(option(alloc, "db", "FILE", help::DB))?
         .arg(option(alloc, "station", "AAA", help::STATION))?
         .arg(option(alloc, "zone", "RULE", help::ZONE))?
         .subcommand_required(true)

@@ -1,0 +1,57 @@
+//! The service over its station.
+
+use crate::ended::{DeskFault, end, server_fault};
+use crate::run::open_station;
+use desk_clock::Zone;
+use desk_server::serve;
+use desk_words::Line;
+use sqlite::{Alter, Connection};
+use station_core::{Counted, Keeper};
+use std::net::TcpListener;
+use stock_list::RunFault;
+
+/// What is served: how many connections of a socket, with the moments of a zone.
+#[derive(Clone, Copy)]
+pub struct Service<'a> {
+    pub listener: &'a TcpListener,
+    pub zone: &'a Zone,
+    pub count: Option<u32>,
+}
+
+/// Tells that the service begins, and serves.
+fn run_service<K: Keeper>(
+    rt: &HostRuntime,
+    keeper: &mut K,
+    service: Service<'_>,
+) -> Result<bool, DeskFault> {
+    if println!(rt; "listening").is_err() {
+        return Err(DeskFault::Run(RunFault::Write));
+    }
+    let Service {
+        listener,
+        zone,
+        count,
+    } = service;
+    match serve(rt.alloc(), rt, zone, keeper, listener, count) {
+        Ok(()) => Ok(true),
+        Err(fault) => Err(server_fault(fault)),
+    }
+}
+
+/// Serves the station of a line over a connection. It answers the exit status, and gives the connection back; a fault is told on
+/// standard error.
+pub fn serve_line<S: Alter>(
+    rt: &HostRuntime,
+    line: &Line<'_>,
+    conn: Connection<S>,
+    service: Service<'_>,
+) -> (u8, Connection<S>) {
+    let mut errors = Counted::new(rt.stderr());
+    match open_station(rt.alloc(), line, conn) {
+        Ok(mut station) => {
+            let ended = run_service(rt, &mut station, service);
+            (end(&mut errors, ended), station.release())
+        }
+        Err((conn, fault)) => (end(&mut errors, Err(DeskFault::Attach(fault))), conn),
+    }
+}

@@ -1,0 +1,117 @@
+//! A line over its store: memory, or a file.
+
+use crate::ended::{DeskFault, end};
+use crate::files::{make_file, open_file};
+use crate::run::{is_opening, run_line};
+use crate::service::{Service, serve_line};
+use desk_words::Line;
+use imp_fields::Moment;
+use sqlite::{Alter, Connection};
+use station_core::Counted;
+use station_rows::open_memory;
+use std::io::{BufWriter, Read, Write};
+use stock_list::RunFault;
+
+/// What a line does with its station.
+#[derive(Drop)]
+pub enum Task<'a, R> {
+    /// Its command, over an input, at a moment.
+    Run { reader: R, at: Moment },
+    /// The service.
+    Serve(Service<'a>),
+}
+
+/// Ends a call on standard error.
+pub fn end_call(rt: &HostRuntime, ended: Result<bool, DeskFault>) -> u8 {
+    end(&mut Counted::new(rt.stderr()), ended)
+}
+
+/// Ends a call by a run's fault.
+pub fn faulted(rt: &HostRuntime, fault: RunFault) -> u8 {
+    end_call(rt, Err(DeskFault::Run(fault)))
+}
+
+/// Ends a call that ran, and failed behind that. One that was stopped by a fault has told it, and tells no other.
+fn failed_late(rt: &HostRuntime, status: u8, fault: RunFault) -> u8 {
+    if status > 1 {
+        status
+    } else {
+        faulted(rt, fault)
+    }
+}
+
+/// Runs a line over a connection. What it writes is gathered, and goes out before the end.
+fn run_gathered<S: Alter, R: Read + Drop>(
+    rt: &HostRuntime,
+    line: &Line<'_>,
+    conn: Connection<S>,
+    reader: R,
+    at: Moment,
+) -> (u8, Connection<S>) {
+    let alloc = rt.alloc();
+    let Ok(gathered) = BufWriter::new(alloc, rt.stdout()) else {
+        return (faulted(rt, RunFault::Memory), conn);
+    };
+    let mut output = Counted::new(gathered);
+    let mut errors = Counted::new(rt.stderr());
+    let (status, conn) = run_line(alloc, line, conn, reader, &mut output, &mut errors, at);
+    if output.into_inner().flush().is_err() {
+        return (failed_late(rt, status, RunFault::Write), conn);
+    }
+    (status, conn)
+}
+
+/// Does a line's task over a connection, which comes back.
+fn run_task<S: Alter, R: Read + Drop>(
+    rt: &HostRuntime,
+    line: &Line<'_>,
+    conn: Connection<S>,
+    task: Task<'_, R>,
+) -> (u8, Connection<S>) {
+    match task {
+        Task::Run { reader, at } => run_gathered(rt, line, conn, reader, at),
+        Task::Serve(service) => serve_line(rt, line, conn, service),
+    }
+}
+
+/// Does a line's task over a new store in memory.
+fn run_in_memory<R: Read + Drop>(rt: &HostRuntime, line: &Line<'_>, task: Task<'_, R>) -> u8 {
+    match open_memory(rt.alloc()) {
+        Ok(conn) => {
+            let (status, _conn) = run_task(rt, line, conn, task);
+            status
+        }
+        Err(_) => faulted(rt, RunFault::Memory),
+    }
+}
+
+/// Does a line's task over a file, which is closed behind a run: its log is copied into it.
+fn run_in_file<R: Read + Drop>(
+    rt: &HostRuntime,
+    line: &Line<'_>,
+    path: &str,
+    task: Task<'_, R>,
+) -> u8 {
+    let opened = if is_opening(line) {
+        make_file(rt, path)
+    } else {
+        open_file(rt, path)
+    };
+    let conn = match opened {
+        Ok(conn) => conn,
+        Err(fault) => return end_call(rt, Err(fault)),
+    };
+    let (status, conn) = run_task(rt, line, conn, task);
+    if status <= 1 && conn.close().is_err() {
+        return faulted(rt, RunFault::Store);
+    }
+    status
+}
+
+/// Does a line's task over its store.
+pub fn run_over<R: Read + Drop>(rt: &HostRuntime, line: &Line<'_>, task: Task<'_, R>) -> u8 {
+    match line.db {
+        Some(path) => run_in_file(rt, line, path, task),
+        None => run_in_memory(rt, line, task),
+    }
+}
