@@ -1,3 +1,4 @@
+pub mod Last
 pub mod Texts
 pub mod StockLemmas
 pub mod StationLemmas

@@ -1,0 +1,88 @@
+-- SELECT .. ORDER BY the key downwards LIMIT 1, over one table whose key is made of columns.
+use Rattle.std.proofs.Common.{◌≡◌, ℕ, ℤ, pos, List, [], ◌∷◌, ◌++◌, map, filter, take, reverse, Bool, true, Option, None, Some, append_assoc, append-nil, refl, sym, ap, subst, ◌∙◌, Ordering, Less, IsPermutation}
+use Rattle.std.specs.Prelude.{option_to_list}
+use Rattle.std.specs.List.{AllByRecursion, list_all, last_or}
+use Rattle.std.specs.Cmp.{IsTotalOrder}
+use Rattle.std.specs.FinMap.{FinMap, entries}
+use Rattle.std.proofs.lemmas.List.{reverse-append, take-map}
+use Rattle.std.proofs.lemmas.List.Sorted.{IsPermutation-map, IsPermutation-trans, IsPermutation-sym, IsPermutation-reverse}
+use Rattle.sqlite.specs.declared.types.Value.TheVariants.{Null, Int}
+use Rattle.sqlite.specs.Order.{Row}
+use Rattle.sqlite.specs.Tree.{Trees, IsAscending}
+use Rattle.sqlite.specs.Schema.{Schema}
+use Rattle.sqlite.specs.Program.{overlay}
+use Rattle.sqlite.specs.Query.{Query, Output, output, output_cmp}
+use Rattle.sqlite.specs.Term.{Term, lit, eval_all, holds}
+use Rattle.sqlite.specs.Effect.{Answers}
+use Rattle.sqlite_value.specs.declared.keys.Key.{Key}
+use Rattle.sqlite_sql.proofs.QueryLemmas.{output_cmp_total}
+use Rattle.sqlite_keyed.proofs.SortLemmas.{sorted_unique}
+use Rattle.sqlite_keyed.proofs.ListLemmas.{all-append, map-map, map_same, filter-map, ascending-append, ascending-filter, ascending-map, IsPermutation-filter}
+use Rattle.sqlite_typed.proofs.AnswerLemmas.{at_end, last_table, matches_are}
+use Rattle.row_laws.specs.Columns.{numbered}
+use Rattle.row_laws.proofs.Keyed.{one_table, no_overlay}
+use Rattle.row_laws.proofs.Columns.{number, entry, IsMap, same_rows}
+use Rattle.row_laws.proofs.Maps.{all_passed, ascending_where, entries_rise}
+
+one_first : {X : Type 0} (ys : List X) (x : X) (rest : List X) → take 1 (ys ++ (x ∷ rest)) ≡ take 1 (ys ++ (x ∷ []))
+one_first [] x rest = refl
+one_first (y ∷ ys) x rest = refl
+
+last_then : {X : Type 0} (o : Option X) (xs : List X) → take 1 (reverse xs ++ option_to_list o) ≡ option_to_list (last_or o xs)
+last_then None [] = refl
+last_then (Some x) [] = refl
+last_then o (x ∷ xs) =
+    ap (λ l. take 1 (l ++ option_to_list o)) (reverse-append (x ∷ []) xs) ∙ ap (take 1) (append_assoc (reverse xs) (x ∷ []) (option_to_list o))
+    ∙ one_first (reverse xs) x (option_to_list o) ∙ last_then (Some x) xs
+
+-- the first of a list turned is its last
+pub first_turned : {X : Type 0} (xs : List X) → take 1 (reverse xs) ≡ option_to_list (last_or None xs)
+first_turned xs = ap (take 1) (sym (append-nil (reverse xs))) ∙ last_then None xs
+
+-- the first row alone, in the order of ORDER BY
+abbrev pub last_of : ℕ → List Term → List Term → List (Term × Key) → Query
+last_of t filter project order = record (one_table t filter project order) { limit = lit (Int (pos 1)) }
+
+all_reverse : {X : Type 0} (P : X → Type 0) (xs : List X) → AllByRecursion P xs → AllByRecursion P (reverse xs)
+all_reverse P [] h = tt
+all_reverse {X} P (x ∷ xs) h = subst (AllByRecursion P) (sym (reverse-append (x ∷ []) xs)) (all-append P (reverse xs) (x ∷ []) (all_reverse P xs h.1) (h.0, tt))
+
+all_one : {X : Type 0} (R : X → X → Type 0) (x : X) (xs : List X) → AllByRecursion (λ y. R y x) xs → AllByRecursion (λ y. AllByRecursion (R y) (x ∷ [])) xs
+all_one R x [] h = tt
+all_one R x (y ∷ ys) h = ((h.0, tt), all_one R x ys h.1)
+
+pub falls : {X : Type 0} (R : X → X → Type 0) (xs : List X) → IsAscending (λ a b. R b a) xs → IsAscending R (reverse xs)
+falls R [] h = tt
+falls R (x ∷ xs) h =
+    subst (IsAscending R) (sym (reverse-append (x ∷ []) xs))
+    (ascending-append R (reverse xs) (x ∷ []) (falls R xs h.1) (tt, tt) (all_one R x (reverse xs) (all_reverse (λ y. R y x) xs h.0)))
+
+module _ {K V : Type 0} (R : K → K → Ordering) (total : IsTotalOrder R) (to_row : K × V → Row) (schema : Schema) (db : Trees) (t : ℕ) (m : FinMap R V) (was : IsMap R to_row (db t) m) (params : Row) (filters project : List Term)
+    (p : K × V → Bool) (tests : (n : ℤ) (e : K × V) → list_all (holds (params ∷ (Int n ∷ to_row e) ∷ [])) filters ≡ p e)
+    (show : K × V → Row) (shows : (n : ℤ) (e : K × V) → eval_all project (params ∷ (Int n ∷ to_row e) ∷ []) ≡ show e) where
+  pub last_shown : (order : List (Term × Key)) → ((n : ℤ) (e : K × V) → output (last_of t filters project order) (params ∷ (Int n ∷ to_row e) ∷ []) ≡ output (last_of t filters project order) (params ∷ (Int (pos 0) ∷ to_row e) ∷ []))
+      → ((a b : K × V) → p a ≡ true → p b ≡ true
+      → output_cmp (last_of t filters project order) (output (last_of t filters project order) (params ∷ (Int (pos 0) ∷ to_row a) ∷ [])) (output (last_of t filters project order) (params ∷ (Int (pos 0) ∷ to_row b) ∷ [])) ≡ R b.0 a.0)
+      → (rows : List Row) → Answers (record { schema = schema; trees = db }) (record { lets = []; body = last_of t filters project order }) params rows → rows ≡ map show (option_to_list (last_or None (filter p (entries m))))
+  last_shown order unseen agrees rows h =
+      let q = last_of t filters project order in
+      let out = λ (e : K × V). output q (params ∷ (Int (pos 0) ∷ to_row e) ∷ []) in
+      let source = last_table (overlay db []) t (numbered to_row) number was.raw (no_overlay db t ∙ was.rows) was.keyed (at_end (overlay db [])) in
+      let a = h.answer Null in
+      let all = filter p (entries m) in
+      let kept : a.kept ≡ map out (filter p (map entry was.raw)) =
+      a.distinct ∙ ap (map (output q)) (a.grouped ∙ matches_are q (overlay db []) params source (λ n. p n.1) (λ n. tests n.0 n.1))
+      ∙ map-map (output q) (λ (n : ℤ × (K × V)). params ∷ numbered to_row n ∷ []) (filter (λ n. p n.1) was.raw)
+      ∙ map_same _ (λ n. out n.1) (λ n. unseen n.0 n.1) (filter (λ n. p n.1) was.raw)
+      ∙ sym (map-map out entry (filter (λ n. p n.1) was.raw)) ∙ ap (map out) (sym (filter-map p entry was.raw)) in
+      let moved : IsPermutation (filter p (map entry was.raw)) all = IsPermutation-filter p _ _ (same_rows R total to_row (db t) m was) in
+      let turned : IsPermutation (filter p (map entry was.raw)) (reverse all) = IsPermutation-trans _ _ _ moved (IsPermutation-reverse all) in
+      let same : IsPermutation (map out (reverse all)) a.ordered =
+      IsPermutation-trans _ _ _ (IsPermutation-sym _ _ (IsPermutation-map out _ _ turned)) (subst (λ k. IsPermutation k a.ordered) kept a.same) in
+      let rises : IsAscending (λ x y. output_cmp q x y ≡ Less) (map out (reverse all)) =
+      ascending-map (λ x y. output_cmp q x y ≡ Less) out _ (falls (λ a b. output_cmp q (out a) (out b) ≡ Less) all
+      (ascending_where (λ e. p e ≡ true) (λ a b. R a.0 b.0 ≡ Less) (λ a b. output_cmp q (out b) (out a) ≡ Less) (λ a b pa pb less. agrees b a pb pa ∙ less)
+      all (all_passed p (entries m)) (ascending-filter _ p (entries m) (entries_rise R total m)))) in
+      a.shown ∙ ap (λ (l : List Output). take 1 (map (λ (o : Output). o.1) l)) (sorted_unique (output_cmp q) (output_cmp_total q) _ a.ordered rises same a.sorted)
+      ∙ ap (take 1) (map-map (λ (o : Output). o.1) out (reverse all) ∙ map_same _ show (shows (pos 0)) (reverse all)) ∙ take-map show 1 (reverse all)
+      ∙ ap (map show) (first_turned all)
