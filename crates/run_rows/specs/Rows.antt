@@ -46,6 +46,14 @@ pub record AreAround (run : Run) (ahead after : List StockRun) : Type 0 where
   pub ends : AllByRecursion (λ row. end_of row ≤ run.first) ahead
   pub begins : AllByRecursion (λ row. run.first + run.count ≤ row.first) after
 
+-- the next row begins where this one ends, in its prefix, and has its holder
+abbrev pub Follows : StockRun → StockRun → Type 0
+Follows row next = (prefix_of row.first ≡ prefix_of next.first) × (end_of row ≡ next.first) × (row.holder ≡ next.holder)
+
+-- two rows as one
+abbrev pub both_as_one : StockRun → StockRun → StockRun
+both_as_one row next = record { first = row.first; count = row.count + next.count; holder = row.holder }
+
 abbrev pub listed : Option StockRun → List StockRun
 listed None = []
 listed (Some row) = row ∷ []

@@ -1,23 +1,11 @@
 //! What stays of the rows at the ends of a run.
-ghost use Rattle.std.specs.Prelude.{◌≡◌, ◌↔◌, ◌≤◌, ◌+◌, IsTrue, IsSome, IfSome};
+ghost use Rattle.std.specs.Prelude.{◌≡◌, ◌≤◌, ◌+◌, IsSome, IfSome};
 ghost use Rattle.std.specs.List.{AllByRecursion};
 ghost use Rattle.run_rows.specs.Rows.{Before, Behind, IsRunRow};
 
+use crate::holders::is_same;
 use agent_stock::{Holder, StockRun};
 use awb_number::Awb;
-
-/// Whether both are the same holder.
-fn is_same(one: &Holder, other: &Holder) -> bool
-    ensures { IsTrue result ↔ (one.now ≡ other.now) }
-{
-    match (one, other) {
-        (Holder::Desk, Holder::Desk) => true,
-        (Holder::Agent(code), Holder::Agent(other)) => code.as_bytes() == other.as_bytes(),
-        (Holder::Used, Holder::Used) => true,
-        (Holder::Void, Holder::Void) => true,
-        _ => false,
-    }
-}
 
 /// How many numbers a row has.
 fn count_of(row: &StockRun) -> u32

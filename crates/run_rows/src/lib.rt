@@ -3,7 +3,10 @@
 
 mod edges;
 mod failing;
+mod holders;
 mod joining;
+mod maximal;
 
 pub use failing::lowest_of;
 pub use joining::{Joined, join_rows};
+pub use maximal::maximal_runs;
