@@ -15,7 +15,7 @@ behind_last end to [] row high right h = h
 behind_last end to (r ∷ []) row high right h = h
 behind_last end to (r ∷ s ∷ rest) row high right h = behind_last end to (s ∷ rest) row high right h
 
-none_all : (first : ℕ) (rows : List StockRun) (q : ℕ) → AllByRecursion (λ row. end_of row ≤ first) rows → first ≤ q → holders_by rows q ≡ None
+pub none_all : (first : ℕ) (rows : List StockRun) (q : ℕ) → AllByRecursion (λ row. end_of row ≤ first) rows → first ≤ q → holders_by rows q ≡ None
 none_all first [] q h le = refl
 none_all first (row ∷ rows) q h le = passed row rows q (omega (arith, h.0, le)) ∙ none_all first rows q h.1 le
 

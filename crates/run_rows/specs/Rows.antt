@@ -1,5 +1,5 @@
 -- The stock as rows, one for a run of numbers that one holder has.
-use Rattle.std.specs.Prelude.{ℕ, ◌≡◌, ◌≢◌, ◌+◌, ◌-◌, ◌≤◌, ◌<◌, ◌⊎◌, if◌then◌else◌, Option, Some, None, IfSome, List, [], ◌∷◌, ◌++◌}
+use Rattle.std.specs.Prelude.{ℕ, ◌≡◌, ◌≢◌, ◌+◌, ◌-◌, ◌≤◌, ◌<◌, ◌⊎◌, if◌then◌else◌, Bool, not, ◌&&◌, nat_eq, nat_le, nat_lt, Option, Some, None, IfSome, List, [], ◌∷◌, ◌++◌, filter}
 use Rattle.std.specs.List.{AllByRecursion}
 use Rattle.awb_number.specs.Number.{prefix_of, serial_of}
 use Rattle.agent_stock.specs.Stock.{Holders, is_among}
@@ -37,6 +37,26 @@ pub record Touches (run : Run) (row : StockRun) : Type 0 where
   pub prefix : prefix_of row.first ≡ prefix_of run.first
   pub from : row.first ≤ run.first + run.count
   pub to : run.first ≤ end_of row
+
+-- whether a run touches a row
+abbrev pub touches : Run → StockRun → Bool
+touches run row = nat_eq (prefix_of row.first) (prefix_of run.first) && (nat_le row.first (run.first + run.count) && nat_le run.first (end_of row))
+
+-- whether a row lies before a run, and whether behind it
+abbrev pub lies_ahead : Run → StockRun → Bool
+lies_ahead run row = not (touches run row) && nat_lt row.first run.first
+
+abbrev pub lies_behind : Run → StockRun → Bool
+lies_behind run row = not (touches run row) && not (nat_lt row.first run.first)
+
+abbrev pub rows_near : Run → List StockRun → List StockRun
+rows_near run rows = filter (touches run) rows
+
+abbrev pub rows_ahead : Run → List StockRun → List StockRun
+rows_ahead run rows = filter (lies_ahead run) rows
+
+abbrev pub rows_behind : Run → List StockRun → List StockRun
+rows_behind run rows = filter (lies_behind run) rows
 
 abbrev pub AreNear : Run → List StockRun → Type 0
 AreNear run near = AllByRecursion (Touches run) near

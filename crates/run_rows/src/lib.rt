@@ -6,7 +6,9 @@ mod failing;
 mod holders;
 mod joining;
 mod maximal;
+mod parting;
 
 pub use failing::lowest_of;
 pub use joining::{Joined, join_rows};
 pub use maximal::maximal_runs;
+pub use parting::parts_law;
