@@ -1,16 +1,13 @@
 -- Rows in ascending order, as those before a run, those that it touches, and those behind it.
-use Rattle.std.proofs.Common.{◌≡◌, ℕ, ◌+◌, ◌-◌, ◌*◌, ◌/◌, ◌%◌, ◌<◌, ◌≤◌, ◌⊎◌, inl, inr, true, false, not, Bool, Some, None, List, [], ◌∷◌, ◌++◌, filter, refl, sym, ap, ◌∙◌, subst, arith, cond, ◌&&◌, nat_eq, nat_le, nat_lt}
-use Rattle.std.specs.Prelude.{IsTrue}
+use Rattle.std.proofs.Common.{◌≡◌, ℕ, ◌+◌, ◌/◌, ◌%◌, ◌<◌, ◌≤◌, true, false, not, Bool, None, List, [], ◌∷◌, ◌++◌, filter, refl, sym, ap, ◌∙◌, arith, cond, ◌&&◌, nat_eq, nat_le, nat_lt}
 use Rattle.std.specs.List.{AllByRecursion}
-use Rattle.std.proofs.lemmas.Bool.{and_parts, cases_lt, leb-true, ltb-true}
 use Rattle.std.proofs.lemmas.Bool.Decides.{nat_tests}
 use Rattle.awb_number.specs.Number.{prefix_of, serial_of}
-use Rattle.agent_stock.specs.Stock.{is_run, covers}
 use Rattle.agent_stock.specs.declared.stock.Run.{Run}
 use Rattle.agent_stock.specs.declared.runs.StockRun.{StockRun}
 use Rattle.run_rows.specs.Rows.{holders_by, end_of, IsRunRow, StandFrom, AreRuns, Touches, AreNear, AreAround, touches, lies_ahead, lies_behind, rows_near, rows_ahead, rows_behind}
 use Rattle.run_rows.proofs.Standing.{by_first, by_second, ahead}
-use Rattle.run_rows.proofs.Places.{run_parts, none_all}
+use Rattle.run_rows.proofs.Places.{none_all}
 
 -- the tests of a row, as facts on numbers
 tests_touch : (first count start size : ℕ) → (nat_eq (start / 10_000_000) (first / 10_000_000) && (nat_le start (first + count) && nat_le first (start + size))) ≡ true
