@@ -5,10 +5,12 @@
 #![tactic(auto)]
 
 mod clock;
+mod failing;
 
 use clock::Stepped;
 use desk_clock::Zone;
 use desk_server::{ServerFault, listen, serve};
+use failing::Failing;
 use imp_fields::Airport;
 use plain_station::PlainStation;
 use station_core::Keeper;
@@ -24,6 +26,11 @@ const MORNING: u64 = 1_768_213_800;
 const TAKE_IN: &str =
     "POST /v1/act/take-in HTTP/1.1\r\nHost: desk\r\nRequest-Key: k1\r\nContent-Length: 48\r\n\r\n\
 {\"count\":10,\"prefix\":\"020\",\"serial\":\"1234567\"}  ";
+
+/// Three of them go to an agent.
+const ISSUE: &str =
+    "POST /v1/act/issue HTTP/1.1\r\nHost: desk\r\nRequest-Key: k2\r\nContent-Length: 62\r\n\r\n\
+{\"agent\":\"ACME\",\"count\":3,\"prefix\":\"020\",\"serial\":\"1234570\"}  ";
 
 /// Who holds one of them.
 const HOLDER: &str = "GET /v1/stock/020-12345675 HTTP/1.1\r\nHost: desk\r\n\r\n";
@@ -111,7 +118,20 @@ fn long_request(rt: &HostRuntime) -> io::Result<String> {
     Ok(request)
 }
 
-/// The cases.
+/// A store that fails at its second input: that is answered 503, and the service ends.
+fn play_failing(rt: &HostRuntime, here: Airport) -> io::Result<()> {
+    let mut station = Failing::new(PlainStation::new(rt.alloc(), here), 1);
+    let day = [TAKE_IN, ISSUE, HOLDER];
+    play(
+        rt,
+        "a store that fails",
+        &still(MORNING),
+        &mut station,
+        &day,
+    )
+}
+
+/// The cases of a store that doesn't fail.
 fn play_all(rt: &HostRuntime, here: Airport) -> io::Result<()> {
     let mut station = PlainStation::new(rt.alloc(), here);
     let clock = still(MORNING);
@@ -147,5 +167,6 @@ fn main(rt: HostRuntime) -> io::Result<()> {
     let Some(here) = Airport::read(b"FRA") else {
         return Err(io::Error::from(ErrorKind::InvalidInput));
     };
-    play_all(&rt, here)
+    play_all(&rt, here)?;
+    play_failing(&rt, here)
 }

@@ -1,0 +1,105 @@
+//! A station whose store fails.
+use agent_stock::{Holder, StockRun};
+use awb_number::Awb;
+use imp_fields::Moment;
+use plain_station::PlainStation;
+use station_core::{
+    ActFault, BookRow, Input, IrregularRow, Keeper, Message, Reply, Sink, TrailRow, Waybill,
+};
+
+/// A station in memory that answers so many inputs. At the next one it answers as where a store fails, and from then on it has to be
+/// opened again.
+#[derive(Drop)]
+pub struct Failing {
+    station: PlainStation,
+    inputs: u32,
+    is_broken: bool,
+}
+
+impl Failing {
+    /// So many inputs of a station.
+    pub fn new(station: PlainStation, inputs: u32) -> Failing {
+        Failing {
+            station,
+            inputs,
+            is_broken: false,
+        }
+    }
+}
+
+impl Keeper for Failing {
+    ghost use Rattle.station_core.specs.Step.{State};
+
+    ghost keeps = { λ k s. ⟦<PlainStation as Keeper>⟧.keeps k.station s };
+
+    ghost is_sound = { λ k. Unit {0} };
+
+    ghost is_broken = { λ k. k.is_broken };
+
+    ghost may_find = { λ k found. ⊥ };
+
+    ghost settled = { λ k s keeps sound found finds. absurd finds };
+
+    ghost lawful = { λ k s sound finds. absurd finds };
+
+    fn act(&mut self, input: &Input<'_>, at: Moment) -> Result<Reply, ActFault> {
+        if self.is_broken {
+            return Err(ActFault::Reopen);
+        }
+        if self.inputs == 0 {
+            self.is_broken = true;
+            return Err(ActFault::Store);
+        }
+        self.inputs -= 1;
+        self.station.act(input, at)
+    }
+
+    fn holder(&mut self, number: &Awb) -> Result<Option<Holder>, ActFault> {
+        if self.is_broken {
+            return Err(ActFault::Reopen);
+        }
+        self.station.holder(number)
+    }
+
+    fn waybill(&mut self, number: &Awb) -> Result<Option<Waybill>, ActFault> {
+        if self.is_broken {
+            return Err(ActFault::Reopen);
+        }
+        self.station.waybill(number)
+    }
+
+    fn stock<S: Sink<StockRun>>(&mut self, sink: &mut S) -> Result<(), ActFault> {
+        if self.is_broken {
+            return Err(ActFault::Reopen);
+        }
+        self.station.stock(sink)
+    }
+
+    fn irregular<S: Sink<IrregularRow>>(&mut self, sink: &mut S) -> Result<(), ActFault> {
+        if self.is_broken {
+            return Err(ActFault::Reopen);
+        }
+        self.station.irregular(sink)
+    }
+
+    fn book<S: Sink<BookRow>>(&mut self, sink: &mut S) -> Result<(), ActFault> {
+        if self.is_broken {
+            return Err(ActFault::Reopen);
+        }
+        self.station.book(sink)
+    }
+
+    fn pending<S: Sink<Message>>(&mut self, sink: &mut S) -> Result<(), ActFault> {
+        if self.is_broken {
+            return Err(ActFault::Reopen);
+        }
+        self.station.pending(sink)
+    }
+
+    fn trail<S: Sink<TrailRow>>(&mut self, sink: &mut S) -> Result<(), ActFault> {
+        if self.is_broken {
+            return Err(ActFault::Reopen);
+        }
+        self.station.trail(sink)
+    }
+}
