@@ -1,0 +1,136 @@
+//! A file in memory.
+ghost use Rattle.std.specs.Prelude.{◌≡◌, [], length, true, false, refl, is_ok, IsTrue, OnOk};
+ghost use Rattle.sqlite_disk.specs.Disk.{Holds, Torn, Cut, CountsFault};
+ghost use Rattle.sqlite_disk.specs.Refusal.{finds_no_room};
+
+use sqlite_disk::{Disk, Tally};
+use std::alloc::{AllocError, Global};
+use std::io;
+
+/// A file in memory. A crash leaves what was written, so a sync has nothing to do, and a read has nothing to test: the
+/// bytes are those that were written.
+#[derive(Drop)]
+pub struct MemoryFile {
+    bytes: Vec<u8>,
+    faults: u64,
+}
+
+impl MemoryFile {
+    ghost use Rattle.memory_files.specs.Bytes.{bytes_of, IsFresh};
+
+    /// An empty file, which takes its memory from `alloc`.
+    pub fn new(alloc: Global) -> MemoryFile
+        ensures empty { bytes_of result ≡ [] }
+        ensures fresh { IsFresh result }
+    {
+        MemoryFile {
+            bytes: Vec::new(alloc),
+            faults: 0,
+        }
+    }
+}
+
+impl Disk for MemoryFile {
+    ghost seen = { λ m. m.bytes.items };
+
+    ghost may_leave = { λ m file. file ≡ m.bytes.items };
+
+    ghost is_usable = { λ _. true };
+
+    ghost faults = { λ m. m.faults };
+
+    ghost is_clean = { λ _. true };
+
+    ghost tally_of = { λ _. record { caught = 0; refused = 0 } };
+
+    ghost key_of = { λ _. 0 };
+
+    ghost is_fair = { λ _ _. true };
+
+    ghost fair_if_clean = { λ _ _ _. refl };
+
+    ghost seen_may_stay = { λ _. refl };
+
+    fn mixes(&self) -> bool {
+        false
+    }
+
+    // A file that tells no lie needs no secret.
+    fn key(&self) -> u64 {
+        0
+    }
+
+    fn tally(&self) -> Tally {
+        Tally {
+            caught: 0,
+            refused: 0,
+        }
+    }
+
+    fn may_be_used(&self) -> bool {
+        true
+    }
+
+    fn len(&mut self) -> io::Result<usize> {
+        Ok(self.bytes.len())
+    }
+
+    fn read_at(&mut self, at: usize, buf: &mut [u8]) -> io::Result<()> {
+        if at > self.bytes.len() || buf.len() > self.bytes.len() - at {
+            return Err(io::ErrorKind::UnexpectedEof.into());
+        }
+        buf.copy_from_slice(&self.bytes[at..at + buf.len()]);
+        Ok(())
+    }
+
+    // The digest that is wanted is that of the bytes, which are read as they were written.
+    fn read_checked(&mut self, _key: u64, _want: u64, at: usize, buf: &mut [u8]) -> io::Result<()> {
+        self.read_at(at, buf)
+    }
+
+    fn write_at(&mut self, at: usize, bytes: &[u8]) -> io::Result<()> {
+        count(overwrite(&mut self.bytes, at, bytes), &mut self.faults)
+    }
+
+    fn set_len(&mut self, len: usize) -> io::Result<()> {
+        count(resize(&mut self.bytes, len), &mut self.faults)
+    }
+
+    fn sync(&mut self) -> io::Result<()> {
+        Ok(())
+    }
+}
+
+/// Counts a call that failed for memory, and tells it as an error of the file.
+fn count(outcome: Result<(), AllocError>, faults: &mut u64) -> io::Result<()>
+    ensures variant { is_ok result ≡ is_ok outcome }
+    ensures kind { finds_no_room result ≡ false }
+    ensures faults { CountsFault result faults.old faults.new }
+{
+    if outcome.is_err() {
+        *faults = faults.saturating_add(1);
+        return Err(io::Error::from(io::ErrorKind::OutOfMemory));
+    }
+    Ok(())
+}
+
+/// Gives the file a length: what is cut off is lost, and what is added is zeros.
+fn resize(file: &mut Vec<u8>, len: usize) -> Result<(), AllocError>
+    ensures len { OnOk result (length file.new.items ≡ len) }
+    ensures others { Cut len file.old.items file.new.items }
+{
+    file.resize(len, 0)
+}
+
+/// Writes bytes at an offset. The file grows where it ends before them.
+fn overwrite(file: &mut Vec<u8>, at: usize, bytes: &[u8]) -> Result<(), AllocError>
+    ensures written { OnOk result (Holds file.new.items at bytes.now) }
+    ensures others { Torn at (length bytes.now) file.old.items file.new.items }
+{
+    let end = at.checked_add(bytes.len()).ok_or(AllocError)?;
+    if end > file.len() {
+        resize(file, end)?;
+    }
+    file[at..end].copy_from_slice(bytes);
+    Ok(())
+}
