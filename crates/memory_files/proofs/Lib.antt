@@ -1,1 +1,2 @@
 pub mod Clean
+pub mod Vacant

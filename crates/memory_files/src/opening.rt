@@ -1,8 +1,9 @@
 //! A database over files in memory.
-ghost use Rattle.std.specs.Prelude.{IfOk};
+ghost use Rattle.std.specs.Prelude.{◌≡◌, [], IfOk};
 ghost use Rattle.sqlite.specs.Files.{file_state, IsOpened};
 ghost use Rattle.sqlite.specs.Held.{IsNew};
 ghost use Rattle.sqlite.specs.State.{HasCleanDisk};
+ghost use Rattle.memory_files.specs.Bytes.{bytes_of};
 
 use crate::file::MemoryFile;
 use sqlite::{Connection, Error, FileStore, Files, Options};
@@ -15,16 +16,19 @@ pub type MemoryPages = FileStore<MemoryFile>;
 const SEED: u64 = 1;
 
 /// Two files in memory that are empty.
-fn new_files(alloc: Global) -> Files<MemoryFile> {
+fn new_files(alloc: Global) -> Files<MemoryFile>
+    ensures { bytes_of result.db ≡ [] }
+{
     Files {
         log: MemoryFile::new(alloc),
         db: MemoryFile::new(alloc),
     }
 }
 
-/// A connection to an empty database in memory. It fails only where memory runs out.
+/// A connection to a database in memory that has no table. It fails only where memory runs out.
 pub fn open_pages(alloc: Global) -> Result<Connection<MemoryPages>, Error>
     ensures opened { IfOk result IsOpened }
+    ensures vacant { IfOk result (λ c. (file_state c).now.schema ≡ record { tables = []; indexes = []; views = [] }) }
     ensures fresh { IfOk result IsNew }
 {
     match Connection::open_files(alloc, new_files(alloc), Options::new(SEED)) {
