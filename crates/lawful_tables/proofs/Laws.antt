@@ -20,6 +20,7 @@ readable t each = record {
   parts = (each table.Part).rows;
   trail = (each table.Trail).rows;
   lines = (each table.Trail).numbers;
+  messages = (each table.Outbox).rows;
   outbox = (each table.Outbox).numbers;
   kept = (each table.KeptKey).rows;
   requests = (each table.KeptKey).requests;
@@ -64,7 +65,7 @@ table_by_table t r s table.Moves = record {
 table_by_table t r s table.Expected = record { rows = r.expected; expectations = s.cargo.expectations }
 table_by_table t r s table.Part = record { rows = r.parts }
 table_by_table t r s table.Trail = record { rows = r.trail; numbers = r.lines; lines = s.cargo.trail }
-table_by_table t r s table.Outbox = record { numbers = r.outbox; mark = s.cargo.mark }
+table_by_table t r s table.Outbox = record { rows = r.messages; numbers = r.outbox; mark = s.cargo.mark }
 table_by_table t r s table.KeptKey = record { rows = r.kept; requests = r.requests }
 table_by_table t r s table.KeptText = record { rows = r.kept_texts; parts = s.parts }
 table_by_table t r s table.Counts = r.counts

@@ -21,7 +21,7 @@ use Rattle.row_values.specs.Flights.{is_flight_row}
 use Rattle.row_values.specs.Moves.{book_in, is_move_row}
 use Rattle.row_values.specs.Counts.{AreCounts, AreBuilds}
 use Rattle.row_values.specs.Manifests.{is_expected_row, is_part_row}
-use Rattle.row_values.specs.Logs.{is_trail_row}
+use Rattle.row_values.specs.Logs.{is_trail_row, is_message_row}
 use Rattle.row_values.specs.Replies.{is_kept_row, AreRequests, is_kept_text_row}
 use Rattle.row_values.specs.Meaning.{is_station, meaning_of}
 use Rattle.lawful_tables.specs.declared.name.TableName.{TableName}
@@ -64,7 +64,7 @@ pub record AreExpected (t : Tables) : Type 0 where
   pub rows : IsTrue (list_all is_expected_row (entries t.expected))
   pub expectations : (flight : FlightDate) (w : ℕ) → IfSome ((cargo_in t).expected flight w) (λ e. IsLawfulAmount e.pieces e.tenths × IsSome ((cargo_in t).declared w))
 
--- each part is within range
+-- each part is within range, and its telegram is a text
 pub record AreParts (t : Tables) : Type 0 where
   pub rows : IsTrue (list_all is_part_row (entries t.parts))
 
@@ -74,8 +74,9 @@ pub record AreTrailLines (t : Tables) : Type 0 where
   pub numbers : AreNumbered trail_id t.trail
   pub lines : AllByRecursion (λ row. IsSome ((cargo_in t).declared row.0) × IsTrue (is_line row.1)) (cargo_in t).trail
 
--- messages numbered from 1, of which the confirmed ones are some of the first
+-- messages that are texts, numbered from 1, of which the confirmed ones are some of the first
 pub record AreMessages (t : Tables) : Type 0 where
+  pub rows : IsTrue (list_all is_message_row t.outbox)
   pub numbers : AreNumbered message_id t.outbox
   pub mark : (cargo_in t).confirmed ≤ length (cargo_in t).outbox
 

@@ -1,5 +1,6 @@
 -- Values within range make rows within range.
 use Rattle.std.proofs.Common.{◌≡◌, ℕ, ◌<◌, ◌≤◌, pos, Bool, true, false, List, IsTrue, refl, arith}
+use Rattle.std.specs.Str.{is_utf8}
 use Rattle.std.proofs.lemmas.Bool.{and_from}
 use Rattle.std.proofs.lemmas.Int.{ints}
 use Rattle.awb_number.specs.Number.{IsNumber}
@@ -56,8 +57,8 @@ expected_fits f w e is day number pieces tenths =
     and_from _ _ (and_from _ _ (and_from _ _ (and_from _ _ (and_from _ _ (written_reads f.flight is) day) number) (pieces_fit e.pieces pieces)) (tenths_fit e.tenths tenths)) (flag_fits e.checked)
 
 pub part_fits : (p : Part) → IsTrue (is_designator p.flight.flight) → IsTrue (is_day (pos p.flight.day)) → IsTrue (is_airport p.airport) → IsPartNumber p.number → (telegram : List ℕ)
-    → IsTrue (is_part_row (part_key p, telegram))
-part_fits p is day airport number telegram = and_from _ _ (and_from _ _ (and_from _ _ (written_reads p.flight.flight is) day) airport) (within 1 9999 p.number number.0 number.1)
+    → IsTrue (is_utf8 telegram) → IsTrue (is_part_row (part_key p, telegram))
+part_fits p is day airport number telegram text = and_from _ _ (and_from _ _ (and_from _ _ (and_from _ _ (written_reads p.flight.flight is) day) airport) (within 1 9999 p.number number.0 number.1)) text
 
 pub line_fits : (n w : ℕ) (line : List ℕ) → IsTrue (is_number (pos w)) → IsTrue (is_line line) → IsTrue (is_trail_row (line_row n w line))
 line_fits n w line number is = and_from _ _ number is

@@ -1,5 +1,6 @@
 -- A line of the trail and a message are written behind the others, under the next number.
 use Rattle.std.proofs.Common.{◌≡◌, ℕ, ◌+◌, pos, true, Some, List, [], ◌∷◌, ◌++◌, length, sym, ap, ◌∙◌}
+use Rattle.std.specs.Str.{is_utf8}
 use Rattle.std.proofs.lemmas.List.{map-append, length-map}
 use Rattle.sqlite_keyed.specs.Keyed.{insert_by}
 use Rattle.shipment_machine.specs.Cargo.{written}
@@ -8,7 +9,7 @@ use Rattle.station_core.specs.Step.{State}
 use Rattle.state_store.specs.Told.{on_cargo, with_messages}
 use Rattle.row_schema.specs.Tables.{Tables, trail_id, Message, message_id}
 use Rattle.text_rows.specs.Meant.{with_trail_line, with_message}
-use Rattle.row_values.specs.Logs.{line_by, line_row, trail_in, is_trail_row, message_row, outbox_in}
+use Rattle.row_values.specs.Logs.{line_by, line_row, trail_in, is_trail_row, message_row, is_message_row, outbox_in}
 use Rattle.row_values.specs.Meaning.{meaning_of, Means}
 use Rattle.row_values.proofs.Listed.{list_all-insert_by, next_row, still_numbered}
 use Rattle.row_values.proofs.Readable.{readable_trail, readable_outbox}
@@ -28,9 +29,10 @@ module _ (t : Tables) (s : State) (n : ℕ) (means : Means t (Some s)) where
       trail : trail_in (insert_by trail_id t.trail (line_row n w line)) ≡ trail_in t.trail ++ (w, line) ∷ []
       trail = ap trail_in (next_row trail_id (line_row n w line) t.trail means.0.lines number) ∙ map-append line_by t.trail (line_row n w line ∷ [])
 
-  pub adds_message : (text : List ℕ) → n ≡ length s.cargo.outbox + 1 → Means (with_message (message_row n text) t) (Some (with_messages (text ∷ []) s))
-  adds_message text next = (
-    readable_outbox t means.0 (insert_by message_id t.outbox (message_row n text)) (still_numbered message_id (message_row n text) t.outbox means.0.outbox number),
+  pub adds_message : (text : List ℕ) → is_utf8 text ≡ true → n ≡ length s.cargo.outbox + 1 → Means (with_message (message_row n text) t) (Some (with_messages (text ∷ []) s))
+  adds_message text fits next = (
+    readable_outbox t means.0 (insert_by message_id t.outbox (message_row n text)) (list_all-insert_by message_id is_message_row t.outbox (message_row n text) fits means.0.messages)
+        (still_numbered message_id (message_row n text) t.outbox means.0.outbox number),
     (λ i. record (meaning_of t) { cargo = record (meaning_of t).cargo { outbox = outbox i } }) ∙ ap (with_messages (text ∷ [])) means.1,
   )
     where

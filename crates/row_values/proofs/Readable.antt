@@ -8,7 +8,7 @@ use Rattle.row_values.specs.Waybills.{is_waybill_row}
 use Rattle.row_values.specs.Stock.{is_stock_row}
 use Rattle.row_values.specs.Flights.{is_flight_row}
 use Rattle.row_values.specs.Manifests.{is_expected_row, is_part_row}
-use Rattle.row_values.specs.Logs.{is_trail_row}
+use Rattle.row_values.specs.Logs.{is_trail_row, is_message_row}
 use Rattle.row_values.specs.Replies.{AreRequests, is_kept_row, is_kept_text_row}
 use Rattle.row_values.specs.Meaning.{is_station, IsReadable}
 
@@ -25,6 +25,7 @@ module _ (t : Tables) (is : IsReadable t) where
     parts = is.parts;
     trail = is.trail;
     lines = is.lines;
+    messages = is.messages;
     outbox = is.outbox;
     kept = is.kept;
     requests = is.requests;
@@ -45,6 +46,7 @@ module _ (t : Tables) (is : IsReadable t) where
     parts = is.parts;
     trail = is.trail;
     lines = is.lines;
+    messages = is.messages;
     outbox = is.outbox;
     kept = is.kept;
     requests = is.requests;
@@ -65,6 +67,7 @@ module _ (t : Tables) (is : IsReadable t) where
     parts = is.parts;
     trail = is.trail;
     lines = is.lines;
+    messages = is.messages;
     outbox = is.outbox;
     kept = is.kept;
     requests = is.requests;
@@ -85,6 +88,7 @@ module _ (t : Tables) (is : IsReadable t) where
     parts = is.parts;
     trail = is.trail;
     lines = is.lines;
+    messages = is.messages;
     outbox = is.outbox;
     kept = is.kept;
     requests = is.requests;
@@ -105,6 +109,7 @@ module _ (t : Tables) (is : IsReadable t) where
     parts = is.parts;
     trail = is.trail;
     lines = is.lines;
+    messages = is.messages;
     outbox = is.outbox;
     kept = is.kept;
     requests = is.requests;
@@ -125,6 +130,7 @@ module _ (t : Tables) (is : IsReadable t) where
     parts = fits;
     trail = is.trail;
     lines = is.lines;
+    messages = is.messages;
     outbox = is.outbox;
     kept = is.kept;
     requests = is.requests;
@@ -145,6 +151,7 @@ module _ (t : Tables) (is : IsReadable t) where
     parts = is.parts;
     trail = fits;
     lines = numbered;
+    messages = is.messages;
     outbox = is.outbox;
     kept = is.kept;
     requests = is.requests;
@@ -153,8 +160,8 @@ module _ (t : Tables) (is : IsReadable t) where
     builds = is.builds;
   }
 
-  pub readable_outbox : (rows : List Message) → AreNumbered message_id rows → IsReadable (record t { outbox = rows })
-  readable_outbox rows numbered = record {
+  pub readable_outbox : (rows : List Message) → IsTrue (list_all is_message_row rows) → AreNumbered message_id rows → IsReadable (record t { outbox = rows })
+  readable_outbox rows fits numbered = record {
     station = is.station;
     waybills = is.waybills;
     stock = is.stock;
@@ -165,6 +172,7 @@ module _ (t : Tables) (is : IsReadable t) where
     parts = is.parts;
     trail = is.trail;
     lines = is.lines;
+    messages = fits;
     outbox = numbered;
     kept = is.kept;
     requests = is.requests;
@@ -185,6 +193,7 @@ module _ (t : Tables) (is : IsReadable t) where
     parts = is.parts;
     trail = is.trail;
     lines = is.lines;
+    messages = is.messages;
     outbox = is.outbox;
     kept = fits;
     requests = requests;
@@ -205,6 +214,7 @@ module _ (t : Tables) (is : IsReadable t) where
     parts = is.parts;
     trail = is.trail;
     lines = is.lines;
+    messages = is.messages;
     outbox = is.outbox;
     kept = is.kept;
     requests = is.requests;

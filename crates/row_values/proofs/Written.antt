@@ -1,5 +1,6 @@
 -- The same writes, told of the rows and the keys that were made of the values.
 use Rattle.std.proofs.Common.{◌≡◌, ℕ, ◌+◌, ℤ, pos, true, Some, List, [], ◌∷◌, length, sym, ap, subst, ◌∙◌, IsTrue}
+use Rattle.std.specs.Str.{is_utf8}
 use Rattle.shipment_machine.specs.Cargo.{written}
 use Rattle.imp_fields.specs.Flight.{flight_text}
 use Rattle.shipment_machine.specs.declared.flight.FlightDate.{FlightDate}
@@ -62,22 +63,22 @@ module _ (t : Tables) (s : State) (means : Means t (Some s)) where
       let e : ◌≡◌ {A = PartKey × List ℕ} ((flight, (day, (airport, number))), body) (part_key p, text) = λ i. ((is_flight i, (is_day i, (is_airport i, is_number i))), is i) in
       subst (λ (x : PartKey × List ℕ). Means (with_part x.0 x.1 t) (Some (on_cargo (written text (NotePart p)) s))) (sym e) (notes_part t p text may s fits means)
 
-  pub key_kept : (id key : List ℕ) (one : step.Kept) (row : Kept) → id ≡ key → row ≡ kept_row one → is_key key ≡ true → is_count (pos one.count) ≡ true → IsRequest one.request → Means (with_kept id row t) (Some (with_key key one s))
-  key_kept id key one row is_id is valid counts asked =
+  pub key_kept : (id key : List ℕ) (one : step.Kept) (row : Kept) → id ≡ key → row ≡ kept_row one → is_key key ≡ true → is_utf8 one.request ≡ true → is_count (pos one.count) ≡ true → IsRequest one.request → Means (with_kept id row t) (Some (with_key key one s))
+  key_kept id key one row is_id is valid text counts asked =
       let e : ◌≡◌ {A = List ℕ × Kept} (id, row) (key, kept_row one) = λ i. (is_id i, is i) in
-      subst (λ (x : List ℕ × Kept). Means (with_kept x.0 x.1 t) (Some (with_key key one s))) (sym e) (keeps_key t s means key one valid counts asked)
+      subst (λ (x : List ℕ × Kept). Means (with_kept x.0 x.1 t) (Some (with_key key one s))) (sym e) (keeps_key t s means key one valid text counts asked)
 
-  pub text_kept : (body text : List ℕ) (number : ℤ) (count : ℕ) → body ≡ text → number ≡ pos count → is_count (pos count) ≡ true → Means (with_kept_text body number t) (Some (with_text text count s))
-  text_kept body text number count is_body is_number counts =
+  pub text_kept : (body text : List ℕ) (number : ℤ) (count : ℕ) → body ≡ text → number ≡ pos count → is_utf8 text ≡ true → is_count (pos count) ≡ true → Means (with_kept_text body number t) (Some (with_text text count s))
+  text_kept body text number count is_body is_number is counts =
       let e : ◌≡◌ {A = List ℕ × ℤ} (body, number) (text, pos count) = λ i. (is_body i, is_number i) in
-      subst (λ (x : List ℕ × ℤ). Means (with_kept_text x.0 x.1 t) (Some (with_text text count s))) (sym e) (keeps_text t s means text count counts)
+      subst (λ (x : List ℕ × ℤ). Means (with_kept_text x.0 x.1 t) (Some (with_text text count s))) (sym e) (keeps_text t s means text count is counts)
 
   pub line_written : (n w : ℕ) (line text : List ℕ) (row : TrailLine) → row ≡ line_row n w line → is_trail_row (line_row n w line) ≡ true → n ≡ length s.cargo.trail + 1
       → Means (with_trail_line row t) (Some (on_cargo (written text (Trail w line)) s))
   line_written n w line text row is fits next = subst (λ (r : TrailLine). Means (with_trail_line r t) (Some (on_cargo (written text (Trail w line)) s))) (sym is) (adds_line t s n means w line text fits next)
 
-  pub message_written : (n : ℕ) (text : List ℕ) (row : Message) → row ≡ message_row n text → n ≡ length s.cargo.outbox + 1 → Means (with_message row t) (Some (with_messages (text ∷ []) s))
-  message_written n text row is next = subst (λ (r : Message). Means (with_message r t) (Some (with_messages (text ∷ []) s))) (sym is) (adds_message t s n means text next)
+  pub message_written : (n : ℕ) (text : List ℕ) (row : Message) → row ≡ message_row n text → is_utf8 text ≡ true → n ≡ length s.cargo.outbox + 1 → Means (with_message row t) (Some (with_messages (text ∷ []) s))
+  message_written n text row is fits next = subst (λ (r : Message). Means (with_message r t) (Some (with_messages (text ∷ []) s))) (sym is) (adds_message t s n means text fits next)
 
   pub mark_written : (text : List ℕ) (number : ℤ) (upto : ℕ) → number ≡ pos upto → is_count (pos upto) ≡ true → Means (confirming number t) (Some (on_cargo (written text (Confirm upto)) s))
   mark_written text number upto is counts = subst (λ (z : ℤ). Means (confirming z t) (Some (on_cargo (written text (Confirm upto)) s))) (sym is) (confirms upto t s text counts means)

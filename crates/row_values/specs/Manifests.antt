@@ -1,6 +1,7 @@
 -- What inbound flights bring, by the rows of `expected` and `part`.
 use Rattle.std.specs.Prelude.{ℕ, pos, Bool, ◌&&◌, if◌then◌else◌, Option, None, List}
 use Rattle.std.specs.Option.{option_map}
+use Rattle.std.specs.Str.{is_utf8}
 use Rattle.std.specs.FinMap.{FinMap, get}
 use Rattle.imp_fields.specs.Airport.{is_airport}
 use Rattle.imp_fields.specs.Flight.{flight_text}
@@ -37,6 +38,7 @@ part_key p = (flight_text p.flight.flight, (pos p.flight.day, (p.airport, pos p.
 abbrev pub parts_in : FinMap part_cmp (List ℕ) → Part → Option (List ℕ)
 parts_in rows p = if is_designator p.flight.flight then get rows (part_key p) else None
 
--- within range
+-- within range, and the telegram is a text
 abbrev pub is_part_row : PartKey × List ℕ → Bool
-is_part_row row = is_flight_text row.0.0 && is_day row.0.1.0 && is_airport row.0.1.1.0 && is_within 1 9999 row.0.1.1.1
+is_part_row row =
+    is_flight_text row.0.0 && is_day row.0.1.0 && is_airport row.0.1.1.0 && is_within 1 9999 row.0.1.1.1 && is_utf8 row.1

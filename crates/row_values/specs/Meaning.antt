@@ -13,7 +13,7 @@ use Rattle.row_values.specs.Flights.{flights_in, is_flight_row}
 use Rattle.row_values.specs.Moves.{book_in, is_move_row}
 use Rattle.row_values.specs.Counts.{AreCounts, AreBuilds}
 use Rattle.row_values.specs.Manifests.{expected_in, is_expected_row, parts_in, is_part_row}
-use Rattle.row_values.specs.Logs.{trail_in, is_trail_row, outbox_in}
+use Rattle.row_values.specs.Logs.{trail_in, is_trail_row, is_message_row, outbox_in}
 use Rattle.row_values.specs.Replies.{kept_keys_in, is_kept_row, AreRequests, kept_texts_in, is_kept_text_row}
 
 -- the station's own row
@@ -64,6 +64,7 @@ pub record IsReadable (t : Tables) : Type 0 where
   pub parts : IsTrue (list_all is_part_row (entries t.parts))
   pub trail : IsTrue (list_all is_trail_row t.trail)
   pub lines : AreNumbered trail_id t.trail
+  pub messages : IsTrue (list_all is_message_row t.outbox)
   pub outbox : AreNumbered message_id t.outbox
   pub kept : IsTrue (list_all is_kept_row (entries t.kept))
   pub requests : AreRequests t.kept

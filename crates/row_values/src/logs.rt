@@ -1,8 +1,8 @@
-ghost use Rattle.std.specs.Prelude.{◌≡◌, IsTrue, IfSome, IfOk, map};
+ghost use Rattle.std.specs.Prelude.{◌≡◌, IsTrue, IfSome, IfOk, OnOk, map};
 ghost use Rattle.station_core.specs.Readers.{trail_row as reader_line, message};
 ghost use Rattle.text_rows.specs.Meant.{trail_meant, message_meant};
 ghost use Rattle.row_values.specs.Numbers.{natural};
-ghost use Rattle.row_values.specs.Logs.{line_by, line_row, is_trail_row, message_row};
+ghost use Rattle.row_values.specs.Logs.{line_by, line_row, is_trail_row, message_row, is_message_row};
 
 use crate::flights::{awb_by, awb_key};
 use crate::lists::put;
@@ -43,7 +43,8 @@ pub fn trail_row(
 
 /// The row of a message, under its number from 1. A fault: the text is no UTF-8, or out of memory.
 pub fn message_row(alloc: Global, number: u32, message: &[u8]) -> Result<MessageRow, StoreFault>
-    ensures { IfOk result (λ row. message_meant row ≡ message_row number message.now) }
+    ensures value { IfOk result (λ row. message_meant row ≡ message_row number message.now) }
+    ensures lawful { OnOk result (IsTrue (is_message_row (message_row number message.now))) }
 {
     Ok(MessageRow {
         number: i64::from(number),

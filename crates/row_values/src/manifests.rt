@@ -1,4 +1,5 @@
 ghost use Rattle.std.specs.Prelude.{◌≡◌, ℕ, List, IsTrue, IfSome};
+ghost use Rattle.std.specs.Str.{is_utf8};
 ghost use Rattle.cargo_rows.specs.Meant.{expected_meant};
 ghost use Rattle.row_values.specs.Flights.{is_designator};
 ghost use Rattle.row_values.specs.Manifests.{expected_key, expected_by, expected_row, is_expected_row, part_key, is_part_row};
@@ -46,11 +47,11 @@ pub fn expected_range(flight: &FlightDate, awb: &Awb, expected: &Expected)
     let _tenths = expected.tenths.number();
 }
 
-/// A part of a manifest is within the range of its key, whatever its telegram.
+/// A part of a manifest is within the range of its row, whatever text its telegram is.
 #[tactic(auto, using(crate::proofs::Fits::part_fits))]
 pub fn part_range(part: &Part)
     ensures designator { IsTrue (is_designator part.now.flight.flight) }
-    ensures lawful { (telegram : List ℕ) → IsTrue (is_part_row (part_key part.now, telegram)) }
+    ensures lawful { (telegram : List ℕ) → IsTrue (is_utf8 telegram) → IsTrue (is_part_row (part_key part.now, telegram)) }
 {
     flight_range(&part.flight.flight);
     let _day = day_number(part.flight.day);

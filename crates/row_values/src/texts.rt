@@ -1,11 +1,13 @@
-ghost use Rattle.std.specs.Prelude.{◌≡◌, IfOk, string_bytes};
+ghost use Rattle.std.specs.Prelude.{◌≡◌, IfOk, OnOk, IsTrue, string_bytes};
+ghost use Rattle.std.specs.Str.{is_utf8};
 
 use station_rows::StoreFault;
 use std::alloc::Global;
 
 /// The bytes as a text of their own. A fault: they are no UTF-8, or out of memory.
 pub fn text(alloc: Global, bytes: &[u8]) -> Result<String, StoreFault>
-    ensures { IfOk result (λ text. string_bytes text ≡ bytes.now) }
+    ensures value { IfOk result (λ text. string_bytes text ≡ bytes.now) }
+    ensures valid { OnOk result (IsTrue (is_utf8 bytes.now)) }
 {
     let Ok(text) = std::str::from_utf8(bytes) else {
         return Err(StoreFault);

@@ -15,8 +15,12 @@ pub fn station_is_fit()
 
 /// The law that a station's tables are lawful, each of them, and that in a database with the tables that a station declares
 /// they are its typed tables.
-
 pub fn station_is_typed()
     ensures lawful { (db : Database) (t : Tables) → IsStationOf db t → (name : TableName) → IsLawfulTable name t }
     ensures typed { (db : Database) (t : Tables) → IsStation db → IsStationOf db t → tables_of db.trees ≡ t }
+{}
+
+/// The law that a database with the tables that a station declares is a station's where its typed tables are lawful, each of them.
+pub fn lawful_is_station()
+    ensures { (db : Database) → IsStation db → ((name : TableName) → IsLawfulTable name (tables_of db.trees)) → IsStationOf db (tables_of db.trees) }
 {}

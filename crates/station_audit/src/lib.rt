@@ -9,6 +9,6 @@ mod law;
 mod state;
 mod unfit;
 
-pub use law::{station_is_fit, station_is_typed};
+pub use law::{lawful_is_station, station_is_fit, station_is_typed};
 pub use state::{FoundState, found_state};
 pub use unfit::Unfit;

@@ -1,13 +1,11 @@
 -- A station whose tables were found goes on from what they mean.
-use Rattle.std.proofs.Common.{◌≡◌, ◌∙◌, ℕ, ◌≤◌, ◌⊎◌, inl, inr, Bool, true, false, List, length, map, Option, Some, None, Result, Ok, Err, refl, sym, ap, subst}
-use Rattle.std.specs.Prelude.{IsTrue, IfOk, IfErr}
+use Rattle.std.proofs.Common.{◌≡◌, ◌∙◌, ◌≤◌, ◌⊎◌, false, Some, Result, Ok, Err, refl, sym, ap, subst}
+use Rattle.std.specs.Prelude.{IfOk, IfErr}
 use Rattle.std.proofs.lemmas.List.{length-map}
 use Rattle.sqlite.specs.Effect.{Database}
 use Rattle.sqlite.specs.State as sqlite
 use Rattle.station_core.specs.Step.{State, IsLawfulState}
-use Rattle.shipment_machine.specs.Cargo.{Cargo}
 use Rattle.row_schema.specs.Connection.{view_of}
-use Rattle.row_schema.specs.Schema.{station_schema}
 use Rattle.row_schema.specs.Store.{View, IsUnchanged}
 use Rattle.row_schema.specs.Tables.{Tables, Message, IsStation, tables_of}
 use Rattle.row_values.specs.Logs.{line_by}
@@ -18,6 +16,7 @@ use Rattle.table_state.specs.Shown.{Knows, HasThese}
 use Rattle.lawful_tables.proofs.Laws.{lawful_each}
 use Rattle.station_audit.proofs.Declared.{each_lawful, same_tables}
 use Rattle.station_audit.proofs.Judged.{fit}
+use Rattle.station_audit.proofs.Typed.{station_held_whole}
 use Rattle.station_audit.specs.Good.{IsStationOf}
 use Rattle.station_audit.specs.Verdict.{Tells, Judges}
 use Rattle.station_audit.specs.declared.state.FoundState.{FoundState}
@@ -43,6 +42,14 @@ means db s in_ = ((both db in_.tables in_.is_station).0, in_.means)
 -- where a station declared the tables, they are the typed ones
 pub means_typed : (db : Database) (s : State) → IsStation db → IsStateIn db s → IsTypedState db s
 means_typed db s was in_ = record { means = subst (λ t. Means t (Some s)) (sym (same_tables db in_.tables was in_.is_station)) (means db s in_) }
+
+-- and where typed tables mean a lawful state, they are a station's
+pub in_state : (db : Database) (s : State) → IsStation db → IsTypedState db s → IsLawfulState s → IsStateIn db s
+in_state db s was typed lawful = record {
+  tables = tables_of db.trees;
+  is_station = station_held_whole db was ((lawful_each (tables_of db.trees)).1 (typed.means.0, subst IsLawfulState (sym typed.means.1) lawful));
+  means = typed.means.1;
+}
 
 -- what was counted is known of it
 known : (found : FoundState) (t : Tables) → Tells found t → Knows found.here found.sizes found.confirmed (at_rest (meaning_of t))

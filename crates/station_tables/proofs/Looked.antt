@@ -1,24 +1,24 @@
 -- What is seen of a connection that was looked at and not changed.
-use Rattle.std.proofs.Common.{◌≡◌, ◌∙◌, ℕ, ◌≤◌, ◌⊎◌, inl, inr, Bool, true, false, Option, Some, None, Result, Ok, Err, refl, sym, ap, subst, arith}
+use Rattle.std.proofs.Common.{◌≡◌, ◌∙◌, ℕ, ◌≤◌, ◌⊎◌, inl, inr, Bool, true, false, Option, Result, Ok, Err, refl, sym, subst, arith}
 use Rattle.std.specs.Prelude.{IsTrue, IfOk, IfErr, not}
 use Rattle.sqlite.specs.Effect.{Database}
 use Rattle.sqlite.specs.State as sqlite
 use Rattle.sqlite.specs.State.{HasCleanDisk}
 use Rattle.sqlite_trees.specs.View.{doubt}
 use Rattle.row_laws.specs.Calls.{Reads}
-use Rattle.station_core.specs.Step.{State}
+use Rattle.station_core.specs.Step.{State, IsLawfulState}
 use Rattle.declared_tables.specs.Own.{IsOwn}
 use Rattle.row_schema.specs.Connection.{view_of}
 use Rattle.row_schema.specs.Store as store
 use Rattle.row_schema.specs.Store.{View}
-use Rattle.row_schema.specs.Tables.{Tables}
+use Rattle.row_schema.specs.Tables.{Tables, IsStation}
 use Rattle.table_state.specs.Shown as tables
 use Rattle.station_audit.specs.declared.state.FoundState.{FoundState}
 use Rattle.station_audit.specs.declared.unfit.Unfit.{Unfit}
 use Rattle.station_tables.specs.Attached.{IsStateIn, IsTypedState, IsJudged, Refuses, IsBreakdown}
 use Rattle.station_tables.specs.Found.{Finds}
 use Rattle.station_tables.specs.declared.fault.AttachFault.{AttachFault}
-use Rattle.station_tables.proofs.Attached.{breaks_down}
+use Rattle.station_tables.proofs.Attached.{breaks_down, in_state}
 use Rattle.station_tables.proofs.Made.{finds_up}
 
 no_less : (a b : ℕ) → a ≤ b → b ≡ 0 → a ≡ 0
@@ -51,6 +51,8 @@ finds_after_store a b c v s u w sound found finds = finds_after a b c s u (w.sou
 
 -- A connection that was outside a transaction and open, was looked at twice, and is as it was.
 pub record IsSeen (a d : sqlite.State) : Type 0 where
+  pub was_open : IsTrue a.is_open
+  pub was_at_rest : a.now ≡ a.committed
   pub same : d.now ≡ a.now
   pub outside : d.in_transaction ≡ false
   pub rest : d.now ≡ d.committed
@@ -70,6 +72,8 @@ module _ (a b d : sqlite.State) (auto : Bool) (value : auto ≡ not a.in_transac
       let two = same.0 in
       let rest = settled is_auto one.was_open in
       record {
+        was_open = one.was_open;
+        was_at_rest = rest;
         same = two.now_is ∙ one.now_is;
         outside = two.mode ∙ one.mode ∙ is_outside auto a.in_transaction value is_auto;
         rest = two.now_is ∙ one.now_is ∙ rest ∙ sym one.committed_is ∙ sym two.committed_is;
@@ -120,6 +124,16 @@ module _ {K C : Type 0} (view : C → View) (a d : sqlite.State) (judged : Resul
   fit_on (Ok k) spares why = tt
   fit_on (Err e) spares why = λ sound s in_.
       let l = look (spares.sound sound) in
+      breaks_down a.now s e.1 in_ (subst (λ db. Refuses db e.1) l.0.same (why l.1))
+
+  -- the same of what a station wrote
+  pub own_fit_on : (L : Type 0) (r : Result K (C × AttachFault)) → IfErr r (λ e. store.Survives (view_of d) (view e.0))
+      → (IsJudged d.now judged → IfErr r (λ e. Refuses d.now e.1)) → (IsOwn a.now.trees → IsTrue a.is_open → a.now ≡ a.committed → L → IsStation a.now)
+      → IfErr r (λ e. (view e.0).IsSound → IsOwn a.now.trees → L → (s : State) → IsTypedState a.now s → IsLawfulState s → IsBreakdown e.1)
+  own_fit_on L (Ok k) spares why own = tt
+  own_fit_on L (Err e) spares why own = λ sound is lies s typed lawful.
+      let l = look (spares.sound sound) in
+      let in_ = in_state a.now s (own is l.0.was_open l.0.was_at_rest lies) typed lawful in
       breaks_down a.now s e.1 in_ (subst (λ db. Refuses db e.1) l.0.same (why l.1))
 
 pub leaves_on : {K C F : Type 0} (view : C → View) (a b c : sqlite.State) → sqlite.Survives a b (λ _. ⊥) → sqlite.Survives b c (λ _. ⊥) → (r : Result K (C × F))

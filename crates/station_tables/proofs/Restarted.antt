@@ -1,6 +1,6 @@
 -- What a station that stopped may leave, and what is found of it.
-use Rattle.std.proofs.Common.{◌≡◌, ℕ, List, Option, Some, Result, Ok, Err, refl}
-use Rattle.std.specs.Prelude.{IfOk}
+use Rattle.std.proofs.Common.{◌≡◌, ◌⊎◌, inl, inr, ℕ, List, Option, Some, None, Result, Ok, Err, refl}
+use Rattle.std.specs.Prelude.{IfOk, IfErr}
 use Rattle.imp_fields.specs.Date.{LocalMinute}
 use Rattle.sqlite.specs.Tree.{Trees}
 use Rattle.sqlite.specs.Effect.{Database}
@@ -11,16 +11,19 @@ use Rattle.shipment_machine.proofs.Shown.{are_balances}
 use Rattle.station_core.specs.declared.answer.ActFault.{ActFault}
 use Rattle.station_core.specs.declared.input.Input.{Input}
 use Rattle.station_core.specs.Keeping.{IsAfterAnswered}
-use Rattle.station_core.specs.Step.{State}
+use Rattle.station_core.specs.Step.{State, IsLawfulState}
 use Rattle.row_schema.specs.Store.{View}
 use Rattle.row_schema.specs.Tables.{tables_of}
-use Rattle.declared_tables.specs.Own.{IsOwn, LiesInOrder}
+use Rattle.row_values.specs.Meaning.{meaning_of, IsReadable}
+use Rattle.declared_tables.specs.Own.{IsOwn}
 use Rattle.station_rows.specs.Own.{are_declared}
 use Rattle.station_rows.specs.Shown.{rows_view}
 use Rattle.station_tables.proofs.Attached.{is_lawful}
-use Rattle.station_tables.specs.Attached.{connection_in, IsStateIn, IsTypedState}
+use Rattle.station_tables.specs.Attached.{connection_in, IsBreakdown, IsStateIn, IsTypedState}
 use Rattle.station_tables.specs.Found.{Finds}
 use Rattle.station_tables.specs.Restarted.{IsRestored}
+use Rattle.station_tables.specs.declared.fault.AttachFault.{AttachFault}
+use Rattle.station_tables.specs.declared.fault.AttachFault.TheVariants as fault
 use Rattle.station_tables.specs.declared.station.Station.{Station}
 
 -- trees that a station leaves have the schema of one
@@ -55,3 +58,42 @@ restored_on s inputs answered ended db Clean Declared Sound keeps (Ok k) found o
     let t = typed (make k clean (own clean is_own)) f.0 f.1 in
     restored s inputs answered ended db (keeps k) f.0 (after f.0 f.1 t) f.1 t f.2
 restored_on s inputs answered ended db Clean Declared Sound keeps (Err e) found own typed is_own make after = tt
+
+-- ---- what a crash leaves is a station's
+
+pub none_after : (s : State) (inputs : List (Input × LocalMinute)) (answered : ℕ) (ended : Option ActFault) → IsAfterAnswered s inputs answered ended None → ⊥
+none_after s inputs answered ended (inl none) = absurd (cc)
+none_after s inputs answered ended (inr (stopped, more, none)) = absurd (cc)
+
+-- a fault that can't but be a breakdown is one
+surely : (f : AttachFault) → ¬ ¬ IsBreakdown f → IsBreakdown f
+surely (fault.Unlawful name) so = so (λ is. is)
+surely fault.NoStation so = so (λ is. is)
+surely (fault.Version n) so = so (λ is. is)
+surely fault.Occupied so = so (λ is. is)
+surely fault.Store so = tt
+surely fault.Memory so = tt
+
+-- tables that a crash may leave, and of which a reopening doesn't find none, mean a lawful state
+surely_lawful : (v : View) (db : Database) → v.may_leave (tables_of db.trees) → ¬ Finds v None → ¬ ¬ ((s : State) × IsTypedState db s × IsLawfulState s)
+surely_lawful v db left some_ refuted =
+    let m : State = meaning_of (tables_of db.trees) in
+    some_ (inl (record {
+      tables = tables_of db.trees;
+      left = left;
+      means = λ (readable : IsReadable (tables_of db.trees)).
+          some_ (inr (
+            m,
+            record { tables = tables_of db.trees; left = left; means = (readable, refl) },
+            λ (lawful : IsLawfulState m). refuted (m, record { means = (readable, refl) }, lawful),
+          ));
+    }))
+
+pub opens_on : {K C : Type 0} (v : View) (db : Database) (Clean : C → Type 0) (r : Result K (C × AttachFault)) → v.may_leave (tables_of db.trees) → ¬ Finds v None
+    → IfErr r (λ e. Clean e.0 → (s : State) → IsTypedState db s → IsLawfulState s → IsBreakdown e.1) → IfErr r (λ e. Clean e.0 → IsBreakdown e.1)
+opens_on v db Clean (Ok k) left some_ fit = tt
+opens_on v db Clean (Err e) left some_ fit = λ clean. surely e.1 (λ not. surely_lawful v db left some_ (λ found. not (fit clean found.0 found.1 found.2)))
+
+pub fits_on : {K C : Type 0} (Clean : C → Type 0) (Own Lies : Type 0) (Fits : AttachFault → Type 0) (r : Result K (C × AttachFault)) → IfErr r (λ e. Clean e.0 → Own → Lies → Fits e.1) → Own → Lies → IfErr r (λ e. Clean e.0 → Fits e.1)
+fits_on Clean Own Lies Fits (Ok k) fit own lies = tt
+fits_on Clean Own Lies Fits (Err e) fit own lies = λ clean. fit clean own lies

@@ -57,6 +57,14 @@ fn shows_station<S: Alter>(conn: &Connection<S>)
     let _ = has_station(conn);
 }
 
+/// The law that an open connection at rest shows a station's tables where its trees are those that a station wrote.
+fn shows_own_station<S: Alter>(conn: &Connection<S>)
+    ensures { IsOwn (state S.Store conn.now).now.trees → IsTrue (state S.Store conn.now).is_open
+        → (state S.Store conn.now).now ≡ (state S.Store conn.now).committed → LiesInOrder S.Store → IsStation (state S.Store conn.now).now }
+{
+    let _ = has_station(conn);
+}
+
 /// A station over a store whose tables were found to be one's.
 fn over_store<T: TableStore>(
     alloc: Global,
@@ -155,10 +163,15 @@ pub fn attach<S: Alter>(
     ensures refused { IfErr result (λ e. HasCleanDisk (state S.Store e.0) → Refuses (state S.Store conn).now e.1) }
     ensures fit { IfErr result (λ e. HasCleanDisk (state S.Store e.0) → (s : State) → IsStateIn (state S.Store conn).now s → IsBreakdown e.1) }
 
+    // The same where a station wrote the tables, and they mean a lawful state.
+    ensures own_fit { IfErr result (λ e. HasCleanDisk (state S.Store e.0) → IsOwn (state S.Store conn).now.trees → LiesInOrder S.Store
+        → (s : State) → IsTypedState (state S.Store conn).now s → IsLawfulState s → IsBreakdown e.1) }
+
     // A crash leaves what it left before.
     ensures leaves { IfErr result (λ e. (connection_view S.Store e.0).IsSound → (found : Option State)
         → Finds (connection_view S.Store e.0) found → Finds (connection_view S.Store conn) found) }
 {
+    shows_own_station(&conn);
     if !conn.is_autocommit() {
         return Err((conn, AttachFault::Store));
     }

@@ -2,7 +2,7 @@ ghost use Rattle.std.specs.Prelude.{◌≡◌, false, length, IfOk, IfErr};
 ghost use Rattle.sqlite.specs.State.{HasCleanDisk};
 ghost use Rattle.sqlite.specs.Held.{state};
 ghost use Rattle.station_core.specs.Step.{State};
-ghost use Rattle.station_tables.specs.Attached.{connection_in};
+ghost use Rattle.station_tables.specs.Attached.{connection_in, IsBreakdown};
 ghost use Rattle.station_tables.specs.Restarted.{IsRestored};
 
 use crate::attaching::attach;
@@ -38,6 +38,11 @@ pub fn act_and_restart<S: Alter>(
         → (state S.Store (connection_in result.stopped)).may_leave (state S.Store other).now.trees
         → IfOk result.opened (λ again. HasCleanDisk (state S.Store (connection_in again))
         → IsRestored s inputs.now (length result.given.answers.items) result.given.fault (state S.Store other).now (⟦<Station<S> as Keeper>⟧.keeps again)) }
+
+    // What a crash leaves is no reason to refuse it: a fault says that the store failed, or that memory was out.
+    ensures opens { (s : State) → ⟦<Station<S> as Keeper>⟧.keeps station s → ⟦<Station<S> as Keeper>⟧.is_broken station ≡ false → ⟦<Station<S> as Keeper>⟧.is_sound result.stopped
+        → (state S.Store (connection_in result.stopped)).may_leave (state S.Store other).now.trees
+        → IfErr result.opened (λ e. HasCleanDisk (state S.Store e.0) → IsBreakdown e.1) }
 
     // It goes on: its premise holds as long as its own disk has returned what was written.
     ensures sound { ⟦<Station<S> as Keeper>⟧.is_sound result.stopped → (state S.Store (connection_in result.stopped)).may_leave (state S.Store other).now.trees

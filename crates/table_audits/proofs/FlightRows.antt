@@ -76,7 +76,7 @@ designator_read text f e =
 
 -- ---- the key of a row in range
 
-text_of : (text : List ℕ) → is_flight_text text ≡ true → (f : Designator) × (is_designator f ≡ true) × (flight_text f ≡ text)
+pub text_of : (text : List ℕ) → is_flight_text text ≡ true → (f : Designator) × (is_designator f ≡ true) × (flight_text f ≡ text)
 text_of text h = go (flight_of text) refl h
   where
     go : (o : Option Designator) → flight_of text ≡ o → is_written text o ≡ true → (f : Designator) × (is_designator f ≡ true) × (flight_text f ≡ text)

@@ -40,7 +40,7 @@ module _ (t : Tables) where
       go : (key : PartKey) (text : List ℕ) → get t.parts key ≡ Some text → has_text t.kept_texts (key, text) ≡ true
       go key text has =
           let fits : is_part_row (key, text) ≡ true = at_key part_cmp part_total part_same (λ e. is_part_row e ≡ true) t.parts (all_from_test is_part_row (entries t.parts) parts.rows) key text has in
-          let a = and_parts _ _ fits in
+          let a = and_parts _ _ (and_parts _ _ fits).0 in
           let b = and_parts _ _ (and_parts _ _ a.0).0 in
           let f = flight_at key.0 key.1.0 b.0 b.1 in
           let p : Part = record { flight = f.0; airport = key.1.1.0; number = natural key.1.1.1 } in

@@ -10,3 +10,4 @@ pub mod TrailLaws
 pub mod KeptTextLaws
 pub mod KeptKeyLaws
 pub mod StockLaws
+pub mod Texts

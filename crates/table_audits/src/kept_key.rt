@@ -1,4 +1,4 @@
-ghost use Rattle.std.specs.Prelude.{◌≡◌, ◌↔◌, map, IsTrue};
+ghost use Rattle.std.specs.Prelude.{◌≡◌, ◌↔◌, ◌&&◌, map, IsTrue, string_bytes};
 ghost use Rattle.std.specs.List.{list_all, AllByRecursion};
 ghost use Rattle.std.specs.FinMap.{entries};
 ghost use Rattle.row_schema.specs.Tables.{Tables};
@@ -6,6 +6,8 @@ ghost use Rattle.found_tables.specs.Held.{kept_key_entry};
 ghost use Rattle.lawful_tables.specs.Lawful.{IsLawfulTable};
 ghost use Rattle.lawful_tables.specs.declared.name.TableName.TheVariants as table;
 ghost use Rattle.state_store.specs.Told.{IsRequest};
+ghost use Rattle.station_core.specs.Key.{is_key};
+ghost use Rattle.row_values.specs.Numbers.{is_count};
 ghost use Rattle.row_values.specs.Replies.{is_kept_row};
 
 use crate::ranges::is_count;
@@ -13,14 +15,21 @@ use desk_commands::read_command_text;
 use found_tables::KeptKeyEntry;
 use station_core::Key;
 
-/// Whether the row is within range.
-fn is_in_range(row: &KeptKeyEntry) -> bool
-    ensures { result ≡ is_kept_row (kept_key_entry row.now) }
+/// Whether the row's key and count are within range.
+fn is_counted(row: &KeptKeyEntry) -> bool
+    ensures { result ≡ is_key (string_bytes row.now.id) && is_count row.now.count }
 {
     if Key::read(row.id.as_bytes()).is_none() {
         return false;
     }
     is_count(row.count)
+}
+
+/// Whether the row is within range. Its command is a text by its type.
+fn is_in_range(row: &KeptKeyEntry) -> bool
+    ensures { result ≡ is_kept_row (kept_key_entry row.now) }
+{
+    is_counted(row)
 }
 
 /// Whether each row is.

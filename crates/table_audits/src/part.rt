@@ -1,18 +1,21 @@
-ghost use Rattle.std.specs.Prelude.{◌≡◌, ◌↔◌, map, IsTrue};
+ghost use Rattle.std.specs.Prelude.{◌≡◌, ◌↔◌, ◌&&◌, map, IsTrue, string_bytes};
 ghost use Rattle.std.specs.FinMap.{entries};
 ghost use Rattle.std.specs.List.{list_all};
 ghost use Rattle.found_tables.specs.Held.{part_entry};
 ghost use Rattle.row_schema.specs.Tables.{Tables};
 ghost use Rattle.lawful_tables.specs.Lawful.{IsLawfulTable};
 ghost use Rattle.lawful_tables.specs.declared.name.TableName.TheVariants as table;
+ghost use Rattle.imp_fields.specs.Airport.{is_airport};
+ghost use Rattle.row_values.specs.Flights.{is_flight_text};
 ghost use Rattle.row_values.specs.Manifests.{is_part_row};
+ghost use Rattle.row_values.specs.Numbers.{is_day, is_within};
 
 use crate::ranges::{is_airport, is_day, is_flight_text, is_pieces};
 use found_tables::PartEntry;
 
-/// Whether the row is within range.
-fn is_lawful(row: &PartEntry) -> bool
-    ensures { result ≡ is_part_row (part_entry row.now) }
+/// Whether the row's key is within range.
+fn is_in_range(row: &PartEntry) -> bool
+    ensures { result ≡ is_flight_text (string_bytes row.now.flight) && is_day row.now.day && is_airport (string_bytes row.now.airport) && is_within 1 9999 row.now.seq }
 {
     if !is_flight_text(&row.flight) {
         return false;
@@ -24,6 +27,13 @@ fn is_lawful(row: &PartEntry) -> bool
         return false;
     }
     is_pieces(row.seq)
+}
+
+/// Whether the row is within range. Its telegram is a text by its type.
+fn is_lawful(row: &PartEntry) -> bool
+    ensures { result ≡ is_part_row (part_entry row.now) }
+{
+    is_in_range(row)
 }
 
 /// Whether each row is.

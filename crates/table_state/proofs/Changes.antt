@@ -2,6 +2,7 @@
 use Rattle.std.proofs.Common.{◌≡◌, ℕ, ◌+◌, ◌<◌, ℤ, pos, Bool, true, false, IsTrue, List, [], ◌∷◌, ◌++◌, length, Option, Some, None, refl, sym, ap, subst, ◌∙◌}
 use Rattle.std.specs.Prelude.{if◌then◌else◌}
 use Rattle.std.proofs.lemmas.List.{length-append}
+use Rattle.std.specs.Str.{is_utf8}
 use Rattle.std.specs.FinMap.{FinMap}
 use Rattle.sqlite_keyed.specs.Keyed.{get_by}
 use Rattle.imp_fields.specs.Flight.{flight_text}
@@ -34,7 +35,7 @@ use Rattle.row_values.specs.Stock.{holders_in}
 use Rattle.row_values.specs.Waybills.{waybill_row, is_waybill_row}
 use Rattle.row_values.specs.Flights.{is_designator, flight_key, outbound_row, is_flight_row}
 use Rattle.row_values.specs.Manifests.{expected_key, expected_row, is_expected_row, part_key, is_part_row}
-use Rattle.row_values.specs.Logs.{line_row, is_trail_row, message_row}
+use Rattle.row_values.specs.Logs.{line_row, is_trail_row, message_row, is_message_row}
 use Rattle.row_values.specs.Replies.{kept_row}
 use Rattle.row_values.specs.Meaning.{meaning_of, IsReadable, Means}
 use Rattle.row_values.proofs.Fits.{count_fits}
@@ -110,14 +111,14 @@ module _ (old new : View) (here : List ℕ) (sizes : Sizes) (confirmed : ℕ) (b
         confirmed_is = k.confirmed_is;
       }) sound
 
-  pub adds_message_on : (n : ℕ) (text : List ℕ) (row_is : table.Message) → row_is ≡ message_row n text → n ≡ sizes.messages + 1
+  pub adds_message_on : (n : ℕ) (text : List ℕ) (row_is : table.Message) → row_is ≡ message_row n text → IsTrue (is_message_row (message_row n text)) → n ≡ sizes.messages + 1
       → (IsShowing old (row.inside old.committed old.now) → IsShowing new (row.inside old.committed (with_message row_is old.now)))
       → Shows new here (record { moves = sizes.moves; lines = sizes.lines; messages = n }) confirmed (inside before (with_messages (text ∷ []) s))
-  adds_message_on n text row_is is next done sound =
+  adds_message_on n text row_is is fits next done sound =
       let counted : sizes.messages ≡ length s.cargo.outbox = ap (λ (z : Sizes). z.messages) (was (survives.sound sound)).knows.sizes_are in
       let one_more : n ≡ length s.cargo.outbox + 1 = next ∙ ap (λ k. k + 1) counted in
       writes_on old new here sizes confirmed (with_message row_is) (record { moves = sizes.moves; lines = sizes.lines; messages = n }) confirmed before s (with_messages (text ∷ []) s) was survives done
-      (λ _ means. message_written old.now s means n text row_is is one_more)
+      (λ _ means. message_written old.now s means n text row_is is fits one_more)
       (λ k. record {
         here_is = k.here_is;
         sizes_are = λ i. record { moves = (k.sizes_are i).moves; lines = (k.sizes_are i).lines; messages = (one_more ∙ sym (length-append s.cargo.outbox (text ∷ []))) i };
@@ -132,21 +133,21 @@ module _ (old new : View) (here : List ℕ) (sizes : Sizes) (confirmed : ℕ) (b
       (λ _ means. mark_written old.now s means text number upto is counts)
       (λ k. record { here_is = k.here_is; sizes_are = k.sizes_are; confirmed_is = refl })
 
-  pub keeps_text_on : (body text : List ℕ) (number : ℤ) (count : ℕ) → body ≡ text → number ≡ pos count → IsTrue (is_count (pos count))
+  pub keeps_text_on : (body text : List ℕ) (number : ℤ) (count : ℕ) → body ≡ text → number ≡ pos count → IsTrue (is_utf8 text) → IsTrue (is_count (pos count))
       → (IsShowing old (row.inside old.committed old.now) → IsShowing new (row.inside old.committed (with_kept_text body number old.now)))
       → Shows new here sizes confirmed (inside before (with_text text count s))
-  keeps_text_on body text number count is_body is_number counts done =
+  keeps_text_on body text number count is_body is_number is counts done =
       writes_on old new here sizes confirmed (with_kept_text body number) sizes confirmed before s (with_text text count s) was survives done
-      (λ _ means. text_kept old.now s means body text number count is_body is_number counts)
+      (λ _ means. text_kept old.now s means body text number count is_body is_number is counts)
       (same_rest (with_text text count s) refl refl refl)
 
-  pub keeps_key_on : (id key : List ℕ) (one : step.Kept) (row_is : table.Kept) → id ≡ key → row_is ≡ kept_row one → IsTrue (is_key key) → IsTrue (is_count (pos one.count)) → IsRequest one.request
+  pub keeps_key_on : (id key : List ℕ) (one : step.Kept) (row_is : table.Kept) → id ≡ key → row_is ≡ kept_row one → IsTrue (is_key key) → IsTrue (is_utf8 one.request) → IsTrue (is_count (pos one.count)) → IsRequest one.request
       → (new.IsSound → row.Writes old new (with_kept id row_is old.now))
       → Shows new here sizes confirmed (inside before (with_key key one s))
-  keeps_key_on id key one row_is is_id is valid counts asked done =
+  keeps_key_on id key one row_is is_id is valid text counts asked done =
       reached old new here sizes confirmed (λ _. with_kept id row_is old.now) sizes confirmed before s (with_key key one s) was survives
       (λ sound. let d = done sound in record { is_open = d.is_open; now_is = d.now_is; committed_is = d.committed_is; mode = d.mode })
-      (λ _ means. key_kept old.now s means id key one row_is is_id is valid counts asked)
+      (λ _ means. key_kept old.now s means id key one row_is is_id is valid text counts asked)
       (same_rest (with_key key one s) refl refl refl)
 
   -- the stock
@@ -187,6 +188,7 @@ module _ (t : Tables) (s : State) (m : Move) (book : List table.Move) (counts : 
     parts = means.0.parts;
     trail = means.0.trail;
     lines = means.0.lines;
+    messages = means.0.messages;
     outbox = means.0.outbox;
     kept = means.0.kept;
     requests = means.0.requests;

@@ -97,6 +97,7 @@ opening_readable here airport = record {
   parts = rw (no_entries part_cmp (List ℕ)) refl;
   trail = refl;
   lines = refl;
+  messages = refl;
   outbox = refl;
   kept = rw (no_entries kept_cmp Kept) refl;
   requests = λ key row has. absurd (none_kept key row has);

@@ -310,6 +310,7 @@ impl<S: TableStore> StateStore for TableState<S> {
 
     #[tactic(auto, using(crate::proofs::Lifting::survives_so))]
     fn keep_key(&mut self, key: &Key, request: &str, count: u32) -> Result<(), StoreFault> {
+        let _text = request.as_bytes();
         match self
             .store
             .insert_kept(key.as_str(), request, i64::from(count))

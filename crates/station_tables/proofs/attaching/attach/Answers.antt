@@ -1,5 +1,5 @@
 use Rattle.std.proofs.Common.{◌≡◌}
-use Rattle.station_tables.proofs.Looked.{finds_after, finds_after_one, fit_on, found_on, judged_there, leaves_on, own_on, refused_on, typed_on}
+use Rattle.station_tables.proofs.Looked.{finds_after, finds_after_one, fit_on, own_fit_on, found_on, judged_there, leaves_on, own_on, refused_on, typed_on}
 use Rattle.station_tables.proofs.attaching.attach.Goals as goal
 
 pub returns-then-not-is_live-clause-leaves : goal.returns-then-not-is_live-clause-leaves
@@ -29,6 +29,11 @@ pub returns-in-Ok-clause-fit : goal.returns-in-Ok-clause-fit
 returns-in-Ok-clause-fit g c = fit_on _ _ _ _
     (judged_there _ _ _ _ c.is_autocommit.ensures.value c.is_autocommit.ensures.settled c.if-not-is_autocommit.false (c.is_live.ensures.same c.if-not-is_live.false) c.in-Ok.ensures.survives _ c.in-Ok.ensures.read)
     _ c.settle.ensures.spares c.settle.ensures.refused
+
+pub returns-in-Ok-clause-own_fit : goal.returns-in-Ok-clause-own_fit
+returns-in-Ok-clause-own_fit g c = own_fit_on _ _ _ _
+    (judged_there _ _ _ _ c.is_autocommit.ensures.value c.is_autocommit.ensures.settled c.if-not-is_autocommit.false (c.is_live.ensures.same c.if-not-is_live.false) c.in-Ok.ensures.survives _ c.in-Ok.ensures.read)
+    _ _ c.settle.ensures.spares c.settle.ensures.refused c.shows_own_station.ensures
 
 pub returns-in-Ok-clause-leaves : goal.returns-in-Ok-clause-leaves
 returns-in-Ok-clause-leaves g c = leaves_on _ _ _ _ c.is_live.ensures.survives c.in-Ok.ensures.survives _ c.settle.ensures.spares

@@ -1,10 +1,12 @@
-use Rattle.std.proofs.Common.{◌∙◌, sym, rules, tests}
+use Rattle.std.proofs.Common.{◌≡◌, ◌∙◌, sym, rules, tests}
 use Rattle.std.proofs.lemmas.Iterator.{YieldsList-from_slice}
 use Rattle.std.proofs.lemmas.Iterator.Search.{all_from_yields_List}
 use Rattle.std.proofs.lemmas.List.Folds.{list_all-map}
 use Rattle.found_tables.specs.Held.{kept_text_entry}
+use Rattle.row_values.specs.Numbers.{is_count}
 use Rattle.row_values.specs.Replies.{is_kept_text_row}
+use Rattle.table_audits.proofs.Texts.{kept_text_is}
 use Rattle.table_audits.proofs.kept_text.are_in_range.Goals as goal
 
 pub returns : goal.returns
-returns c = all_from_yields_List (λ row. is_kept_text_row (kept_text_entry row)) _ _ _ c.all.ensures.ran (YieldsList-from_slice c.args.rows.now cc) (λ x b q k. search (rules, tests)) ∙ sym (list_all-map is_kept_text_row kept_text_entry c.args.rows.now)
+returns c = all_from_yields_List (λ row. is_kept_text_row (kept_text_entry row)) _ _ _ c.all.ensures.ran (YieldsList-from_slice c.args.rows.now cc) (λ x b q k. let counted : b ≡ is_count x.now.count = search (rules, tests) in counted ∙ sym (kept_text_is x.now)) ∙ sym (list_all-map is_kept_text_row kept_text_entry c.args.rows.now)

@@ -1,5 +1,7 @@
-use Rattle.std.proofs.Common.{rules, ◌≡◌, ◌∙◌, ap, pos, SFits, w64}
+use Rattle.std.proofs.Common.{rules, ◌≡◌, ◌∙◌, ap, pos, SFits, w64, IsTrue}
+use Rattle.std.specs.Str.{IsUtf8, is_utf8}
 use Rattle.std.proofs.lemmas.Int.{to_z-of_z}
+use Rattle.std.proofs.lemmas.Str.{is_utf8-from_IsUtf8}
 use Rattle.table_state.proofs.Changes.{notes_part_on}
 use Rattle.table_state.proofs.state.TableState.note_part.Goals as goal
 
@@ -9,6 +11,8 @@ returns-clause-done g c = λ before s shown.
     let number_fits : SFits w64 c.from-number.result = search rules in
     let airport : c.deref-2.result.now ≡ c.args.part.now.airport = search rules in
     let body : c.in-Ok-from_utf8.body.now ≡ c.args.telegram.now = search rules in
+    let valid : IsUtf8 c.args.telegram.now = search rules in
+    let text : IsTrue (is_utf8 c.args.telegram.now) = is_utf8-from_IsUtf8 _ valid in
     notes_part_on _ _ _ _ _ before s shown c.in-Ok-insert_part.ensures.survives c.args.telegram.now _ _ _ _ _ c.args.part.now (c.deref.ensures ∙ c.in-Ok.ensures.text)
     (to_z-of_z w64 c.day_number-day.result day_fits ∙ c.day_number-day.ensures.value) airport (to_z-of_z w64 c.from-number.result number_fits ∙ c.from-number.ensures ∙ ap pos c.number.ensures.value) body
-    c.part_range.ensures.designator (c.part_range.ensures.lawful c.args.telegram.now) (c.in-Ok-insert_part.ensures.done _ _)
+    c.part_range.ensures.designator (c.part_range.ensures.lawful c.args.telegram.now text) (c.in-Ok-insert_part.ensures.done _ _)

@@ -1,0 +1,48 @@
+-- What a row holds as a text is one.
+use Rattle.std.proofs.Common.{◌≡◌, ◌&&◌, Bool, true, false, List, [], ◌∷◌, map, refl, ap, ◌∙◌, string_bytes}
+use Rattle.std.specs.Str.{is_utf8}
+use Rattle.std.specs.List.{list_all}
+use Rattle.std.specs.declared.alloc.Global.{Global}
+use Rattle.std.specs.declared.string.String.{String}
+use Rattle.std.proofs.lemmas.Bool.{and_from}
+use Rattle.std.proofs.lemmas.Str.{is_utf8-from_IsUtf8, IsUtf8-string_bytes}
+use Rattle.imp_fields.specs.Airport.{is_airport}
+use Rattle.station_core.specs.Key.{is_key}
+use Rattle.text_rows.specs.Meant.{message_meant}
+use Rattle.text_rows.specs.declared.outbox.MessageRow.{MessageRow}
+use Rattle.found_tables.specs.Held.{part_entry, kept_key_entry, kept_text_entry}
+use Rattle.found_tables.specs.declared.part.PartEntry.{PartEntry}
+use Rattle.found_tables.specs.declared.kept_key.KeptKeyEntry.{KeptKeyEntry}
+use Rattle.found_tables.specs.declared.kept_text.KeptTextEntry.{KeptTextEntry}
+use Rattle.row_values.specs.Numbers.{is_count, is_day, is_within}
+use Rattle.row_values.specs.Flights.{is_flight_text}
+use Rattle.row_values.specs.Manifests.{is_part_row}
+use Rattle.row_values.specs.Logs.{is_message_row}
+use Rattle.row_values.specs.Replies.{is_kept_row, is_kept_text_row}
+
+is_text : (text : String Global) → is_utf8 (string_bytes text) ≡ true
+is_text text = is_utf8-from_IsUtf8 _ (IsUtf8-string_bytes text)
+
+and_so : (b : Bool) → b && true ≡ b
+and_so true = refl
+and_so false = refl
+
+-- so a row is within range where its other columns are
+
+pub part_is : (row : PartEntry) → is_part_row (part_entry row)
+    ≡ is_flight_text (string_bytes row.flight) && is_day row.day && is_airport (string_bytes row.airport) && is_within 1 9999 row.seq
+part_is row =
+    let others = is_flight_text (string_bytes row.flight) && is_day row.day && is_airport (string_bytes row.airport) && is_within 1 9999 row.seq in
+    ap (λ b. others && b) (is_text row.body) ∙ and_so others
+
+pub kept_key_is : (row : KeptKeyEntry) → is_kept_row (kept_key_entry row) ≡ is_key (string_bytes row.id) && is_count row.count
+kept_key_is row =
+    ap (λ b. is_key (string_bytes row.id) && b && is_count row.count) (is_text row.command)
+    ∙ ap (λ b. b && is_count row.count) (and_so (is_key (string_bytes row.id)))
+
+pub kept_text_is : (row : KeptTextEntry) → is_kept_text_row (kept_text_entry row) ≡ is_count row.count
+kept_text_is row = ap (λ b. b && is_count row.count) (is_text row.body)
+
+pub messages_are : (rows : List MessageRow) → list_all is_message_row (map message_meant rows) ≡ true
+messages_are [] = refl
+messages_are (row ∷ rows) = and_from _ _ (is_text row.body) (messages_are rows)
