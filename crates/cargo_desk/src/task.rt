@@ -6,9 +6,9 @@ use crate::run::{is_opening, run_line};
 use crate::service::{Service, serve_line};
 use desk_words::Line;
 use imp_fields::Moment;
+use memory_files::open_pages;
 use sqlite::{Alter, Connection};
 use station_core::Counted;
-use station_rows::open_memory;
 use std::io::{BufWriter, Read, Write};
 use stock_list::RunFault;
 
@@ -76,7 +76,7 @@ fn run_task<S: Alter, R: Read + Drop>(
 
 /// Does a line's task over a new store in memory.
 fn run_in_memory<R: Read + Drop>(rt: &HostRuntime, line: &Line<'_>, task: Task<'_, R>) -> u8 {
-    match open_memory(rt.alloc()) {
+    match open_pages(rt.alloc()) {
         Ok(conn) => {
             let (status, _conn) = run_task(rt, line, conn, task);
             status

@@ -3,8 +3,8 @@ use crate::cargo::Bench;
 use crate::report::{counted, give_up, report};
 use crate::stock::take_in;
 use crate::stores::{StoreKind, opened, over_pages, over_tables};
+use memory_files::MemoryFile;
 use sqlite::{Alter, Connection, Files, MemStore};
-use sqlite_disk::Memory;
 use station_tables::{Station, attach};
 use std::alloc::Global;
 use std::io;
@@ -43,7 +43,7 @@ fn left_tables(alloc: Global, moves: u32) -> Option<Connection<MemStore>> {
 }
 
 /// The files that a station with so many moves left.
-fn left_files(alloc: Global, moves: u32) -> Option<Files<Memory>> {
+fn left_files(alloc: Global, moves: u32) -> Option<Files<MemoryFile>> {
     let station = filled(alloc, over_pages(alloc)?, moves)?;
     match station.release().close_files() {
         Ok(files) => Some(files),

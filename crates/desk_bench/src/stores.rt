@@ -1,7 +1,7 @@
 //! The stores over which a station is measured.
 use imp_fields::Airport;
-use sqlite::{Alter, Connection, FileStore, Files, MemStore, Options};
-use sqlite_disk::Memory;
+use memory_files::{MemoryFile, MemoryPages, open_pages};
+use sqlite::{Alter, Connection, Files, MemStore, Options};
 use station_rows::open_memory;
 use station_tables::{Station, create};
 use std::alloc::Global;
@@ -48,10 +48,7 @@ pub fn over_tables(alloc: Global) -> Option<Station<MemStore>> {
 }
 
 /// A store of the pages that files in memory hold.
-pub fn opened(alloc: Global, files: Files<Memory>) -> Option<Connection<FileStore<Memory>>> {
-    if !files.may_be_used() {
-        return None;
-    }
+pub fn opened(alloc: Global, files: Files<MemoryFile>) -> Option<Connection<MemoryPages>> {
     match Connection::open_files(alloc, files, Options::new(7)) {
         Ok(conn) => Some(conn),
         Err(_) => None,
@@ -59,10 +56,6 @@ pub fn opened(alloc: Global, files: Files<Memory>) -> Option<Connection<FileStor
 }
 
 /// A new station over pages in memory.
-pub fn over_pages(alloc: Global) -> Option<Station<FileStore<Memory>>> {
-    let files = Files {
-        log: Memory::new(alloc),
-        db: Memory::new(alloc),
-    };
-    station_over(alloc, opened(alloc, files)?)
+pub fn over_pages(alloc: Global) -> Option<Station<MemoryPages>> {
+    station_over(alloc, open_pages(alloc).ok()?)
 }

@@ -3,14 +3,13 @@ use crate::day::Report;
 use agent_stock::Holder;
 use awb_number::Awb;
 use imp_fields::{Airport, Moment};
+use memory_files::{MemoryPages, open_pages};
 use plain_station::PlainStation;
 use reports::{
     ReportCause, ReportFault, irregularity_report, movement_book, pending_report, stock_report,
     trail_report,
 };
-use sqlite::MemStore;
 use station_core::{ActFault, Answer, Counted, Input, Keeper, Waybill, act_all, answer_one};
-use station_rows::open_memory;
 use station_tables::{AttachFault, Station, attach, create};
 use std::alloc::Global;
 
@@ -40,7 +39,7 @@ impl Kind {
 #[derive(Drop)]
 pub enum Desk {
     Plain(PlainStation),
-    Tables(Station<MemStore>),
+    Tables(Station<MemoryPages>),
 }
 
 /// A report.
@@ -69,7 +68,7 @@ fn cause(fault: ReportFault) -> ActFault {
 
 /// A new station over tables in memory.
 fn tables(alloc: Global, here: Airport) -> Result<Desk, ActFault> {
-    let Ok(conn) = open_memory(alloc) else {
+    let Ok(conn) = open_pages(alloc) else {
         return Err(ActFault::Memory);
     };
     match create(alloc, conn, here) {
