@@ -1,25 +1,19 @@
-//! How fast the desk is: a table with a line for each kind of work. The messages that are read lie in `data/`.
-//!
-//! - `run`: each kind of work;
-//! - `cargo STORE MOVES`: cargo on a station over `tables` or over `pages`, both in memory, that has so many moves already;
-//! - `opening STORE MOVES`: how long a station with so many moves takes that is opened over what it left.
+//! How fast the desk is: with the word `run` it prints a table with a line for each kind of work. The messages that it reads lie in
+//! `data/`.
 #![tactic(auto)]
 
 mod cargo;
 mod messages;
 mod mixed;
-mod opening;
 mod planning;
 mod report;
 mod stock;
-mod stores;
 
 use report::{Done, give_up, report};
 use std::alloc::Global;
 use std::process::ExitCode;
 use std::time::Instant;
 use std::{env, fs, io};
-use stores::StoreKind;
 
 /// What is done again and again, perhaps with a message.
 #[derive(Clone, Copy)]
@@ -61,11 +55,8 @@ const OTHERS: [(Work, &str); 4] = [
     (Work::PlanManifest, "FFM of 500 lines planned"),
 ];
 
-/// How many moves the stations have on which cargo is measured, and those that are opened again.
+/// How many moves the stations over tables have on which cargo is measured.
 const MOVES: [u32; 4] = [1_000, 10_000, 40_000, 100_000];
-
-/// The most moves to which a station over tables comes: each one that takes something off costs in proportion to its table.
-const MOST_OVER_TABLES: u32 = 40_000;
 
 /// Does the work, and tells how often; nothing where it couldn't be done.
 fn done(alloc: Global, work: Work, text: &[u8]) -> Option<Done> {
@@ -108,15 +99,6 @@ fn measure_session(rt: &HostRuntime, what: &str) -> Result<(), io::Error> {
     report(rt, what, done, start.elapsed(rt)?)
 }
 
-/// Measures what stations with so many moves do.
-fn measure_station(rt: &HostRuntime, moves: u32) -> Result<(), io::Error> {
-    if moves <= MOST_OVER_TABLES {
-        cargo::measure(rt, StoreKind::Tables, moves)?;
-    }
-    cargo::measure(rt, StoreKind::Pages, moves)?;
-    opening::measure(rt, StoreKind::Pages, moves)
-}
-
 /// Measures each kind of work, one after another.
 fn measure_all(rt: &HostRuntime) -> Result<(), io::Error> {
     println!(rt; "  a second    ns each     MB/s  work")?;
@@ -132,52 +114,22 @@ fn measure_all(rt: &HostRuntime) -> Result<(), io::Error> {
         measure(rt, what, work, b"")?;
     }
     for moves in MOVES {
-        measure_station(rt, moves)?;
+        cargo::measure(rt, moves)?;
     }
     Ok(())
 }
 
-/// What the words ask for.
-#[derive(Clone, Copy, Debug, PartialEq, Eq)]
-enum Asked {
-    All,
-    /// Cargo on a station with so many moves.
-    Cargo(StoreKind, u32),
-    /// A station with so many moves is opened.
-    Opening(StoreKind, u32),
-}
-
-/// What is asked for of a store and a number of moves.
-fn asked_of(verb: &str, store: &str, moves: &str) -> Option<Asked> {
-    let store = StoreKind::read(store)?;
-    let moves = moves.parse::<u32>().ok()?;
-    match verb {
-        "cargo" => Some(Asked::Cargo(store, moves)),
-        "opening" => Some(Asked::Opening(store, moves)),
-        _ => None,
-    }
-}
-
-/// What the words ask for, the first of which names the program.
-fn read_words(words: &[String]) -> Option<Asked> {
-    match words {
-        [_program, verb] if verb.as_str() == "run" => Some(Asked::All),
-        [_program, verb, store, moves] => asked_of(verb.as_str(), store.as_str(), moves.as_str()),
-        _ => None,
-    }
-}
-
-/// Status 0: what was asked for was measured; 2: other words.
+/// Status 0: all was measured; 2: other words than `run`.
 fn main(rt: HostRuntime) -> Result<ExitCode, io::Error> {
     let words: Vec<String> = env::args(&rt)?.collect(rt.alloc())?;
-    match read_words(words.as_slice()) {
-        Some(Asked::All) => measure_all(&rt)?,
-        Some(Asked::Cargo(store, moves)) => cargo::measure(&rt, store, moves)?,
-        Some(Asked::Opening(store, moves)) => opening::measure(&rt, store, moves)?,
-        None => {
-            eprintln!(rt; "usage: desk_bench run | cargo STORE MOVES | opening STORE MOVES")?;
-            return Ok(ExitCode::from(2));
+    match words.as_slice() {
+        [_program, verb] if verb.as_str() == "run" => {
+            measure_all(&rt)?;
+            Ok(ExitCode::from(0))
+        }
+        _ => {
+            eprintln!(rt; "usage: desk_bench run")?;
+            Ok(ExitCode::from(2))
         }
     }
-    Ok(ExitCode::from(0))
 }

@@ -1,13 +1,13 @@
 //! Orders of the stock desk over tables in memory.
 use crate::report::{Done, counted};
-use crate::stores::over_tables;
 use agent_stock::{AgentCode, Order, Run, RunCount};
 use awb_number::Awb;
 use desk_commands::Command;
-use imp_fields::Moment;
+use imp_fields::{Airport, Moment};
 use sqlite::MemStore;
 use station_core::{Input, Keeper, Key};
-use station_tables::Station;
+use station_rows::open_memory;
+use station_tables::{Station, create};
 use std::alloc::Global;
 
 /// How many numbers a day's delivery has.
@@ -24,6 +24,15 @@ pub enum Work {
     Runs,
     /// Numbers issued one by one.
     Singles,
+}
+
+/// A new station in memory, in Frankfurt.
+pub fn station(alloc: Global) -> Option<Station<MemStore>> {
+    let conn = open_memory(alloc).ok()?;
+    match create(alloc, conn, Airport::read(b"FRA")?) {
+        Ok(station) => Some(station),
+        Err(_) => None,
+    }
 }
 
 /// A key of a letter and a number.
@@ -60,13 +69,7 @@ pub fn run_of(serial: u32, count: u32) -> Option<Run> {
 }
 
 /// Takes in numbers.
-pub fn take_in(
-    alloc: Global,
-    keeper: &mut impl Keeper,
-    n: u32,
-    serial: u32,
-    count: u32,
-) -> Option<()> {
+fn take_in(alloc: Global, keeper: &mut impl Keeper, n: u32, serial: u32, count: u32) -> Option<()> {
     let run = run_of(serial, count)?;
     ask(alloc, keeper, 't', n, Order::TakeIn(run))
 }
@@ -122,7 +125,7 @@ fn singles(alloc: Global, keeper: &mut impl Keeper) -> Option<Done> {
 
 /// A new station in memory where the work can begin.
 pub fn prepared(alloc: Global, work: Work) -> Option<Station<MemStore>> {
-    let mut station = over_tables(alloc)?;
+    let mut station = station(alloc)?;
     if work == Work::Singles {
         take_in(alloc, &mut station, 0, 0, 10_000)?;
     }
