@@ -5,12 +5,8 @@
 #![tactic(auto)]
 
 mod cargo;
-mod departure;
-mod disks;
 mod ends;
-mod found;
 mod fused;
-mod listing;
 mod memory;
 mod plain;
 mod rows;
@@ -19,7 +15,6 @@ mod stops;
 mod tables;
 
 use case_files::{Answers, go_through};
-use found::FoundAnswers;
 use rows::RowAnswers;
 use std::alloc::Global;
 use std::process::ExitCode;
@@ -27,7 +22,7 @@ use std::{env, fs, io};
 use tables::TableAnswers;
 
 /// The files of cases, in the order in which they are gone through.
-const FILES: [&str; 6] = ["rows", "tables", "found", "ends", "cargo", "stops"];
+const FILES: [&str; 5] = ["rows", "tables", "ends", "cargo", "stops"];
 
 /// What answers the cases of a file.
 #[derive(Drop)]
@@ -36,7 +31,6 @@ struct FileAnswers {
     file: &'static str,
     rows: RowAnswers,
     tables: TableAnswers,
-    found: FoundAnswers,
 }
 
 impl Answers for FileAnswers {
@@ -44,7 +38,6 @@ impl Answers for FileAnswers {
         match self.file {
             "rows" => self.rows.answer(asked, text),
             "tables" => self.tables.answer(asked, text),
-            "found" => self.found.answer(asked, text),
             "ends" => ends::answer(self.alloc, asked, text),
             "cargo" => cargo_answer(self.alloc, asked, text),
             "stops" => stops::answer(self.alloc, asked),
@@ -106,7 +99,6 @@ fn try_cases(rt: &HostRuntime) -> Result<bool, io::Error> {
             file,
             rows: RowAnswers::new(rt.alloc()),
             tables: TableAnswers::new(rt.alloc()),
-            found: FoundAnswers::new(rt.alloc()),
         };
         all &= go_through(rt, file, text.as_str(), &mut answers)?;
     }

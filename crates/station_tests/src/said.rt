@@ -1,8 +1,5 @@
 //! What answers are made of.
 use agent_stock::{Holder, StockRun};
-use shipment_machine::Amount;
-use station_core::Waybill;
-use station_tables::AttachFault;
 use std::alloc::Global;
 use std::str::SplitWhitespace;
 
@@ -49,42 +46,4 @@ pub fn runs_said(alloc: Global, runs: &[StockRun]) -> Option<String> {
         said.push_str(run.as_str()).ok()?;
     }
     Some(said)
-}
-
-/// Why there is no station: `601` with the table that isn't good, `602` where there is none, `603` with the version, or a word.
-pub fn fault_said(alloc: Global, fault: &AttachFault) -> Option<String> {
-    match fault {
-        AttachFault::Unlawful(table) => format!(in alloc; "601 {}", table.as_str()).ok(),
-        AttachFault::NoStation => say(alloc, "602"),
-        AttachFault::Version(version) => format!(in alloc; "603 {version}").ok(),
-        AttachFault::Occupied => say(alloc, "occupied"),
-        AttachFault::Store => say(alloc, "store"),
-        AttachFault::Memory => say(alloc, "memory"),
-    }
-}
-
-/// Pieces and tenths.
-fn amount_said(alloc: Global, amount: &Amount) -> Option<String> {
-    format!(in alloc; "{} at {}", amount.pieces, amount.tenths).ok()
-}
-
-/// What came of a waybill: what was taken over and found, and where that is.
-fn waybill_said(alloc: Global, waybill: &Waybill) -> Option<String> {
-    let taken = amount_said(alloc, &waybill.taken)?;
-    let found = amount_said(alloc, &waybill.found)?;
-    let store = amount_said(alloc, &waybill.store)?;
-    let departed = amount_said(alloc, &waybill.departed)?;
-    let delivered = amount_said(alloc, &waybill.delivered)?;
-    let missing = amount_said(alloc, &waybill.missing)?;
-    format!(in alloc;
-        "taken {taken}, found {found}, store {store}, departed {departed}, delivered {delivered}, missing {missing}"
-    ).ok()
-}
-
-/// What is known of a waybill.
-pub fn known_said(alloc: Global, waybill: &Option<Waybill>) -> Option<String> {
-    match waybill {
-        Some(waybill) => waybill_said(alloc, waybill),
-        None => say(alloc, "none"),
-    }
 }

@@ -1,5 +1,5 @@
 //! A station over the tables of a database in memory.
-use crate::said::{fault_said, holder_said, next_whole, runs_said, say, shown};
+use crate::said::{holder_said, next_whole, runs_said, say, shown};
 use agent_stock::{AgentCode, Order, Run, RunCount, StockRun};
 use awb_number::Awb;
 use desk_commands::Command;
@@ -9,7 +9,7 @@ use station_core::{
     Answer, Input, Keeper, Key, Sink, act_all, answer_one, refusal_text, reply_text,
 };
 use station_rows::{Rows, StockRow, TableStore, open_memory};
-use station_tables::{Station, create};
+use station_tables::{AttachFault, Station, create};
 use std::alloc::Global;
 use std::slice;
 use std::str::SplitWhitespace;
@@ -68,7 +68,11 @@ fn fault_of(alloc: Global, conn: Connection<MemStore>) -> Option<String> {
     match create(alloc, conn, here()?) {
         Ok(_) => None,
         Err((conn, fault)) => {
-            let word = fault_said(alloc, &fault)?;
+            let word = match fault {
+                AttachFault::Occupied => "occupied",
+                AttachFault::Store => "store",
+                _ => "another fault",
+            };
             let place = if conn.is_autocommit() {
                 "outside"
             } else {
@@ -124,8 +128,7 @@ fn told(alloc: Global, keeper: &mut impl Keeper, asked: &Asked) -> Option<String
     answer_said(alloc, &answer_one(keeper, &input, noon()?).ok()?)
 }
 
-/// What is told of an input.
-pub fn answer_said(alloc: Global, answer: &Answer) -> Option<String> {
+fn answer_said(alloc: Global, answer: &Answer) -> Option<String> {
     match answer {
         Answer::Done(reply) => reply_text(alloc, reply).ok(),
         Answer::Refused(refusal) => refusal_text(alloc, refusal).ok(),
@@ -168,8 +171,7 @@ fn number(text: &[u8]) -> Option<Awb> {
     Awb::read(text.first_chunk()?).ok()
 }
 
-/// Who holds a number.
-pub fn holder(alloc: Global, keeper: &mut impl Keeper, text: &[u8]) -> Option<String> {
+fn holder(alloc: Global, keeper: &mut impl Keeper, text: &[u8]) -> Option<String> {
     match keeper.holder(&number(text)?).ok()? {
         Some(holder) => holder_said(alloc, &holder),
         None => say(alloc, "nobody"),
@@ -193,7 +195,7 @@ impl Sink<StockRun> for Taken {
 }
 
 /// The runs of the stock that a sink of so many rows is handed.
-pub fn stock(alloc: Global, keeper: &mut impl Keeper, most: &str) -> Option<String> {
+fn stock(alloc: Global, keeper: &mut impl Keeper, most: &str) -> Option<String> {
     let mut taken = Taken {
         rows: Vec::new(alloc),
         most: most.parse::<usize>().ok()?,
