@@ -14,6 +14,8 @@ mod part;
 pub mod ranges;
 mod station;
 mod stock;
+#[cfg(test)]
+mod tests;
 mod trail;
 mod waybill;
 
