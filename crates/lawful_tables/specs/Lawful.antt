@@ -16,7 +16,7 @@ use Rattle.shipment_machine.specs.Lawful.{is_outside, IsStocked, IsLawfulMove, I
 use Rattle.row_schema.specs.Tables.{Tables, move_id, trail_id, message_id}
 use Rattle.row_values.specs.Numbers.{AreNumbered}
 use Rattle.row_values.specs.Waybills.{is_waybill_row}
-use Rattle.row_values.specs.Stock.{is_stock_row}
+use Rattle.row_values.specs.Stock.{AreStockRows}
 use Rattle.row_values.specs.Flights.{is_flight_row}
 use Rattle.row_values.specs.Moves.{book_in, is_move_row}
 use Rattle.row_values.specs.Counts.{AreCounts, AreBuilds}
@@ -36,9 +36,9 @@ pub record AreWaybills (t : Tables) : Type 0 where
   pub rows : IsTrue (list_all is_waybill_row t.waybills)
   pub amounts : (w : ℕ) → IfSome ((cargo_in t).declared w) (λ d. IsLawfulAmount d.pieces d.tenths)
 
--- each number is within range, and a used one is declared
+-- each row is within range and no number is in two, and a used number is declared
 pub record AreStocks (t : Tables) : Type 0 where
-  pub rows : IsTrue (list_all is_stock_row (entries t.stock))
+  pub rows : AreStockRows t.stock
   pub used : (w : ℕ) → (cargo_in t).holders w ≡ Some Used → IsSome ((cargo_in t).declared w)
 
 -- each flight is within range, and isn't to be unloaded here

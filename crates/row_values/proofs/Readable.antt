@@ -5,7 +5,7 @@ use Rattle.std.specs.FinMap.{FinMap, entries}
 use Rattle.row_schema.specs.Tables.{Tables, Station, Waybill, Stock, stock_cmp, Flight, flight_cmp, Expected, expected_cmp, part_cmp, TrailLine, trail_id, Message, message_id, Kept, kept_cmp, kept_text_cmp}
 use Rattle.row_values.specs.Numbers.{AreNumbered}
 use Rattle.row_values.specs.Waybills.{is_waybill_row}
-use Rattle.row_values.specs.Stock.{is_stock_row}
+use Rattle.row_values.specs.Stock.{AreStockRows}
 use Rattle.row_values.specs.Flights.{is_flight_row}
 use Rattle.row_values.specs.Manifests.{is_expected_row, is_part_row}
 use Rattle.row_values.specs.Logs.{is_trail_row, is_message_row}
@@ -55,7 +55,7 @@ module _ (t : Tables) (is : IsReadable t) where
     builds = is.builds;
   }
 
-  pub readable_stock : (rows : FinMap stock_cmp Stock) → IsTrue (list_all is_stock_row (entries rows)) → IsReadable (record t { stock = rows })
+  pub readable_stock : (rows : FinMap stock_cmp Stock) → AreStockRows rows → IsReadable (record t { stock = rows })
   readable_stock rows fits = record {
     station = is.station;
     waybills = is.waybills;

@@ -8,7 +8,7 @@ use Rattle.station_core.specs.Step.{State}
 use Rattle.row_schema.specs.Tables.{Tables, Station, move_id, trail_id, message_id}
 use Rattle.row_values.specs.Numbers.{natural, is_count, AreNumbered}
 use Rattle.row_values.specs.Waybills.{declared_in, is_waybill_row}
-use Rattle.row_values.specs.Stock.{holders_in, is_stock_row}
+use Rattle.row_values.specs.Stock.{holders_in, AreStockRows}
 use Rattle.row_values.specs.Flights.{flights_in, is_flight_row}
 use Rattle.row_values.specs.Moves.{book_in, is_move_row}
 use Rattle.row_values.specs.Counts.{AreCounts, AreBuilds}
@@ -51,12 +51,12 @@ meaning_of t = record {
   kept_texts = kept_texts_in t.kept_texts;
 }
 
--- Every value is within range, what is numbered has the numbers from 1, what was accepted under a key is a command, and the
--- running counts are the book's sums.
+-- Every value is within range, no number is in two rows of the stock, what is numbered has the numbers from 1, what was accepted
+-- under a key is a command, and the running counts are the book's sums.
 pub record IsReadable (t : Tables) : Type 0 where
   pub station : IsTrue (is_station t.stations)
   pub waybills : IsTrue (list_all is_waybill_row t.waybills)
-  pub stock : IsTrue (list_all is_stock_row (entries t.stock))
+  pub stock : AreStockRows t.stock
   pub flights : IsTrue (list_all is_flight_row (entries t.flights))
   pub moves : IsTrue (list_all is_move_row t.moves)
   pub book : AreNumbered move_id t.moves

@@ -12,9 +12,9 @@ use Rattle.agent_stock.specs.Stock.{is_among}
 use Rattle.agent_stock.specs.declared.stock.Holder.{Holder}
 use Rattle.row_schema.specs.Tables.{Stock, StockKey, stock_cmp}
 use Rattle.row_values.specs.Numbers.{natural, is_within}
-use Rattle.row_values.specs.Stock.{holder_by, holders_in, stands_for}
+use Rattle.row_values.specs.Stock.{holder_by, holders_in, stands_for, is_stock_row, is_behind, are_apart}
 use Rattle.run_rows.specs.Rows.{holders_by, end_of, IsRunRow, StandFrom, AreRuns}
-use Rattle.stock_runs.specs.Runs.{run_in, named, is_run_row, is_behind, are_apart}
+use Rattle.stock_runs.specs.Runs.{run_in, named}
 
 abbrev fits : ℤ → ℤ → ℤ → Bool
 fits p low high = is_within 0 999 p && is_within 0 9_999_999 low && int_le low high && int_le high (pos 9_999_999)
@@ -88,20 +88,20 @@ next_behind p low high q from to h k l =
     let order = order_of (natural p) (natural high) (natural q) (natural from) (sym (λ i. int_lt (P i) (Q i) || (int_eq (P i) (Q i) && int_lt (H i) (F i))) ∙ l) in
     numbers (natural p) (natural low) (natural high) (natural q) (natural from) here.0 here.1 order
 
-row_fits : (row : StockKey × Stock) → is_run_row row ≡ true → fits row.0.0 row.0.1 row.1.high ≡ true
+row_fits : (row : StockKey × Stock) → is_stock_row row ≡ true → fits row.0.0 row.0.1 row.1.high ≡ true
 row_fits row h = (and_parts _ _ h).0
 
-has_holder : (row : StockKey × Stock) → is_run_row row ≡ true → holder_by row.1 ≡ Some (named (holder_by row.1))
+has_holder : (row : StockKey × Stock) → is_stock_row row ≡ true → holder_by row.1 ≡ Some (named (holder_by row.1))
 has_holder row h = go (holder_by row.1) (and_parts _ _ h).1
   where
     go : (o : Option Holder) → is_some o ≡ true → o ≡ Some (named o)
     go (Some holder) e = refl
     go None e = cc
 
-found : (n : ℕ) (rows : List (StockKey × Stock)) → list_all is_run_row rows ≡ true → option_and_then (λ row. holder_by row.1) (find (stands_for n) rows) ≡ holders_by (map run_in rows) n
+found : (n : ℕ) (rows : List (StockKey × Stock)) → list_all is_stock_row rows ≡ true → option_and_then (λ row. holder_by row.1) (find (stands_for n) rows) ≡ holders_by (map run_in rows) n
 found n [] all = refl
 found n (row ∷ rows) all =
-    let parts = and_parts (is_run_row row) (list_all is_run_row rows) all in
+    let parts = and_parts (is_stock_row row) (list_all is_stock_row rows) all in
     go (stands_for n row) (is_among (run_in row).first (run_in row).count n) (stands n row.0.0 row.0.1 row.1.high (row_fits row parts.0)) (has_holder row parts.0) (found n rows parts.1)
   where
     go : (a b : Bool) → a ≡ b → holder_by row.1 ≡ Some (named (holder_by row.1)) → option_and_then (λ r. holder_by r.1) (find (stands_for n) rows) ≡ holders_by (map run_in rows) n
@@ -111,27 +111,27 @@ found n (row ∷ rows) all =
     go false true e is more = cc
     go false false e is more = more
 
-pub same_holders : (stock : FinMap stock_cmp Stock) → list_all is_run_row (entries stock) ≡ true → holders_in stock ≡ holders_by (map run_in (entries stock))
+pub same_holders : (stock : FinMap stock_cmp Stock) → list_all is_stock_row (entries stock) ≡ true → holders_in stock ≡ holders_by (map run_in (entries stock))
 same_holders stock all = λ i n. found n (entries stock) all i
 
-each : (rows : List (StockKey × Stock)) → list_all is_run_row rows ≡ true → AllByRecursion IsRunRow (map run_in rows)
+each : (rows : List (StockKey × Stock)) → list_all is_stock_row rows ≡ true → AllByRecursion IsRunRow (map run_in rows)
 each [] all = tt
 each (row ∷ rows) all =
-    let parts = and_parts (is_run_row row) (list_all is_run_row rows) all in
+    let parts = and_parts (is_stock_row row) (list_all is_stock_row rows) all in
     let fit = size row.0.0 row.0.1 row.1.high (row_fits row parts.0) in
     (record { some = fit.0; one_prefix = fit.1 }, each rows parts.1)
 
-stand : (low : ℕ) (row : StockKey × Stock) (rows : List (StockKey × Stock)) → list_all is_run_row (row ∷ rows) ≡ true → are_apart (row ∷ rows) ≡ true → low ≤ (run_in row).first → StandFrom low (map run_in (row ∷ rows))
+stand : (low : ℕ) (row : StockKey × Stock) (rows : List (StockKey × Stock)) → list_all is_stock_row (row ∷ rows) ≡ true → are_apart (row ∷ rows) ≡ true → low ≤ (run_in row).first → StandFrom low (map run_in (row ∷ rows))
 stand low row [] all apart le = (le, tt)
 stand low row (next ∷ rows) all apart le =
-    let parts = and_parts (is_run_row row) (list_all is_run_row (next ∷ rows)) all in
-    let more = and_parts (is_run_row next) (list_all is_run_row rows) parts.1 in
+    let parts = and_parts (is_stock_row row) (list_all is_stock_row (next ∷ rows)) all in
+    let more = and_parts (is_stock_row next) (list_all is_stock_row rows) parts.1 in
     let behind = and_parts (is_behind row next) (are_apart (next ∷ rows)) apart in
     (le, stand (end_of (run_in row)) next rows parts.1 behind.1 (next_behind row.0.0 row.0.1 row.1.high next.0.0 next.0.1 next.1.high (row_fits row parts.0) (row_fits next more.0) behind.0))
 
-pub are_in_order : (stock : FinMap stock_cmp Stock) → list_all is_run_row (entries stock) ≡ true → are_apart (entries stock) ≡ true → AreRuns (map run_in (entries stock))
+pub are_in_order : (stock : FinMap stock_cmp Stock) → list_all is_stock_row (entries stock) ≡ true → are_apart (entries stock) ≡ true → AreRuns (map run_in (entries stock))
 are_in_order stock all apart = record { stand = go (entries stock) all apart; each = each (entries stock) all }
   where
-    go : (rows : List (StockKey × Stock)) → list_all is_run_row rows ≡ true → are_apart rows ≡ true → StandFrom 0 (map run_in rows)
+    go : (rows : List (StockKey × Stock)) → list_all is_stock_row rows ≡ true → are_apart rows ≡ true → StandFrom 0 (map run_in rows)
     go [] all apart = tt
     go (row ∷ rows) all apart = stand 0 row rows all apart (omega arith)

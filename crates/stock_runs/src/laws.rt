@@ -2,12 +2,12 @@
 ghost use Rattle.std.specs.Prelude.{◌≡◌, map};
 ghost use Rattle.std.specs.FinMap.{FinMap, entries};
 ghost use Rattle.row_schema.specs.Tables.{Stock, stock_cmp};
-ghost use Rattle.row_values.specs.Stock.{holders_in};
+ghost use Rattle.row_values.specs.Stock.{AreStockRows, holders_in};
 ghost use Rattle.run_rows.specs.Rows.{AreRuns, holders_by};
-ghost use Rattle.stock_runs.specs.Runs.{AreRunRows, run_in};
+ghost use Rattle.stock_runs.specs.Runs.{run_in};
 
 /// Rows within range that are apart are runs in ascending order, and tell who has each number as the table does.
 pub fn rows_law()
-    ensures holders { (stock : FinMap stock_cmp Stock) → AreRunRows stock → holders_in stock ≡ holders_by (map run_in (entries stock)) }
-    ensures order { (stock : FinMap stock_cmp Stock) → AreRunRows stock → AreRuns (map run_in (entries stock)) }
+    ensures holders { (stock : FinMap stock_cmp Stock) → AreStockRows stock → holders_in stock ≡ holders_by (map run_in (entries stock)) }
+    ensures order { (stock : FinMap stock_cmp Stock) → AreStockRows stock → AreRuns (map run_in (entries stock)) }
 {}

@@ -1,16 +1,15 @@
 -- The stock in the tables of a store, and what a change of it leaves.
-use Rattle.std.specs.Prelude.{◌≡◌, ◌==◌, ℕ, IsTrue, if◌then◌else◌, Some}
-use Rattle.std.specs.FinMap.{FinMap, entries}
-use Rattle.std.specs.List.{list_all}
+use Rattle.std.specs.Prelude.{◌≡◌, ◌==◌, ℕ, if◌then◌else◌, Some}
+use Rattle.std.specs.FinMap.{FinMap}
 use Rattle.agent_stock.specs.Stock.{Holders}
 use Rattle.agent_stock.specs.declared.stock.Holder.TheVariants.{Used}
 use Rattle.row_schema.specs.Store.{View, Displays, inside}
 use Rattle.row_schema.specs.Tables.{Tables, Stock, stock_cmp}
-use Rattle.row_values.specs.Stock.{holders_in, is_stock_row}
+use Rattle.row_values.specs.Stock.{holders_in, AreStockRows}
 
--- each row of the stock is within range
+-- each row of the stock is within range, and no two have a number in common
 abbrev pub Stocked : Tables → Type 0
-Stocked t = IsTrue (list_all is_stock_row (entries t.stock))
+Stocked t = AreStockRows t.stock
 
 -- the same tables with another stock
 abbrev pub restocked : FinMap stock_cmp Stock → Tables → Tables
@@ -21,7 +20,7 @@ abbrev pub using_up : Holders → ℕ → Holders
 using_up h w q = if q == w then Some Used else h q
 
 -- In a transaction that began with the tables `before`, a store shows the tables `t` with another stock, in which each number has the
--- holder that is said here. Each row of it is within range.
+-- holder that is said here. Each row of it is within range, and no two have a number in common.
 pub record Restocked (v : View) (before t : Tables) (holders : Holders) : Type 0 where
   pub stock : FinMap stock_cmp Stock
   pub shown : Displays v (inside before (restocked stock t))
