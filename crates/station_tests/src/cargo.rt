@@ -3,8 +3,8 @@ ghost use Rattle.std.specs.Prelude.{IfSome};
 ghost use Rattle.shipment_machine.specs.Lawful.{IsLawful};
 ghost use Rattle.plain_cargo.specs.Plain.{cargo_of};
 
-use crate::said::{count_said, shown};
 use awb_number::Awb;
+use case_words::{count_said, shown};
 use imp_fields::{Airport, Flight, Goods, LocalDay, Moment, Name, Pieces, Tenths};
 use plain_cargo::PlainCargo;
 use shipment_machine::laws::opening_law;

@@ -1,5 +1,5 @@
 //! Readers and writers that count, some of which fail.
-use crate::said::{say, shown};
+use case_words::{say, shown};
 use station_core::{ByteIn, ByteOut, Counted, ReadFault, WriteFault, send};
 use std::alloc::Global;
 use std::io;

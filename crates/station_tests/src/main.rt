@@ -6,12 +6,9 @@
 
 mod cargo;
 mod ends;
-mod fused;
 mod memory;
 mod plain;
 mod rows;
-mod said;
-mod stops;
 mod tables;
 
 use case_files::{Answers, go_through};
@@ -22,7 +19,7 @@ use std::{env, fs, io};
 use tables::TableAnswers;
 
 /// The files of cases, in the order in which they are gone through.
-const FILES: [&str; 5] = ["rows", "tables", "ends", "cargo", "stops"];
+const FILES: [&str; 4] = ["rows", "tables", "ends", "cargo"];
 
 /// What answers the cases of a file.
 #[derive(Drop)]
@@ -40,7 +37,6 @@ impl Answers for FileAnswers {
             "tables" => self.tables.answer(asked, text),
             "ends" => ends::answer(self.alloc, asked, text),
             "cargo" => cargo_answer(self.alloc, asked, text),
-            "stops" => stops::answer(self.alloc, asked),
             _ => None,
         }
     }

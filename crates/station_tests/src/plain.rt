@@ -1,7 +1,7 @@
 //! A station in memory: sinks that want no more, inputs at once, and want of memory.
-use crate::said::{count_said, shown};
 use crate::tables::answers_said;
 use awb_number::Awb;
+use case_words::{count_said, shown};
 use desk_commands::read_command_text;
 use imp_fields::{Airport, Moment};
 use plain_station::PlainStation;

@@ -1,5 +1,5 @@
 //! The rows of a station's tables in memory.
-use crate::said::{count_said, next_whole, say, shown};
+use case_words::{count_said, next_whole, say, shown};
 use sqlite::{Connection, MemStore};
 use station_rows::{CreateFault, Rows, StockRow, StoreFault, TableStore, open_memory};
 use std::alloc::Global;

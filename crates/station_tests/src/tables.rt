@@ -1,17 +1,16 @@
 //! A station over the tables of a database in memory.
-use crate::said::{holder_said, next_whole, runs_said, say, shown};
-use agent_stock::{AgentCode, Order, Run, RunCount, StockRun};
+use agent_stock::{AgentCode, Order, Run, RunCount};
 use awb_number::Awb;
-use desk_commands::Command;
-use imp_fields::{Airport, Moment};
-use sqlite::{Connection, MemStore};
-use station_core::{
-    Answer, Input, Keeper, Key, Sink, act_all, answer_one, refusal_text, reply_text,
+use case_words::{
+    answer_said, answered, holder, next_whole, noon, number, runs_said, say, shown, stock,
 };
+use desk_commands::Command;
+use imp_fields::Airport;
+use sqlite::{Connection, MemStore};
+use station_core::{Answer, Input, Keeper, Key, Sink, act_all};
 use station_rows::{Rows, StockRow, TableStore, open_memory};
 use station_tables::{AttachFault, Station, create};
 use std::alloc::Global;
-use std::slice;
 use std::str::SplitWhitespace;
 
 /// The station on which the calls of a file act.
@@ -117,22 +116,13 @@ fn agent(words: &mut SplitWhitespace<'_>) -> Option<AgentCode> {
     AgentCode::read(words.next()?.as_bytes())
 }
 
-/// Noon of 12 January 2026.
-fn noon() -> Option<Moment> {
-    Moment::new(20465, 720)
-}
-
 /// What is told of an order at noon.
 fn told(alloc: Global, keeper: &mut impl Keeper, asked: &Asked) -> Option<String> {
-    let input = Input::Keyed(asked.0, Command::Stock(asked.1));
-    answer_said(alloc, &answer_one(keeper, &input, noon()?).ok()?)
-}
-
-fn answer_said(alloc: Global, answer: &Answer) -> Option<String> {
-    match answer {
-        Answer::Done(reply) => reply_text(alloc, reply).ok(),
-        Answer::Refused(refusal) => refusal_text(alloc, refusal).ok(),
-    }
+    answered(
+        alloc,
+        keeper,
+        &Input::Keyed(asked.0, Command::Stock(asked.1)),
+    )
 }
 
 /// What is told of five orders that come as one list.
@@ -165,43 +155,6 @@ pub fn answers_said(alloc: Global, answers: &[Answer]) -> Option<String> {
         said.push_str(" ").ok()?;
     }
     say(alloc, said.as_str().trim_end())
-}
-
-fn number(text: &[u8]) -> Option<Awb> {
-    Awb::read(text.first_chunk()?).ok()
-}
-
-fn holder(alloc: Global, keeper: &mut impl Keeper, text: &[u8]) -> Option<String> {
-    match keeper.holder(&number(text)?).ok()? {
-        Some(holder) => holder_said(alloc, &holder),
-        None => say(alloc, "nobody"),
-    }
-}
-
-/// A sink that wants so many rows at most.
-#[derive(Drop)]
-struct Taken {
-    rows: Vec<StockRun>,
-    most: usize,
-}
-
-impl Sink<StockRun> for Taken {
-    ghost takes = { λ old row go new. Unit {0} };
-
-    fn take(&mut self, row: StockRun) -> bool {
-        let taken = self.rows.extend_from_slice(slice::from_ref(&row));
-        taken.is_ok() && self.rows.len() < self.most
-    }
-}
-
-/// The runs of the stock that a sink of so many rows is handed.
-fn stock(alloc: Global, keeper: &mut impl Keeper, most: &str) -> Option<String> {
-    let mut taken = Taken {
-        rows: Vec::new(alloc),
-        most: most.parse::<usize>().ok()?,
-    };
-    keeper.stock(&mut taken).ok()?;
-    runs_said(alloc, &taken.rows)
 }
 
 fn waybill(alloc: Global, keeper: &mut impl Keeper, text: &[u8]) -> Option<String> {

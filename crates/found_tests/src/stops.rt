@@ -1,18 +1,17 @@
 //! A store that fails at its n-th call, for every n: what is found afterwards is the station before or after the interrupted step.
+use crate::departure;
+use crate::disks::{FusedDisk, crashed, files, found, found_over, opened};
 use crate::fused::Fused;
-use crate::said::say;
 use awb_number::Awb;
+use case_words::say;
 use desk_commands::read_command_text;
 use imp_fields::{Airport, Moment};
-use sqlite::{Alter, Connection, Files, Options};
-use sqlite_disk::{Crash, Fuse, Memory};
+use sqlite::Files;
 use station_core::{ActFault, Input, Keeper, Key};
 use station_rows::open_memory;
 use station_tables::create;
 use std::alloc::Global;
 use stored_station::StoredStation;
-
-type FusedDisk = Fuse<Memory>;
 
 /// The commands of a day, each with its key: numbers are taken in, and four of ten pieces that were received depart.
 const DAY: [(&str, &str); 5] = [
@@ -23,42 +22,14 @@ const DAY: [(&str, &str); 5] = [
     ("d1", "depart\nLH400\n2026-01-12"),
 ];
 
+/// What is found where there is no station: no table, no index.
+const NO_STATION: &str = "602, 0 tables and indexes";
+
 /// The steps of the day: a station is made, and each command is accepted.
 const STEPS: usize = 6;
 
-/// The tables of a station.
-const TABLES: [&str; 13] = [
-    "station",
-    "waybill",
-    "stock",
-    "flight",
-    "moves",
-    "expected",
-    "part",
-    "trail",
-    "outbox",
-    "kept_key",
-    "kept_text",
-    "counts",
-    "build",
-];
-
-fn files(alloc: Global, log_calls: u64, db_calls: u64) -> Files<FusedDisk> {
-    Files {
-        log: Fuse::new(Memory::new(alloc), log_calls),
-        db: Fuse::new(Memory::new(alloc), db_calls),
-    }
-}
-
-/// The files after a crash, with fuses that no longer blow.
-fn crashed(mut files: Files<FusedDisk>) -> Files<FusedDisk> {
-    files.log.crash();
-    files.db.crash();
-    files
-}
-
-/// Whether a command of the day is accepted, at noon of its flight's day.
-fn is_done(station: &mut impl Keeper, key: &str, text: &str) -> bool {
+/// Whether a command is accepted at noon of 12 January 2026.
+pub fn is_done(station: &mut impl Keeper, key: &str, text: &str) -> bool {
     let (Some(key), Some(command), Some(noon)) = (
         Key::read(key.as_bytes()),
         read_command_text(text.as_bytes()),
@@ -84,12 +55,12 @@ fn play(alloc: Global, fresh: Files<FusedDisk>, wanted: usize) -> (usize, Files<
     let Some(here) = Airport::read(b"FRA") else {
         return (0, fresh);
     };
-    if wanted == 0 || !fresh.may_be_used() {
+    if wanted == 0 {
         return (0, fresh);
     }
-    let conn = match Connection::open_files(alloc, fresh, Options::new(7)) {
+    let conn = match opened(alloc, fresh) {
         Ok(conn) => conn,
-        Err((_, left)) => return (0, left.into_files()),
+        Err(files) => return (0, files),
     };
     let mut station = match create(alloc, conn, here) {
         Ok(station) => station,
@@ -100,38 +71,12 @@ fn play(alloc: Global, fresh: Files<FusedDisk>, wanted: usize) -> (usize, Files<
     (commands.saturating_add(1), files)
 }
 
-/// How many rows each table has, or that there is no station; nothing at all where the files can't be opened.
-fn found(alloc: Global, files: Files<FusedDisk>) -> Option<String> {
-    if !files.may_be_used() {
-        return None;
-    }
-    match Connection::open_files(alloc, files, Options::new(7)) {
-        Ok(mut conn) => row_counts(alloc, &mut conn),
-        Err(_) => None,
-    }
+/// The waybill of the day.
+fn number() -> Option<Awb> {
+    Awb::new(20, 1_234_567)
 }
 
-/// How many rows each table has, or that there is no station.
-fn row_counts<S: Alter>(alloc: Global, conn: &mut Connection<S>) -> Option<String> {
-    let mut said = String::new(alloc);
-    for table in TABLES {
-        let Some(rows) = row_count(alloc, conn, table) else {
-            return say(alloc, "no station");
-        };
-        let counted = format!(in alloc; "{table} {rows}; ").ok()?;
-        said.push_str(counted.as_str()).ok()?;
-    }
-    Some(said)
-}
-
-/// How many rows a table has, if there is such a table.
-fn row_count<S: Alter>(alloc: Global, conn: &mut Connection<S>, table: &str) -> Option<i64> {
-    let text = format!(in alloc; "SELECT count(*) FROM {table}").ok()?;
-    let row = conn.query_row(text.as_str(), &[]).ok()?;
-    row.get(0).ok()
-}
-
-/// What is found after each number of steps that no failure stops.
+/// What is found after each number of steps that no failure stops: first no station, and then one.
 fn states(alloc: Global) -> Option<Vec<String>> {
     let mut states = Vec::new(alloc);
     for wanted in 0..=STEPS {
@@ -139,7 +84,10 @@ fn states(alloc: Global) -> Option<Vec<String>> {
         if steps != wanted {
             return None;
         }
-        let found = found(alloc, left)?;
+        let found = found(alloc, left, &[number()?])?;
+        if (found.as_str() == NO_STATION) != (steps == 0) {
+            return None;
+        }
         // Each step can be told from the one before it.
         if steps > 0 && is_state(&states, steps - 1, found.as_str()) {
             return None;
@@ -167,7 +115,7 @@ fn stops(alloc: Global, in_log: bool) -> Option<String> {
             files(alloc, u64::MAX, calls)
         };
         let (steps, left) = play(alloc, fresh, STEPS);
-        let found = found(alloc, crashed(left))?;
+        let found = found(alloc, crashed(left), &[number()?])?;
         let found = found.as_str();
         if !is_state(&states, steps, found) && !is_state(&states, steps.saturating_add(1), found) {
             return format!(in alloc; "{calls} calls, {steps} steps: {found}").ok();
@@ -181,7 +129,7 @@ fn stops(alloc: Global, in_log: bool) -> Option<String> {
 
 /// Whether a station answers that it has to be opened again.
 fn is_broken(station: &mut impl Keeper) -> bool {
-    let Some(number) = Awb::new(20, 1_234_567) else {
+    let Some(number) = number() else {
         return false;
     };
     matches!(station.holder(&number), Err(ActFault::Reopen))
@@ -200,8 +148,8 @@ fn play_in_memory(alloc: Global, calls: u32) -> Option<(usize, String)> {
     if steps < STEPS && !is_broken(&mut station) {
         return None;
     }
-    let mut conn = station.into_store().into_store().release();
-    Some((steps, row_counts(alloc, &mut conn)?))
+    let conn = station.into_store().into_store().release();
+    Some((steps, found_over(alloc, conn, &[number()?])?))
 }
 
 /// One failing call after another, up to the first day that has none: what is found is what was acknowledged.
@@ -226,6 +174,8 @@ pub fn answer(alloc: Global, asked: &str) -> Option<String> {
         "calls" => failing_calls(alloc),
         "log" => stops(alloc, true),
         "database" => stops(alloc, false),
+        "departure-log" => departure::stops(alloc, true),
+        "departure-database" => departure::stops(alloc, false),
         _ => None,
     }
 }

@@ -1,5 +1,7 @@
 //! What answers are made of.
 use agent_stock::{Holder, StockRun};
+use shipment_machine::Amount;
+use station_core::Waybill;
 use std::alloc::Global;
 use std::str::SplitWhitespace;
 
@@ -46,4 +48,30 @@ pub fn runs_said(alloc: Global, runs: &[StockRun]) -> Option<String> {
         said.push_str(run.as_str()).ok()?;
     }
     Some(said)
+}
+
+/// Pieces and tenths.
+fn amount_said(alloc: Global, amount: &Amount) -> Option<String> {
+    format!(in alloc; "{} at {}", amount.pieces, amount.tenths).ok()
+}
+
+/// What came of a waybill: what was taken over and found, and where that is.
+fn waybill_said(alloc: Global, waybill: &Waybill) -> Option<String> {
+    let taken = amount_said(alloc, &waybill.taken)?;
+    let found = amount_said(alloc, &waybill.found)?;
+    let store = amount_said(alloc, &waybill.store)?;
+    let departed = amount_said(alloc, &waybill.departed)?;
+    let delivered = amount_said(alloc, &waybill.delivered)?;
+    let missing = amount_said(alloc, &waybill.missing)?;
+    format!(in alloc;
+        "taken {taken}, found {found}, store {store}, departed {departed}, delivered {delivered}, missing {missing}"
+    ).ok()
+}
+
+/// What is known of a waybill.
+pub fn known_said(alloc: Global, waybill: &Option<Waybill>) -> Option<String> {
+    match waybill {
+        Some(waybill) => waybill_said(alloc, waybill),
+        None => say(alloc, "none"),
+    }
 }
