@@ -1,11 +1,12 @@
-//! Cargo on a station over tables in memory that has many moves already.
-use crate::report::{Done, counted, report};
-use crate::stock::{key_of, noon, station};
+//! Cargo on a station that has many moves already.
+use crate::report::{Done, counted, give_up, report};
+use crate::stock::{key_of, noon};
+use crate::stores::{StoreKind, over_pages, over_tables};
 use awb_number::Awb;
 use desk_commands::Command;
 use imp_fields::{Airport, Flight, Goods, LocalDay, Name, Pieces, Tenths};
 use shipment_machine::{DeskCommand, FlightDate};
-use sqlite::MemStore;
+use sqlite::Alter;
 use station_core::{Input, Keeper};
 use station_tables::Station;
 use std::alloc::Global;
@@ -27,9 +28,9 @@ const FIRST_INBOUND: u32 = 2_000_000;
 
 /// A station in Frankfurt, and what the commands name.
 #[derive(Drop)]
-pub struct Bench {
+pub struct Bench<S: Alter + Drop> {
     alloc: Global,
-    station: Station<MemStore>,
+    station: Station<S>,
     frankfurt: Airport,
     new_york: Airport,
     ten: Pieces,
@@ -38,12 +39,12 @@ pub struct Bench {
     name: Name,
 }
 
-impl Bench {
-    /// A new station.
-    pub fn new(alloc: Global) -> Option<Bench> {
+impl<S: Alter + Drop> Bench<S> {
+    /// Over a new station.
+    pub fn over(alloc: Global, station: Station<S>) -> Option<Bench<S>> {
         Some(Bench {
             alloc,
-            station: station(alloc)?,
+            station,
             frankfurt: Airport::read(b"FRA")?,
             new_york: Airport::read(b"JFK")?,
             ten: Pieces::new(10)?,
@@ -146,6 +147,21 @@ impl Bench {
         Some(())
     }
 
+    /// The flights of so many waybills leave.
+    pub fn depart_all(&mut self, waybills: u32) -> Option<()> {
+        for serial in 0..waybills {
+            if serial % ON_A_FLIGHT == 0 {
+                self.depart(serial)?;
+            }
+        }
+        Some(())
+    }
+
+    /// The station as it is now.
+    pub fn into_station(self) -> Station<S> {
+        self.station
+    }
+
     /// The waybills that are measured are booked, or brought here.
     pub fn prepare(&mut self) -> Option<()> {
         for n in 0..MEASURED {
@@ -203,7 +219,7 @@ fn manifest(alloc: Global) -> Option<String> {
 }
 
 /// Reads and takes a manifest of 500 lines.
-fn take_manifest(bench: &mut Bench, text: &str) -> Option<Done> {
+fn take_manifest<S: Alter + Drop>(bench: &mut Bench<S>, text: &str) -> Option<Done> {
     let Ok(telegram) = read_telegram(bench.alloc, text.as_bytes()) else {
         return None;
     };
@@ -212,7 +228,7 @@ fn take_manifest(bench: &mut Bench, text: &str) -> Option<Done> {
 }
 
 /// How often work was done, or `None` where it wasn't.
-fn run(bench: &mut Bench, work: Work, text: &str) -> Option<Done> {
+fn run<S: Alter + Drop>(bench: &mut Bench<S>, work: Work, text: &str) -> Option<Done> {
     match work {
         Work::Depart => {
             bench.depart(FIRST_MEASURED)?;
@@ -231,18 +247,30 @@ fn run(bench: &mut Bench, work: Work, text: &str) -> Option<Done> {
     Some(counted(u64::from(MEASURED)))
 }
 
-/// Measures each kind of work on a station with so many moves.
-pub fn measure(rt: &HostRuntime, moves: u32) -> Result<(), io::Error> {
+/// A station with so many moves, and waybills on which work can be measured.
+fn filled<S: Alter + Drop>(
+    alloc: Global,
+    station: Option<Station<S>>,
+    moves: u32,
+) -> Option<Bench<S>> {
+    let mut bench = Bench::over(alloc, station?)?;
+    bench.fill(moves / 4)?;
+    bench.prepare()?;
+    Some(bench)
+}
+
+/// Measures each kind of work on a station to which so many moves come first.
+fn measure_on<S: Alter + Drop>(
+    rt: &HostRuntime,
+    station: Option<Station<S>>,
+    moves: u32,
+) -> Result<(), io::Error> {
     let alloc = rt.alloc();
-    println!(rt; "on a station with {moves} moves:")?;
-    let Some(mut bench) = Bench::new(alloc) else {
-        return println!(rt; "gave up: out of memory");
+    let Some(mut bench) = filled(alloc, station, moves) else {
+        return give_up(rt, "a station");
     };
-    if bench.fill(moves / 4).is_none() || bench.prepare().is_none() {
-        return println!(rt; "gave up: a command was refused");
-    }
     let Some(text) = manifest(alloc) else {
-        return println!(rt; "gave up: out of memory");
+        return give_up(rt, "a manifest");
     };
     for (work, what) in WORK {
         let start = Instant::now(rt)?;
@@ -250,4 +278,15 @@ pub fn measure(rt: &HostRuntime, moves: u32) -> Result<(), io::Error> {
         report(rt, what, done, start.elapsed(rt)?)?;
     }
     Ok(())
+}
+
+/// Measures each kind of work on a station over a store, with so many moves.
+pub fn measure(rt: &HostRuntime, store: StoreKind, moves: u32) -> Result<(), io::Error> {
+    let alloc = rt.alloc();
+    let name = store.name();
+    println!(rt; "over {name} with {moves} moves:")?;
+    match store {
+        StoreKind::Tables => measure_on(rt, over_tables(alloc), moves),
+        StoreKind::Pages => measure_on(rt, over_pages(alloc), moves),
+    }
 }

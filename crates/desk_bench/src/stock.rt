@@ -1,17 +1,17 @@
-//! Orders of the stock desk over tables in memory.
+//! Orders of the stock desk.
 use crate::report::{Done, counted};
 use agent_stock::{AgentCode, Order, Run, RunCount};
 use awb_number::Awb;
 use desk_commands::Command;
-use imp_fields::{Airport, Moment};
-use sqlite::MemStore;
+use imp_fields::Moment;
 use station_core::{Input, Keeper, Key};
-use station_rows::open_memory;
-use station_tables::{Station, create};
 use std::alloc::Global;
 
 /// How many numbers a day's delivery has.
 const DELIVERY: u32 = 10;
+
+/// How many numbers an agent is handed at once.
+const HANDED_OVER: u32 = 5_000;
 
 /// A kind of work.
 #[derive(Clone, Copy, Debug, PartialEq, Eq)]
@@ -24,15 +24,10 @@ pub enum Work {
     Runs,
     /// Numbers issued one by one.
     Singles,
-}
-
-/// A new station in memory, in Frankfurt.
-pub fn station(alloc: Global) -> Option<Station<MemStore>> {
-    let conn = open_memory(alloc).ok()?;
-    match create(alloc, conn, Airport::read(b"FRA")?) {
-        Ok(station) => Some(station),
-        Err(_) => None,
-    }
+    /// Runs of 5,000 numbers, issued and given back.
+    Handovers,
+    /// A number that has no neighbour, issued and given back, among so many.
+    Among(u32),
 }
 
 /// A key of a letter and a number.
@@ -69,7 +64,13 @@ pub fn run_of(serial: u32, count: u32) -> Option<Run> {
 }
 
 /// Takes in numbers.
-fn take_in(alloc: Global, keeper: &mut impl Keeper, n: u32, serial: u32, count: u32) -> Option<()> {
+pub fn take_in(
+    alloc: Global,
+    keeper: &mut impl Keeper,
+    n: u32,
+    serial: u32,
+    count: u32,
+) -> Option<()> {
     let run = run_of(serial, count)?;
     ask(alloc, keeper, 't', n, Order::TakeIn(run))
 }
@@ -123,13 +124,39 @@ fn singles(alloc: Global, keeper: &mut impl Keeper) -> Option<Done> {
     Some(counted(10_000))
 }
 
-/// A new station in memory where the work can begin.
-pub fn prepared(alloc: Global, work: Work) -> Option<Station<MemStore>> {
-    let mut station = station(alloc)?;
-    if work == Work::Singles {
-        take_in(alloc, &mut station, 0, 0, 10_000)?;
+fn handovers(alloc: Global, keeper: &mut impl Keeper) -> Option<Done> {
+    for n in 0..1_000 {
+        issue(alloc, keeper, n, 5_000, HANDED_OVER)?;
+        give_back(alloc, keeper, n, 5_000, HANDED_OVER)?;
     }
-    Some(station)
+    Some(counted(2_000))
+}
+
+fn among(alloc: Global, keeper: &mut impl Keeper, runs: u32) -> Option<Done> {
+    for n in 0..500 {
+        let serial = (n % runs.max(1)).saturating_mul(2);
+        issue(alloc, keeper, n, serial, 1)?;
+        give_back(alloc, keeper, n, serial, 1)?;
+    }
+    Some(counted(1_000))
+}
+
+/// Takes in what the work begins with.
+pub fn prepare(alloc: Global, keeper: &mut impl Keeper, work: Work) -> Option<()> {
+    match work {
+        Work::Singles => take_in(alloc, keeper, 0, 0, 10_000),
+        Work::Handovers => {
+            take_in(alloc, keeper, 0, 0, 10_000)?;
+            take_in(alloc, keeper, 1, 10_000, 10_000)
+        }
+        Work::Among(runs) => {
+            for n in 0..runs {
+                take_in(alloc, keeper, n, n.saturating_mul(2), 1)?;
+            }
+            Some(())
+        }
+        Work::Days | Work::Repeats | Work::Runs => Some(()),
+    }
 }
 
 /// How many orders were done, or `None` where one wasn't.
@@ -139,5 +166,7 @@ pub fn run(alloc: Global, keeper: &mut impl Keeper, work: Work) -> Option<Done> 
         Work::Repeats => repeats(alloc, keeper),
         Work::Runs => runs(alloc, keeper),
         Work::Singles => singles(alloc, keeper),
+        Work::Handovers => handovers(alloc, keeper),
+        Work::Among(runs) => among(alloc, keeper, runs),
     }
 }
