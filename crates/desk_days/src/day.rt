@@ -56,6 +56,8 @@ pub enum Ask {
     Waybill(Awb),
     Holder(Awb),
     Report(Report),
+    /// A request over HTTP.
+    Request,
 }
 
 /// A line that stands so many times.

@@ -2,6 +2,7 @@
 use crate::day::Report;
 use agent_stock::Holder;
 use awb_number::Awb;
+use http_desk::serve_one;
 use imp_fields::{Airport, Moment};
 use memory_files::{MemoryPages, open_pages};
 use plain_station::PlainStation;
@@ -77,6 +78,15 @@ fn tables(alloc: Global, here: Airport) -> Result<Desk, ActFault> {
     }
 }
 
+/// What a keeper's desk answers to a request over HTTP. The writer is memory.
+fn serve<K: Keeper>(alloc: Global, keeper: &mut K, request: &[u8], at: Moment) -> Option<Vec<u8>> {
+    let mut writer = Counted::new(Vec::new(alloc));
+    match serve_one(alloc, keeper, &mut Counted::new(request), &mut writer, at) {
+        Ok(_) => Some(writer.into_inner()),
+        Err(_) => None,
+    }
+}
+
 impl Desk {
     /// A new station.
     pub fn new(alloc: Global, kind: Kind, here: Airport) -> Result<Desk, ActFault> {
@@ -147,6 +157,14 @@ impl Desk {
         match put {
             Ok(()) => Ok(writer.into_inner()),
             Err(fault) => Err(cause(fault)),
+        }
+    }
+
+    /// The answer to a request over HTTP, unless it ends early.
+    pub fn serve(&mut self, alloc: Global, request: &[u8], at: Moment) -> Option<Vec<u8>> {
+        match self {
+            Desk::Plain(station) => serve(alloc, station, request, at),
+            Desk::Tables(station) => serve(alloc, station, request, at),
         }
     }
 }

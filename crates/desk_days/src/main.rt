@@ -11,7 +11,8 @@
 //!   equal answers;
 //! - `stock`: the `|` lines below as rows of a stock list: key, verb, prefix, serial, count and agent;
 //! - `waybill NUMBER`, `holder NUMBER`: what is known of a waybill, and who has a number, as objects of JSON, or `none`;
-//! - `outbox`, `report NAME`: a report.
+//! - `outbox`, `report NAME`: a report;
+//! - `request`: a request over HTTP, from the `|` lines below, each ended by CR and LF. What stands behind its body isn't read.
 //!
 //! A line `| TEXT` belongs to the statement above it. `take` sends such lines ended by CR and LF, `take lf` and `beginnings` by LF,
 //! and `take hex` sends the bytes that their digits tell. `|998 TEXT` stands for 998 such lines. A line `= TEXT` is what must be printed,

@@ -222,6 +222,20 @@ fn put_text(out: &mut Vec<u8>, text: &str) -> Result<(), AllocError> {
     out.extend_from_slice(b"\n")
 }
 
+/// The answer to a request over HTTP.
+fn answered(
+    alloc: Global,
+    desk: &mut Desk,
+    lines: &[Repeated<'_>],
+    at: Moment,
+) -> Result<Vec<u8>, DayFault> {
+    let request = bytes_of(alloc, Form::CrLf, lines)?;
+    match desk.serve(alloc, &request, at) {
+        Some(answer) => Ok(answer),
+        None => Ok(b"no answer".to_vec(alloc)?),
+    }
+}
+
 /// What is printed at a statement.
 fn printed(alloc: Global, desk: &mut Desk, step: &Step<'_>) -> Result<Vec<u8>, DayFault> {
     let mut out = Vec::new(alloc);
@@ -244,6 +258,7 @@ fn printed(alloc: Global, desk: &mut Desk, step: &Step<'_>) -> Result<Vec<u8>, D
         Ask::Stock => act_rows(alloc, desk, &step.lines, step.at, &mut out)?,
         Ask::Waybill(number) => put_text(&mut out, &waybill_text(alloc, desk, number)?)?,
         Ask::Holder(number) => put_text(&mut out, &holder_text(alloc, desk, number)?)?,
+        Ask::Request => return answered(alloc, desk, &step.lines, step.at),
         Ask::Report(report) => match desk.report(alloc, *report) {
             Ok(text) => return Ok(text),
             Err(fault) => put_text(&mut out, &fault_text(alloc, &fault)?)?,

@@ -36,6 +36,14 @@ fn behind(rest: &str) -> Option<&str> {
     rest.strip_prefix(' ')
 }
 
+/// Whether lines may stand below a statement.
+fn has_lines(ask: Ask) -> bool {
+    matches!(
+        ask,
+        Ask::Take(_) | Ask::Beginnings | Ask::Stock | Ask::Request
+    )
+}
+
 impl<'a> Script<'a> {
     /// The statement to which a line belongs.
     fn above(&mut self, line: u32) -> Result<&mut Step<'a>, DayFault> {
@@ -48,13 +56,13 @@ impl<'a> Script<'a> {
         }
     }
 
-    /// A line of a telegram or of a stock list.
+    /// A line of a telegram, of a stock list or of a request.
     fn add_line(&mut self, line: u32, rest: &'a str) -> Result<(), DayFault> {
         let Some(repeated) = repeated(line, rest) else {
             return bad(line, "no line stands behind the bar");
         };
         let step = self.above(line)?;
-        if !matches!(step.ask, Ask::Take(_) | Ask::Beginnings | Ask::Stock) {
+        if !has_lines(step.ask) {
             return bad(line, "the statement above it has no lines");
         }
         if step.lines.push(repeated).is_err() {

@@ -72,6 +72,7 @@ fn ask(word: &str, rest: &str) -> Option<Ask> {
         ("holder", _) => Some(Ask::Holder(number(rest)?)),
         ("outbox", "") => Some(Ask::Report(Report::Pending)),
         ("report", _) => Some(Ask::Report(report(rest)?)),
+        ("request", "") => Some(Ask::Request),
         _ => None,
     }
 }
