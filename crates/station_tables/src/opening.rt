@@ -14,6 +14,9 @@ use std::alloc::Global;
 use stored_station::StoredStation;
 
 /// Makes the tables of a station at an airport with nothing in it, in one transaction, in a store that has none of them.
+///
+/// Returns [`AttachFault::Occupied`] where the store has a table of one of these names, and [`AttachFault::Store`] where a transaction
+/// is open or the store fails, and no other fault. The connection comes back with it.
 pub fn create<S: Alter>(
     alloc: Global,
     conn: Connection<S>,
@@ -34,6 +37,7 @@ pub fn create<S: Alter>(
     ensures occupied { (connection_view S.Store conn).in_transaction ≡ false
         → ¬ IsVacant S.Store conn → result ≡ Err (conn, AttachFault.Occupied) }
     ensures vacant { IfErr result (λ e. e.1 ≡ AttachFault.Occupied → ¬ IsVacant S.Store conn) }
+    ensures faults { IfErr result (λ e. (e.1 ≡ AttachFault.Occupied) ⊎ (e.1 ≡ AttachFault.Store)) }
 
     // A crash leaves what it left before the call, or where the store was empty the opening station.
     ensures leaves { IfErr result (λ e. (connection_view S.Store e.0).IsSound → (found : Option State)
