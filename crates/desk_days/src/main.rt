@@ -21,7 +21,7 @@
 //! One of the keepers has its tables opened again before each statement, and in a long day before each tenth.
 //!
 //! The word `by-rule` in place of a script gives each keeper two hundred inputs by a fixed rule, one by one and as one list: their answers,
-//! and all that their readers hand out, have to be equal.
+//! and all that their readers hand out, have to be equal. `orders-by-rule` does the same with two thousand orders on the stock.
 #![tactic(auto)]
 
 mod compare;
@@ -37,12 +37,19 @@ mod telegram;
 use day::{Day, DayFault};
 use desk::Kind;
 use play::Played;
+use rule::Inputs;
 use std::alloc::{AllocError, Global};
 use std::process::ExitCode;
 use std::{env, fs, io};
 
-/// The word that asks for two hundred inputs by a rule in place of a script.
-const RULE: &str = "by-rule";
+/// The inputs by a rule that a word asks for in place of a script.
+fn rule_of(word: &str) -> Option<Inputs> {
+    match word {
+        "by-rule" => Some(Inputs::Mixed),
+        "orders-by-rule" => Some(Inputs::Orders),
+        _ => None,
+    }
+}
 
 /// Whether a day went as told.
 #[derive(Clone, Copy, Debug, PartialEq, Eq)]
@@ -109,8 +116,11 @@ fn run(alloc: Global, name: &str, script: &str) -> Result<(Outcome, String), All
 }
 
 /// Gives the keepers inputs by a rule.
-fn by_rule(alloc: Global) -> (Outcome, &'static str) {
-    match rule::are_equal(alloc) {
+fn by_rule(alloc: Global, given: Inputs) -> (Outcome, &'static str) {
+    match rule::are_equal(alloc, given) {
+        Some(true) if given == Inputs::Orders => {
+            (Outcome::AsTold, "2,000 orders with equal answers and rows")
+        }
         Some(true) => (Outcome::AsTold, "200 inputs with equal answers and rows"),
         Some(false) => (Outcome::Differs, "answers or rows differ"),
         None => (
@@ -139,9 +149,9 @@ fn main(rt: HostRuntime) -> Result<ExitCode, io::Error> {
         status = 2;
     }
     for name in words.iter().skip(1) {
-        if name.as_str() == RULE {
-            let (outcome, text) = by_rule(rt.alloc());
-            println!(rt; "{RULE}: {text}")?;
+        if let Some(given) = rule_of(name.as_str()) {
+            let (outcome, text) = by_rule(rt.alloc(), given);
+            println!(rt; "{name}: {text}")?;
             status = status_after(status, outcome);
             continue;
         }

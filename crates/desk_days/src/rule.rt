@@ -1,5 +1,4 @@
-//! Two hundred inputs by a fixed rule: each keeper has to give the same answers, one by one and to the list of all, and to hand out
-//! the same rows.
+//! Inputs by a fixed rule: each keeper has to give the same answers, one by one and to the list of all, and to hand out the same rows.
 use crate::day::Report;
 use crate::desk::{Desk, Kind};
 use crate::objects::{holder_object, waybill_object};
@@ -10,8 +9,20 @@ use station_core::{ActFault, Answer, Input, Key, refusal_text, reply_text};
 use std::alloc::Global;
 use telegrams::read_telegram;
 
-/// How many inputs there are.
-const INPUTS: u32 = 200;
+/// Which inputs are given.
+#[derive(Clone, Copy, Debug, PartialEq, Eq)]
+pub enum Inputs {
+    /// Two hundred of every kind.
+    Mixed,
+    /// Two thousand orders on the stock, whose runs are split and joined again and again.
+    Orders,
+}
+
+/// How many inputs of every kind there are.
+const MIXED: u32 = 200;
+
+/// How many orders on the stock there are.
+const ORDERS: u32 = 2_000;
 
 /// The first serial of the waybills that they speak of, and the last one.
 const FIRST: u32 = 1_234_560;
@@ -140,11 +151,35 @@ fn copied(alloc: Global, asked: &Asked) -> Option<Asked> {
     Some(Asked { key, text })
 }
 
-/// The inputs as texts. Some repeat the one before them.
-fn all_asked(alloc: Global) -> Option<Vec<Asked>> {
+/// The text of an order on one of a thousand numbers and those behind it.
+fn stock_text(alloc: Global, rule: &mut Rule) -> Option<String> {
+    let serial = FIRST + rule.between(0, 999);
+    let count = rule.between(1, 3);
+    match rule.between(0, 99) {
+        0..=29 => format!(in alloc; "take-in\n020\n{serial}\n{count}").ok(),
+        30..=64 => format!(in alloc; "issue\n020\n{serial}\n{count}\nACME").ok(),
+        65..=97 => format!(in alloc; "return\n020\n{serial}\n{count}\nACME").ok(),
+        _ => format!(in alloc; "void\n020\n{serial}\n1").ok(),
+    }
+}
+
+/// Orders on the stock as texts, each under a key of its own.
+fn all_orders(alloc: Global) -> Option<Vec<Asked>> {
     let mut rule = Rule { state: 20_260_112 };
     let mut all = Vec::new(alloc);
-    for n in 0..INPUTS {
+    for n in 0..ORDERS {
+        let key = Some(format!(in alloc; "k{n}").ok()?);
+        let text = stock_text(alloc, &mut rule)?;
+        all.push(Asked { key, text }).ok()?;
+    }
+    Some(all)
+}
+
+/// Inputs of every kind as texts. Some repeat the one before them.
+fn all_mixed(alloc: Global) -> Option<Vec<Asked>> {
+    let mut rule = Rule { state: 20_260_112 };
+    let mut all = Vec::new(alloc);
+    for n in 0..MIXED {
         let next = match all.last() {
             Some(last) if n % 8 == 3 && n > 8 => copied(alloc, last)?,
             _ => next_asked(alloc, &mut rule, n)?,
@@ -168,11 +203,11 @@ fn input_of<'a>(alloc: Global, asked: &'a Asked) -> Option<Input<'a>> {
     }
 }
 
-/// The inputs, each a minute after the one before it.
+/// The inputs, each a minute after the one before it, from ten o'clock to midnight and again.
 fn inputs_of<'a>(alloc: Global, all: &'a [Asked]) -> Option<Vec<(Input<'a>, Moment)>> {
     let mut inputs = Vec::new(alloc);
     for (n, asked) in all.iter().enumerate() {
-        let minute = u16::try_from(n).unwrap_or(0).saturating_add(600);
+        let minute = u16::try_from(n % 840).unwrap_or(0).saturating_add(600);
         let at = Moment::new(20465, minute)?;
         inputs.push((input_of(alloc, asked)?, at)).ok()?;
     }
@@ -315,9 +350,12 @@ fn is_mixed(inputs: usize, accepted: usize) -> bool {
     accepted >= fifth && inputs.saturating_sub(accepted) >= fifth
 }
 
-/// Whether each keeper tells the same, in either way.
-pub fn are_equal(alloc: Global) -> Option<bool> {
-    let all = all_asked(alloc)?;
+/// Whether each keeper tells the same of these inputs, in either way. A station is opened again before each input where there are few.
+pub fn are_equal(alloc: Global, given: Inputs) -> Option<bool> {
+    let all = match given {
+        Inputs::Mixed => all_mixed(alloc)?,
+        Inputs::Orders => all_orders(alloc)?,
+    };
     let inputs = inputs_of(alloc, &all)?;
     let first = told(alloc, Kind::Plain, &inputs, false)?;
     for (kind, as_list) in [
@@ -326,6 +364,9 @@ pub fn are_equal(alloc: Global) -> Option<bool> {
         (Kind::Tables, true),
         (Kind::Reopened, false),
     ] {
+        if kind == Kind::Reopened && given == Inputs::Orders {
+            continue;
+        }
         let other = told(alloc, kind, &inputs, as_list)?;
         if other.as_slice() != first.as_slice() {
             return Some(false);
