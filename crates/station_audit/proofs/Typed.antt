@@ -52,7 +52,7 @@ station_held db was h =
 pub all_held : (db : Database) → IsStation db → ((name : TableName) → IsLawfulTable name (tables_of db.trees)) → (name : TableName) → IsHeld name db (tables_of db.trees)
 all_held db was lawful table.Station = station_held db was (lawful table.Station)
 all_held db was lawful table.Waybill = (waybill_typed db was).1 (each _ _ waybill_texts _ (lawful table.Waybill).rows)
-all_held db was lawful table.Stock = (stock_typed db was).1 (each _ _ stock_texts _ (lawful table.Stock).rows)
+all_held db was lawful table.Stock = (stock_typed db was).1 (each _ _ stock_texts _ (lawful table.Stock).rows.rows)
 all_held db was lawful table.Flight = (flight_typed db was).1 (each _ _ flight_texts _ (lawful table.Flight).rows)
 all_held db was lawful table.Moves = (moves_typed db was).1 (each _ _ moves_texts _ (lawful table.Moves).rows)
 all_held db was lawful table.Expected = (expected_typed db was).1 (each _ _ expected_texts _ (lawful table.Expected).rows)

@@ -9,5 +9,6 @@ pub mod NumberLaws
 pub mod TrailLaws
 pub mod KeptTextLaws
 pub mod KeptKeyLaws
+pub mod StockRows
 pub mod StockLaws
 pub mod Texts

@@ -1,5 +1,5 @@
 -- Rows that are lawful by themselves and against the rows of the tables before.
-use Rattle.std.specs.Prelude.{ℕ, ℤ, pos, int_le, ◌+ℤ◌, ◌*ℤ◌, Bool, ◌&&◌, ◌||◌, not, List}
+use Rattle.std.specs.Prelude.{ℕ, ℤ, pos, int_le, ◌+ℤ◌, ◌*ℤ◌, Bool, IsTrue, ◌&&◌, not, List}
 use Rattle.std.specs.Ordering.{int_eq}
 use Rattle.std.specs.Str.{bytes_eq}
 use Rattle.std.specs.FinMap.{FinMap, contains_key}
@@ -19,13 +19,24 @@ is_lawful_waybill row = is_waybill_row row && int_le row.pieces row.tenths
 abbrev pub has_waybill : List Waybill → ℤ → Bool
 has_waybill = has_key waybill_id
 
--- the number of a row's lowest serial
-abbrev pub lowest : StockKey → ℤ
-lowest key = (key.0 *ℤ pos 10_000_000) +ℤ key.1
+-- the number of a prefix and a serial
+abbrev pub number_at : ℤ → ℤ → ℤ
+number_at prefix serial = (prefix *ℤ pos 10_000_000) +ℤ serial
 
--- within range, and declared where it is used
-abbrev pub is_lawful_stock : List Waybill → StockKey × Stock → Bool
-is_lawful_stock waybills row = is_stock_row row && (not (int_eq row.1.holder (pos 2)) || has_waybill waybills (lowest row.0))
+-- the numbers of a row, from the lowest to the highest
+abbrev pub lowest : StockKey × Stock → ℤ
+lowest row = number_at row.0.0 row.0.1
+
+abbrev pub highest : StockKey × Stock → ℤ
+highest row = number_at row.0.0 row.1.high
+
+-- there is a row of the waybill for each number from one to another, both included
+abbrev pub AreDeclared : List Waybill → ℤ → ℤ → Type 0
+AreDeclared waybills first last = (n : ℤ) → IsTrue (int_le first n) → IsTrue (int_le n last) → IsTrue (has_waybill waybills n)
+
+-- within range, and each number is declared where they are used
+abbrev pub IsLawfulStock : List Waybill → StockKey × Stock → Type 0
+IsLawfulStock waybills row = IsTrue (is_stock_row row) × (IsTrue (int_eq row.1.holder (pos 2)) → AreDeclared waybills (lowest row) (highest row))
 
 -- within range, and unloaded elsewhere
 abbrev pub is_lawful_flight : List ℕ → FlightKey × Flight → Bool

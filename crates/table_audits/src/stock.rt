@@ -1,5 +1,6 @@
-ghost use Rattle.std.specs.Prelude.{◌≡◌, ◌↔◌, map, IsTrue, is_some, ℤ, int_le, pos};
-ghost use Rattle.std.specs.List.{list_all};
+ghost use Rattle.std.specs.Prelude.{◌≡◌, ◌↔◌, map, IsTrue, is_some, pos};
+ghost use Rattle.std.specs.Ordering.{int_eq};
+ghost use Rattle.std.specs.List.{AllByRecursion};
 ghost use Rattle.std.specs.FinMap.{entries};
 ghost use Rattle.row_schema.specs.Tables.{Tables};
 ghost use Rattle.lawful_tables.specs.Lawful.{IsLawfulTable};
@@ -7,8 +8,8 @@ ghost use Rattle.lawful_tables.specs.declared.name.TableName.TheVariants as tabl
 ghost use Rattle.cargo_rows.specs.Meant.{waybill_meant};
 ghost use Rattle.station_rows.specs.Meant.{stock_meant};
 ghost use Rattle.table_audits.specs.Order.{RisesByNumber};
-ghost use Rattle.row_values.specs.Stock.{holder_by, is_stock_row};
-ghost use Rattle.table_audits.specs.Rows.{is_lawful_stock, lowest};
+ghost use Rattle.row_values.specs.Stock.{holder_by, is_stock_row, is_behind, are_apart};
+ghost use Rattle.table_audits.specs.Rows.{lowest, highest, AreDeclared, IsLawfulStock};
 
 use crate::lookups::is_declared;
 use crate::ranges::{is_agent, is_prefix, is_serial};
@@ -37,35 +38,79 @@ fn is_in_range(row: &StockRow) -> bool
     if !is_serial(row.low) {
         return false;
     }
-    if row.high != row.low {
+    if row.high < row.low {
+        return false;
+    }
+    if row.high > 9_999_999 {
         return false;
     }
     has_holder(row)
 }
 
-/// The number of a row within range, prefix and serial in one.
-fn number_of(row: &StockRow) -> i64
+/// The lowest number of a row within range, prefix and serial in one.
+fn lowest_of(row: &StockRow) -> i64
     requires { IsTrue (is_stock_row (stock_meant row.now)) }
-    ensures { result ≡ lowest (stock_meant row.now).0 }
+    ensures { result ≡ lowest (stock_meant row.now) }
 {
     row.prefix * 10_000_000 + row.low
 }
 
-/// Whether the row is within range, and declared where it is used.
+/// The highest number of a row within range.
+fn highest_of(row: &StockRow) -> i64
+    requires { IsTrue (is_stock_row (stock_meant row.now)) }
+    ensures { result ≡ highest (stock_meant row.now) }
+{
+    row.prefix * 10_000_000 + row.high
+}
+
+/// Whether each number from the first to the last is declared. It asks up to the first that isn't.
+fn are_declared(waybills: &[WaybillRow], first: i64, last: i64) -> bool
+    ensures { RisesByNumber (map waybill_meant waybills.now) → (IsTrue result ↔ AreDeclared (map waybill_meant waybills.now) first last) }
+{
+    for number in first..=last {
+        if !is_declared(waybills, number) {
+            return false;
+        }
+    }
+    true
+}
+
+/// Whether the row's numbers are used.
+fn is_used(row: &StockRow) -> bool
+    ensures { result ≡ int_eq (stock_meant row.now).1.holder (pos 2) }
+{
+    row.holder == 2
+}
+
+/// Whether the row is within range, and each of its numbers declared where they are used.
 fn is_lawful(row: &StockRow, waybills: &[WaybillRow]) -> bool
-    ensures { RisesByNumber (map waybill_meant waybills.now) → result ≡ is_lawful_stock (map waybill_meant waybills.now) (stock_meant row.now) }
+    ensures { RisesByNumber (map waybill_meant waybills.now) → (IsTrue result ↔ IsLawfulStock (map waybill_meant waybills.now) (stock_meant row.now)) }
 {
     if !is_in_range(row) {
         return false;
     }
-    row.holder != 2 || is_declared(waybills, number_of(row))
+    !is_used(row) || are_declared(waybills, lowest_of(row), highest_of(row))
 }
 
 /// Whether each row is.
 fn are_lawful(rows: &[StockRow], waybills: &[WaybillRow]) -> bool
-    ensures { RisesByNumber (map waybill_meant waybills.now) → result ≡ list_all (is_lawful_stock (map waybill_meant waybills.now)) (map stock_meant rows.now) }
+    ensures { RisesByNumber (map waybill_meant waybills.now) → (IsTrue result ↔ AllByRecursion (IsLawfulStock (map waybill_meant waybills.now)) (map stock_meant rows.now)) }
 {
     rows.iter().all(|row| is_lawful(row, waybills))
+}
+
+/// Whether a row begins behind the one before it.
+fn is_behind(row: &StockRow, next: &StockRow) -> bool
+    ensures { result ≡ is_behind (stock_meant row.now) (stock_meant next.now) }
+{
+    row.prefix < next.prefix || (row.prefix == next.prefix && row.high < next.low)
+}
+
+/// Whether each row does.
+fn are_apart(rows: &[StockRow]) -> bool
+    ensures { result ≡ are_apart (map stock_meant rows.now) }
+{
+    rows.is_sorted_by(|row, next| is_behind(row, next))
 }
 
 /// Whether these rows of `stock`, in the order of their keys, are lawful beside these of `waybill`, in the order of
@@ -73,5 +118,5 @@ fn are_lawful(rows: &[StockRow], waybills: &[WaybillRow]) -> bool
 pub fn are_stock_lawful(rows: &[StockRow], waybills: &[WaybillRow]) -> bool
     ensures exact { (t : Tables) → RisesByNumber (map waybill_meant waybills.now) → t.waybills ≡ map waybill_meant waybills.now → entries t.stock ≡ map stock_meant rows.now → (IsTrue result ↔ IsLawfulTable table.Stock t) }
 {
-    are_lawful(rows, waybills)
+    are_apart(rows) && are_lawful(rows, waybills)
 }

@@ -70,21 +70,43 @@ fn waybills(rt: HostRuntime) -> Result<(), Fail> {
     Ok(())
 }
 
-#[test]
-fn stock(rt: HostRuntime) -> Result<(), Fail> {
-    let alloc = rt.alloc();
-    let mut rows = [StockRow {
+/// A run of serials of the prefix 020: 0 the desk has it, 2 used, 3 void.
+fn run(alloc: Global, low: i64, high: i64, holder: i64) -> StockRow {
+    StockRow {
         prefix: 20,
-        low: 1,
-        high: 1,
-        holder: 2,
+        low,
+        high,
+        holder,
         agent: String::new(alloc),
-    }];
-    let waybills = [waybill(alloc)?];
-    assert!(rt; are_stock_lawful(&rows, &waybills));
-    assert!(rt; !are_stock_lawful(&rows, &[]));
-    rows[0].holder = 1;
-    assert!(rt; !are_stock_lawful(&rows, &waybills));
+    }
+}
+
+#[test]
+fn a_run_of_stock(rt: HostRuntime) {
+    let alloc = rt.alloc();
+    assert!(rt; are_stock_lawful(&[run(alloc, 1, 9, 0)], &[]));
+    assert!(rt; are_stock_lawful(&[run(alloc, 0, 9_999_999, 0)], &[]));
+    assert!(rt; !are_stock_lawful(&[run(alloc, 0, 10_000_000, 0)], &[]));
+    assert!(rt; !are_stock_lawful(&[run(alloc, 9, 1, 0)], &[]));
+    assert!(rt; !are_stock_lawful(&[run(alloc, 1, 9, 1)], &[]));
+}
+
+#[test]
+fn neighbours_of_stock(rt: HostRuntime) {
+    let alloc = rt.alloc();
+    assert!(rt; are_stock_lawful(&[run(alloc, 1, 5, 0), run(alloc, 6, 9, 0)], &[]));
+    assert!(rt; !are_stock_lawful(&[run(alloc, 1, 5, 0), run(alloc, 5, 9, 3)], &[]));
+    assert!(rt; !are_stock_lawful(&[run(alloc, 1, 9, 0), run(alloc, 2, 3, 0)], &[]));
+}
+
+#[test]
+fn used_stock(rt: HostRuntime) -> Result<(), Fail> {
+    let alloc = rt.alloc();
+    let mut waybills = [waybill(alloc)?, waybill(alloc)?];
+    waybills[1].awb = AWB + 1;
+    assert!(rt; are_stock_lawful(&[run(alloc, 1, 2, 2)], &waybills));
+    assert!(rt; !are_stock_lawful(&[run(alloc, 1, 3, 2)], &waybills));
+    assert!(rt; !are_stock_lawful(&[run(alloc, 0, 2, 2)], &waybills));
     Ok(())
 }
 

@@ -1,11 +1,11 @@
-use Rattle.std.proofs.Common.{map, ◌∙◌, sym, rules, tests}
-use Rattle.std.proofs.lemmas.Iterator.{YieldsList-from_slice}
-use Rattle.std.proofs.lemmas.Iterator.Search.{all_from_yields_List}
-use Rattle.std.proofs.lemmas.List.Folds.{list_all-map}
-use Rattle.cargo_rows.specs.Meant.{waybill_meant}
+use Rattle.std.proofs.Common.{map, rules, tests}
+use Rattle.std.proofs.lemmas.Iterator.{YieldsList-from_slice, cases_from_all}
 use Rattle.station_rows.specs.Meant.{stock_meant}
-use Rattle.table_audits.specs.Rows.{is_lawful_stock}
+use Rattle.cargo_rows.specs.Meant.{waybill_meant}
+use Rattle.table_audits.specs.Rows.{IsLawfulStock}
+use Rattle.table_audits.proofs.StockRows.{each_row}
 use Rattle.table_audits.proofs.stock.are_lawful.Goals as goal
 
 pub returns : goal.returns
-returns c = λ up. all_from_yields_List (λ row. is_lawful_stock (map waybill_meant c.args.waybills.now) (stock_meant row)) _ _ _ c.all.ensures.ran (YieldsList-from_slice c.args.rows.now cc) (λ x b q k. search (rules, tests)) ∙ sym (list_all-map (is_lawful_stock (map waybill_meant c.args.waybills.now)) stock_meant c.args.rows.now)
+returns c = λ up. each_row stock_meant (IsLawfulStock (map waybill_meant c.args.waybills.now)) c.args.rows.now _ (cases_from_all _ _ _ (λ row. IsLawfulStock (map waybill_meant c.args.waybills.now) (stock_meant row)) (λ row. IsLawfulStock (map waybill_meant c.args.waybills.now) (stock_meant row) → ⊥) c.all.ensures.ran (YieldsList-from_slice c.args.rows.now cc)
+    (λ x q k. search (rules, tests)) (λ x q k. search (rules, tests)))

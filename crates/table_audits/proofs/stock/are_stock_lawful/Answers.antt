@@ -1,12 +1,17 @@
-use Rattle.std.proofs.Common.{◌∙◌, sym, ap₂}
-use Rattle.std.specs.List.{list_all}
-use Rattle.table_audits.specs.Rows.{is_lawful_stock}
+use Rattle.std.proofs.Common.{◌≡◌, true, map, sym, ap, subst, ◌∙◌}
+use Rattle.std.specs.List.{AllByRecursion}
+use Rattle.std.specs.FinMap.{entries}
+use Rattle.cargo_rows.specs.Meant.{waybill_meant}
+use Rattle.row_values.specs.Stock.{are_apart}
+use Rattle.table_audits.specs.Rows.{IsLawfulStock}
 use Rattle.table_audits.proofs.StockLaws.{are_stocks, lawful_stocks}
 use Rattle.table_audits.proofs.stock.are_stock_lawful.Goals as goal
 
-pub returns : goal.returns
-returns c = record {
+pub returns-then-are_apart : goal.returns-then-are_apart
+returns-then-are_apart c = record {
   exact = λ t up waybills is.
-      let same = ap₂ (λ ws rows. list_all (is_lawful_stock ws) rows) waybills is in
-      (λ h. are_stocks t (same ∙ sym (c.are_lawful.ensures up) ∙ h), λ law. c.are_lawful.ensures up ∙ sym same ∙ lawful_stocks t law);
+      let apart : are_apart (entries t.stock) ≡ true = ap are_apart is ∙ sym c.if-are_apart.ensures in (
+        λ h. are_stocks t apart (subst (λ ws. AllByRecursion (IsLawfulStock ws) (entries t.stock)) (sym waybills) (subst (AllByRecursion (IsLawfulStock (map waybill_meant c.args.waybills.now))) (sym is) ((c.are_lawful.ensures up).0 h))),
+        λ law. (c.are_lawful.ensures up).1 (subst (AllByRecursion (IsLawfulStock (map waybill_meant c.args.waybills.now))) is (subst (λ ws. AllByRecursion (IsLawfulStock ws) (entries t.stock)) waybills (lawful_stocks t law))),
+      );
 }

@@ -1,0 +1,9 @@
+use Rattle.std.proofs.Common.{rules, tests}
+use Rattle.std.proofs.lemmas.Fn.{always_returns_same}
+use Rattle.station_rows.specs.Meant.{stock_meant}
+use Rattle.row_values.specs.Stock.{is_behind}
+use Rattle.table_audits.proofs.StockRows.{adjacent}
+use Rattle.table_audits.proofs.stock.are_apart.Goals as goal
+
+pub returns : goal.returns
+returns c = adjacent stock_meant c.args.rows.now c.is_sorted_by.result (c.is_sorted_by.ensures.cases (λ x y. is_behind (stock_meant x) (stock_meant y)) (always_returns_same _ _ _ (λ a r q k. search (rules, tests))))

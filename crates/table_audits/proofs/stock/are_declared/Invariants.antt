@@ -1,0 +1,9 @@
+use Rattle.std.proofs.Common.{ℤ, map}
+use Rattle.std.specs.Prelude.{IsTrue, int_le, int_lt}
+use Rattle.cargo_rows.specs.Meant.{waybill_meant}
+use Rattle.table_audits.specs.Order.{RisesByNumber}
+use Rattle.table_audits.specs.Rows.{has_waybill}
+use Rattle.table_audits.proofs.stock.are_declared.Given as goal
+
+abbrev pub invariant-loop-number : goal.invariant-loop-number
+invariant-loop-number l = IsTrue (int_le l.first l.number) × (RisesByNumber (map waybill_meant l.waybills) → (n : ℤ) → IsTrue (int_le l.first n) → IsTrue (int_lt n l.number) → IsTrue (has_waybill (map waybill_meant l.waybills) n))
