@@ -14,8 +14,6 @@ mod part;
 pub mod ranges;
 mod station;
 mod stock;
-#[cfg(test)]
-mod tests;
 mod trail;
 mod waybill;
 
