@@ -1,17 +1,14 @@
 //! The cargo desk of one air cargo station.
 #![tactic(auto)]
 
-mod ended;
 mod files;
-mod run;
-mod sent;
 mod service;
 mod task;
 
+use desk_call::DeskFault;
 use desk_clock::{Zone, moment_now};
 use desk_server::listen;
 use desk_words::{Line, LineCommand, WordsFault, parse_words, usage_fault};
-use ended::DeskFault;
 use imp_fields::Moment;
 use service::Service;
 use std::fs::File;

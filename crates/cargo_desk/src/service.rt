@@ -1,9 +1,10 @@
 //! The service over its station.
+ghost use Rattle.std.specs.Prelude.{◌≡◌};
+ghost use Rattle.cargo_desk.specs.Service.{server_fault};
 
-use crate::ended::{DeskFault, end, server_fault};
-use crate::run::open_station;
+use desk_call::{DeskFault, end, open_station};
 use desk_clock::Zone;
-use desk_server::serve;
+use desk_server::{ServerFault, serve};
 use desk_words::Line;
 use sqlite::{Alter, Connection};
 use station_core::{Counted, Keeper};
@@ -16,6 +17,17 @@ pub struct Service<'a> {
     pub listener: &'a TcpListener,
     pub zone: &'a Zone,
     pub count: Option<u32>,
+}
+
+/// Why a call ends where its service does.
+fn server_fault(fault: ServerFault) -> DeskFault
+    ensures { result ≡ server_fault fault }
+{
+    match fault {
+        ServerFault::Listener => DeskFault::Run(RunFault::Read),
+        ServerFault::Clock => DeskFault::Clock,
+        ServerFault::Store => DeskFault::Run(RunFault::Store),
+    }
 }
 
 /// Tells that the service begins, and serves.

@@ -1,9 +1,9 @@
 //! A line over its store: memory, or a file.
 
-use crate::ended::{DeskFault, end};
 use crate::files::{make_file, open_file};
-use crate::run::{is_opening, run_line};
 use crate::service::{Service, serve_line};
+use desk_call::{DeskFault, end, is_opening, run_line};
+use desk_run::Feed;
 use desk_words::Line;
 use imp_fields::Moment;
 use memory_files::open_pages;
@@ -54,7 +54,8 @@ fn run_gathered<S: Alter, R: Read + Drop>(
     };
     let mut output = Counted::new(gathered);
     let mut errors = Counted::new(rt.stderr());
-    let (status, conn) = run_line(alloc, line, conn, reader, &mut output, &mut errors, at);
+    let mut feed = Feed::new(reader);
+    let (status, conn) = run_line(alloc, line, conn, &mut feed, &mut output, &mut errors, at);
     if output.into_inner().flush().is_err() {
         return (failed_late(rt, status, RunFault::Write), conn);
     }

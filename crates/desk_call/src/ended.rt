@@ -1,10 +1,9 @@
 //! How a call ends.
 ghost use Rattle.std.specs.Prelude.{◌≡◌, ◌++◌, ◌∷◌, [], IfErr, OnOk};
-ghost use Rattle.cargo_desk.specs.Ended.{attach_status, run_line, server_fault, status_of, HasTold};
-ghost use Rattle.cargo_desk.specs.Sent.{HasSent};
+ghost use Rattle.desk_call.specs.Ended.{attach_status, run_ended, run_line, status_of, HasTold};
+ghost use Rattle.desk_run.specs.Sent.{HasSent};
 
-use crate::sent::{send_part, send_word};
-use desk_server::ServerFault;
+use desk_run::{send_part, send_word};
 use itoa::Buffer;
 use station_core::ByteOut;
 use station_tables::AttachFault;
@@ -21,14 +20,13 @@ pub enum DeskFault {
     Attach(AttachFault),
 }
 
-/// Why a call ends where its service does.
-pub fn server_fault(fault: ServerFault) -> DeskFault
-    ensures { result ≡ server_fault fault }
+/// How a call ends where its run does.
+pub(crate) fn run_ended(ended: Result<bool, RunFault>) -> Result<bool, DeskFault>
+    ensures { result ≡ run_ended ended }
 {
-    match fault {
-        ServerFault::Listener => DeskFault::Run(RunFault::Read),
-        ServerFault::Clock => DeskFault::Clock,
-        ServerFault::Store => DeskFault::Run(RunFault::Store),
+    match ended {
+        Ok(good) => Ok(good),
+        Err(fault) => Err(DeskFault::Run(fault)),
     }
 }
 

@@ -1,6 +1,6 @@
 use Rattle.std.proofs.Common.{◌∙◌, ap, ◌∷◌, [], ◌++◌, append_assoc}
-use Rattle.cargo_desk.proofs.Parts.{first_part, next_part}
-use Rattle.cargo_desk.proofs.sent.send_word.Goals as goal
+use Rattle.desk_run.proofs.Parts.{first_part, next_part}
+use Rattle.desk_run.proofs.sent.send_word.Goals as goal
 
 pub returns-in_err-send_part-2-clause-sent : goal.returns-in_err-send_part-2-clause-sent
 returns-in_err-send_part-2-clause-sent g c =

@@ -5,13 +5,11 @@ use Rattle.lawful_tables.specs.Names.{name_text}
 use Rattle.station_core.specs.Given.{Given}
 use Rattle.stock_list.specs.declared.answer.RunFault.{RunFault}
 use Rattle.stock_list.specs.declared.answer.RunFault.TheVariants as run
-use Rattle.desk_server.specs.declared.server.ServerFault.{ServerFault}
-use Rattle.desk_server.specs.declared.server.ServerFault.TheVariants as server
 use Rattle.station_tables.specs.declared.fault.AttachFault.{AttachFault}
 use Rattle.station_tables.specs.declared.fault.AttachFault.TheVariants as attach
-use Rattle.cargo_desk.specs.Sent.{HasSent}
-use Rattle.cargo_desk.specs.declared.ended.DeskFault.{DeskFault}
-use Rattle.cargo_desk.specs.declared.ended.DeskFault.TheVariants as fault
+use Rattle.desk_run.specs.Sent.{HasSent}
+use Rattle.desk_call.specs.declared.ended.DeskFault.{DeskFault}
+use Rattle.desk_call.specs.declared.ended.DeskFault.TheVariants as fault
 
 -- the line on standard error, of a run
 abbrev pub run_line : RunFault → List ℕ
@@ -39,11 +37,10 @@ fault_line (fault.Attach e) = attach_line e
 abbrev pub HasTold : DeskFault → Given → Given → Type 0
 HasTold e old new = HasSent (fault_line e) old new
 
--- a service's fault, as the call's
-abbrev pub server_fault : ServerFault → DeskFault
-server_fault server.Listener = fault.Run run.Read
-server_fault server.Clock = fault.Clock
-server_fault server.Store = fault.Run run.Store
+-- how a call ends where its run does
+abbrev pub run_ended : Result Bool RunFault → Result Bool DeskFault
+run_ended (Ok good) = Ok good
+run_ended (Err e) = Err (fault.Run e)
 
 -- the exit status where there is no station: the store failed or memory was wanting, or the file has none
 abbrev pub attach_status : AttachFault → ℕ

@@ -1,0 +1,10 @@
+//! A call of the program over a connection: its station is opened, its command runs, and how it ended is told.
+#![tactic(auto)]
+
+mod ended;
+mod opening;
+mod run;
+
+pub use ended::{DeskFault, end};
+pub use opening::{is_opening, open_station};
+pub use run::run_line;

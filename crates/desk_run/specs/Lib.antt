@@ -1,0 +1,3 @@
+pub mod Done
+pub mod Feed
+pub mod Sent
