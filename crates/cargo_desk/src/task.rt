@@ -2,8 +2,8 @@
 
 use crate::files::{make_file, open_file};
 use crate::service::{Service, serve_line};
-use desk_call::{DeskFault, end, is_opening, run_line};
-use desk_run::Feed;
+use desk_call::{DeskFault, end, run_line};
+use desk_run::{Feed, is_opening};
 use desk_words::Line;
 use imp_fields::Moment;
 use memory_files::open_pages;

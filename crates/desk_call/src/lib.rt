@@ -6,5 +6,5 @@ mod opening;
 mod run;
 
 pub use ended::{DeskFault, end};
-pub use opening::{is_opening, open_station};
+pub use opening::open_station;
 pub use run::run_line;

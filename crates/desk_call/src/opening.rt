@@ -1,15 +1,10 @@
 //! The station of a line.
 
-use desk_run::airport_of_line;
-use desk_words::{Line, LineCommand};
+use desk_run::{airport_of_line, is_opening};
+use desk_words::Line;
 use sqlite::{Alter, Connection};
 use station_tables::{AttachFault, Station, attach, create};
 use std::alloc::Global;
-
-/// Whether a line has a new station: `init` makes one, and without a file each line does.
-pub fn is_opening(line: &Line<'_>) -> bool {
-    line.db.is_none() || line.command == LineCommand::Init
-}
 
 /// Opens the station of a line: a new one at its airport, or the one that is there.
 pub fn open_station<S: Alter>(

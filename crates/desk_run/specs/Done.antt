@@ -20,11 +20,6 @@ use Rattle.desk_words.specs.declared.line.LineCommand.{LineCommand}
 use Rattle.desk_words.specs.declared.line.LineCommand.TheVariants as command
 use Rattle.desk_run.specs.Sent.{HasSent}
 
--- the airport of a line's station: XXX where it names none
-abbrev pub here_of : Option (List ℕ) → List ℕ
-here_of None = codes "XXX"
-here_of (Some here) = here
-
 -- what went out is no refusal
 abbrev pub good_of : Result (Unit {0}) RunFault → Result Bool RunFault
 good_of (Ok x) = Ok true

@@ -1,3 +1,4 @@
 pub mod Done
 pub mod Feed
+pub mod Place
 pub mod Sent

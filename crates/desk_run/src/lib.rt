@@ -2,10 +2,12 @@
 #![tactic(auto)]
 
 mod feed;
+mod place;
 mod report;
 mod run;
 mod sent;
 
 pub use feed::Feed;
-pub use run::{airport_of_line, run_over};
+pub use place::{airport_of_line, is_opening};
+pub use run::run_over;
 pub use sent::{send_part, send_word};

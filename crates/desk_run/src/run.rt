@@ -1,8 +1,10 @@
 //! A command over its station.
 ghost use Rattle.std.specs.Prelude.{◌≡◌, false, OnOk};
 ghost use Rattle.desk_line.specs.Asked.{IsCommandAsked, IsTelegramAsked};
-ghost use Rattle.desk_run.specs.Done.{here_of, HasAnsweredAsked, HasAnsweredRows, HasDone, HasToldMade};
+ghost use Rattle.desk_run.specs.Done.{HasAnsweredAsked, HasAnsweredRows, HasDone, HasToldMade};
+ghost use Rattle.desk_run.specs.Place.{here_of};
 
+use crate::place::airport_of_line;
 use crate::report::{do_outbox, do_report};
 use crate::sent::send_word;
 use desk_commands::Verb;
@@ -13,16 +15,6 @@ use station_core::{ByteIn, ByteOut, Keeper, Key};
 use std::alloc::Global;
 use std::io::Read;
 use stock_list::{RunFault, run_stock};
-
-/// The airport of a line's station: `XXX` where it names none.
-pub fn airport_of_line(line: &Line<'_>) -> Airport
-    ensures { result ≡ here_of line.now.station }
-{
-    match line.station {
-        Some(here) => here,
-        None => Airport::read(b"XXX").unwrap(),
-    }
-}
 
 /// `init`: the line of a station that was made.
 fn do_init<K: Keeper, W: ByteOut>(

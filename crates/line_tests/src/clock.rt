@@ -30,7 +30,7 @@ fn moment_said(alloc: Global, text: &str) -> Option<String> {
 }
 
 fn day_said(alloc: Global, at: Moment) -> Option<String> {
-    let (day, minute) = (at.day(), at.minute());
+    let (day, minute) = (at.day, at.minute);
     format!(in alloc; "day {day} minute {minute}").ok()
 }
 
