@@ -1,5 +1,5 @@
 -- Rows that are lawful and apart are runs in order.
-use Rattle.std.proofs.Common.{◌≡◌, ℕ, ℤ, pos, negsuc, ◌+◌, ◌-◌, ◌*◌, ◌/◌, ◌%◌, ◌≤◌, ◌<◌, ◌⊎◌, inl, inr, Bool, true, false, cond, Option, Some, None, List, [], ◌∷◌, map, refl, sym, ap, ◌∙◌, arith}
+use Rattle.std.proofs.Common.{◌≡◌, ℕ, ℤ, pos, negsuc, ◌+◌, ◌-◌, ◌*◌, ◌/◌, ◌%◌, ◌≤◌, ◌<◌, ◌⊎◌, inl, inr, Bool, true, false, cond, Option, Some, None, List, [], ◌∷◌, map, refl, sym, ◌∙◌, arith}
 use Rattle.std.specs.Prelude.{int_le, int_lt, ◌&&◌, ◌||◌, nat_le, nat_lt, is_some}
 use Rattle.std.specs.Option.{option_and_then}
 use Rattle.std.specs.Ordering.{int_eq}
@@ -16,7 +16,7 @@ use Rattle.row_values.specs.Stock.{holder_by, holders_in, stands_for, is_stock_r
 use Rattle.run_rows.specs.Rows.{holders_by, end_of, IsRunRow, StandFrom, AreRuns}
 use Rattle.stock_runs.specs.Runs.{run_in, named}
 
-abbrev fits : ℤ → ℤ → ℤ → Bool
+abbrev pub fits : ℤ → ℤ → ℤ → Bool
 fits p low high = is_within 0 999 p && is_within 0 9_999_999 low && int_le low high && int_le high (pos 9_999_999)
 
 stands : (n : ℕ) (p low high : ℤ) → fits p low high ≡ true
@@ -33,7 +33,7 @@ size (negsuc a) low high h = cc
 size (pos a) (negsuc b) high h = grind (arith, ints)
 size (pos a) (pos b) (negsuc c) h = grind (arith, ints)
 
-bounds : (a b c : ℕ) → fits (pos a) (pos b) (pos c) ≡ true → (b ≤ c) × (c ≤ 9_999_999)
+pub bounds : (a b c : ℕ) → fits (pos a) (pos b) (pos c) ≡ true → (b ≤ c) × (c ≤ 9_999_999)
 bounds a b c h = (grind (arith, ints), grind (arith, ints))
 
 lt_nat : (a b : ℕ) → int_lt (pos a) (pos b) ≡ true → a < b
@@ -58,11 +58,11 @@ order_of a c d e l = go (either _ _ l)
     go (inr both) = let parts = and_parts _ _ both in inr (eq_nat a d parts.0, lt_nat c e parts.1)
 
 -- a whole number that isn't below 0 is a natural one
-natural_is : (z : ℤ) → int_le (pos 0) z ≡ true → z ≡ pos (natural z)
+pub natural_is : (z : ℤ) → int_le (pos 0) z ≡ true → z ≡ pos (natural z)
 natural_is (pos n) h = refl
 natural_is (negsuc n) h = cc
 
-low_fits : (p low high : ℤ) → fits p low high ≡ true → (int_le (pos 0) p ≡ true) × (int_le (pos 0) low ≡ true) × (int_le (pos 0) high ≡ true)
+pub low_fits : (p low high : ℤ) → fits p low high ≡ true → (int_le (pos 0) p ≡ true) × (int_le (pos 0) low ≡ true) × (int_le (pos 0) high ≡ true)
 low_fits p low high h =
     let a = and_parts _ _ h in
     let b = and_parts _ _ a.0 in
@@ -88,10 +88,10 @@ next_behind p low high q from to h k l =
     let order = order_of (natural p) (natural high) (natural q) (natural from) (sym (λ i. int_lt (P i) (Q i) || (int_eq (P i) (Q i) && int_lt (H i) (F i))) ∙ l) in
     numbers (natural p) (natural low) (natural high) (natural q) (natural from) here.0 here.1 order
 
-row_fits : (row : StockKey × Stock) → is_stock_row row ≡ true → fits row.0.0 row.0.1 row.1.high ≡ true
+pub row_fits : (row : StockKey × Stock) → is_stock_row row ≡ true → fits row.0.0 row.0.1 row.1.high ≡ true
 row_fits row h = (and_parts _ _ h).0
 
-has_holder : (row : StockKey × Stock) → is_stock_row row ≡ true → holder_by row.1 ≡ Some (named (holder_by row.1))
+pub has_holder : (row : StockKey × Stock) → is_stock_row row ≡ true → holder_by row.1 ≡ Some (named (holder_by row.1))
 has_holder row h = go (holder_by row.1) (and_parts _ _ h).1
   where
     go : (o : Option Holder) → is_some o ≡ true → o ≡ Some (named o)

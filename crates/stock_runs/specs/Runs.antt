@@ -1,7 +1,8 @@
--- The rows of the stock's table as runs.
-use Rattle.std.specs.Prelude.{◌+◌, ◌-◌, ◌*◌, Option, Some, None}
+-- The rows of the stock's table as runs, and runs as rows.
+use Rattle.std.specs.Prelude.{ℕ, ℤ, pos, ◌≡◌, ◌+◌, ◌-◌, ◌*◌, Option, Some, None, List, []}
+use Rattle.awb_number.specs.Number.{IsNumber, prefix_of, serial_of}
 use Rattle.agent_stock.specs.declared.stock.Holder.{Holder}
-use Rattle.agent_stock.specs.declared.stock.Holder.TheVariants.{Desk}
+use Rattle.agent_stock.specs.declared.stock.Holder.TheVariants.{Desk, Agent, Used, Void}
 use Rattle.agent_stock.specs.declared.runs.StockRun.{StockRun}
 use Rattle.row_schema.specs.Tables.{Stock, StockKey}
 use Rattle.row_values.specs.Numbers.{natural}
@@ -18,3 +19,36 @@ run_in e = record {
   count = natural e.1.high + 1 - natural e.0.1;
   holder = named (holder_by e.1);
 }
+
+-- what stands in a row for a holder: its number, and the agent's code
+abbrev pub holder_number : Holder → ℤ
+holder_number Desk = pos 0
+holder_number (Agent code) = pos 1
+holder_number Used = pos 2
+holder_number Void = pos 3
+
+abbrev pub code_of : Holder → List ℕ
+code_of Desk = []
+code_of (Agent code) = code
+code_of Used = []
+code_of Void = []
+
+-- the key of the row that begins with a number
+abbrev pub key_of : ℕ → StockKey
+key_of n = (pos (prefix_of n), pos (serial_of n))
+
+-- a run as a row
+abbrev pub row_in : StockRun → Stock
+row_in run = record {
+  high = pos (serial_of run.first + run.count - 1);
+  holder = holder_number run.holder;
+  agent = code_of run.holder;
+}
+
+abbrev pub entry_of : StockRun → StockKey × Stock
+entry_of run = (key_of run.first, row_in run)
+
+-- it begins with a number, and its row tells its holder
+pub record IsWritable (run : StockRun) : Type 0 where
+  pub number : IsNumber run.first
+  pub holder : holder_by (row_in run) ≡ Some run.holder

@@ -1,0 +1,29 @@
+-- What the last row below a number tells.
+use Rattle.std.specs.Prelude.{ℕ, ◌+◌, Bool, ◌&&◌, nat_eq, nat_le, nat_lt, if◌then◌else◌, Option, Some, None, List, [], ◌∷◌, filter}
+use Rattle.std.specs.List.{last_or}
+use Rattle.awb_number.specs.Number.{prefix_of}
+use Rattle.agent_stock.specs.declared.stock.Holder.{Holder}
+use Rattle.agent_stock.specs.declared.stock.Run.{Run}
+use Rattle.agent_stock.specs.declared.runs.StockRun.{StockRun}
+use Rattle.run_rows.specs.Rows.{end_of}
+
+-- a row of a prefix begins below a number
+abbrev pub is_below : ℕ → ℕ → StockRun → Bool
+is_below prefix number row = nat_eq (prefix_of row.first) prefix && nat_lt row.first number
+
+-- the last of them
+abbrev pub last_below : ℕ → ℕ → List StockRun → Option StockRun
+last_below prefix number rows = last_or None (filter (is_below prefix number) rows)
+
+-- a row begins in a run, or behind its last number
+abbrev pub is_from : Run → StockRun → Bool
+is_from run row = nat_eq (prefix_of row.first) (prefix_of run.first) && (nat_le run.first row.first && nat_le row.first (run.first + run.count))
+
+-- the row before a run, where it reaches the run
+abbrev pub reaching : Run → Option StockRun → List StockRun
+reaching run None = []
+reaching run (Some row) = if nat_le run.first (end_of row) then row ∷ [] else []
+
+-- the holder in a row, where the row reaches a number
+abbrev pub holder_at : ℕ → StockRun → Option Holder
+holder_at number row = if nat_lt number (end_of row) then Some row.holder else None
