@@ -1,7 +1,4 @@
-mod Assigning
-mod Reading
-mod Rows
-mod Said
+mod Doing
+mod Held
+mod Restocking
 mod Showing
-mod Walk
-mod Writing

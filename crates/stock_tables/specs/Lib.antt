@@ -1,3 +1,1 @@
 pub mod Stocked
-pub mod Ahead
-pub mod Listed

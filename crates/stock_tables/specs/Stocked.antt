@@ -1,11 +1,15 @@
 -- The stock in the tables of a store, and what a change of it leaves.
-use Rattle.std.specs.Prelude.{◌≡◌, ◌==◌, ℕ, if◌then◌else◌, Some}
-use Rattle.std.specs.FinMap.{FinMap}
+use Rattle.std.specs.Prelude.{◌≡◌, ◌==◌, ℕ, true, if◌then◌else◌, is_some, Some, List}
+use Rattle.std.specs.List.{AllByRecursion}
+use Rattle.std.specs.FinMap.{FinMap, get}
 use Rattle.agent_stock.specs.Stock.{Holders}
 use Rattle.agent_stock.specs.declared.stock.Holder.TheVariants.{Used}
+use Rattle.agent_stock.specs.declared.runs.StockRun.{StockRun}
 use Rattle.row_schema.specs.Store.{View, Displays, inside}
 use Rattle.row_schema.specs.Tables.{Tables, Stock, stock_cmp}
 use Rattle.row_values.specs.Stock.{holders_in, AreStockRows}
+use Rattle.stock_runs.specs.Runs.{key_of}
+use Rattle.stock_runs.specs.Writes.{begins}
 
 -- each row of the stock is within range, and no two have a number in common
 abbrev pub Stocked : Tables → Type 0
@@ -26,3 +30,7 @@ pub record Restocked (v : View) (before t : Tables) (holders : Holders) : Type 0
   pub shown : Displays v (inside before (restocked stock t))
   pub rows : Stocked (restocked stock t)
   pub held : holders_in stock ≡ holders
+
+-- the rows whose keys some of the old ones have are still there, under these keys
+abbrev pub AreThere : List StockRun → List StockRun → FinMap stock_cmp Stock → Type 0
+AreThere near new stock = AllByRecursion (λ row. begins row.first near ≡ true → is_some (get stock (key_of row.first)) ≡ true) new

@@ -4,8 +4,10 @@
 mod giving;
 mod holding;
 mod listing;
+mod near;
 mod orders;
 mod row;
+mod writing;
 
 pub use giving::use_up;
 pub use holding::holder;

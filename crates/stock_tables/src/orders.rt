@@ -8,8 +8,9 @@ ghost use Rattle.state_store.specs.Store.{RefusesBy, OnRefused};
 ghost use Rattle.stock_tables.specs.Stocked.{Stocked, Restocked};
 
 use crate::giving::begin_giving;
-use crate::holding::{lowest_failing, rows_of};
+use crate::near::near_of;
 use agent_stock::{Holder, Order, Run, StockFault, Test};
+use run_rows::lowest_of;
 use station_rows::{StoreFault, TableStore};
 use std::alloc::Global;
 
@@ -36,13 +37,13 @@ fn change_run<S: TableStore>(
     ensures open_at_refusal { OnRefused result ((S.view store.new).IsSound → (S.view store.old).is_open ≡ true) }
     ensures survives { Survives (S.view store.old) (S.view store.new) }
 {
-    let rows = match rows_of(store, run) {
-        Ok(rows) => rows,
+    let near = match near_of(alloc, store, run) {
+        Ok(near) => near,
         Err(fault) => return Err(StockFault::Rows(fault)),
     };
-    match lowest_failing(&rows, run, test) {
+    match lowest_of(&near, run, test) {
         Some(lowest) => Err(StockFault::Refused(number, Some(lowest))),
-        None => match begin_giving(alloc, store, run, &rows, to) {
+        None => match begin_giving(alloc, store, run, &near, to) {
             Ok(()) => Ok(()),
             Err(fault) => Err(StockFault::Rows(fault)),
         },

@@ -1,19 +1,19 @@
-//! Rows of `stock` as holders, and back.
-ghost use Rattle.std.specs.Prelude.{◌≡◌, ◌+◌, ℕ, ℤ, pos, List, map, Some};
-ghost use Rattle.std.specs.Option.{option_and_then};
-ghost use Rattle.row_schema.specs.Tables.{Stock, StockKey};
+//! Rows of `stock` as runs, and back.
+ghost use Rattle.std.specs.Prelude.{◌≡◌, ℤ, Some, IfSome, IfOk, OnOk};
 ghost use Rattle.row_values.specs.Stock.{holder_by};
 ghost use Rattle.station_rows.specs.Meant.{stock_meant};
-ghost use Rattle.stock_tables.specs.Ahead.{row_with, Remains};
+ghost use Rattle.stock_runs.specs.Runs.{run_in, holder_number, code_of, entry_of, IsWritable};
 
-use agent_stock::{AgentCode, Holder};
-use station_rows::StockRow;
+use agent_stock::{AgentCode, Holder, StockRun};
+use awb_number::Awb;
+use station_rows::{StockRow, StoreFault};
+use std::alloc::Global;
 
 /// The number of serials that a prefix has.
-pub(crate) const SERIALS: u64 = 10_000_000;
+const SERIALS: u32 = 10_000_000;
 
 /// The holder in a row, if it names one.
-pub(crate) fn holder_of(row: &StockRow) -> Option<Holder>
+fn holder_of(row: &StockRow) -> Option<Holder>
     ensures { result ≡ holder_by (stock_meant row.now).1 }
 {
     if row.holder == 1 {
@@ -37,8 +37,10 @@ pub(crate) fn holder_of(row: &StockRow) -> Option<Holder>
 }
 
 /// What stands in a row for a holder: its number, and the agent's code.
-pub(crate) fn stored(holder: &Holder) -> (i64, &str)
-    ensures { (high : ℤ) → holder_by (record { high = high; holder = result.0; agent = result.1.now }) ≡ Some holder.now }
+fn stored(holder: &Holder) -> (i64, &str)
+    ensures number { result.0 ≡ holder_number holder.now }
+    ensures code { result.1.now ≡ code_of holder.now }
+    ensures back { (high : ℤ) → holder_by (record { high = high; holder = holder_number holder.now; agent = code_of holder.now }) ≡ Some holder.now }
 {
     match holder {
         Holder::Desk => (0, ""),
@@ -48,17 +50,43 @@ pub(crate) fn stored(holder: &Holder) -> (i64, &str)
     }
 }
 
-/// The holder in the next row, where that row has the serial, and the rows that are left then.
-pub(crate) fn take_row<'a>(rest: &'a [StockRow], serial: i64) -> (Option<Holder>, &'a [StockRow])
-    ensures { (rows : List (StockKey × Stock)) (k : ℕ) → serial ≡ pos k
-        → Remains k rows (map stock_meant rest.now)
-        → (result.0 ≡ option_and_then (λ row. holder_by row.1) (row_with k rows))
-        × Remains (k + 1) rows (map stock_meant result.1.now) }
+/// The numbers that a row stands for, with their holder. `None`: they aren't numbers of a prefix, or no holder is named.
+pub(crate) fn run_of(row: &StockRow) -> Option<StockRun>
+    ensures { IfSome result (λ run. run ≡ run_in (stock_meant row.now)) }
 {
-    if let [row, more @ ..] = rest {
-        if row.low == serial {
-            return (holder_of(row), more);
-        }
+    let prefix = u16::try_from(row.prefix).ok()?;
+    let low = u32::try_from(row.low).ok()?;
+    let high = u32::try_from(row.high).ok()?;
+    let holder = holder_of(row)?;
+    if high < low || SERIALS <= high {
+        return None;
     }
-    (None, rest)
+    let first = Awb::new(prefix, low)?;
+    Some(StockRun {
+        first,
+        count: high - low + 1,
+        holder,
+    })
+}
+
+/// A run as a row. A fault: it has no numbers, or memory is short.
+pub(crate) fn row_of(alloc: Global, run: &StockRun) -> Result<StockRow, StoreFault>
+    ensures row { IfOk result (λ row. stock_meant row ≡ entry_of run.now) }
+    ensures writable { OnOk result (IsWritable run.now) }
+{
+    let (holder, agent) = stored(&run.holder);
+    let Some(others) = run.count.checked_sub(1) else {
+        return Err(StoreFault);
+    };
+    let Ok(agent) = String::from_str(alloc, agent) else {
+        return Err(StoreFault);
+    };
+    let low = i64::from(run.first.serial());
+    Ok(StockRow {
+        prefix: i64::from(run.first.prefix()),
+        low,
+        high: low + i64::from(others),
+        holder,
+        agent,
+    })
 }

@@ -1,11 +1,10 @@
-use Rattle.std.proofs.Common.{◌∙◌, map, ap}
+use Rattle.std.proofs.Common.{◌∙◌}
 use Rattle.row_schema.specs.Store.{inside}
-use Rattle.station_rows.specs.Meant.{stock_meant}
-use Rattle.stock_tables.proofs.Assigning.{uses_up}
+use Rattle.stock_tables.proofs.Doing.{uses_up}
 use Rattle.stock_tables.proofs.giving.use_up.Goals as goal
 
 pub returns-clause-done : goal.returns-clause-done
 returns-clause-done g c = λ before t showing stocked sound.
     uses_up (g.S.TableStore.view c.give.new.store) before t c.of_one-run.result c.args.awb.now c.of_one-run.ensures.value
-    (c.in_ok-give.ensures.done before t (c.in_ok-rows.ensures.same (inside before t) showing) stocked
-    (λ read. ap (map stock_meant) c.deref.ensures.value ∙ c.in_ok-rows.ensures.rows (inside before t) showing read) sound)
+    (c.in_ok-give.ensures.done before t (c.in_ok-near.ensures.same (inside before t) showing) stocked
+    (λ read. c.deref.ensures.value ∙ c.in_ok-near.ensures.rows (inside before t) showing read stocked) sound)

@@ -1,23 +1,40 @@
-use Rattle.std.proofs.Common.{◌≡◌, ◌∙◌, List, map, arith, ap}
+use Rattle.std.proofs.Common.{◌≡◌, ◌∙◌, Option, ℤ, pos, arith, w64, of_z, to_z, IfOk, option_map, sym, ap, ap₂, subst}
 use Rattle.std.proofs.lemmas.Int.{ints}
 use Rattle.std.specs.Option.{option_and_then}
-use Rattle.awb_number.specs.Number.{serial_of}
-use Rattle.agent_stock.specs.declared.stock.Run.{Run}
-use Rattle.row_schema.specs.Tables.{Stock, StockKey}
-use Rattle.row_values.specs.Stock.{holder_by}
-use Rattle.station_rows.specs.Meant.{stock_meant}
-use Rattle.stock_tables.specs.Ahead.{row_at, run_rows}
-use Rattle.stock_tables.proofs.Assigning.{ahead_of_run}
-use Rattle.stock_tables.proofs.Reading.{holder_of_run, one_is_run}
-use Rattle.stock_tables.proofs.Walk.{remains_all}
+use Rattle.std.specs.FinMap.{entries}
+use Rattle.awb_number.specs.Number.{prefix_of, serial_of}
+use Rattle.agent_stock.specs.declared.stock.Holder.{Holder}
+use Rattle.row_schema.specs.Tables.{Tables}
+use Rattle.row_values.specs.Stock.{holders_in}
+use Rattle.station_rows.specs.declared.stock.StockRow.{StockRow}
+use Rattle.station_rows.specs.Meant.{stock_meant, last_up_to}
+use Rattle.stock_runs.specs.Reads.{holder_at}
+use Rattle.stock_runs.specs.Runs.{run_in}
+use Rattle.stock_tables.proofs.Held.{held_is}
 use Rattle.stock_tables.proofs.holding.holder.Goals as goal
 
-pub returns-clause-value : goal.returns-clause-value
-returns-clause-value g c = λ x showing sound stocked.
+pub returns-in-Some-clause-value : goal.returns-in-Some-clause-value
+returns-in-Some-clause-value g c = λ x showing sound stocked.
     let n = c.args.awb.now in
-    let run : Run = record { first = n; count = 1 } in
-    let rows = map stock_meant c.deref.result.now in
-    let are : rows ≡ run_rows x.now.stock run = ap (map stock_meant) c.deref.ensures.value ∙ c.in_ok-rows.ensures.rows x showing sound ∙ ap (run_rows x.now.stock) c.of_one.ensures.value in
-    let taken = c.take_row-holder.ensures rows (serial_of n) (omega (arith, ints, c.from.ensures, c.serial.ensures.value)) (remains_all (serial_of n) rows (ahead_of_run x.now.stock run rows are)) in
-    taken.0 ∙ ap (λ (l : List (StockKey × Stock)). option_and_then (λ (row : StockKey × Stock). holder_by row.1) (row_at n l)) are
-    ∙ holder_of_run x.now.stock stocked run (one_is_run n) n (omega arith) (omega arith)
+    let old = g.S.TableStore.view c.args.store.now in
+    let prefix : to_z w64 (of_z w64 c.from.result) ≡ pos (prefix_of n) = omega (arith, ints, c.from.ensures, c.prefix.ensures.value) in
+    let serial : to_z w64 (of_z w64 c.from-2.result) ≡ pos (serial_of n) = omega (arith, ints, c.from-2.ensures, c.serial.ensures.value) in
+    let shown = showing (c.stock_up_to.ensures.survives.sound sound) in
+    let read : option_map stock_meant c.in_ok-row.row ≡ last_up_to (pos (prefix_of n)) (pos (serial_of n)) (entries x.now.stock) =
+    c.in_ok-row.ensures.row sound ∙ ap₂ (λ (p l : ℤ). last_up_to p l (entries old.now.stock)) prefix serial
+    ∙ ap (λ (t : Tables). last_up_to (pos (prefix_of n)) (pos (serial_of n)) (entries t.stock)) shown.now_is in
+    let is : holder_at n (run_in (stock_meant c.in-Some.row)) ≡ holders_in x.now.stock n =
+    sym (ap (option_and_then (λ (row : StockRow). holder_at n (run_in (stock_meant row)))) c.in-Some.is) ∙ held_is x.now.stock stocked n c.in_ok-row.row read in
+    subst (λ (h : Option Holder). IfOk c.holder_in.result (λ holder. holder ≡ h)) is c.holder_in.ensures
+
+pub returns-in-None-clause-value : goal.returns-in-None-clause-value
+returns-in-None-clause-value g c = λ x showing sound stocked.
+    let n = c.args.awb.now in
+    let old = g.S.TableStore.view c.args.store.now in
+    let prefix : to_z w64 (of_z w64 c.from.result) ≡ pos (prefix_of n) = omega (arith, ints, c.from.ensures, c.prefix.ensures.value) in
+    let serial : to_z w64 (of_z w64 c.from-2.result) ≡ pos (serial_of n) = omega (arith, ints, c.from-2.ensures, c.serial.ensures.value) in
+    let shown = showing (c.stock_up_to.ensures.survives.sound sound) in
+    let read : option_map stock_meant c.in_ok-row.row ≡ last_up_to (pos (prefix_of n)) (pos (serial_of n)) (entries x.now.stock) =
+    c.in_ok-row.ensures.row sound ∙ ap₂ (λ (p l : ℤ). last_up_to p l (entries old.now.stock)) prefix serial
+    ∙ ap (λ (t : Tables). last_up_to (pos (prefix_of n)) (pos (serial_of n)) (entries t.stock)) shown.now_is in
+    sym (ap (option_and_then (λ (row : StockRow). holder_at n (run_in (stock_meant row)))) c.in-None.is) ∙ held_is x.now.stock stocked n c.in_ok-row.row read

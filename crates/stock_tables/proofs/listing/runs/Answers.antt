@@ -1,9 +1,19 @@
-use Rattle.std.proofs.Common.{◌∙◌, ap, sym, subst}
-use Rattle.agent_stock.specs.Runs.{AreRising, AreStockRuns, holders_among}
+use Rattle.std.proofs.Common.{◌≡◌, ◌∙◌, List, IfOk, map, sym, ap, subst}
+use Rattle.std.specs.FinMap.{entries}
+use Rattle.agent_stock.specs.Runs.{AreStockRuns}
 use Rattle.agent_stock.specs.Stock.{Holders}
+use Rattle.row_schema.specs.Tables.{Tables, Stock, StockKey}
+use Rattle.run_rows.specs.Rows.{AreRuns, holders_by}
+use Rattle.station_rows.specs.Meant.{stock_meant}
+use Rattle.stock_runs.specs.Runs.{run_in}
+use Rattle.stock_runs.proofs.Meant.{same_holders, are_in_order}
 use Rattle.stock_tables.proofs.listing.runs.Goals as goal
 
-pub returns-in-Ok-clause-value : goal.returns-in-Ok-clause-value
-returns-in-Ok-clause-value g c = λ x showing sound stocked.
-    subst (λ (h : Holders). AreStockRuns h c.in-Ok.runs.items) (ap holders_among c.deref.ensures.value ∙ c.in_ok-held.ensures.holders x showing sound stocked)
-    (c.in-Ok.ensures (subst AreRising (sym c.deref.ensures.value) (c.in_ok-held.ensures.rising sound)))
+pub returns-clause-value : goal.returns-clause-value
+returns-clause-value g c = λ x showing sound stocked.
+    let shown = showing (c.all_stock.ensures.survives.sound sound) in
+    let are : map stock_meant c.deref.result.now ≡ entries x.now.stock =
+    ap (map stock_meant) c.deref.ensures.value ∙ c.in_ok-rows.ensures.rows sound ∙ ap (λ (t : Tables). entries t.stock) shown.now_is in
+    let made = c.runs_of.ensures (subst (λ (es : List (StockKey × Stock)). AreRuns (map run_in es)) (sym are) (are_in_order x.now.stock stocked.rows stocked.apart)) in
+    subst (λ (h : Holders). IfOk c.runs_of.result (λ runs. AreStockRuns h runs.items))
+    (ap (λ (es : List (StockKey × Stock)). holders_by (map run_in es)) are ∙ sym (same_holders x.now.stock stocked.rows)) made

@@ -1,4 +1,4 @@
-use Rattle.stock_tables.proofs.Assigning.{does_order}
+use Rattle.stock_tables.proofs.Doing.{does_order}
 use Rattle.agent_stock.specs.declared.stock.Order.TheVariants.{TakeIn, Issue, GiveBack, Void}
 use Rattle.stock_tables.proofs.orders.carry_out_order.Goals as goal
 

@@ -1,0 +1,43 @@
+-- What the reads of the stock's rows tell of its numbers.
+use Rattle.std.proofs.Common.{◌≡◌, ℕ, ℤ, pos, ◌+◌, ◌+ℤ◌, List, ◌++◌, Option, Some, None, map, filter, option_map, refl, sym, ap, ap₂, ◌∙◌}
+use Rattle.std.specs.Option.{option_and_then}
+use Rattle.std.specs.FinMap.{FinMap, entries}
+use Rattle.awb_number.specs.Number.{prefix_of, serial_of}
+use Rattle.agent_stock.specs.declared.stock.Run.{Run}
+use Rattle.agent_stock.specs.declared.runs.StockRun.{StockRun}
+use Rattle.row_schema.specs.Tables.{Stock, StockKey, stock_cmp}
+use Rattle.row_values.specs.Stock.{holders_in, AreStockRows}
+use Rattle.run_rows.specs.Rows.{rows_near}
+use Rattle.station_rows.specs.declared.stock.StockRow.{StockRow}
+use Rattle.station_rows.specs.Meant.{stock_meant, is_between, last_up_to}
+use Rattle.stock_runs.specs.Reads.{holder_at, reaching, last_below, is_from}
+use Rattle.stock_runs.specs.Runs.{run_in}
+use Rattle.stock_runs.proofs.Meant.{same_holders, are_in_order}
+use Rattle.stock_runs.proofs.Reading.{near_read, holder_read, between_read, before_read, until_read}
+
+module _ (stock : FinMap stock_cmp Stock) (stocked : AreStockRows stock) where
+  -- the holder of a number, by the last row that begins with it or before it
+  pub held_is : (q : ℕ) (found : Option StockRow) → option_map stock_meant found ≡ last_up_to (pos (prefix_of q)) (pos (serial_of q)) (entries stock)
+      → option_and_then (λ (row : StockRow). holder_at q (run_in (stock_meant row))) found ≡ holders_in stock q
+  held_is q found is =
+      let runs = are_in_order stock stocked.rows stocked.apart in
+      by_row found
+      ∙ ap (λ o. option_and_then (holder_at q) (option_map run_in o)) is
+      ∙ ap (option_and_then (holder_at q)) (until_read (entries stock) stocked.rows q)
+      ∙ sym (holder_read q 0 (map run_in (entries stock)) runs.stand runs.each)
+      ∙ sym (λ i. same_holders stock stocked.rows i q)
+    where
+      by_row : (o : Option StockRow) → option_and_then (λ (row : StockRow). holder_at q (run_in (stock_meant row))) o ≡ option_and_then (holder_at q) (option_map run_in (option_map stock_meant o))
+      by_row (Some row) = refl
+      by_row None = refl
+
+  -- the rows that a run touches, by the two reads
+  pub near_is : (run : Run) (z : ℤ) → z +ℤ pos 1 ≡ pos (serial_of run.first) → (found : Option StockRow) → option_map stock_meant found ≡ last_up_to (pos (prefix_of run.first)) z (entries stock)
+      → (rows : List StockRow) → map stock_meant rows ≡ filter (is_between (pos (prefix_of run.first)) (pos (serial_of run.first)) (pos (serial_of run.first + run.count))) (entries stock)
+      → reaching run (option_map run_in (option_map stock_meant found)) ++ map run_in (map stock_meant rows) ≡ rows_near run (map run_in (entries stock))
+  near_is run z low found is rows are =
+      let runs = are_in_order stock stocked.rows stocked.apart in
+      ap₂ (λ o l. reaching run o ++ l)
+      (ap (option_map run_in) is ∙ before_read (entries stock) stocked.rows run z low)
+      (ap (map run_in) are ∙ between_read (entries stock) stocked.rows run)
+      ∙ sym (near_read run 0 (map run_in (entries stock)) runs.stand)

@@ -1,0 +1,95 @@
+-- The stock after a run is given, by the rows that the run touches.
+use Rattle.std.proofs.Common.{◌≡◌, ℕ, Bool, true, false, List, [], ◌∷◌, ◌++◌, map, Option, Some, None, refl, sym, ap, subst, ◌∙◌, arith}
+use Rattle.std.specs.Prelude.{◌||◌, nat_eq, is_some, IsTrue}
+use Rattle.std.specs.List.{AllByRecursion}
+use Rattle.std.specs.FinMap.{FinMap, entries, get}
+use Rattle.std.proofs.lemmas.Bool.{and_parts, or_left, or_right, leb-true, ltb-true, eq-eqb}
+use Rattle.awb_number.specs.Number.{serial_of}
+use Rattle.agent_stock.specs.Stock.{is_run, covers, assigned}
+use Rattle.agent_stock.specs.declared.stock.Holder.{Holder}
+use Rattle.agent_stock.specs.declared.stock.Run.{Run}
+use Rattle.agent_stock.specs.declared.runs.StockRun.{StockRun}
+use Rattle.row_schema.specs.Store.{View, Displays, inside}
+use Rattle.row_schema.specs.Tables.{Tables, Stock, stock_cmp}
+use Rattle.row_values.specs.Stock.{holders_in}
+use Rattle.run_rows.specs.Rows.{holders_by, StandFrom, AreRuns, AreAround, AreNear, rows_ahead, rows_near, rows_behind}
+use Rattle.run_rows.proofs.Places.{run_parts}
+use Rattle.run_rows.proofs.Parted.{parted, around, near_holders, touched}
+use Rattle.run_rows.proofs.Standing.{stand_split, stand_lower, last_end}
+use Rattle.stock_runs.specs.Runs.{run_in, key_of, IsWritable}
+use Rattle.stock_runs.specs.Writes.{begins, cleared, put_in}
+use Rattle.stock_runs.proofs.Meant.{same_holders, are_in_order}
+use Rattle.stock_runs.proofs.Rewriting.{lawful_after, holders_after, there_cleared, there_put}
+use Rattle.stock_tables.specs.Stocked.{Stocked, Restocked, restocked, AreThere}
+
+-- what is there is still there when more is put in
+pub still_there : (near rows more : List StockRun) (m : FinMap stock_cmp Stock) → AreThere near rows m → AreThere near rows (put_in more m)
+still_there near [] more m there = tt
+still_there near (r ∷ rows) more m there = (λ has. there_put (key_of r.first) more m (there.0 has), still_there near rows more m there.1)
+
+each_there : (near whole : List StockRun) (m : FinMap stock_cmp Stock) → ((n : ℕ) → begins n whole ≡ true → begins n near ≡ true → is_some (get m (key_of n)) ≡ true)
+    → (rows : List StockRun) → ((n : ℕ) → begins n rows ≡ true → begins n whole ≡ true) → AreThere near rows m
+each_there near whole m h [] among = tt
+each_there near whole m h (r ∷ rows) among = (
+  h r.first (among r.first (or_left (nat_eq r.first r.first) (begins r.first rows) (eq-eqb r.first r.first refl))),
+  each_there near whole m h rows (λ n has. among n (or_right (nat_eq n r.first) (begins n rows) has)),
+)
+
+module _ (run : Run) (is : is_run run ≡ true) (t : Tables) (stocked : Stocked t) (near : List StockRun) (are : near ≡ rows_near run (map run_in (entries t.stock))) where
+  abbrev pub all : List StockRun
+  all = map run_in (entries t.stock)
+
+  abbrev pub before_run : List StockRun
+  before_run = rows_ahead run (map run_in (entries t.stock))
+
+  abbrev pub behind_run : List StockRun
+  behind_run = rows_behind run (map run_in (entries t.stock))
+
+  order : AreRuns (map run_in (entries t.stock))
+  order = are_in_order t.stock stocked.rows stocked.apart
+
+  pub parted_is : map run_in (entries t.stock) ≡ before_run ++ (near ++ behind_run)
+  parted_is =
+      let parts = run_parts run.count (serial_of run.first) is in
+      parted run parts.0 parts.1 0 all order.stand order.each ∙ ap (λ (l : List StockRun). before_run ++ (l ++ behind_run)) (sym are)
+
+  pub runs_are : AreRuns (before_run ++ (near ++ behind_run))
+  runs_are = subst AreRuns parted_is order
+
+  pub around_is : AreAround run before_run behind_run
+  around_is = let parts = run_parts run.count (serial_of run.first) is in around run parts.0 parts.1 all order.each
+
+  pub near_touch : AreNear run near
+  near_touch = subst (AreNear run) (sym are) (touched run all)
+
+  -- the rows that the run touches tell who has its numbers
+  pub near_stand : StandFrom 0 near
+  near_stand =
+      let behind = stand_split 0 before_run (near ++ behind_run) runs_are.stand in
+      let first = stand_split (last_end 0 before_run) near behind_run behind.1 in
+      stand_lower (last_end 0 before_run) 0 near (omega arith) first.0
+
+  pub near_held : (q : ℕ) → IsTrue (covers run q) → holders_by near q ≡ holders_in t.stock q
+  near_held q covered =
+      let parts = run_parts run.count (serial_of run.first) is in
+      let within = and_parts _ _ covered in
+      ap (λ (l : List StockRun). holders_by l q) are
+      ∙ near_holders run parts.0 parts.1 all order q (leb-true _ _ within.0) (ltb-true _ _ within.1)
+      ∙ sym (λ i. same_holders t.stock stocked.rows i q)
+
+  -- other rows in their place
+  module _ (new : List StockRun) (to : Holder) (runs : AreRuns (before_run ++ (new ++ behind_run))) (writable : AllByRecursion IsWritable new) where
+    pub there_are : AreThere near new (cleared new near t.stock)
+    there_are =
+        each_there near new (cleared new near t.stock) (λ n kept has. there_cleared t.stock stocked before_run near new behind_run parted_is runs writable n kept has) new (λ n has. has)
+
+    pub restocked_is : holders_by (before_run ++ (new ++ behind_run)) ≡ assigned (holders_by (before_run ++ (near ++ behind_run))) run to
+        → (v : View) (before : Tables) → Displays v (inside before (restocked (put_in new (cleared new near t.stock)) t)) → Restocked v before t (assigned (holders_in t.stock) run to)
+    restocked_is given v before shown = record {
+      stock = put_in new (cleared new near t.stock);
+      shown = shown;
+      rows = lawful_after t.stock stocked before_run near new behind_run parted_is runs writable;
+      held = holders_after t.stock stocked before_run near new behind_run parted_is runs writable ∙ given
+          ∙ ap (λ (l : List StockRun). assigned (holders_by l) run to) (sym parted_is)
+          ∙ ap (λ h. assigned h run to) (sym (same_holders t.stock stocked.rows));
+    }

@@ -1,0 +1,7 @@
+use Rattle.std.proofs.Common.{◌≡◌, ◌++◌, map, take}
+use Rattle.station_rows.specs.Meant.{stock_meant}
+use Rattle.stock_runs.specs.Runs.{run_in}
+use Rattle.stock_tables.proofs.near.with_rows.Given as goal
+
+abbrev pub invariant-loop-row : goal.invariant-loop-row
+invariant-loop-row l = l.all.items ≡ l.ahead ++ map run_in (map stock_meant (take l.row-index l.rows))

@@ -1,0 +1,22 @@
+use Rattle.std.proofs.Common.{◌≡◌, ◌∙◌, pos, arith, w64, of_z, to_z, Bool, false, cond, sym, ap, subst}
+use Rattle.std.proofs.lemmas.Int.{ints}
+use Rattle.std.specs.FinMap.{FinMap, remove}
+use Rattle.awb_number.specs.Number.{prefix_of, serial_of}
+use Rattle.row_schema.specs.Store.{IsShowing, inside}
+use Rattle.row_schema.specs.Tables.{Stock, stock_cmp}
+use Rattle.run_rows.specs.Rows.{written}
+use Rattle.stock_runs.specs.Runs.{key_of}
+use Rattle.stock_runs.specs.Writes.{begins, without}
+use Rattle.stock_tables.specs.Stocked.{restocked}
+use Rattle.stock_tables.proofs.writing.clear_row.Goals as goal
+
+pub returns-clause-done : goal.returns-clause-done
+returns-clause-done g c = λ before now showing.
+    let row = c.args.row.now in
+    let new = written c.args.new.now in
+    let gone : begins row.first new ≡ false = sym c.keeps.ensures ∙ c.if-keeps.false in
+    let prefix : to_z w64 (of_z w64 c.from-prefix.result) ≡ pos (prefix_of row.first) = omega (arith, ints, c.from-prefix.ensures, c.prefix.ensures.value) in
+    let low : to_z w64 (of_z w64 c.from.result) ≡ pos (serial_of row.first) = omega (arith, ints, c.from.ensures, c.serial.ensures.value) in
+    let same : remove now.stock (to_z w64 (of_z w64 c.from-prefix.result), to_z w64 (of_z w64 c.from.result)) ≡ without new row now.stock =
+    (λ i. remove now.stock (prefix i, low i)) ∙ sym (ap (λ (b : Bool). cond b now.stock (remove now.stock (key_of row.first))) gone) in
+    subst (λ (m : FinMap stock_cmp Stock). IsShowing (g.S.TableStore.view c.delete_stock.new.self) (inside before (restocked m now))) same (c.in_ok-delete_stock.ensures.done before now showing)

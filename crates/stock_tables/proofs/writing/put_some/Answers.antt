@@ -1,0 +1,13 @@
+use Rattle.std.proofs.Common.{Option, sym, subst}
+use Rattle.std.specs.Prelude.{OnOk}
+use Rattle.agent_stock.specs.declared.runs.StockRun.{StockRun}
+use Rattle.row_schema.specs.Store.{IsShowing, inside}
+use Rattle.run_rows.specs.Rows.{listed}
+use Rattle.stock_runs.specs.Writes.{put_in}
+use Rattle.stock_tables.specs.Stocked.{restocked, AreThere}
+use Rattle.stock_tables.proofs.writing.put_some.Goals as goal
+
+pub returns-in-Some-clause-done : goal.returns-in-Some-clause-done
+returns-in-Some-clause-done g c = λ before t showing there.
+    subst (λ (o : Option StockRun). OnOk c.put.result (IsShowing (g.S.TableStore.view c.put.new.store) (inside before (restocked (put_in (listed o) t.stock) t)))) (sym c.in-Some.is)
+    (c.put.ensures.done before t showing (λ sound. subst (λ (o : Option StockRun). AreThere c.args.near.now (listed o) t.stock) c.in-Some.is (there sound)))

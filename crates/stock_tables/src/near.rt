@@ -1,0 +1,77 @@
+//! The rows that a run touches.
+ghost use Rattle.std.specs.Prelude.{◌≡◌, ◌++◌, map, option_map, IfSome, IfOk};
+ghost use Rattle.std.specs.FinMap.{entries};
+ghost use Rattle.row_schema.specs.Store.{Survives};
+ghost use Rattle.run_rows.specs.Rows.{rows_near};
+ghost use Rattle.station_rows.specs.Clauses.{TellsOf, ShowsStill, WasOpen};
+ghost use Rattle.station_rows.specs.Meant.{stock_meant};
+ghost use Rattle.stock_runs.specs.Reads.{reaching};
+ghost use Rattle.stock_runs.specs.Runs.{run_in};
+ghost use Rattle.stock_tables.specs.Stocked.{Stocked};
+
+use crate::row::run_of;
+use agent_stock::{Run, StockRun};
+use station_rows::{StockRow, StoreFault, TableStore};
+use std::alloc::Global;
+use std::slice;
+
+/// Rows as runs, behind others. `None`: a row is out of range, or memory is short.
+pub(crate) fn with_rows(
+    alloc: Global,
+    ahead: &[StockRun],
+    rows: &[StockRow],
+) -> Option<Vec<StockRun>>
+    ensures { IfSome result (λ all. all.items ≡ ahead.now ++ map run_in (map stock_meant rows.now)) }
+{
+    let mut all = Vec::new(alloc);
+    all.extend_from_slice(ahead).ok()?;
+    for row in rows {
+        let run = run_of(row)?;
+        all.extend_from_slice(slice::from_ref(&run)).ok()?;
+    }
+    Some(all)
+}
+
+/// The row before a run, where it reaches the run. A fault: it is out of range, or memory is short.
+fn reaching_run(
+    alloc: Global,
+    run: &Run,
+    row: &Option<StockRow>,
+) -> Result<Vec<StockRun>, StoreFault>
+    ensures { IfOk result (λ near. near.items ≡ reaching run.now (option_map run_in (option_map stock_meant row.now))) }
+{
+    let mut near = Vec::new(alloc);
+    if let Some(row) = row {
+        let Some(row) = run_of(row) else {
+            return Err(StoreFault);
+        };
+        if run.first.key() <= row.first.key() + u64::from(row.count) && near.push(row).is_err() {
+            return Err(StoreFault);
+        }
+    }
+    Ok(near)
+}
+
+/// The rows that a run touches, in ascending order, by two statements.
+#[tactic(auto, using(crate::proofs::Showing::still_shows))]
+pub(crate) fn near_of<S: TableStore>(
+    alloc: Global,
+    store: &mut S,
+    run: &Run,
+) -> Result<Vec<StockRun>, StoreFault>
+    ensures rows { TellsOf (S.view store.old) (S.view store.new) result
+        (λ tables near. Stocked tables → near.items ≡ rows_near run.now (map run_in (entries tables.stock))) }
+    ensures same { ShowsStill (S.view store.old) (S.view store.new) result }
+    ensures open { WasOpen (S.view store.old) (S.view store.new) result }
+    ensures survives { Survives (S.view store.old) (S.view store.new) }
+{
+    let prefix = i64::from(run.first.prefix());
+    let first = i64::from(run.first.serial());
+    let row = store.stock_up_to(prefix, first - 1)?;
+    let rows = store.stock_between(prefix, first, first + i64::from(run.count.number()))?;
+    let ahead = reaching_run(alloc, run, &row)?;
+    match with_rows(alloc, &ahead, &rows) {
+        Some(near) => Ok(near),
+        None => Err(StoreFault),
+    }
+}
