@@ -31,13 +31,7 @@ pub fn answer(alloc: Global, desk: &mut Desk, asked: &str, text: &[u8]) -> Optio
 }
 
 /// A call: its words stand on the first line, its input behind that.
-fn call(
-    alloc: Global,
-    desk: &mut Desk,
-    text: &str,
-    is_torn: bool,
-    room: usize,
-) -> Option<String> {
+fn call(alloc: Global, desk: &mut Desk, text: &str, is_torn: bool, room: usize) -> Option<String> {
     let (first, input) = text.split_once('\n').unwrap_or((text, ""));
     let words = words_of(alloc, first)?;
     let reader = if is_torn {
@@ -74,7 +68,12 @@ fn run(
     desk.close(conn, has_file);
     let taken = output.into_inner().into_taken();
     let told = errors.into_inner();
-    ended_said(alloc, status, shown(taken.as_slice()), shown(told.as_slice()))
+    ended_said(
+        alloc,
+        status,
+        shown(taken.as_slice()),
+        shown(told.as_slice()),
+    )
 }
 
 /// The status, what was printed, and what was told on standard error.

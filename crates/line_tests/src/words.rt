@@ -8,9 +8,10 @@ use std::alloc::Global;
 /// What comes of what is asked.
 pub fn answer(alloc: Global, asked: &str, text: &[u8]) -> Option<String> {
     match asked {
-        "words" => read_as(alloc, &words_of(alloc, shown(text))?),
-        // The program's name stands first; here not even that.
-        "no-words" => read_as(alloc, &Vec::new(alloc)),
+        "words" => {
+            let words = words_of(alloc, shown(text))?;
+            read_as(alloc, words.as_slice())
+        }
         _ => None,
     }
 }
@@ -28,8 +29,8 @@ pub fn words_of(alloc: Global, text: &str) -> Option<Vec<&str>> {
 }
 
 /// What words are read as: file, station, zone and command; the help; or the status of other words.
-fn read_as(alloc: Global, words: &Vec<&str>) -> Option<String> {
-    match parse_words(alloc, words.as_slice()) {
+fn read_as(alloc: Global, words: &[&str]) -> Option<String> {
+    match parse_words(alloc, words) {
         Ok(line) => line_said(alloc, &line),
         Err(fault) => fault_said(alloc, &fault),
     }
