@@ -4,13 +4,12 @@ use Rattle.std.specs.Option.{option_and_then}
 use Rattle.std.specs.FinMap.{FinMap, entries}
 use Rattle.awb_number.specs.Number.{prefix_of, serial_of}
 use Rattle.agent_stock.specs.declared.stock.Run.{Run}
-use Rattle.agent_stock.specs.declared.runs.StockRun.{StockRun}
-use Rattle.row_schema.specs.Tables.{Stock, StockKey, stock_cmp}
+use Rattle.row_schema.specs.Tables.{Stock, stock_cmp}
 use Rattle.row_values.specs.Stock.{holders_in, AreStockRows}
 use Rattle.run_rows.specs.Rows.{rows_near}
 use Rattle.station_rows.specs.declared.stock.StockRow.{StockRow}
 use Rattle.station_rows.specs.Meant.{stock_meant, is_between, last_up_to}
-use Rattle.stock_runs.specs.Reads.{holder_at, reaching, last_below, is_from}
+use Rattle.stock_runs.specs.Reads.{holder_at, reaching}
 use Rattle.stock_runs.specs.Runs.{run_in}
 use Rattle.stock_runs.proofs.Meant.{same_holders, are_in_order}
 use Rattle.stock_runs.proofs.Reading.{near_read, holder_read, between_read, before_read, until_read}

@@ -45,11 +45,7 @@ fn keeps(new: &Joined, number: &Awb) -> bool
 }
 
 /// Removes a row, unless a new one has its key.
-fn clear_row<S: TableStore>(
-    store: &mut S,
-    row: &StockRun,
-    new: &Joined,
-) -> Result<(), StoreFault>
+fn clear_row<S: TableStore>(store: &mut S, row: &StockRun, new: &Joined) -> Result<(), StoreFault>
     ensures done { ShowsChange (S.view store.old) (S.view store.new) result (λ t. restocked (without (written new.now) row.now t.stock) t) }
     ensures survives { Survives (S.view store.old) (S.view store.new) }
 {

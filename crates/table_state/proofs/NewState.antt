@@ -89,7 +89,7 @@ pub opening_readable : (here : List ℕ) → IsTrue (is_airport here) → IsRead
 opening_readable here airport = record {
   station = rw airport refl;
   waybills = refl;
-  stock = rw (no_entries stock_cmp Stock) refl;
+  stock = record { rows = rw (no_entries stock_cmp Stock) refl; apart = rw (no_entries stock_cmp Stock) refl };
   flights = rw (no_entries flight_cmp Flight) refl;
   moves = refl;
   book = refl;

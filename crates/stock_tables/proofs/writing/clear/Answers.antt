@@ -29,10 +29,13 @@ loop-row-preserved g c =
     record {
       survives = survives_goes_on (view c.args.store.now) (view c.loop-row.store) (view c.clear_row.new.store) inv.survives c.clear_row.ensures.survives;
       so_far = λ before t showing.
-          let so_far = inv.so_far before t showing in
-          (without new row so_far.0, (
-            c.in_ok-clear_row.ensures.done before (restocked so_far.0 t) so_far.1.0,
-            sym (ap (λ (l : List StockRun). cleared new l so_far.0) at) ∙ so_far.1.1));
+          let so_far = inv.so_far before t showing in (
+            without new row so_far.0,
+            (
+              c.in_ok-clear_row.ensures.done before (restocked so_far.0 t) so_far.1.0,
+              sym (ap (λ (l : List StockRun). cleared new l so_far.0) at) ∙ so_far.1.1,
+            ),
+          );
     }
 
 pub returns-in_err-clear_row-clause-survives : goal.returns-in_err-clear_row-clause-survives

@@ -1,6 +1,6 @@
 use Rattle.std.proofs.Common.{◌≡◌, drop}
 use Rattle.std.specs.FinMap.{FinMap}
-use Rattle.row_schema.specs.Store.{Displays, IsShowing, Survives, inside}
+use Rattle.row_schema.specs.Store.{IsShowing, Survives, inside}
 use Rattle.row_schema.specs.Tables.{Tables, Stock, stock_cmp}
 use Rattle.run_rows.specs.Rows.{written}
 use Rattle.stock_runs.specs.Writes.{cleared}
