@@ -1,1 +1,3 @@
 pub mod Ended
+pub mod Opened
+pub mod Ran

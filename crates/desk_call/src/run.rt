@@ -1,4 +1,6 @@
 //! A line over a connection.
+ghost use Rattle.std.specs.Prelude.{◌≡◌};
+ghost use Rattle.desk_call.specs.Ran.{HasCalled, HasEndedCall, HasNoStation, HasReleased, HasRunLine, HasToldEnd};
 
 use crate::ended::{DeskFault, end, run_ended};
 use crate::opening::open_station;
@@ -6,9 +8,75 @@ use desk_run::run_over;
 use desk_words::Line;
 use imp_fields::Moment;
 use sqlite::{Alter, Connection};
-use station_core::{ByteIn, ByteOut};
+use station_core::{ByteIn, ByteOut, Keeper};
+use station_tables::{AttachFault, Station};
 use std::alloc::Global;
 use std::io::Read;
+use stock_list::RunFault;
+
+/// Ends a call whose command ran.
+fn end_run<E: ByteOut>(errors: &mut E, ended: Result<bool, RunFault>) -> u8
+    ensures { HasToldEnd E.taken ended errors.old errors.new result }
+{
+    end(errors, run_ended(ended))
+}
+
+/// Gives the connection of a station back.
+fn give_back<S: Alter>(station: Station<S>) -> Connection<S>
+    ensures { HasReleased ⟦<Station<S> as Keeper>⟧.keeps ⟦<Station<S> as Keeper>⟧.is_sound ⟦<Station<S> as Keeper>⟧.may_find station result }
+{
+    station.release()
+}
+
+/// Runs a line's command over its station, tells how it ended, and gives the connection back.
+fn run_station<S: Alter, I: ByteIn + Read, W: ByteOut, E: ByteOut>(
+    alloc: Global,
+    line: &Line<'_>,
+    mut station: Station<S>,
+    reader: &mut I,
+    output: &mut W,
+    errors: &mut E,
+    at: Moment,
+) -> (u8, Connection<S>)
+    ensures { HasRunLine line.now ⟦<Station<S> as Keeper>⟧.keeps ⟦<Station<S> as Keeper>⟧.is_sound ⟦<Station<S> as Keeper>⟧.is_broken ⟦<Station<S> as Keeper>⟧.may_find at
+        station (I.remaining reader.old) (I.given reader.old) (I.given reader.new) (W.taken output.old) (W.taken output.new) E.taken errors.old errors.new result }
+{
+    let ended = run_over(alloc, &mut station, line, reader, output, at);
+    let status = end_run(errors, ended);
+    (status, give_back(station))
+}
+
+/// Tells why there is no station, and gives the connection back.
+fn refuse_line<S: Alter, I, W, E: ByteOut>(
+    _reader: &mut I,
+    _output: &mut W,
+    errors: &mut E,
+    none: (Connection<S>, AttachFault),
+) -> (u8, Connection<S>)
+    ensures { HasNoStation none _reader.old _reader.new _output.old _output.new (E.taken errors.old) (E.taken errors.new) result }
+{
+    let (conn, fault) = none;
+    (end(errors, Err(DeskFault::Attach(fault))), conn)
+}
+
+/// Runs a line over its station, or tells why there is none.
+fn run_opened<S: Alter, I: ByteIn + Read, W: ByteOut, E: ByteOut>(
+    alloc: Global,
+    line: &Line<'_>,
+    opened: Result<Station<S>, (Connection<S>, AttachFault)>,
+    reader: &mut I,
+    output: &mut W,
+    errors: &mut E,
+    at: Moment,
+) -> (u8, Connection<S>)
+    ensures { HasEndedCall line.now ⟦<Station<S> as Keeper>⟧.keeps ⟦<Station<S> as Keeper>⟧.is_sound ⟦<Station<S> as Keeper>⟧.is_broken ⟦<Station<S> as Keeper>⟧.may_find at
+        I.remaining I.given W.taken E.taken opened reader.old reader.new output.old output.new errors.old errors.new result }
+{
+    match opened {
+        Ok(station) => run_station(alloc, line, station, reader, output, errors, at),
+        Err(none) => refuse_line(reader, output, errors, none),
+    }
+}
 
 /// Runs a line over a connection, at a moment: every command but `serve`. It answers the exit status, and gives the connection back.
 ///
@@ -21,12 +89,10 @@ pub fn run_line<S: Alter, I: ByteIn + Read, W: ByteOut, E: ByteOut>(
     output: &mut W,
     errors: &mut E,
     at: Moment,
-) -> (u8, Connection<S>) {
-    match open_station(alloc, line, conn) {
-        Ok(mut station) => {
-            let ended = run_over(alloc, &mut station, line, reader, output, at);
-            (end(errors, run_ended(ended)), station.release())
-        }
-        Err((conn, fault)) => (end(errors, Err(DeskFault::Attach(fault))), conn),
-    }
+) -> (u8, Connection<S>)
+    ensures { HasCalled S.Store line.now ⟦<Station<S> as Keeper>⟧.keeps ⟦<Station<S> as Keeper>⟧.is_sound ⟦<Station<S> as Keeper>⟧.is_broken ⟦<Station<S> as Keeper>⟧.may_find at
+        I.remaining I.given W.taken E.taken conn reader.old reader.new output.old output.new errors.old errors.new result }
+{
+    let opened = open_station(alloc, line, conn);
+    run_opened(alloc, line, opened, reader, output, errors, at)
 }
