@@ -1,5 +1,5 @@
 -- The station that a line opens.
-use Rattle.std.specs.Prelude.{◌≡◌, ◌⊎◌, ℕ, Bool, true, false, Option, Some, None, Result, Ok, Err, IfOk, IfErr, OnOk, List}
+use Rattle.std.specs.Prelude.{◌≡◌, ◌⊎◌, ℕ, Bool, true, false, Option, Some, Result, Err, IfOk, IfErr, OnOk, List}
 use Rattle.sqlite.specs.Held.{Held, state}
 use Rattle.sqlite.specs.State.{HasCleanDisk}
 use Rattle.sqlite_trees.specs.declared.store.Store.{Ghosts}
@@ -26,6 +26,7 @@ pub record HasMade {S : Type 0} (g : Ghosts S) (keeps : Station S g → State �
   pub inside : (connection_view g conn).in_transaction ≡ true → opened ≡ Err (conn, fault.Store)
   pub occupied : (connection_view g conn).in_transaction ≡ false → ¬ (IsVacant g conn) → opened ≡ Err (conn, fault.Occupied)
   pub vacant : IfErr opened (λ e. e.1 ≡ fault.Occupied → ¬ (IsVacant g conn))
+  pub faults : IfErr opened (λ e. (e.1 ≡ fault.Occupied) ⊎ (e.1 ≡ fault.Store))
   -- a crash leaves what it left before, or where the store was empty the opening station
   pub leaves : IfErr opened (λ e. (connection_view g e.0).IsSound → (found : Option State)
       → Finds (connection_view g e.0) found → Finds (connection_view g conn) found ⊎ (IsVacant g conn × (found ≡ Some (opening here))))
