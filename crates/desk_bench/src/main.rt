@@ -16,7 +16,8 @@ mod stock;
 mod stores;
 
 use report::{Done, give_up, report};
-use station_core::Keeper;
+use sqlite::Alter;
+use station_tables::Station;
 use std::alloc::Global;
 use std::process::ExitCode;
 use std::time::Instant;
@@ -100,9 +101,9 @@ fn measure(rt: &HostRuntime, what: &str, work: Work, text: &[u8]) -> Result<(), 
 }
 
 /// Measures orders on a new station.
-fn measure_orders(
+fn measure_orders<S: Alter + Drop>(
     rt: &HostRuntime,
-    station: Option<impl Keeper + Drop>,
+    station: Option<Station<S>>,
     what: &str,
     work: stock::Work,
 ) -> Result<(), io::Error> {
@@ -118,20 +119,30 @@ fn measure_orders(
     report(rt, what, done, start.elapsed(rt)?)
 }
 
+/// Measures orders on a new station over a store.
+fn measure_orders_over(
+    rt: &HostRuntime,
+    store: StoreKind,
+    what: &str,
+    work: stock::Work,
+) -> Result<(), io::Error> {
+    match store {
+        StoreKind::Tables => measure_orders(rt, over_tables(rt.alloc()), what, work),
+        StoreKind::Pages => measure_orders(rt, over_pages(rt.alloc()), what, work),
+    }
+}
+
 /// Measures orders of each kind over a store.
 fn measure_stock(rt: &HostRuntime, store: StoreKind) -> Result<(), io::Error> {
     let name = store.name();
     println!(rt; "over {name}:")?;
     for (work, what) in ORDERS {
-        match store {
-            StoreKind::Tables => measure_orders(rt, over_tables(rt.alloc()), what, work)?,
-            StoreKind::Pages => measure_orders(rt, over_pages(rt.alloc()), what, work)?,
-        }
+        measure_orders_over(rt, store, what, work)?;
     }
     let (work, what) = AMONG_MANY;
     match store {
         StoreKind::Tables => Ok(()),
-        StoreKind::Pages => measure_orders(rt, over_pages(rt.alloc()), what, work),
+        StoreKind::Pages => measure_orders_over(rt, store, what, work),
     }
 }
 
