@@ -153,7 +153,7 @@ fn copied(alloc: Global, asked: &Asked) -> Option<Asked> {
 
 /// The text of an order on one of a thousand numbers and those behind it.
 fn stock_text(alloc: Global, rule: &mut Rule) -> Option<String> {
-    let serial = FIRST + rule.between(0, 999);
+    let serial = rule.between(FIRST, FIRST + 999);
     let count = rule.between(1, 3);
     match rule.between(0, 99) {
         0..=29 => format!(in alloc; "take-in\n020\n{serial}\n{count}").ok(),

@@ -39,7 +39,10 @@ impl FoundAnswers {
             "table" => self.note(shown(text)),
             "new" => self.start(open_memory(alloc).ok()?),
             "empty" => self.keep(open_memory(alloc).ok()?),
-            "day" => self.keep(database(alloc, self.day.as_str())?),
+            "day" => {
+                let conn = self.day_tables()?;
+                self.keep(conn)
+            }
             "bare" => found(alloc, database(alloc, statements(alloc, text)?.as_str())?),
             "sql" => self.execute(shown(text)),
             "attach" => self.go_on(),
@@ -68,9 +71,14 @@ impl FoundAnswers {
         say(self.alloc, "noted")
     }
 
+    /// The day's tables.
+    fn day_tables(&self) -> Option<Connection<MemStore>> {
+        database(self.alloc, self.day.as_str())
+    }
+
     /// The day's tables after further statements.
     fn damaged(&self, text: &[u8]) -> Option<Connection<MemStore>> {
-        let mut conn = database(self.alloc, self.day.as_str())?;
+        let mut conn = self.day_tables()?;
         let text = statements(self.alloc, text)?;
         conn.execute_batch(text.as_str()).ok()?;
         Some(conn)
@@ -134,7 +142,7 @@ impl FoundAnswers {
 
     /// Whether the rows of the station are those of the day's tables.
     fn compare(&mut self) -> Option<String> {
-        let mut day = database(self.alloc, self.day.as_str())?;
+        let mut day = self.day_tables()?;
         let mut conn = self.connection()?;
         let (wanted, came) = (
             all_rows(self.alloc, &mut day)?,
