@@ -61,11 +61,11 @@ count_place_cmp a b = ordering_then (int_cmp a.awb b.awb) (int_cmp a.place b.pla
 abbrev pub build_place_cmp : BuildPlace → BuildPlace → Ordering
 build_place_cmp a b = ordering_then (nat_cmp a.flight b.flight) (int_cmp a.awb b.awb)
 
--- what is told of a waybill at a place that isn't built
+-- the sum of a waybill at a place that isn't built
 abbrev pub count_told : BookSums → CountKey → Option Count
 count_told sums (awb, place) = option_map count_of (get count_place_cmp sums.counts (record { awb = awb; place = place }))
 
--- what is told of a waybill on a flight, by the flight's place in a list
+-- the sum of a waybill on a flight, by the flight's place in a list
 abbrev pub build_told : BookSums → ℕ → ℤ → Option Build
 build_told sums flight awb = option_map build_of (get build_place_cmp sums.builds (record { flight = flight; awb = awb }))
 
@@ -78,7 +78,7 @@ build_due s _ _ = None
 abbrev pub AreDistinct : List FlightDate → Type 0
 AreDistinct flights = (i j : ℕ) (f : FlightDate) → slice_get flights i ≡ Some f → slice_get flights j ≡ Some f → i ≡ j
 
--- every sum is told, and nothing else; no waybill is built on a flight that isn't listed
+-- every sum is listed, and nothing else; no waybill is built on a flight that isn't listed
 pub record AreSums (flights : List FlightDate) (sums : BookSums) (s : Sums) : Type 0 where
   pub counts : (q : CountKey) → count_told sums q ≡ count_in s q
   pub builds : (i : ℕ) (awb : ℤ) → build_told sums i awb ≡ build_due s awb (slice_get flights i)

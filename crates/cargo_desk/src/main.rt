@@ -91,7 +91,7 @@ fn words_of(rt: &HostRuntime) -> Result<Vec<String>, io::Error> {
     Ok(words)
 }
 
-/// Ends a call whose words can't be read: one of them is no UTF-8, or memory was wanting.
+/// Ends a call whose words can't be read: one of them is no UTF-8, or memory ran out.
 fn refuse_call(rt: &HostRuntime, error: &io::Error) -> u8 {
     if error.kind() == ErrorKind::InvalidData {
         return refuse_words(rt, &usage_fault(rt.alloc(), "a word is no UTF-8"));

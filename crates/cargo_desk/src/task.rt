@@ -31,7 +31,7 @@ pub fn faulted(rt: &HostRuntime, fault: RunFault) -> u8 {
     end_call(rt, Err(DeskFault::Run(fault)))
 }
 
-/// Ends a call that ran, and failed behind that. One that was stopped by a fault has told it, and tells no other.
+/// Ends a call that ran, and failed behind that. One that was stopped by a fault has reported it, and reports no other.
 fn failed_late(rt: &HostRuntime, status: u8, fault: RunFault) -> u8 {
     if status > 1 {
         status

@@ -1,4 +1,4 @@
-//! What the answers to cases are made of: texts of holders, runs, waybills, and of what a station tells.
+//! What the answers to cases are made of: texts of holders, runs, waybills, and of a station's replies and rows.
 #![tactic(auto)]
 
 mod said;

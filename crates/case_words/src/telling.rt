@@ -1,4 +1,4 @@
-//! What a station tells, as texts.
+//! A station's replies and rows, as texts.
 use crate::said::{holder_said, known_said, runs_said, say};
 use agent_stock::StockRun;
 use awb_number::Awb;
@@ -12,7 +12,7 @@ pub fn noon() -> Option<Moment> {
     Moment::new(20465, 720)
 }
 
-/// What is told of an input.
+/// The answer to an input.
 pub fn answer_said(alloc: Global, answer: &Answer) -> Option<String> {
     match answer {
         Answer::Done(reply) => reply_text(alloc, reply).ok(),
@@ -20,7 +20,7 @@ pub fn answer_said(alloc: Global, answer: &Answer) -> Option<String> {
     }
 }
 
-/// What is told of an input at noon of 12 January 2026.
+/// The answer to an input at noon of 12 January 2026.
 pub fn answered(alloc: Global, keeper: &mut impl Keeper, input: &Input<'_>) -> Option<String> {
     answer_said(alloc, &answer_one(keeper, input, noon()?).ok()?)
 }

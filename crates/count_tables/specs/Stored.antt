@@ -21,7 +21,7 @@ abbrev pub come_to : {V : Type 0} → (V → Running) → Option V → Running �
 come_to amount None by = by
 come_to amount (Some v) by = plus (amount v) by
 
--- what a waybill has at a place, where it is told whether there is a row
+-- what a waybill has at a place, where it is known whether there is a row
 abbrev pub storing_count : Bool → CountKey × Count → Tables → Tables
 storing_count there e tables = record tables { counts = stored tables.counts (is_nothing (running_in e.1)) there e.0 e.1 }
 

@@ -55,7 +55,7 @@ fn at_flight<S: TableStore>(
     }
 }
 
-/// Writes what a flight carries of a waybill, where it is told whether there is a row.
+/// Writes what a flight carries of a waybill, where it is known whether there is a row.
 fn put_build<S: TableStore>(
     alloc: Global,
     store: &mut S,

@@ -63,7 +63,7 @@ fn row_of(awb: i64, place: i64, sum: Tally) -> CountRow
     }
 }
 
-/// Writes what a waybill has at a place, where it is told whether there is a row.
+/// Writes what a waybill has at a place, where it is known whether there is a row.
 fn put_count<S: TableStore>(
     store: &mut S,
     is_there: bool,

@@ -67,7 +67,7 @@ fn loads_in(alloc: Global, rows: &[BuildRow]) -> Result<Vec<Load>, StoreFault>
     Ok(loads)
 }
 
-/// The waybills of which something is built on a flight, rising, each with its load, inside a transaction or outside. A
+/// The waybills of which something is built on a flight, ascending, each with its load, inside a transaction or outside. A
 /// fault: the database call failed, memory ran out, or a row is out of range. A fault outside changes nothing while the
 /// store is open.
 pub fn aboard<S: TableStore>(

@@ -18,7 +18,7 @@ fn below(numbers: &[Awb], number: Awb) -> usize
         .count()
 }
 
-/// Puts a number in its place among rising ones, once.
+/// Puts a number in its place among ascending ones, once.
 fn put_rising(numbers: &mut Vec<Awb>, number: Awb) -> Result<(), AllocError>
     ensures { OnOk result (numbers.new.items ≡ put_rising number numbers.old.items) }
 {
@@ -32,7 +32,7 @@ fn put_rising(numbers: &mut Vec<Awb>, number: Awb) -> Result<(), AllocError>
     Ok(())
 }
 
-/// The waybills of a book, rising, each once. A fault: memory ran out.
+/// The waybills of a book, ascending, each once. A fault: memory ran out.
 pub fn waybills_in(alloc: Global, book: &[Move]) -> Result<Vec<Awb>, StoreFault>
     ensures { IfOk result (λ all. all.items ≡ waybills_of book.now) }
 {

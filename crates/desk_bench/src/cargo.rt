@@ -111,7 +111,7 @@ impl<S: Alter + Drop> Bench<S> {
         self.tell('d', serial, DeskCommand::Depart { flight })
     }
 
-    /// A waybill from elsewhere whose pieces were found here, and of which the consignee was told.
+    /// A waybill from elsewhere whose pieces were found here, and of which the consignee was notified.
     fn bring(&mut self, serial: u32) -> Option<()> {
         let awb = Awb::new(20, serial)?;
         let (pieces, tenths, name) = (self.ten, self.weight, self.name);

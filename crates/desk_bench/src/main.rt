@@ -81,7 +81,7 @@ const MOVES: [u32; 4] = [1_000, 10_000, 40_000, 100_000];
 /// The most moves to which a station over tables comes: each one that takes something off costs in proportion to its table.
 const MOST_OVER_TABLES: u32 = 40_000;
 
-/// Does the work, and tells how often; nothing where it couldn't be done.
+/// Does the work, and returns how often; nothing where it couldn't be done.
 fn done(alloc: Global, work: Work, text: &[u8]) -> Option<Done> {
     match work {
         Work::Scan => messages::scan_often(alloc, text),

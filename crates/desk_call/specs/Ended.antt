@@ -42,7 +42,7 @@ abbrev pub run_ended : Result Bool RunFault → Result Bool DeskFault
 run_ended (Ok good) = Ok good
 run_ended (Err e) = Err (fault.Run e)
 
--- the exit status where there is no station: the store failed or memory was wanting, or the file has none
+-- the exit status where there is no station: the store failed or memory ran out, or the file has none
 abbrev pub attach_status : AttachFault → ℕ
 attach_status attach.Store = 3
 attach_status attach.Memory = 3

@@ -20,7 +20,7 @@ use Rattle.desk_call.specs.declared.ended.DeskFault.TheVariants as fault
 use Rattle.desk_call.specs.Ended.{attach_status, run_ended, status_of, HasTold}
 use Rattle.desk_call.specs.Opened.{HasOpened}
 
--- There is no station, and its fault is told. Nothing was read or printed, and the connection comes back as it came with the fault.
+-- There is no station, and the fault is reported. Nothing was read or printed, and the connection comes back as it came with the fault.
 pub record HasNoStation {C I W : Type 0} (none : C × AttachFault) (read_old read_new : I) (output_old output_new : W) (told_old told_new : Given) (result : ℕ × C) : Type 0 where
   pub unread : read_new ≡ read_old
   pub unprinted : output_new ≡ output_old
@@ -35,13 +35,13 @@ pub record HasReleased {S : Type 0} {g : Ghosts S} (keeps : Station S g → Stat
   pub sound : (rows_view g conn (are_declared station.stored.store.store)).IsSound → is_sound station
   pub shown : (s : State) → keeps station s → IfGivenBack (rows_view g conn (are_declared station.stored.store.store)) s
 
--- how a run that was told has ended: its status, and the line of its fault where it stopped
+-- how a run that was reported has ended: its status, and the line of its fault where it stopped
 pub record HasToldEnd {E : Type 0} (taken : E → Given) (ended : Result Bool RunFault) (errors_old errors_new : E) (status : ℕ) : Type 0 where
   pub status_is : status ≡ status_of (run_ended ended)
   pub told : IfErr ended (λ e. HasTold (fault.Run e) (taken errors_old) (taken errors_new))
   pub silent : OnOk ended (errors_new ≡ errors_old)
 
--- The line's command ran over its station, how it ended was told, and the station gave its connection back.
+-- The line's command ran over its station, how it ended was reported, and the station gave its connection back.
 pub record HasRunLine {S E : Type 0} {g : Ghosts S} (line : Line) (keeps : Station S g → State → Type 0) (is_sound : Station S g → Type 0) (is_broken : Station S g → Bool)
     (may_find : Station S g → Option State → Type 0) (at : LocalMinute) (station : Station S g) (left : Option (List ℕ)) (read_old read_new sent_old sent_new : Given)
     (taken : E → Given) (errors_old errors_new : E) (result : ℕ × Held S) : Type 0 where
@@ -62,7 +62,7 @@ HasEndedCall line keeps is_sound is_broken may_find at remaining given printed t
 HasEndedCall line keeps is_sound is_broken may_find at remaining given printed told (Err none) read_old read_new output_old output_new errors_old errors_new result =
     HasNoStation none read_old read_new output_old output_new (told errors_old) (told errors_new) result
 
--- A line's call over a connection: its station was opened, or there is none; then its command ran, or that was told.
+-- A line's call over a connection: its station was opened, or there is none; then its command ran, or that was reported.
 pub record HasCalled {S I W E : Type 0} (g : Ghosts S) (line : Line) (keeps : Station S g → State → Type 0) (is_sound : Station S g → Type 0) (is_broken : Station S g → Bool)
     (may_find : Station S g → Option State → Type 0) (at : LocalMinute) (remaining : I → Option (List ℕ)) (given : I → Given) (printed : W → Given) (told : E → Given)
     (conn : Held S) (read_old read_new : I) (output_old output_new : W) (errors_old errors_new : E) (result : ℕ × Held S) : Type 0 where

@@ -30,7 +30,7 @@ pub(crate) fn run_ended(ended: Result<bool, RunFault>) -> Result<bool, DeskFault
     }
 }
 
-/// The line that tells a run's fault.
+/// The line of a run's fault.
 fn run_line(fault: RunFault) -> &'static str
     ensures { result.now ≡ run_line fault }
 {
@@ -83,7 +83,7 @@ fn tell<E: ByteOut>(errors: &mut E, fault: DeskFault)
     }
 }
 
-/// The exit status where there is no station. 3: the store failed, or memory was wanting; 4: the file has none.
+/// The exit status where there is no station. 3: the store failed, or memory ran out; 4: the file has none.
 fn attach_status(fault: AttachFault) -> u8
     ensures { result ≡ attach_status fault }
 {
@@ -105,7 +105,7 @@ fn status_of(ended: Result<bool, DeskFault>) -> u8
     }
 }
 
-/// Ends a call: its fault is told, and the status is answered.
+/// Ends a call: its fault is reported, and the status is returned.
 pub fn end<E: ByteOut>(errors: &mut E, ended: Result<bool, DeskFault>) -> u8
     ensures status { result ≡ status_of ended }
     ensures told { IfErr ended (λ fault. HasTold fault (E.taken errors.old) (E.taken errors.new)) }

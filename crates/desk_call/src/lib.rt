@@ -1,4 +1,4 @@
-//! A call of the program over a connection: its station is opened, its command runs, and how it ended is told.
+//! A call of the program over a connection: its station is opened, its command runs, and its end is reported.
 #![tactic(auto)]
 
 mod ended;

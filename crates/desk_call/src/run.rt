@@ -28,7 +28,7 @@ fn give_back<S: Alter>(station: Station<S>) -> Connection<S>
     station.release()
 }
 
-/// Runs a line's command over its station, tells how it ended, and gives the connection back.
+/// Runs a line's command over its station, reports how it ended, and gives the connection back.
 fn run_station<S: Alter, I: ByteIn + Read, W: ByteOut, E: ByteOut>(
     alloc: Global,
     line: &Line<'_>,
@@ -59,7 +59,7 @@ fn refuse_line<S: Alter, I, W, E: ByteOut>(
     (end(errors, Err(DeskFault::Attach(fault))), conn)
 }
 
-/// Runs a line over its station, or tells why there is none.
+/// Runs a line over its station, or reports why there is none.
 fn run_opened<S: Alter, I: ByteIn + Read, W: ByteOut, E: ByteOut>(
     alloc: Global,
     line: &Line<'_>,
@@ -80,7 +80,7 @@ fn run_opened<S: Alter, I: ByteIn + Read, W: ByteOut, E: ByteOut>(
 
 /// Runs a line over a connection, at a moment: every command but `serve`. It answers the exit status, and gives the connection back.
 ///
-/// A fault is told on `errors`: status 3, or 4 where the connection has no station for the line.
+/// A fault is reported on `errors`: status 3, or 4 where the connection has no station for the line.
 pub fn run_line<S: Alter, I: ByteIn + Read, W: ByteOut, E: ByteOut>(
     alloc: Global,
     line: &Line<'_>,

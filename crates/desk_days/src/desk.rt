@@ -107,7 +107,7 @@ impl Desk {
         }
     }
 
-    /// What is told of an input.
+    /// The answer to an input.
     pub fn answer(&mut self, input: &Input<'_>, at: Moment) -> Result<Answer, ActFault> {
         match self {
             Desk::Plain(station) => answer_one(station, input, at),

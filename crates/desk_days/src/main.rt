@@ -51,7 +51,7 @@ fn rule_of(word: &str) -> Option<Inputs> {
     }
 }
 
-/// Whether a day went as told.
+/// Whether a day went as its script says.
 #[derive(Clone, Copy, Debug, PartialEq, Eq)]
 enum Outcome {
     AsTold,
@@ -140,7 +140,7 @@ fn status_after(status: u8, outcome: Outcome) -> u8 {
     status.max(own)
 }
 
-/// Status 0: all went as told; 1: a line differed; 2: a script can't be read, or none was named.
+/// Status 0: all went as the scripts say; 1: a line differed; 2: a script can't be read, or none was named.
 fn main(rt: HostRuntime) -> Result<ExitCode, io::Error> {
     let words: Vec<String> = env::args(&rt)?.collect(rt.alloc())?;
     let mut status = 0;

@@ -155,7 +155,7 @@ impl<'a> Script<'a> {
     }
 }
 
-/// The day that a script tells.
+/// The day that a script describes.
 pub fn read_day(alloc: Global, text: &str) -> Result<Day<'_>, DayFault> {
     let mut script = Script {
         alloc,

@@ -225,7 +225,7 @@ fn answer_told(alloc: Global, answer: &Answer, out: &mut Vec<u8>) -> Option<bool
     Some(matches!(answer, Answer::Done(_)))
 }
 
-/// Gives an input, and tells the answer. Whether it accepts.
+/// Gives an input, and prints the answer. Whether it accepts.
 fn give(
     alloc: Global,
     desk: &mut Desk,
@@ -240,7 +240,7 @@ fn give(
     }
 }
 
-/// Gives the inputs one by one, and tells the answers. The station, and how many it accepts.
+/// Gives the inputs one by one, and prints the answers. The station, and how many it accepts.
 fn one_by_one(
     alloc: Global,
     mut desk: Desk,
@@ -260,7 +260,7 @@ fn one_by_one(
     Some((desk, accepted))
 }
 
-/// Gives the inputs as one list, and tells the answers. The station, and how many it accepts.
+/// Gives the inputs as one list, and prints the answers. The station, and how many it accepts.
 fn at_once(
     alloc: Global,
     mut desk: Desk,
@@ -350,7 +350,7 @@ fn is_mixed(inputs: usize, accepted: usize) -> bool {
     accepted >= fifth && inputs.saturating_sub(accepted) >= fifth
 }
 
-/// Whether each keeper tells the same of these inputs, in either way. A station is opened again before each input where there are few.
+/// Whether each keeper answers these inputs alike, in either way. A station is opened again before each input where there are few.
 pub fn are_equal(alloc: Global, given: Inputs) -> Option<bool> {
     let all = match given {
         Inputs::Mixed => all_mixed(alloc)?,

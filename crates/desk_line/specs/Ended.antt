@@ -11,7 +11,7 @@ use Rattle.desk_line.specs.declared.asked.Asked.{Asked}
 use Rattle.desk_line.specs.Asked.{asked_line, asked_good, asked_after}
 use Rattle.desk_line.specs.Came.{HasCome}
 
--- A beginning of a line went out: the writer failed or took no byte, or memory for the line was wanting.
+-- A beginning of a line went out: the writer failed or took no byte, or memory for the line ran out.
 pub record HasToldPart (line : List ℕ) (old new : Given) (e : RunFault) : Type 0 where
   pub why : (e ≡ fault.Write) ⊎ (e ≡ fault.Memory)
   pub sent : ℕ
@@ -24,7 +24,7 @@ pub record IsAnswered (s : State) (asks : Asked) (at : LocalMinute) (good : Bool
   pub good_is : good ≡ asked_good s asks at
   pub state : keeps (asked_after s asks at)
 
--- What was asked was done, and a beginning of its line was written: the writer failed, or memory for the line was wanting.
+-- What was asked was done, and a beginning of its line was written: the writer failed, or memory for the line ran out.
 pub record HasActed (s : State) (asks : Asked) (at : LocalMinute) (e : RunFault) (before after : List ℕ) (keeps : State → Type 0) : Type 0 where
   pub why : (e ≡ fault.Write) ⊎ (e ≡ fault.Memory)
   pub sent : ℕ

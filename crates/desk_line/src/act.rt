@@ -16,12 +16,12 @@ use stock_list::RunFault;
 
 /// Reads the body of one command, hands it to the station under a key at a moment, and writes the line of its answer: `ok 3`,
 /// `refused 102 020-12345723`, or `body bad` where the body is no JSON that says a command of the verb, or has more than 65,536
-/// bytes. `Ok` tells whether it was accepted.
+/// bytes. `Ok` says whether it was accepted.
 ///
-/// Returns [`RunFault::Read`] where the reader fails, and [`RunFault::Memory`] where memory is wanting before the station is asked:
+/// Returns [`RunFault::Read`] where the reader fails, and [`RunFault::Memory`] where memory runs out before the station is asked:
 /// nothing was done or written. Returns [`RunFault::Store`] where the store fails, or failed before: nothing was written, and the
 /// command was done wholly or not at all. Returns [`RunFault::Write`] where the writer fails, and [`RunFault::Memory`] where memory
-/// for the line is wanting: the command was answered, and a beginning of the line was written.
+/// for the line runs out: the command was answered, and a beginning of the line was written.
 pub fn run_act<K: Keeper, I: ByteIn, O: ByteOut>(
     alloc: Global,
     keeper: &mut K,

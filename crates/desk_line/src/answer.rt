@@ -13,7 +13,7 @@ use station_core::{Answer, ByteOut, Input, Keeper, answer_one, refusal_text};
 use std::alloc::{AllocError, Global};
 use stock_list::{RunFault, answer_text, keeper_fault, send_line};
 
-/// What is told of a body that says no command of the verb.
+/// The line for a body that says no command of the verb.
 const BAD_BODY: &str = "body bad\n";
 
 /// The line of an answer.

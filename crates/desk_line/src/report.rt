@@ -125,7 +125,7 @@ fn run_trail_report<K: Keeper, W: ByteOut>(
 
 /// Writes the report of a name.
 ///
-/// Returns [`RunFault::Write`] where the writer fails or takes no byte, [`RunFault::Memory`] for want of memory, and
+/// Returns [`RunFault::Write`] where the writer fails or takes no byte, [`RunFault::Memory`] when out of memory, and
 /// [`RunFault::Store`] where the store fails, or failed before. A beginning of the report was written, and nothing has changed.
 pub fn run_report<K: Keeper, W: ByteOut>(
     alloc: Global,
@@ -153,7 +153,7 @@ pub fn run_report<K: Keeper, W: ByteOut>(
 
 /// Writes the pending report: each message that was not confirmed yet.
 ///
-/// Returns [`RunFault::Write`] where the writer fails or takes no byte, [`RunFault::Memory`] for want of memory, and
+/// Returns [`RunFault::Write`] where the writer fails or takes no byte, [`RunFault::Memory`] when out of memory, and
 /// [`RunFault::Store`] where the store fails, or failed before. A beginning of the report was written, and nothing has changed.
 pub fn run_outbox<K: Keeper, W: ByteOut>(
     alloc: Global,

@@ -15,12 +15,12 @@ use stock_list::RunFault;
 
 /// Reads one telegram, hands it to the station at a moment, and writes the line of its answer: `ok 10`,
 /// `refused 213 LH400/2026-01-12/FRA/1`, or `refused 301 4 ending` where it can't be read. Of an input with more than 65,536 bytes,
-/// which is refused, only a beginning is read. `Ok` tells whether it was accepted.
+/// which is refused, only a beginning is read. `Ok` says whether it was accepted.
 ///
-/// Returns [`RunFault::Read`] where the reader fails, and [`RunFault::Memory`] where memory is wanting before the station is asked:
+/// Returns [`RunFault::Read`] where the reader fails, and [`RunFault::Memory`] where memory runs out before the station is asked:
 /// nothing was done or written. Returns [`RunFault::Store`] where the store fails, or failed before: nothing was written, and the
 /// telegram was taken wholly or not at all. Returns [`RunFault::Write`] where the writer fails, and [`RunFault::Memory`] where memory
-/// for the line is wanting: the telegram was answered, and a beginning of the line was written.
+/// for the line runs out: the telegram was answered, and a beginning of the line was written.
 pub fn run_take<K: Keeper, I: ByteIn, O: ByteOut>(
     alloc: Global,
     keeper: &mut K,

@@ -56,7 +56,7 @@ pub record HasAnsweredAsked {K : Type 0} (IsAsked : List ℕ → Asked → Type 
   pub read_cause : result ≡ Err fault.Read → HasFailed read_old read_new
   pub write_cause : result ≡ Err fault.Write → HasCause sent_old sent_new
 
--- The report went out, or a beginning of it, and nothing changed. A station that has to be opened again tells nothing.
+-- The report went out, or a beginning of it, and nothing changed. A station that has to be opened again returns nothing.
 pub record HasToldReport {K : Type 0} (IsText : State → List ℕ → Type 0) (keeps : K → State → Type 0) (is_sound : K → Type 0) (is_broken : K → Bool)
     (may_find : K → Option State → Type 0) (old new : K) (sent_old sent_new : Given) (ended : Result (Unit {0}) RunFault) : Type 0 where
   pub reads : OnlyReads keeps is_sound is_broken may_find old new

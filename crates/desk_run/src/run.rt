@@ -81,7 +81,7 @@ fn do_act<K: Keeper, I: ByteIn, W: ByteOut>(
 
 /// Runs the command of a line over its station, at a moment. `serve` isn't run here: nothing is done or written.
 ///
-/// `Ok` tells whether all was accepted. Returns [`RunFault::Read`], [`RunFault::Write`], [`RunFault::Memory`] or
+/// `Ok` says whether all was accepted. Returns [`RunFault::Read`], [`RunFault::Write`], [`RunFault::Memory`] or
 /// [`RunFault::Store`] where the run stopped, as its command's own call says.
 pub fn run_over<K: Keeper, I: ByteIn + Read, W: ByteOut>(
     alloc: Global,

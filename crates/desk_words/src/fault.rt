@@ -7,7 +7,7 @@ pub enum WordsFault {
     Help(String),
     /// The words are others: this says which, and how to call the program.
     Usage(String),
-    /// Memory was wanting.
+    /// Memory ran out.
     Memory,
 }
 

@@ -111,7 +111,7 @@ fn read_line<'a>(words: &Words<'a>) -> Result<Line<'a>, BadValue>
 ///
 /// Returns [`WordsFault::Help`] where the words ask for the help; [`WordsFault::Usage`] for other words than a command's, a bad key
 /// or option's value, an unknown verb or name, an option given twice, and `init` without `--db` and `--station`, but not for a text
-/// that is no zone's rule; [`WordsFault::Memory`] for want of memory.
+/// that is no zone's rule; [`WordsFault::Memory`] when out of memory.
 pub fn parse_words<'a, S: AsStr>(alloc: Global, words: &'a [S]) -> Result<Line<'a>, WordsFault>
     ensures { IfOk result IsLine }
 {

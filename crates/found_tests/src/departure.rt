@@ -121,7 +121,7 @@ fn closed(
     }
 }
 
-/// Opens the files, the flight departs, and the files are closed. How far that came, and the files. A file that fails is told as
+/// Opens the files, the flight departs, and the files are closed. How far that came, and the files. A file that fails is reported as
 /// that.
 fn depart(alloc: Global, files: Files<FusedDisk>) -> Option<(Attempt, Files<FusedDisk>)> {
     let conn = match opened(alloc, files) {

@@ -40,7 +40,7 @@ pub fn opened(
     }
 }
 
-/// What a station that was found tells of waybills, and all rows of its tables.
+/// What a station that was found says of waybills, and all rows of its tables.
 fn station_said<S: Alter + Drop>(
     alloc: Global,
     mut station: Station<S>,
@@ -71,7 +71,7 @@ fn fault_found<S: Alter>(
     format!(in alloc; "{fault}, {count} tables and indexes").ok()
 }
 
-/// What is found over a connection: what the station tells of waybills, and all its rows, or why there is none.
+/// What is found over a connection: what the station says of waybills, and all its rows, or why there is none.
 pub fn found_over<S: Alter + Drop>(
     alloc: Global,
     conn: Connection<S>,

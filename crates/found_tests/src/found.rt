@@ -156,7 +156,7 @@ impl FoundAnswers {
         }
     }
 
-    /// What is told of a command: its key, a blank and its text.
+    /// The answer to a command: its key, a blank and its text.
     fn act(&mut self, text: &str) -> Option<String> {
         let (key, command) = text.split_once(' ')?;
         let key = Key::read(key.as_bytes())?;
@@ -168,7 +168,7 @@ impl FoundAnswers {
         )
     }
 
-    /// What is told of a telegram.
+    /// The answer to a telegram.
     fn take(&mut self, text: &[u8]) -> Option<String> {
         let telegram = read_telegram(self.alloc, text).ok()?;
         answered(self.alloc, self.station.as_mut()?, &Input::Wire(telegram))
@@ -212,7 +212,7 @@ fn found(alloc: Global, conn: Connection<MemStore>) -> Option<String> {
     }
 }
 
-/// What a reader tells of a number, or of the stock.
+/// What a reader returns of a number, or of the stock.
 fn told(
     alloc: Global,
     station: &mut Station<MemStore>,

@@ -88,7 +88,7 @@ fn states(alloc: Global) -> Option<Vec<String>> {
         if (found.as_str() == NO_STATION) != (steps == 0) {
             return None;
         }
-        // Each step can be told from the one before it.
+        // Each step differs from the one before it.
         if steps > 0 && is_state(&states, steps - 1, found.as_str()) {
             return None;
         }

@@ -24,7 +24,7 @@ pub record Head : Type 0 where
   pub target : List ℕ
   pub fields : List (List ℕ × List ℕ)
 
--- A fault is told by its status and a word, or none; at a wrong method the right one stands in a line of its own.
+-- A fault is answered by its status and a word, or none; at a wrong method the right one stands in a line of its own.
 pub record Fault : Type 0 where
   pub status : ℕ
   pub word : List ℕ
@@ -63,7 +63,7 @@ length_among [] = Err (fault 411 [])
 length_among (value ∷ []) = length_in value
 length_among (value ∷ other ∷ values) = Err (fault 400 (codes "length"))
 
--- a transfer encoding is told as a missing length
+-- a transfer encoding counts as a missing length
 abbrev pub length_beside : List (List ℕ) → List (List ℕ) → Result ℕ Fault
 length_beside [] lengths = length_among lengths
 length_beside (encoding ∷ encodings) lengths = Err (fault 411 [])

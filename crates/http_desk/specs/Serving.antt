@@ -72,7 +72,7 @@ IsPartOut s at bytes sent before after broken keeps may_find =
     ((status : ℕ) × (out : List ℕ) × IsAnswer s at bytes status out broken keeps may_find × Sent before after out sent)
     ⊎ ((name : Report) × GetsReport bytes name × IsKept broken keeps s × SomeOrEach s name (λ whole. Sent before after whole sent))
 
--- It was written whole, with its status told; or its first bytes, so many as are told, since the writer failed or took none. At a
+-- It was written whole, with its status returned; or its first bytes, as many as are returned, since the writer failed or took none. At a
 -- writer's fault the keeper keeps the state after it, also where no byte went out.
 abbrev pub HasServed : State → LocalMinute → Given → Given → Given → Given → Bool → (State → Type 0) → (Option State → Type 0) → Result Served ServeFault → Type 0
 HasServed s at read_before read_after before after broken keeps may_find (Ok served) =

@@ -11,7 +11,7 @@ use Rattle.http_desk.specs.Reply.{Reply, json_reply, ok_data, status_of, IsWritt
 use Rattle.http_desk.specs.Serving.{IsKept}
 use Rattle.http_desk.specs.Wanted.{wanted_reply, wanted_state}
 
--- the bytes of a reply of JSON, with its status; or memory was wanting for them
+-- the bytes of a reply of JSON, with its status; or memory ran out for them
 abbrev pub IsToldAs : Reply → Told → Type 0
 IsToldAs reply (told.Accepted count) = reply ≡ json_reply 200 None (ok_data count)
 IsToldAs reply (told.Json status text) = (status ≡ status_of reply) × ((s : State) → IsWritten s reply (string_bytes text))
@@ -30,7 +30,7 @@ HasAsked s at w (told.Unavailable reopen) broken keeps may_find =
     IsKept broken keeps s
     ⊎ ((broken ≡ true) × ((i : Input) × (w ≡ wanted.Input i) × ((found : Option State) → may_find found → (found ≡ Some s) ⊎ (found ≡ Some (step s i at).state))))
 
--- whether it tells to open the station again
+-- whether it asks to open the station again
 abbrev pub tells_reopen : Told → Bool
 tells_reopen (told.Unavailable reopen) = reopen
 tells_reopen _ = false

@@ -1,4 +1,4 @@
--- What is told for a request, and what goes out of it.
+-- What a request is answered with, and what goes out of it.
 use Rattle.std.specs.Prelude.{◌≡◌, ◌⊎◌, ℕ, Bool, false, Option, Result, Ok, Err, List, ◌++◌, take, string_bytes}
 use Rattle.imp_fields.specs.Date.{LocalMinute}
 use Rattle.station_core.specs.Given.{Given}
@@ -18,7 +18,7 @@ use Rattle.http_desk.specs.Reply.{ok_answer, report_head, IsReport}
 use Rattle.http_desk.specs.Answer.{Answers}
 use Rattle.http_desk.specs.Serving.{unavailable, GetsReport, SomeOrEach, IsKept, IsUnchangedOrBroken}
 
--- What is told for the request with these bytes is its answer, and the state after it is kept. It is another only where an input was
+-- What the request with these bytes is answered with is its answer, and the state after it is kept. It is another only where an input was
 -- accepted.
 abbrev pub IsToldFor : List ℕ → State → LocalMinute → Told → Bool → (State → Type 0) → (Option State → Type 0) → Type 0
 IsToldFor bytes s at (told.Accepted count) broken keeps may_find = (after : State) × Answers bytes s at 200 (ok_answer count) after × IsKept broken keeps after
@@ -50,7 +50,7 @@ HasReported s name old new (Ok served) =
 HasReported s name old new (Err serve.Read) = ⊥
 HasReported s name old new (Err (serve.Write sent)) = (SomeOrEach s name (λ whole. Sent old new whole sent) ⊎ Sent old new unavailable sent) × HasCause old new
 
--- what is told went out
+-- what is answered went out
 abbrev pub HasWritten : Told → State → Given → Given → Result Served ServeFault → Type 0
 HasWritten (told.Accepted count) s old new r = HasSent 200 false (ok_answer count) old new r
 HasWritten (told.Json status text) s old new r = HasSent status false (string_bytes text) old new r

@@ -102,7 +102,7 @@ fn holding_text(alloc: Global, awb: &str, holder: &str, name: &str) -> Result<St
     json!(in alloc; {"awb": awb, "holder": holder, "name": name})?.to_string(alloc)
 }
 
-/// The body that tells who holds a number.
+/// The body that says who holds a number.
 pub(crate) fn holder_text(
     alloc: Global,
     number: &Awb,
@@ -196,7 +196,7 @@ fn last_members(alloc: Global, known: &Waybill) -> Result<String, AllocError>
     )
 }
 
-/// The body that tells what is known of a waybill.
+/// The body that says what is known of a waybill.
 pub(crate) fn waybill_text(
     alloc: Global,
     number: &Awb,

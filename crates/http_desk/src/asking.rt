@@ -31,11 +31,11 @@ pub(crate) enum Told {
     Json(u16, String),
     /// A report, which is read while it is written.
     Report(Report),
-    /// Memory was wanting or the station failed; it may have to be opened again.
+    /// Memory ran out or the station failed; it may have to be opened again.
     Unavailable(bool),
 }
 
-/// An answer of JSON, or want of memory for it.
+/// An answer of JSON, or no memory for it.
 fn json_told(
     alloc: Global,
     status: u16,
@@ -92,7 +92,7 @@ fn refusal_told(alloc: Global, refusal: &Refusal) -> Told
     json_told(alloc, refusal_status(refusal.number), None, body)
 }
 
-/// The answer that tells who holds a number.
+/// The answer that says who holds a number.
 fn holder_told(alloc: Global, number: &Awb, holder: &Option<Holder>) -> Told
     ensures { IsToldAs (holder_reply number.now holder.now) result }
 {
@@ -102,7 +102,7 @@ fn holder_told(alloc: Global, number: &Awb, holder: &Option<Holder>) -> Told
     }
 }
 
-/// The answer that tells what is known of a waybill.
+/// The answer that says what is known of a waybill.
 fn waybill_told(alloc: Global, number: &Awb, waybill: &Option<Waybill>) -> Told
     ensures { IsToldAs (waybill_reply number.now waybill.now) result }
 {

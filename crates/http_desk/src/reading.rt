@@ -48,7 +48,7 @@ fn read_more<I: ByteIn>(reader: &mut I, bytes: &mut Vec<u8>, most: usize) -> Res
     }
 }
 
-/// Reads until a head is whole. It tells where the head's parts are, and how many reads were made.
+/// Reads until a head is whole. It returns where the head's parts are, and how many reads were made.
 pub(crate) fn read_head<I: ByteIn>(
     reader: &mut I,
     bytes: &mut Vec<u8>,

@@ -75,7 +75,7 @@ pub fn serve_one<K: Keeper, I: ByteIn, O: ByteOut>(
         → BeginsAs503 (added (O.taken writer.old) (O.taken writer.new))
         → IsUnchangedOrBroken (added (I.given reader.old) (I.given reader.new)) s at (K.is_broken keeper.new) (K.keeps keeper.new) (K.may_find keeper.new) }
 
-    // It tells to open the station again exactly where this connection broke it.
+    // It asks to open the station again exactly where this connection broke it.
     ensures told { (s : State) → K.keeps keeper.old s → K.is_broken keeper.old ≡ false → K.is_sound keeper.new
         → IfOk result (λ served. served.reopen ≡ K.is_broken keeper.new) }
 {

@@ -122,7 +122,7 @@ fn write_report<K: Keeper, O: ByteOut>(
     }
 }
 
-/// Writes what is told.
+/// Writes what is said.
 pub(crate) fn write_told<K: Keeper, O: ByteOut>(
     alloc: Global,
     keeper: &mut K,

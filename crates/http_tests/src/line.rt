@@ -1,4 +1,4 @@
-//! The bytes that a line of a script tells.
+//! The bytes that a line of a script stands for.
 use crate::script::ScriptFault;
 use std::alloc::{AllocError, Global};
 
@@ -86,7 +86,7 @@ fn put_digits(
     }
 }
 
-/// Appends the bytes that a line tells behind its sign.
+/// Appends the bytes that a line has behind its sign.
 pub fn put_line(
     alloc: Global,
     bytes: &mut Vec<u8>,

@@ -67,7 +67,7 @@ fn run(alloc: Global, name: &str, text: &str) -> Result<(u8, String), AllocError
     Ok((0, text))
 }
 
-/// Status 0: all went as told; 1: an answer differed; 2: a script can't be read or played, or none was named.
+/// Status 0: all went as the scripts say; 1: an answer differed; 2: a script can't be read or played, or none was named.
 fn main(rt: HostRuntime) -> Result<ExitCode, io::Error> {
     let words: Vec<String> = env::args(&rt)?.collect(rt.alloc())?;
     let mut status = 0;

@@ -24,7 +24,7 @@ struct Script<'a> {
     stories: Vec<Story<'a>>,
 }
 
-/// The moment that a text such as `2026-01-12 10:30` tells.
+/// The moment of a text such as `2026-01-12 10:30`.
 fn moment(text: &str) -> Option<Moment> {
     let time = text.parse::<DateTime>().ok()?;
     let day = u32::try_from(time.date().to_plain().to_unix_epoch_day()).ok()?;

@@ -76,7 +76,7 @@ fn run(
     )
 }
 
-/// The status, what was printed, and what was told on standard error.
+/// The status, what was printed, and what was printed on standard error.
 fn ended_said(alloc: Global, status: u8, printed: &str, told: &str) -> Option<String> {
     format!(in alloc; "{status} [{printed}] [{told}]").ok()
 }

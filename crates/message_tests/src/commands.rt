@@ -9,7 +9,7 @@ use std::alloc::Global;
 use std::str::SplitWhitespace;
 
 /// What comes of what is asked: whether a word is a verb, whether a text is a command's, or the text of the command with these
-/// fields. A day is told by its number.
+/// fields. A day is given by its number.
 pub fn answer(alloc: Global, asked: &str, text: &[u8]) -> Option<String> {
     match asked {
         "verb" => verb(alloc, text),

@@ -94,7 +94,7 @@ fn fault(alloc: Global, text: &[u8]) -> Option<TextFault> {
     }
 }
 
-/// What is told of each beginning of a text, from the empty one on.
+/// What comes of each beginning of a text, from the empty one on.
 fn beginnings(alloc: Global, text: &[u8]) -> Option<String> {
     let mut runs = Runs::new(alloc, 0);
     for len in 0..text.len() {

@@ -122,7 +122,7 @@ fn date_time(alloc: Global, text: &[u8]) -> Option<String> {
     number_or_none(alloc, DayTime::read(text).map(|at| u32::from(at.minute)))
 }
 
-/// The date of a day, which is told by its number.
+/// The date of a day, which is given by its number.
 fn date_on(alloc: Global, text: &[u8]) -> Option<String> {
     let mut words = words(text)?;
     let day = LocalDay::new(next_number(&mut words)?)?;

@@ -54,7 +54,7 @@ fn fault(alloc: Global, text: &[u8]) -> Option<TextFault> {
     }
 }
 
-/// What a status line tells behind a consignment line.
+/// What a status line says behind a consignment line.
 fn status(alloc: Global, line: &[u8]) -> Option<String> {
     let mut text = b"FSU/12\r\n020-12345675FRAJFK/T10K100.0\r\n"
         .to_vec(alloc)

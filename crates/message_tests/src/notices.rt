@@ -10,7 +10,7 @@ use std::slice;
 use std::str::SplitWhitespace;
 use telegrams::notice_text;
 
-/// What comes of what is asked: the text of a notice on ten pieces of 100 kilograms from FRA to JFK. It is told by the airport
+/// What comes of what is asked: the text of a notice on ten pieces of 100 kilograms from FRA to JFK. It is given by the airport
 /// here, its pieces, their tenths and what happened. A flight is LH400 on 2026-01-12, which has the number 20465.
 pub fn answer(alloc: Global, asked: &str, text: &[u8]) -> Option<String> {
     let mut words = words(text)?;
@@ -48,7 +48,7 @@ fn lh400() -> Option<FlightDate> {
     })
 }
 
-/// What happened at a moment, which is told by its day and its minute, perhaps with a name.
+/// What happened at a moment, which is given by its day and its minute, perhaps with a name.
 fn event(asked: &str, words: &mut SplitWhitespace<'_>) -> Option<Event> {
     if asked == "MAN" || asked == "DEP" {
         return carried(asked == "MAN");

@@ -99,7 +99,7 @@ fn runs_said(alloc: Global, runs: &[StockRun]) -> Option<String> {
     Some(said)
 }
 
-/// Numbers with their holders, each told by a serial of prefix 020 and a word.
+/// Numbers with their holders, each given by a serial of prefix 020 and a word.
 fn all_held(alloc: Global, words: &mut SplitWhitespace<'_>) -> Option<Vec<Held>> {
     let mut all = Vec::new(alloc);
     for _ in 0..100 {

@@ -70,7 +70,7 @@ fn number(words: &mut SplitWhitespace<'_>) -> Option<Awb> {
     Awb::read(words.next()?.as_bytes().first_chunk()?).ok()
 }
 
-/// A flight on a day, which is told by its number.
+/// A flight on a day, which is given by its number.
 fn flight(words: &mut SplitWhitespace<'_>) -> Option<FlightDate> {
     Some(FlightDate {
         flight: Flight::read(words.next()?.as_bytes())?,

@@ -9,7 +9,7 @@ use agent_stock::{Order, StockFault, carry_out};
 use std::alloc::AllocError;
 
 impl PlainCargo {
-    /// Does what an order says with the stock. A fault changes nothing; want of memory is told as one of the rows.
+    /// Does what an order says with the stock. A fault changes nothing; out of memory is a fault of the rows.
     pub fn carry_out_order(&mut self, order: &Order) -> Result<(), StockFault<AllocError>>
         ensures accepted { OnOk result (order_refusal (cargo_of self.old).holders order.now ≡ None) }
         ensures ok { OnOk result (cargo_of self.new ≡ record (cargo_of self.old) { holders = after_order (cargo_of self.old).holders order.now }) }

@@ -11,7 +11,7 @@ use imp_fields::Moment;
 use shipment_machine::{Plan, PlanFault, ShipmentCommand, plan};
 
 impl PlainCargo {
-    /// What a command does at a moment, or the first refusal that is due, with its detail. For want of memory nothing is said
+    /// What a command does at a moment, or the first refusal that is due, with its detail. Out of memory, nothing is said
     /// of the command.
     pub fn plan<'a>(&self, command: &ShipmentCommand<'a>, at: Moment) -> Result<Plan<'a>, PlanFault>
         requires lawful { IsLawful (cargo_of self.now) }

@@ -1,4 +1,4 @@
-//! What is told of the cargo.
+//! The readers of the cargo.
 ghost use Rattle.std.specs.Prelude.{◌≡◌, List, ◌≤◌, ◌<◌, ℕ, ◌+◌, ◌++◌, [], ◌∷◌, if◌then◌else◌, length, get_or, take, IsSome, IfOk, OnOk, OnErr};
 ghost use Rattle.agent_stock.specs.Runs.{AreStockRuns};
 ghost use Rattle.agent_stock.specs.declared.runs.StockRun.{StockRun};
@@ -24,7 +24,7 @@ impl PlainCargo {
         self.stock.get(number)
     }
 
-    /// Hands out the stock as its maximal runs of one holder, rising, until the sink wants no more. For want of memory it
+    /// Hands out the stock as its maximal runs of one holder, ascending, until the sink takes no more. Out of memory, it
     /// hands out none.
     pub fn stock<S: Sink<StockRun>>(&self, sink: &mut S) -> Result<(), AllocError>
         ensures rows { OnOk result ((rows : List StockRun) × AreStockRuns (cargo_of self.now).holders rows × HandedOut S.takes rows sink.old sink.new) }
@@ -35,7 +35,7 @@ impl PlainCargo {
         Ok(())
     }
 
-    /// What is told of a waybill, where this is declared of it.
+    /// What is known of a waybill, where this is declared of it.
     fn told(&self, number: &Awb, declared: &Declared) -> Waybill
         requires lawful { IsLawful (cargo_of self.now) }
         requires few { length self.now.book.items ≤ 4_294_967_295 }
@@ -95,7 +95,7 @@ impl PlainCargo {
         Ok(())
     }
 
-    /// The waybills of which pieces are missing or were found, rising.
+    /// The waybills of which pieces are missing or were found, ascending.
     fn irregular_rows(&self) -> Result<Vec<IrregularRow>, AllocError>
         requires lawful { IsLawful (cargo_of self.now) }
         requires few { length self.now.book.items ≤ 4_294_967_295 }
@@ -108,8 +108,8 @@ impl PlainCargo {
         Ok(rows)
     }
 
-    /// Hands out the waybills of which pieces are missing or were found, rising, until the sink wants no more. For want of
-    /// memory it hands out none.
+    /// Hands out the waybills of which pieces are missing or were found, ascending, until the sink takes no more. Out of
+    /// memory, it hands out none.
     pub fn irregular<S: Sink<IrregularRow>>(&self, sink: &mut S) -> Result<(), AllocError>
         requires lawful { IsLawful (cargo_of self.now) }
         requires few { length self.now.book.items ≤ 4_294_967_295 }
@@ -138,7 +138,7 @@ impl PlainCargo {
         Ok(rows)
     }
 
-    /// Hands out the movement book, numbered from 1, until the sink wants no more. For want of memory it hands out nothing.
+    /// Hands out the movement book, numbered from 1, until the sink takes no more. Out of memory, it hands out nothing.
     pub fn book<S: Sink<BookRow>>(&self, sink: &mut S) -> Result<(), AllocError>
         requires few { length self.now.book.items ≤ 4_294_967_295 }
         ensures rows { OnOk result (HandedOut S.takes (book_rows (cargo_of self.now)) sink.old sink.new) }
@@ -174,7 +174,7 @@ impl PlainCargo {
     }
 
     /// Hands out the messages that weren't confirmed yet, with their places in the outbox from 1, until the sink wants no
-    /// more. For want of memory it hands out none.
+    /// more. Out of memory, it hands out none.
     pub fn pending<S: Sink<Message>>(&self, sink: &mut S) -> Result<(), AllocError>
         requires sent { length self.now.outbox.items ≤ 4_294_967_295 }
         ensures rows { OnOk result (HandedOut S.takes (pending_messages (cargo_of self.now)) sink.old sink.new) }
@@ -206,7 +206,7 @@ impl PlainCargo {
         Ok(rows)
     }
 
-    /// Hands out the trail, in order, until the sink wants no more. For want of memory it hands out nothing.
+    /// Hands out the trail, in order, until the sink takes no more. Out of memory, it hands out nothing.
     pub fn trail<S: Sink<TrailRow>>(&self, sink: &mut S) -> Result<(), AllocError>
         ensures rows { OnOk result (HandedOut S.takes (trail_rows (cargo_of self.now)) sink.old sink.new) }
         ensures beginning { OnErr result ((n : ℕ) × HandedOut S.takes (take n (trail_rows (cargo_of self.now))) sink.old sink.new) }

@@ -34,7 +34,7 @@ fn below(numbers: &[Awb], number: Awb) -> usize
         .count()
 }
 
-/// Puts a number in its place among rising ones, once.
+/// Puts a number in its place among ascending ones, once.
 fn put_rising(numbers: &mut Vec<Awb>, number: Awb) -> Result<(), AllocError>
     ensures { OnOk result (numbers.new.items ≡ put_rising number numbers.old.items) }
 {
@@ -48,7 +48,7 @@ fn put_rising(numbers: &mut Vec<Awb>, number: Awb) -> Result<(), AllocError>
     Ok(())
 }
 
-/// The waybills of a book, rising, each once.
+/// The waybills of a book, ascending, each once.
 pub(crate) fn waybills_of(alloc: Global, book: &[Move]) -> Result<Vec<Awb>, AllocError>
     ensures { IfOk result (λ numbers. numbers.items ≡ waybills_of book.now) }
 {
@@ -157,7 +157,7 @@ impl PlainCargo {
         }
     }
 
-    /// What is built on a flight, rising.
+    /// What is built on a flight, ascending.
     fn loads(&self, flight: &FlightDate) -> Result<Loads, AllocError>
         requires lawful { IsLawful (cargo_of self.now) }
         requires few { length self.now.book.items ≤ 4_294_967_295 }

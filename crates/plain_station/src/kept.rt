@@ -1,4 +1,4 @@
-//! What was accepted, and the counts that were told.
+//! What was accepted, and the counts that were returned.
 ghost use Rattle.std.specs.Prelude.{◌≡◌};
 ghost use Rattle.std.specs.Option.{option_copied, option_map};
 ghost use Rattle.std.specs.List.{find};
@@ -54,7 +54,7 @@ pub(crate) fn answer_under(replies: &[KeptReply], key: &Key, request: &str) -> O
     Some(repeat(kept, request))
 }
 
-/// The count that was told of a telegram that is known.
+/// The count of a telegram that is known.
 pub(crate) fn count_of(texts: &[KeptText], text: &[u8]) -> Option<u32>
     ensures { result ≡ kept_of texts.now text.now }
 {

@@ -117,7 +117,7 @@ impl PlainStation {
         }
     }
 
-    /// A telegram: a known text is answered by the count that was told.
+    /// A telegram: a known text is answered by the count that was kept.
     fn act_on_telegram<'a>(
         &mut self,
         telegram: &'a Telegram<'a>,

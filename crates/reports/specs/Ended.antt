@@ -14,7 +14,7 @@ use Rattle.reports.specs.Reports.{IsStockReport}
 abbrev pub IsReopen : Result (Unit {0}) ReportFault → Type 0
 IsReopen result = result ≡ Err (record { sent = 0; cause = cause.Act act.Reopen })
 
--- of a station that is open: the writer's fault, want of memory, or the store's
+-- of a station that is open: the writer's fault, out of memory, or the store's
 abbrev pub IsCause : ReportCause → Type 0
 IsCause cause.Write = Unit {0}
 IsCause (cause.Act e) = IsReadersFault e
@@ -27,7 +27,7 @@ abbrev pub HasTold : ReportCause → Given → Given → Type 0
 HasTold cause.Write old new = HasCause old new
 HasTold (cause.Act e) old new = (new.failures ≡ old.failures) × (new.idle ≡ old.idle)
 
--- so many bytes went out as it tells, and they are a beginning of the text
+-- as many bytes went out as it returns, and they are a beginning of the text
 abbrev pub IsBegun : List ℕ → ReportFault → Given → Given → Type 0
 IsBegun text e old new = Sent old new text e.sent × HasTold e.cause old new
 

@@ -1,4 +1,4 @@
--- What a store tells of a state, and the changes of its calls.
+-- What a store returns of a state, and the changes of its calls.
 use Rattle.std.specs.Prelude.{◌≡◌, ℕ, string_bytes, List, ◌++◌, length, map}
 use Rattle.agent_stock.specs.Stock.{after_order}
 use Rattle.agent_stock.specs.declared.stock.Order.{Order}
@@ -26,7 +26,7 @@ pub record IsRequest (text : List ℕ) : Type 0 where
 abbrev pub sizes_of : Cargo → Sizes
 sizes_of c = record { moves = length c.book; lines = length c.trail; messages = length c.outbox }
 
--- what is built on a flight, rising
+-- what is built on a flight, ascending
 abbrev pub load_on : List Move → FlightDate → ℕ → Load
 load_on book flight w = record { awb = w; amount = built book w flight }
 

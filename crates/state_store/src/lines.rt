@@ -53,7 +53,7 @@ fn declared_loads<S: StateStore>(
     Ok(rows)
 }
 
-/// What is built on a flight, rising.
+/// What is built on a flight, ascending.
 pub(crate) fn loads_of<S: StateStore>(
     alloc: Global,
     store: &mut S,

@@ -7,7 +7,7 @@ use shipment_machine::{
 use station_core::{BookRow, Key, Message, TrailRow};
 use std::alloc::{AllocError, AllocFailed};
 
-/// A call of the store failed: the store itself, or memory was wanting once it had been asked.
+/// A call of the store failed: the store itself, or memory ran out once it had been asked.
 #[derive(Clone, Copy, Debug, PartialEq, Eq)]
 pub struct StoreFault;
 
@@ -28,7 +28,7 @@ impl<T: Drop> From<AllocFailed<T>> for StoreFault {
 pub struct KeptReply {
     /// The command's text.
     pub request: String,
-    /// What was told of it.
+    /// What was returned for it.
     pub count: u32,
 }
 
@@ -93,7 +93,7 @@ pub trait StateStore {
         ensures same { (x : Seen) → shows self.old x → OnOk result (shows self.new x) }
         ensures survives { Survives is_sound may_find self.old self.new };
 
-    /// The count that was told of the telegram with this normal text, if it was taken.
+    /// The count that was kept of the telegram with this normal text, if it was taken.
     fn kept_text(&mut self, text: &[u8]) -> Result<Option<u32>, StoreFault>
         ensures value { (x : Seen) → shows self.old x → is_sound self.new
             → IfOk result (λ kept. kept ≡ x.now.kept_texts text.now) }
@@ -138,7 +138,7 @@ pub trait StateStore {
         ensures same { (x : Seen) → shows self.old x → OnOk result (shows self.new x) }
         ensures survives { Survives is_sound may_find self.old self.new };
 
-    /// The waybills of which something is built on a flight, rising, each with its load.
+    /// The waybills of which something is built on a flight, ascending, each with its load.
     fn aboard(&mut self, flight: &FlightDate) -> Result<Vec<Load>, StoreFault>
         ensures value { (x : Seen) → shows self.old x → is_sound self.new
             → IfOk result (λ loads. loads.items ≡ loads_on x.now.cargo.book flight.now) }
@@ -206,7 +206,7 @@ pub trait StateStore {
             (record { request = request.now; count = count }) s))) }
         ensures survives { Survives is_sound may_find self.old self.new };
 
-    /// Keeps the count that is told of a telegram with this normal text, in a transaction.
+    /// Keeps the count that is returned for a telegram with this normal text, in a transaction.
     fn keep_text(&mut self, text: &[u8], count: u32) -> Result<(), StoreFault>
         ensures done { (before s : State) → shows self.old (inside before s)
             → OnOk result (shows self.new (inside before (with_text text.now count s))) }
@@ -224,14 +224,14 @@ pub trait StateStore {
             → OnRefused result (shows self.new (at_rest s)) }
         ensures survives { Survives is_sound may_find self.old self.new };
 
-    /// The stock, as its maximal runs of one holder, rising.
+    /// The stock, as its maximal runs of one holder, ascending.
     fn runs(&mut self) -> Result<Vec<StockRun>, StoreFault>
         ensures value { (s : State) → shows self.old (at_rest s) → is_sound self.new
             → IfOk result (λ runs. AreStockRuns s.cargo.holders runs.items) }
         ensures rests { (s : State) → shows self.old (at_rest s) → shows self.new (at_rest s) }
         ensures survives { Survives is_sound may_find self.old self.new };
 
-    /// The waybills that have a move, rising.
+    /// The waybills that have a move, ascending.
     fn moved(&mut self) -> Result<Vec<Awb>, StoreFault>
         ensures value { (s : State) → shows self.old (at_rest s) → is_sound self.new
             → IfOk result (λ numbers. numbers.items ≡ waybills_of s.cargo.book) }

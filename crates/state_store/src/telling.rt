@@ -1,4 +1,4 @@
-//! What is told of the state of a store: nothing is changed.
+//! The readers of the state of a store: nothing is changed.
 ghost use Rattle.std.specs.Prelude.{◌≡◌, ℕ, ◌+◌, ◌++◌, ◌∷◌, [], if◌then◌else◌, OnOk, IfOk};
 ghost use Rattle.std.specs.List.{flat_map};
 ghost use Rattle.shipment_machine.specs.Book.{balances_of, store};
@@ -69,7 +69,7 @@ fn stored(balances: &Balances) -> Result<Amount, StoreFault>
     })
 }
 
-/// What is told of a waybill, of which this is declared.
+/// What is known of a waybill, of which this is declared.
 fn told_of(declared: Declared, balances: &Balances) -> Result<Waybill, StoreFault>
     ensures { (s : AnyCargo) (w : ℕ) → IsLawful s → balances.now ≡ balances_of s.book w
         → IfOk result (λ waybill. waybill ≡ told_of s w declared) }
@@ -86,8 +86,8 @@ fn told_of(declared: Declared, balances: &Balances) -> Result<Waybill, StoreFaul
     })
 }
 
-/// What is known of a waybill, if it was declared: two reads. What is in the store is told from the other balances. A fault
-/// says that a call of the store failed, or that what it told is no lawful state's.
+/// What is known of a waybill, if it was declared: two reads. What is in the store follows from the other balances. A fault
+/// says that a call of the store failed, or that what it returned is no lawful state's.
 pub fn waybill_in<S: StateStore>(store: &mut S, number: &Awb) -> Result<Option<Waybill>, StoreFault>
     ensures value { (s : State) → S.shows store.old (at_rest s) → IsLawful s.cargo
         → S.is_sound store.new → IfOk result (λ waybill. waybill ≡ waybill_of s.cargo number.now) }
@@ -162,8 +162,8 @@ fn irregular_among<S: StateStore>(
     Ok(rows)
 }
 
-/// The waybills of which pieces are missing or were found, rising: two reads for each waybill that has a move. A fault says
-/// that a call of the store failed, that memory was wanting, or that a waybill with a move isn't declared.
+/// The waybills of which pieces are missing or were found, ascending: two reads for each waybill that has a move. A fault says
+/// that a call of the store failed, that memory ran out, or that a waybill with a move isn't declared.
 pub fn irregular_rows<S: StateStore>(
     alloc: Global,
     store: &mut S,

@@ -243,7 +243,7 @@ fn rows_for<S: StateStore>(
 }
 
 /// What a command is planned from: all that the state has for it, and what it doesn't read is not asked of the store.
-/// A fault says that a call of the store failed, or that memory was wanting.
+/// A fault says that a call of the store failed, or that memory ran out.
 pub fn view<S: StateStore>(
     alloc: Global,
     store: &mut S,

@@ -14,7 +14,7 @@ use Rattle.station_core.specs.declared.rows.Message.{Message}
 use Rattle.station_core.specs.declared.rows.TrailRow.{TrailRow}
 use Rattle.station_core.specs.declared.rows.Waybill.{Waybill}
 
--- what is told of a waybill
+-- what is known of a waybill
 abbrev pub told_of : Cargo → ℕ → Declared → Waybill
 told_of s w d = record {
   declared = d;
@@ -30,7 +30,7 @@ told_of s w d = record {
 abbrev pub waybill_of : Cargo → ℕ → Option Waybill
 waybill_of s w = option_map (told_of s w) (s.declared w)
 
--- the waybills with pieces missing or found, rising
+-- the waybills with pieces missing or found, ascending
 abbrev pub is_irregular : Cargo → ℕ → Bool
 is_irregular s w = nat_lt 0 (missing s.book w).pieces || nat_lt 0 (found s.book w).pieces
 

@@ -18,7 +18,7 @@ pub data RetryEvent : Type 0 where
   cut_after : Input → LocalMinute → RetryEvent
   reopened : RetryEvent
 
--- the state, whether the station runs, and what callers were told
+-- the state, whether the station runs, and what callers were answered
 pub record World : Type 0 where
   pub state : State
   pub is_up : Bool
@@ -85,7 +85,7 @@ IfDone (Refused refusal) P = Unit {0}
 abbrev pub started : List ℕ → World
 started here = record { state = opening here; is_up = true; told = [] }
 
--- Whatever is sent, cut off and repeated: the state is that of the committed inputs, each once, in their order; and each reply that was told is the run's.
+-- Whatever is sent, cut off and repeated: the state is that of the committed inputs, each once, in their order; and each reply that was given is the run's.
 pub record ActsOnce (here : List ℕ) (events : List RetryEvent) : Type 0 where
   pub state : (after_events (started here) events).state ≡ after_all (opening here) (committed (started here) events)
   pub once : EachOnce (committed (started here) events)

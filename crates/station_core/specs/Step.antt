@@ -24,7 +24,7 @@ use Rattle.station_core.specs.declared.answer.Answer.TheVariants.{Done, Refused}
 use Rattle.station_core.specs.declared.input.Input.{Input}
 use Rattle.station_core.specs.declared.input.Input.TheVariants.{Keyed, Wire}
 
--- what was accepted under a key: the command's text, and the count that was told
+-- what was accepted under a key: the command's text, and the count that was returned
 pub record Kept : Type 0 where
   pub request : List ℕ
   pub count : ℕ

@@ -11,7 +11,7 @@ use Rattle.shipment_machine.specs.declared.plans.Detail.TheVariants as detail
 use Rattle.shipment_machine.specs.declared.plans.Refusal.{Refusal}
 use Rattle.station_core.specs.declared.answer.Reply.{Reply}
 
--- the word of a fault; want of memory is no fault of a text and has none
+-- the word of a fault; out of memory is no fault of a text and has none
 abbrev pub why_word : Why → List ℕ
 why_word why.Size = codes "size"
 why_word why.Lines = codes "lines"

@@ -1,6 +1,6 @@
 use shipment_machine::Refusal;
 
-/// What is told of an accepted input.
+/// The reply to an accepted input.
 #[derive(Clone, Copy, Debug, PartialEq, Eq)]
 pub struct Reply {
     /// The numbers of an order's run, the pieces of a desk command, the messages newly confirmed, or the lines of a
@@ -8,7 +8,7 @@ pub struct Reply {
     pub count: u32,
 }
 
-/// What is told of an input.
+/// The answer to an input.
 #[derive(Clone, Copy, Debug, PartialEq, Eq)]
 pub enum Answer {
     Done(Reply),
@@ -20,7 +20,7 @@ pub enum Answer {
 pub enum ActFault {
     /// Nothing changed.
     Refused(Refusal),
-    /// Memory was wanting: in `act`, before the store was asked. Nothing changed.
+    /// Memory ran out: in `act`, before the store was asked. Nothing changed.
     Memory,
     /// A call of the store failed: it holds the state before the input or after it, and has to be opened again.
     Store,

@@ -114,7 +114,7 @@ impl<T: Write> ByteOut for Counted<T> {
     }
 }
 
-/// Writes all of the bytes, or tells how many went out before the writer failed or took none.
+/// Writes all of the bytes, or returns how many went out before the writer failed or took none.
 pub fn send<W: ByteOut>(writer: &mut W, bytes: &[u8]) -> Result<(), usize>
     ensures all { OnOk result (Sent (W.taken writer.old) (W.taken writer.new) bytes.now (length bytes.now)) }
     ensures no_failure { OnOk result ((W.taken writer.new).failures ≡ (W.taken writer.old).failures) }

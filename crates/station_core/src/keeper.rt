@@ -11,7 +11,7 @@ use imp_fields::Moment;
 /// What keeps the state of a station.
 ///
 /// Its readers change nothing. Those that hand rows to a sink hand out all of them in order, or a beginning: where the sink
-/// wants no more, or after a fault.
+/// takes no more, or after a fault.
 pub trait Keeper {
     ghost use Rattle.agent_stock.specs.Runs.{AreStockRuns};
     ghost use Rattle.station_core.specs.Step.{State, IsLawfulState};
@@ -55,12 +55,12 @@ pub trait Keeper {
         ensures reads { OnlyReads keeps is_sound is_broken may_find self.old self.new }
         ensures waybill { (s : State) → keeps self.old s → is_sound self.new → IfOk result (λ waybill. waybill ≡ waybill_of s.cargo number.now) };
 
-    /// The stock, as its maximal runs of one holder, rising.
+    /// The stock, as its maximal runs of one holder, ascending.
     fn stock<S: Sink<StockRun>>(&mut self, sink: &mut S) -> Result<(), ActFault>
         ensures { HandsOut keeps is_sound is_broken may_find self.old self.new result
             S.takes (λ s rows. AreStockRuns s.holders rows) sink.old sink.new };
 
-    /// The waybills of which pieces are missing or were found, rising.
+    /// The waybills of which pieces are missing or were found, ascending.
     fn irregular<S: Sink<IrregularRow>>(&mut self, sink: &mut S) -> Result<(), ActFault>
         ensures { HandsOut keeps is_sound is_broken may_find self.old self.new result
             S.takes (λ s rows. rows ≡ irregular_rows s) sink.old sink.new };

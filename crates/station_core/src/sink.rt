@@ -11,7 +11,7 @@ pub trait Sink<Row> {
         ensures { takes self.old row result self.new };
 }
 
-/// Hands out rows in order, until the sink wants no more.
+/// Hands out rows in order, until the sink takes no more.
 pub fn hand_out<Row: Drop, S: Sink<Row>>(sink: &mut S, rows: Vec<Row>)
     ensures { HandedOut S.takes rows.items sink.old sink.new }
 {

@@ -1,4 +1,4 @@
-//! The cargo in memory: sinks that want no more, and want of memory.
+//! The cargo in memory: sinks that take no more, and memory that runs out.
 ghost use Rattle.std.specs.Prelude.{IfSome};
 ghost use Rattle.shipment_machine.specs.Lawful.{IsLawful};
 ghost use Rattle.plain_cargo.specs.Plain.{cargo_of};
@@ -53,7 +53,7 @@ fn all_names() -> Option<Names> {
     })
 }
 
-/// Does a command and sends these messages. It tells the command's count, or the number of its refusal; for want of memory
+/// Does a command and sends these messages. It returns the command's count, or the number of its refusal; out of memory,
 /// nothing.
 fn done(
     cargo: &mut PlainCargo,
@@ -231,7 +231,7 @@ fn declared_at_last(alloc: Global, names: &Names) -> Option<PlainCargo>
     declared(alloc, names, names.fra)
 }
 
-/// Whether ten pieces are received, at the second attempt if memory was wanting at the first, after which nothing has changed.
+/// Whether ten pieces are received, at the second attempt if memory ran out at the first, after which nothing has changed.
 fn is_received_at_last(alloc: Global, cargo: &mut PlainCargo, names: &Names) -> Option<bool>
     requires { IsLawful (cargo_of cargo.old) }
     ensures { IsLawful (cargo_of cargo.new) }
@@ -246,7 +246,7 @@ fn is_received_at_last(alloc: Global, cargo: &mut PlainCargo, names: &Names) -> 
     Some(ordered(alloc, cargo, &command, names.at, &[]) == Some(Ok(10)))
 }
 
-/// Whether the book has one row, which is told at the second attempt if memory was wanting at the first.
+/// Whether the book has one row, which comes at the second attempt if memory ran out at the first.
 fn has_one_row(cargo: &PlainCargo) -> bool {
     if !cargo.has_room() {
         return false;
@@ -258,7 +258,7 @@ fn has_one_row(cargo: &PlainCargo) -> bool {
     sink.rows == 1
 }
 
-/// Whether want of memory is told, changes nothing, and the next call succeeds.
+/// Whether running out of memory is reported, changes nothing, and the next call succeeds.
 pub fn is_memory_told(alloc: Global) -> bool {
     let Some(names) = all_names() else {
         return false;

@@ -26,7 +26,7 @@ fn sent(alloc: Global, text: &str) -> Option<String> {
     say(alloc, shown(writer.into_inner().as_slice()))
 }
 
-/// What is told where not all bytes went out.
+/// What is returned where not all bytes went out.
 fn sent_said(alloc: Global, sent: Result<(), usize>) -> Option<String> {
     match sent {
         Ok(()) => say(alloc, "all went out"),

@@ -1,7 +1,7 @@
 //! Stations, their tables and what they read and write: each is asked as a file of cases says.
 //!
 //! With the word `memory` it goes through what wants memory alone. Run it so with each allocation failing in turn: each must
-//! be told, and leave things as they were.
+//! be reported, and leave things as they were.
 #![tactic(auto)]
 
 mod cargo;
@@ -53,7 +53,7 @@ fn cargo_answer(alloc: Global, asked: &str, text: &[u8]) -> Option<String> {
     }
 }
 
-/// Goes through what wants memory, and tells what came out otherwise. Whether all came out as they must.
+/// Goes through what needs memory, and prints what came out otherwise. Whether all came out as they must.
 fn try_memory(rt: &HostRuntime) -> Result<bool, io::Error> {
     let alloc = rt.alloc();
     let mut all = true;

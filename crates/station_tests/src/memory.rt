@@ -1,4 +1,4 @@
-//! Messages that are written and read where memory may be wanted: that is told, and leaves the buffer as it was.
+//! Messages that are written and read where memory may run out: that is reported, and leaves the buffer as it was.
 use awb_number::Awb;
 use ffm_text::{Load, write_ffm};
 use fsu_text::{Handling, SentStatus, Update, write_fsu};
@@ -43,7 +43,7 @@ fn three_loads() -> Option<[Load; 3]> {
     Some([load(1_234_567, 4, 10, b"CARGO")?; 3])
 }
 
-/// Whether three loads are written and read, or want of memory is told.
+/// Whether three loads are written and read, or running out of memory is reported.
 pub fn is_manifest_told(alloc: Global) -> bool {
     let Some(loads) = three_loads() else {
         return false;
@@ -56,7 +56,7 @@ pub fn is_manifest_told(alloc: Global) -> bool {
     }
 }
 
-/// Whether the three loads are read again, or want of memory is told.
+/// Whether the three loads are read again, or running out of memory is reported.
 fn is_manifest_read(alloc: Global, text: &[u8]) -> bool {
     let lines = match normal_text(alloc, text) {
         Ok(lines) => lines,
@@ -95,7 +95,7 @@ fn receipt() -> Option<Update> {
     })
 }
 
-/// Whether a receipt is written and read, or want of memory is told.
+/// Whether a receipt is written and read, or running out of memory is reported.
 pub fn is_update_told(alloc: Global) -> bool {
     let Some(update) = receipt() else {
         return false;
@@ -166,7 +166,7 @@ fn is_read_or_unheard(alloc: Global, text: &[u8]) -> bool {
     }
 }
 
-/// Whether a telegram with a waybill's data is read, or want of memory is told.
+/// Whether a telegram with a waybill's data is read, or running out of memory is reported.
 pub fn is_waybill_told(alloc: Global) -> bool {
     is_read_or_unheard(
         alloc,

@@ -1,4 +1,4 @@
-//! A station in memory: sinks that want no more, inputs at once, and want of memory.
+//! A station in memory: sinks that take no more, inputs at once, and memory that runs out.
 use crate::tables::answers_said;
 use awb_number::Awb;
 use case_words::{count_said, shown};
@@ -10,7 +10,7 @@ use station_rows::open_memory;
 use station_tables::{AttachFault, create};
 use std::alloc::Global;
 
-/// Takes so many rows, and wants no more then.
+/// Takes so many rows, and takes no more then.
 #[derive(Drop)]
 struct Taken<Row> {
     rows: Vec<Row>,
@@ -92,7 +92,7 @@ pub fn pending_rows(alloc: Global, wanted: &[u8]) -> Option<String> {
     count_said(alloc, is_given, sink.rows.len())
 }
 
-/// What is told of a booking, a receipt, the receipt again, and another command under its key, which come as one list.
+/// The answers to a booking, a receipt, the receipt again, and another command under its key, which come as one list.
 pub fn at_once(alloc: Global) -> Option<String> {
     let mut station = station(alloc)?;
     let inputs = [
@@ -168,7 +168,7 @@ fn has_taken(station: &mut impl Keeper, pieces: u32) -> bool {
     pieces_taken(station) == Some(pieces) || pieces_taken(station) == Some(pieces)
 }
 
-/// Whether want of memory is told, changes nothing, and the input acts when it comes again, or the station may break.
+/// Whether running out of memory is reported, changes nothing, and the input acts when it comes again, or the station may break.
 fn is_told_in_turn(alloc: Global, station: &mut impl Keeper, may_break: bool) -> Option<bool> {
     let steps = [
         (booking()?, at(10, 0)?, 0),
@@ -188,7 +188,7 @@ fn is_told_in_turn(alloc: Global, station: &mut impl Keeper, may_break: bool) ->
     Some(is_book_told(alloc, station))
 }
 
-/// Whether a station in memory tells want of memory, and goes on.
+/// Whether a station in memory reports that memory ran out, and goes on.
 pub fn is_memory_told(alloc: Global) -> bool {
     match station(alloc) {
         Some(mut station) => is_told_in_turn(alloc, &mut station, false) == Some(true),

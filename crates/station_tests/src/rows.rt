@@ -147,7 +147,7 @@ fn done(alloc: Global, done: Result<(), StoreFault>) -> Option<String> {
     }
 }
 
-/// The row of one number, told by its prefix, its serial, its holder and perhaps an agent.
+/// The row of one number, given by its prefix, its serial, its holder and perhaps an agent.
 fn stock_row(alloc: Global, words: &mut SplitWhitespace<'_>) -> Option<StockRow> {
     let prefix = next_whole(words)?;
     let low = next_whole(words)?;

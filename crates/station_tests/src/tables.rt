@@ -116,7 +116,7 @@ fn agent(words: &mut SplitWhitespace<'_>) -> Option<AgentCode> {
     AgentCode::read(words.next()?.as_bytes())
 }
 
-/// What is told of an order at noon.
+/// The answer to an order at noon.
 fn told(alloc: Global, keeper: &mut impl Keeper, asked: &Asked) -> Option<String> {
     answered(
         alloc,
@@ -125,7 +125,7 @@ fn told(alloc: Global, keeper: &mut impl Keeper, asked: &Asked) -> Option<String
     )
 }
 
-/// What is told of five orders that come as one list.
+/// The answers to five orders that come as one list.
 fn list(alloc: Global, keeper: &mut impl Keeper) -> Option<String> {
     let ten = asked_by("k1 take-in 020-12345675 10")?;
     let three = asked_by("k2 issue 020-12345701 3 ACME")?;
@@ -189,7 +189,7 @@ fn cargo_rows(alloc: Global, keeper: &mut impl Keeper) -> Option<String> {
     format!(in alloc; "{}", seen.rows).ok()
 }
 
-/// The runs of a stock of one row, which is told by its prefix, its serial, its holder and perhaps an agent.
+/// The runs of a stock of one row, which is given by its prefix, its serial, its holder and perhaps an agent.
 fn runs_of_row(alloc: Global, text: &str) -> Option<String> {
     let mut words = text.split_whitespace();
     let prefix = next_whole(&mut words)?;

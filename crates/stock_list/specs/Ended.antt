@@ -35,7 +35,7 @@ pub record HasNotActed (s : State) (row : Row) (at : LocalMinute) (e : RunFault)
 abbrev pub IsStopped : ℕ → State → Row → LocalMinute → RunFault → List ℕ → List ℕ → (State → Type 0) → (Option State → Type 0) → Type 0
 IsStopped number s row at e before after keeps may_find = HasActed number s row at before after keeps ⊎ HasNotActed s row at e before after keeps may_find
 
--- why a run ends where the reader fails, or memory for a row is wanting
+-- why a run ends where the reader fails, or memory for a row runs out
 abbrev pub reader_fault : ErrorKind → RunFault
 reader_fault (kind.Io e) = fault.Read
 reader_fault _ = fault.Memory

@@ -21,7 +21,7 @@ pub enum RunFault {
     Read,
     /// The writer failed, or took nothing.
     Write,
-    /// Memory was wanting.
+    /// Memory ran out.
     Memory,
     /// The store failed, in this row or before.
     Store,
@@ -29,7 +29,7 @@ pub enum RunFault {
 
 /// An answer as it is printed: `ok 10`, or `refused 102 020-12345723`.
 ///
-/// Returns [`AllocError`] for want of memory.
+/// Returns [`AllocError`] when out of memory.
 pub fn answer_text(alloc: Global, answer: &Answer) -> Result<String, AllocError>
     ensures { IfOk result (λ text. string_bytes text ≡ answer_text answer.now) }
 {
@@ -68,7 +68,7 @@ pub fn send_line<W: ByteOut>(writer: &mut W, line: &str) -> Result<(), RunFault>
     }
 }
 
-/// Why a run ends where a keeper doesn't answer: `Memory` for want of memory, else `Store`.
+/// Why a run ends where a keeper doesn't answer: `Memory` where memory ran out, else `Store`.
 pub fn keeper_fault(fault: ActFault) -> RunFault
     ensures { result ≡ run_fault fault }
 {
@@ -78,7 +78,7 @@ pub fn keeper_fault(fault: ActFault) -> RunFault
     }
 }
 
-/// Answers a row, after what it asks was done, at a moment. `Ok` tells whether it was accepted.
+/// Answers a row, after what it asks was done, at a moment. `Ok` says whether it was accepted.
 pub fn answer_row<K: Keeper, W: ByteOut>(
     alloc: Global,
     keeper: &mut K,

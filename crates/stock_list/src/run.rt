@@ -21,7 +21,7 @@ fn reader_fault(e: Error) -> RunFault
     }
 }
 
-/// Answers the rows of a stock list, each after what it asks was done, all at one moment. `Ok` tells whether all were accepted.
+/// Answers the rows of a stock list, each after what it asks was done, all at one moment. `Ok` says whether all were accepted.
 pub fn run_stock<K: Keeper, R: Read + Drop, W: ByteOut>(
     alloc: Global,
     keeper: &mut K,

@@ -67,7 +67,7 @@ impl<S: StateStore> StoredStation<S> {
 
 // What the readers of rows share.
 impl<S: StateStore> StoredStation<S> {
-    /// The maximal runs of the stock, rising.
+    /// The maximal runs of the stock, ascending.
     #[tactic(auto, using(crate::proofs::Reading::reads_only))]
     fn runs(&mut self) -> Result<Vec<StockRun>, ActFault>
         ensures reopen { self.old.broken ≡ true → (result ≡ Err ActFault.Reopen)
@@ -88,7 +88,7 @@ impl<S: StateStore> StoredStation<S> {
         }
     }
 
-    /// The waybills of which pieces are missing or were found, rising.
+    /// The waybills of which pieces are missing or were found, ascending.
     #[tactic(auto, using(crate::proofs::Reading::reads_only))]
     fn irregular_rows(&mut self) -> Result<Vec<IrregularRow>, ActFault>
         ensures reopen { self.old.broken ≡ true → (result ≡ Err ActFault.Reopen)

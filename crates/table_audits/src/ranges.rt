@@ -21,7 +21,7 @@ pub fn is_number(number: i64) -> bool
     0 <= number && number <= 9_999_999_999
 }
 
-/// Whether it can be told as a count.
+/// Whether it can be a count.
 pub(crate) fn is_count(number: i64) -> bool
     ensures { result ≡ is_count number }
 {

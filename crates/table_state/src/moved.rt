@@ -37,7 +37,7 @@ fn moves_in(alloc: Global, rows: &[MoveRow]) -> Result<Vec<Move>, StoreFault>
     Ok(all)
 }
 
-/// The waybills of the moves in rows, rising, each once.
+/// The waybills of the moves in rows, ascending, each once.
 pub(crate) fn waybills_moved(alloc: Global, rows: &[MoveRow]) -> Result<Vec<Awb>, StoreFault>
     ensures { IfOk result (λ all. all.items ≡ waybills_of (map (λ row. move_by (move_meant row)) rows.now)) }
 {

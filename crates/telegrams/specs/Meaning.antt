@@ -114,11 +114,11 @@ refusal_by other line = record { number = 301; detail = detail.Line line other }
 abbrev pub refusal_of : TextFault → Refusal
 refusal_of told = refusal_by told.why told.line
 
--- a refusal that is told is that of the fault; for want of memory nothing is said
+-- a refusal that is returned is that of the fault; out of memory, nothing is said
 abbrev pub RefusesAs : Option TextFault → TelegramFault → Type 0
 RefusesAs due (fault.Refused refusal) = (told : TextFault) × (due ≡ Some told) × (refusal ≡ refusal_of told)
 RefusesAs due fault.Memory = Unit {0}
 
--- a refusal that is told is that of the bytes' fault
+-- a refusal that is returned is that of the bytes' fault
 abbrev pub RefusesText : List ℕ → TelegramFault → Type 0
 RefusesText bytes fault = RefusesAs (telegram_fault bytes) fault

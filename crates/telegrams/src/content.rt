@@ -22,7 +22,7 @@ use shipment_machine::{CargoLine, Detail, InboundLine, Refusal, TrailLine};
 use std::alloc::{AllocError, Global};
 use std::slice;
 
-/// What a fault that a reader tells makes of a telegram.
+/// What a fault that a reader returns makes of a telegram.
 pub(crate) fn refusal(told: TextFault) -> TelegramFault
     requires { told.line ≤ 1000 }
     ensures reader { (due : Option TextFault) → IsFaultOf due told → RefusesAs due result }
@@ -44,7 +44,7 @@ pub(crate) fn refusal(told: TextFault) -> TelegramFault
     }
 }
 
-/// The weight that is told, or none.
+/// The weight that is given, or none.
 fn weight_told(weight: Option<Tenths>) -> Tenths
     ensures { result ≡ unwrap_or weight 0 }
 {

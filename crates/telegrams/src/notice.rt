@@ -15,7 +15,7 @@ use imp_fields::{Airport, DayMonth, DayTime, Moment, Name};
 use shipment_machine::{Event, FlightDate, ManifestLine, ManifestLines, Notice};
 use std::alloc::{AllocError, Global};
 
-/// RCS, NFD or DLV, told by its moment.
+/// RCS, NFD or DLV, written with its moment.
 fn handled(event: Handling, name: Name, at: Moment) -> SentStatus
     ensures { result ≡ sent.Handled event (when_at at) name }
 {
@@ -26,7 +26,7 @@ fn handled(event: Handling, name: Name, at: Moment) -> SentStatus
     }
 }
 
-/// MAN or DEP, told by the flight's date.
+/// MAN or DEP, written with the flight's date.
 fn carried(event: SentCarriage, flight: &FlightDate, unload: Airport) -> SentStatus
     ensures { result ≡ sent.Carried event flight.now.flight (date_on flight.now.day) unload }
 {
@@ -38,7 +38,7 @@ fn carried(event: SentCarriage, flight: &FlightDate, unload: Airport) -> SentSta
     }
 }
 
-/// What happened, as a status message tells it: a flight that leaves by its date, all else by its moment.
+/// What happened, as a status message says it: a flight that leaves by its date, all else by its moment.
 fn status_of(event: &Event) -> SentStatus
     ensures { result ≡ status_of_event event.now }
 {
@@ -128,7 +128,7 @@ fn manifest_text(
 
 /// The text of a notice, an FSU with one status line or an FFM of one part; each line ends with a carriage return and a
 /// newline. A quantity has the code T where its pieces equal the declared total, else P. MAN, DEP and the manifest tell the
-/// flight's date without its year; every other status tells the moment. The lines are normal, and are read as the values
+/// flight's date without its year; every other status gives the moment. The lines are normal, and are read as the values
 /// that were written.
 ///
 /// # Errors
