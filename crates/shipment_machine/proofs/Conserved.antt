@@ -15,63 +15,14 @@ use Rattle.shipment_machine.specs.Lawful.{is_outside, is_pair, IsLawfulMove, IsL
 use Rattle.shipment_machine.specs.Laws.{IsConserved}
 use Rattle.shipment_machine.proofs.BalanceLaws.{total_in, total_out}
 use Rattle.shipment_machine.proofs.ByFlight.{Entry, sum_all, sum_at, covered}
+use Rattle.shipment_machine.proofs.Places.{no_way_out, not_hand, not_surplus, is_built, no_added}
 
 -- Nothing moves outside.
-
-pub no_way_out : (from to : Place) → is_pair from to ≡ true → is_outside to ≡ false
-no_way_out from Hand e = absurd (true≢false (sym e ∙ no from))
-  where
-    no : (p : Place) → is_pair p Hand ≡ false
-    no Hand = refl
-    no Surplus = refl
-    no Free = refl
-    no (Built f) = refl
-    no Departed = refl
-    no Delivered = refl
-    no Missing = refl
-no_way_out from Surplus e = absurd (true≢false (sym e ∙ no from))
-  where
-    no : (p : Place) → is_pair p Surplus ≡ false
-    no Hand = refl
-    no Surplus = refl
-    no Free = refl
-    no (Built f) = refl
-    no Departed = refl
-    no Delivered = refl
-    no Missing = refl
-no_way_out from Free e = refl
-no_way_out from (Built f) e = refl
-no_way_out from Departed e = refl
-no_way_out from Delivered e = refl
-no_way_out from Missing e = refl
-
-pub not_hand : (p : Place) → is_outside p ≡ false → same_place Hand p ≡ false
-not_hand Hand e = absurd (true≢false e)
-not_hand Surplus e = refl
-not_hand Free e = refl
-not_hand (Built f) e = refl
-not_hand Departed e = refl
-not_hand Delivered e = refl
-not_hand Missing e = refl
-
-pub not_surplus : (p : Place) → is_outside p ≡ false → same_place Surplus p ≡ false
-not_surplus Hand e = refl
-not_surplus Surplus e = absurd (true≢false e)
-not_surplus Free e = refl
-not_surplus (Built f) e = refl
-not_surplus Departed e = refl
-not_surplus Delivered e = refl
-not_surplus Missing e = refl
-
-no_amount : (b c : Bool) (n : ℕ) → c ≡ false → (if b && c then n else 0) ≡ 0
-no_amount true true n e = absurd (true≢false e)
-no_amount true false n e = refl
-no_amount false c n e = refl
 
 pub none_in : (s : Cargo) (measure : Move → ℕ) (w : ℕ) (there : Place → Bool) → ((p : Place) → is_outside p ≡ false → there p ≡ false) → (book : List Move) → AllByRecursion (IsLawfulMove s) book → moved_in measure book w there ≡ 0
 none_in s measure w there apart [] h = refl
 none_in s measure w there apart (m ∷ book) h = sum_by-cons (brings measure w there) m book
-    ∙ ap (λ k. k + moved_in measure book w there) (no_amount (m.awb == w) (there m.to) (measure m) (apart m.to (no_way_out m.from m.to h.0.pair)))
+    ∙ ap (λ k. k + moved_in measure book w there) (no_added (m.awb == w) (there m.to) (measure m) (apart m.to (no_way_out m.from m.to h.0.pair)))
     ∙ only_rest (moved_in measure book w there) (none_in s measure w there apart book h.1)
   where
     only_rest : (n : ℕ) → n ≡ 0 → 0 + n ≡ 0
@@ -85,19 +36,9 @@ none_in_surplus s measure w law = none_in s measure w (same_place Surplus) not_s
 
 -- What is built of a waybill, flight by flight.
 
-abbrev pub is_built : Place → Bool
-is_built (Built k) = true
-is_built _ = false
-
 abbrev with_entry : Bool → Place → ℕ → List Entry → List Entry
 with_entry true (Built k) n rest = (k, n) ∷ rest
-with_entry true Hand n rest = rest
-with_entry true Surplus n rest = rest
-with_entry true Free n rest = rest
-with_entry true Departed n rest = rest
-with_entry true Delivered n rest = rest
-with_entry true Missing n rest = rest
-with_entry false p n rest = rest
+with_entry b p n rest = rest
 
 abbrev ins : (Move → ℕ) → ℕ → List Move → List Entry
 ins measure w [] = []
@@ -109,22 +50,12 @@ outs measure w (m ∷ book) = with_entry (m.awb == w) m.from (measure m) (outs m
 
 at_entry : (k : FlightDate) (n : ℕ) (rest : List Entry) (b : Bool) (p : Place) → sum_at k (with_entry b p n rest) ≡ (if b && same_place (Built k) p then n else 0) + sum_at k rest
 at_entry k n rest true (Built f) = refl
-at_entry k n rest true Hand = omega arith
-at_entry k n rest true Surplus = omega arith
-at_entry k n rest true Free = omega arith
-at_entry k n rest true Departed = omega arith
-at_entry k n rest true Delivered = omega arith
-at_entry k n rest true Missing = omega arith
+at_entry k n rest true p = omega arith
 at_entry k n rest false p = omega arith
 
 all_entry : (n : ℕ) (rest : List Entry) (b : Bool) (p : Place) → sum_all (with_entry b p n rest) ≡ (if b && is_built p then n else 0) + sum_all rest
 all_entry n rest true (Built f) = refl
-all_entry n rest true Hand = omega arith
-all_entry n rest true Surplus = omega arith
-all_entry n rest true Free = omega arith
-all_entry n rest true Departed = omega arith
-all_entry n rest true Delivered = omega arith
-all_entry n rest true Missing = omega arith
+all_entry n rest true p = omega arith
 all_entry n rest false p = omega arith
 
 ins_at : (measure : Move → ℕ) (w : ℕ) (k : FlightDate) (book : List Move) → moved_in measure book w (same_place (Built k)) ≡ sum_at k (ins measure w book)
@@ -155,13 +86,9 @@ outs_all measure w (m ∷ book) = sum_by-cons (takes measure w is_built) m book
 
 store_split : (n : ℕ) (b : Bool) (p : Place) → (if b && in_store p then n else 0) ≡ (if b && same_place Free p then n else 0) + (if b && is_built p then n else 0)
 store_split n false p = refl
-store_split n true Hand = refl
-store_split n true Surplus = refl
 store_split n true Free = omega arith
 store_split n true (Built f) = omega arith
-store_split n true Departed = refl
-store_split n true Delivered = refl
-store_split n true Missing = refl
+store_split n true p = refl
 
 store_in : (measure : Move → ℕ) (w : ℕ) (book : List Move) → moved_in measure book w in_store ≡ moved_in measure book w (same_place Free) + moved_in measure book w is_built
 store_in measure w [] = refl

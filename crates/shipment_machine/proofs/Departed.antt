@@ -19,12 +19,13 @@ use Rattle.shipment_machine.specs.Cargo.{Cargo}
 use Rattle.shipment_machine.specs.Views.{declaration, loads_of}
 use Rattle.shipment_machine.specs.Effect.{is_closed, moved, depart_moves}
 use Rattle.shipment_machine.specs.Lawful.{IsLawful, IsLawfulMove, IsNoted, departs_with}
+use Rattle.shipment_machine.proofs.Places.{added}
 use Rattle.shipment_machine.proofs.FlightKeys.{same-comm}
 use Rattle.shipment_machine.specs.Numbers.{is_in}
 use Rattle.shipment_machine.proofs.OnFlight.{is_in-waybills_on, none_in}
 use Rattle.shipment_machine.proofs.Conserved.{held_built}
 use Rattle.shipment_machine.proofs.LawfulView.{none_on}
-use Rattle.shipment_machine.proofs.SoundBook.{IsSound, added, move_under, all_map, same_number}
+use Rattle.shipment_machine.proofs.SoundBook.{IsSound, move_under, all_map, same_number}
 use Rattle.shipment_machine.proofs.PlainMoves.{sound_of, within_of}
 use Rattle.shipment_machine.proofs.FlightMoves.{Rising-waybills_on, fewer_on, same_built_at, with_note}
 use Rattle.shipment_machine.proofs.Departures.{off, off_flight, IsLeaving, departs_sound, built_off, none_build, stays_off, stays_append, leave_with, leave_otherwise}

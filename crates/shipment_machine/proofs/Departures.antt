@@ -16,8 +16,9 @@ use Rattle.shipment_machine.specs.Book.{same_place, pieces_of, tenths_of, moved_
 use Rattle.shipment_machine.specs.Cargo.{Cargo}
 use Rattle.shipment_machine.specs.Lawful.{IsNoted, departs_with, builds_on, StaysDeparted}
 use Rattle.shipment_machine.specs.Numbers.{IsAscending as Rising, is_in}
+use Rattle.shipment_machine.proofs.Places.{added}
 use Rattle.shipment_machine.proofs.Rising.{below_in, not_in}
-use Rattle.shipment_machine.proofs.SoundBook.{IsFitting, IsSound, Leaves, with_move, sound_after, there_are, added, same_number}
+use Rattle.shipment_machine.proofs.SoundBook.{IsFitting, IsSound, Leaves, with_move, sound_after, there_are, same_number}
 
 abbrev pub off_flight : ℕ → FlightDate → Amount → Option FlightDate → LocalMinute → Move
 off_flight w flight a named at = record { awb = w; from = Built flight; to = Departed; pieces = a.pieces; tenths = a.tenths; flight = named; at = at }

@@ -15,11 +15,12 @@ use Rattle.shipment_machine.specs.Book.{same_place, pieces_of, moved_in, moved_o
 use Rattle.shipment_machine.specs.Cargo.{Cargo}
 use Rattle.shipment_machine.specs.Effect.{is_closed}
 use Rattle.shipment_machine.specs.Lawful.{IsLawful, IsLawfulMove, departs_with, StaysDeparted}
+use Rattle.shipment_machine.proofs.Places.{added}
 use Rattle.shipment_machine.proofs.FlightKeys.{same-sym, same-alike, same-comm}
 use Rattle.shipment_machine.specs.Numbers.{IsAscending as Rising, is_in}
 use Rattle.shipment_machine.proofs.Rising.{Rising-put_rising, is_in-put_rising, Rising-filter, below_in, yes_here, first_or_later}
 use Rattle.shipment_machine.proofs.OnFlight.{Rising-waybills_of, is_in-waybills_on, same_waybills_on}
-use Rattle.shipment_machine.proofs.SoundBook.{IsFitting, IsSound, with_move, sound_after, added, move_under, all_map}
+use Rattle.shipment_machine.proofs.SoundBook.{IsFitting, IsSound, with_move, sound_after, move_under, all_map}
 use Rattle.shipment_machine.proofs.PlainMoves.{sound_of, within_of, built_after, stays_push, departs_after}
 
 -- Rising lists.
@@ -132,12 +133,7 @@ same_departs j k (m ∷ book) e = λ i. (same_from m.from i && same_place m.to D
   where
     same_from : (p : Place) → same_place p (Built j) ≡ same_place p (Built k)
     same_from (Built f) = same-comm f j ∙ same-alike j k f e ∙ same-comm k f
-    same_from Hand = refl
-    same_from Surplus = refl
-    same_from Free = refl
-    same_from Departed = refl
-    same_from Delivered = refl
-    same_from Missing = refl
+    same_from p = refl
 
 none_departed : (s : Cargo) (flight k : FlightDate) → IsLawful s → is_closed (s.flights flight) ≡ false → same_flight_date k flight ≡ true → list_any (departs_with k) s.book ≡ false
 none_departed s flight k law ajar same = same_departs k flight s.book same ∙ not_true (list_any (departs_with flight) s.book) (λ h. true≢false (sym ((law.closed flight).1 h) ∙ ajar))
@@ -207,12 +203,7 @@ same_built_at book q j k e =
   where
     alike : (x : Place) → same_place (Built j) x ≡ same_place (Built k) x
     alike (Built f) = same-alike j k f e
-    alike Hand = refl
-    alike Surplus = refl
-    alike Free = refl
-    alike Departed = refl
-    alike Delivered = refl
-    alike Missing = refl
+    alike p = refl
 
 pub same_on : (book : List Move) (j k : FlightDate) → same_flight_date j k ≡ true → waybills_on book j ≡ waybills_on book k
 same_on book j k e = λ i. filter (λ w. nat_lt 0 (same_built_at book w j k e i)) (waybills_of book)

@@ -1,19 +1,25 @@
 -- A plan from a view of a lawful state.
-use Rattle.std.proofs.Common.{◌≡◌, ℕ, Option, Result, Ok, sym, ap, subst, ◌∙◌}
+use Rattle.std.proofs.Common.{◌≡◌, ℕ, List, Option, Result, Ok, Err, sym, ap, subst, ◌∙◌}
 use Rattle.std.specs.Prelude.{IfOk, IfErr}
 use Rattle.imp_fields.specs.Date.{LocalMinute}
 use Rattle.shipment_machine.specs.declared.command.ShipmentCommand.{ShipmentCommand}
 use Rattle.shipment_machine.specs.declared.plans.Plan.{Plan}
 use Rattle.shipment_machine.specs.declared.plans.PlanFault.{PlanFault}
+use Rattle.shipment_machine.specs.declared.plans.Refusal.{Refusal}
 use Rattle.shipment_machine.specs.declared.view.View.{View}
-use Rattle.shipment_machine.specs.Agreement.{IsAnswer, IsViewOf, RefusesAs, StaysLawful, view_of, outcome_of}
+use Rattle.shipment_machine.specs.Agreement.{IsAnswer, IsViewOf, RefusesAs, StaysLawful, view_of, outcome_of, meant_by, FitsCommand, rows_answer}
 use Rattle.shipment_machine.specs.Cargo.{Cargo}
-use Rattle.shipment_machine.specs.Effect.{effect}
+use Rattle.shipment_machine.specs.Effect.{Outcome, effect, carried_out}
 use Rattle.shipment_machine.specs.Lawful.{IsLawful, IsProper}
-use Rattle.shipment_machine.specs.Meant.{meant_by}
-use Rattle.shipment_machine.specs.FitsCommand.{FitsCommand, rows_answer}
 use Rattle.shipment_machine.proofs.ViewAnswers.{fits, answers, planned, refused}
-use Rattle.shipment_machine.proofs.StaysLawful.{stays_lawful}
+use Rattle.shipment_machine.proofs.KeepsAll.{keeps_lawful}
+
+-- what a plan does keeps a state lawful
+stays_lawful : (s : Cargo) (command : ShipmentCommand) (at : LocalMinute) (r : Result Plan PlanFault) → IsLawful s → IfOk r (λ _. IsProper command)
+    → IfOk r (λ plan. effect s command at ≡ Ok (outcome_of plan)) → IfOk r (StaysLawful s)
+stays_lawful s command at (Ok plan) law proper e =
+    λ text. subst (λ (r : Result Outcome Refusal). IfOk r (λ done. IsLawful (carried_out text done s))) e (keeps_lawful s command at text law proper)
+stays_lawful s command at (Err told) law proper e = tt
 
 module _ (s : Cargo) (command : ShipmentCommand) (view : View) (at : LocalMinute) (meant : Option ℕ) (is : meant ≡ meant_by command at) (shows : IsViewOf s command at view) where
   law : IsLawful s

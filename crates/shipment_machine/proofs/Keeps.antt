@@ -19,6 +19,7 @@ use Rattle.shipment_machine.specs.Cargo.{Cargo}
 use Rattle.shipment_machine.specs.Views.{declaration, undeclared}
 use Rattle.shipment_machine.specs.Effect.{Outcome, effect, rule, first_refusal, unless_refused, carried_out}
 use Rattle.shipment_machine.specs.Lawful.{IsLawful, IsLawfulAmount, IsNoted}
+use Rattle.shipment_machine.proofs.Places.{noted_under}
 
 -- no test of a list of refusals holds
 abbrev pub NoneHolds : List (Bool × Refusal) → Type 0
@@ -43,6 +44,10 @@ by_refusals s command at P holds =
       | None ↦ λ e. holds (none_holds (rule s command at).refusals e)
     ] refl
 
+all_map : {X : Type 0} (P Q : X → Type 0) → ((x : X) → P x → Q x) → (xs : List X) → AllByRecursion P xs → AllByRecursion Q xs
+all_map P Q f [] h = tt
+all_map P Q f (x ∷ xs) h = (f x h.0, all_map P Q f xs h.1)
+
 either_false : (a b : Bool) → (a || b) ≡ false → b ≡ false
 either_false true b e = absurd (true≢false e)
 either_false false b e = e
@@ -54,7 +59,7 @@ keeps_confirm s upto at text law = by_refusals s (order.Desk (desk.Confirm upto)
       within = law.within;
       declarations = law.declarations;
       expectations = law.expectations;
-      moves = all_map _ _ (λ m l. record { pair = l.pair; some = l.some; not_more = l.not_more; declared = l.declared; noted_from = noted m.from l.noted_from; noted_to = noted m.to l.noted_to; names_from = l.names_from; names_to = l.names_to }) s.book law.moves;
+      moves = all_map _ _ (λ m l. record { pair = l.pair; some = l.some; not_more = l.not_more; declared = l.declared; noted_from = noted_under s (record s { confirmed = upto }) (λ k h. h) m.from l.noted_from; noted_to = noted_under s (record s { confirmed = upto }) (λ k h. h) m.to l.noted_to; names_from = l.names_from; names_to = l.names_to }) s.book law.moves;
       trail = law.trail;
       used = law.used;
       closed = law.closed;
@@ -64,23 +69,6 @@ keeps_confirm s upto at text law = by_refusals s (order.Desk (desk.Confirm upto)
       outbound = law.outbound;
       mark = ltb-false _ _ (either_false _ _ none.0);
     }))
-  where
-    noted : (p : Place) → IsNoted s p → IsNoted (record s { confirmed = upto }) p
-    noted Hand h = tt
-    noted Surplus h = tt
-    noted Free h = tt
-    noted (Built f) h = h
-    noted Departed h = tt
-    noted Delivered h = tt
-    noted Missing h = tt
-
-    all_map : {X : Type 0} (P Q : X → Type 0) → ((x : X) → P x → Q x) → (xs : List X) → AllByRecursion P xs → AllByRecursion Q xs
-    all_map P Q f [] h = tt
-    all_map P Q f (x ∷ xs) h = (f x h.0, all_map P Q f xs h.1)
-
-all_map : {X : Type 0} (P Q : X → Type 0) → ((x : X) → P x → Q x) → (xs : List X) → AllByRecursion P xs → AllByRecursion Q xs
-all_map P Q f [] h = tt
-all_map P Q f (x ∷ xs) h = (f x h.0, all_map P Q f xs h.1)
 
 -- a waybill with a new declaration
 abbrev with_declared : Cargo → ℕ → Declared → Cargo
@@ -98,15 +86,6 @@ still_expected : (o : Option Expected) (P Q : Type 0) → (P → Q) → IfSome o
 still_expected None P Q f h = tt
 still_expected (Some e) P Q f h = (h.0, f h.1)
 
-same_noted : (s : Cargo) (w : ℕ) (d : Declared) (p : Place) → IsNoted s p → IsNoted (with_declared s w d) p
-same_noted s w d Hand h = tt
-same_noted s w d Surplus h = tt
-same_noted s w d Free h = tt
-same_noted s w d (Built f) h = h
-same_noted s w d Departed h = tt
-same_noted s w d Delivered h = tt
-same_noted s w d Missing h = tt
-
 -- a lawful amount may be declared
 pub declares : (s : Cargo) (w : ℕ) (d : Declared) → IsLawfulAmount d.pieces d.tenths → IsLawful s → IsLawful (with_declared s w d)
 declares s w d fine law = record {
@@ -114,7 +93,7 @@ declares s w d fine law = record {
   within = law.within;
   declarations = λ q. chosen (λ d. IsLawfulAmount d.pieces d.tenths) (q == w) d (s.declared q) fine (law.declarations q);
   expectations = λ k q. still_expected (s.expected k q) _ _ (still_some (q == w) d (s.declared q)) (law.expectations k q);
-  moves = all_map _ _ (λ m l. record { pair = l.pair; some = l.some; not_more = l.not_more; declared = still_some (m.awb == w) d (s.declared m.awb) l.declared; noted_from = same_noted s w d m.from l.noted_from; noted_to = same_noted s w d m.to l.noted_to; names_from = l.names_from; names_to = l.names_to }) s.book law.moves;
+  moves = all_map _ _ (λ m l. record { pair = l.pair; some = l.some; not_more = l.not_more; declared = still_some (m.awb == w) d (s.declared m.awb) l.declared; noted_from = noted_under s (with_declared s w d) (λ k h. h) m.from l.noted_from; noted_to = noted_under s (with_declared s w d) (λ k h. h) m.to l.noted_to; names_from = l.names_from; names_to = l.names_to }) s.book law.moves;
   trail = all_map _ _ (λ (row : ℕ × List ℕ) h. (still_some (row.0 == w) d (s.declared row.0) h.0, h.1)) s.trail law.trail;
   used = λ q e. still_some (q == w) d (s.declared q) (law.used q e);
   closed = law.closed;

@@ -26,7 +26,7 @@ use Rattle.shipment_machine.specs.Effect.{effect, carried_out, moved, is_closed,
 use Rattle.shipment_machine.specs.Lawful.{IsLawful, IsLawfulAmount, IsNoted}
 use Rattle.shipment_machine.proofs.FlightKeys.{same-refl}
 use Rattle.shipment_machine.proofs.OnFlight.{is_in-waybills_on}
-use Rattle.shipment_machine.proofs.Conserved.{came}
+use Rattle.shipment_machine.proofs.Conserved.{came, held_free}
 use Rattle.shipment_machine.proofs.LawfulView.{noted_outbound}
 use Rattle.shipment_machine.proofs.Keeps.{by_refusals}
 use Rattle.shipment_machine.proofs.SoundBook.{there_are}
@@ -115,8 +115,10 @@ onto s w p flight at known ajar noted within few room law =
     may_move s w Free (Built flight) (part (free s.book w) p) (Some flight) at (λ some.
     manifested s w p _ flight (Some flight) at (inside_fits s w p Free (Built flight) (Some flight) at refl refl some within known tt noted tt refl few law) ajar room law) law
 
-pub keeps_manifest : (s : Cargo) (w p : ℕ) (flight : FlightDate) (unload : List ℕ) (at : LocalMinute) (text : List ℕ) → there_are pieces_of s.book w Free ≤ 9999 → IsLawful s → IfOk (effect s (order.Desk (desk.Manifest w flight unload p)) at) (λ done. IsLawful (carried_out text done s))
-keeps_manifest s w p flight unload at text few law = by_refusals s (order.Desk (desk.Manifest w flight unload p)) at _ (λ none.
+pub keeps_manifest : (s : Cargo) (w p : ℕ) (flight : FlightDate) (unload : List ℕ) (at : LocalMinute) (text : List ℕ) → IsLawful s → IfOk (effect s (order.Desk (desk.Manifest w flight unload p)) at) (λ done. IsLawful (carried_out text done s))
+keeps_manifest s w p flight unload at text law = by_refusals s (order.Desk (desk.Manifest w flight unload p)) at _ (λ none.
+    let held = held_free s w law in
+    let few : there_are pieces_of s.book w Free ≤ 9999 = held.pieces in
     let known : IsSome (s.declared w) = is_known (s.declared w) none.0 in
     let away : bytes_eq unload s.here ≡ false = none.1.0 in
     let within : p ≤ there_are pieces_of s.book w Free = ltb-false _ _ none.1.1.1.1.0 in

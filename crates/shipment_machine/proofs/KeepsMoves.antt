@@ -1,4 +1,4 @@
--- Commands on one waybill keep a state lawful.
+-- Moves that keep a state lawful: a part of what is at a place, or pieces from outside.
 use Rattle.std.proofs.Common.{◌≡◌, ℕ, zero, suc, ◌+◌, ◌-◌, ◌≤◌, min, Bool, true, false, not, ◌==◌, nat_le, Option, Some, None, is_none, IsSome, IfOk, List, [], ◌∷◌, ◌++◌, refl, sym, subst, ◌∙◌, arith, append_assoc, true≢false}
 use Rattle.std.specs.Bool.{if◌then◌else◌}
 use Rattle.std.proofs.lemmas.Bool.{and_parts, leb-true, ltb-false}
@@ -20,10 +20,10 @@ use Rattle.shipment_machine.specs.Effect.{effect, carried_out, moved, surplus}
 use Rattle.shipment_machine.specs.Lawful.{is_outside, is_pair, IsLawful, IsNoted, NamesFlight}
 use Rattle.shipment_machine.proofs.Conserved.{came}
 use Rattle.shipment_machine.proofs.Keeps.{by_refusals}
-use Rattle.shipment_machine.proofs.SoundBook.{IsFitting, with_move, there_are, added, came_after}
+use Rattle.shipment_machine.proofs.SoundBook.{IsFitting, with_move, there_are, came_after, part_leaves}
+use Rattle.shipment_machine.proofs.Places.{added}
 use Rattle.shipment_machine.proofs.PlainMoves.{sound_of, lawful_after}
 use Rattle.shipment_machine.proofs.FlightMoves.{offloaded}
-use Rattle.shipment_machine.proofs.Shares.{part_leaves}
 use Rattle.imp_fields.proofs.ShareLemmas.{share_heavy}
 
 pub not_false : (b : Bool) → not b ≡ false → b ≡ true
@@ -79,23 +79,6 @@ inside_fits s w n from to flight at inside pair some within known noted_from not
 small : (s : Cargo) (w : ℕ) (from : Place) → IsLawful s → came pieces_of s.book w ≤ 9999
 small s w from law = (sound_of s law).pieces w
 
-pub keeps_deliver : (s : Cargo) (w p : ℕ) (name : List ℕ) (at : LocalMinute) (text : List ℕ) → there_are pieces_of s.book w Free ≤ 9999 → IsLawful s → IfOk (effect s (order.Desk (desk.Deliver w p name)) at) (λ done. IsLawful (carried_out text done s))
-keeps_deliver s w p name at text few law = by_refusals s (order.Desk (desk.Deliver w p name)) at _ (λ none.
-    may_move s w Free Delivered (part (free s.book w) p) None at (λ some.
-    lawful_after s _ (inside_fits s w p Free Delivered None at refl refl some (ltb-false _ _ none.1.1.1.0) (is_known (s.declared w) none.0) tt tt tt tt few law) refl refl law) law)
-
-pub keeps_missing : (s : Cargo) (w p : ℕ) (flight : Option FlightDate) (at : LocalMinute) (text : List ℕ) → there_are pieces_of s.book w Free ≤ 9999 → IsLawful s → IfOk (effect s (order.Desk (desk.Missing w p flight)) at) (λ done. IsLawful (carried_out text done s))
-keeps_missing s w p flight at text few law = by_refusals s (order.Desk (desk.Missing w p flight)) at _ (λ none.
-    may_move s w Free Missing (part (free s.book w) p) flight at (λ some.
-    lawful_after s _ (inside_fits s w p Free Missing flight at refl refl some (ltb-false _ _ none.1.0) (is_known (s.declared w) none.0) tt tt tt tt few law) refl refl law) law)
-
-pub keeps_offload : (s : Cargo) (w p : ℕ) (flight : FlightDate) (at : LocalMinute) (text : List ℕ) → there_are pieces_of s.book w (Built flight) ≤ 9999 → (1 ≤ there_are pieces_of s.book w (Built flight) → IsNoted s (Built flight)) → IsLawful s →
-    IfOk (effect s (order.Desk (desk.Offload w flight p)) at) (λ done. IsLawful (carried_out text done s))
-keeps_offload s w p flight at text few noted law = by_refusals s (order.Desk (desk.Offload w flight p)) at _ (λ none.
-    may_move s w (Built flight) Free (part (built s.book w flight) p) (Some flight) at (λ some.
-    let within : p ≤ there_are pieces_of s.book w (Built flight) = ltb-false _ _ none.1.1.0 in
-    offloaded s w p _ flight (Some flight) at (inside_fits s w p (Built flight) Free (Some flight) at refl refl some within (is_known (s.declared w) none.0) (noted (omega arith)) tt refl tt few law) law) law)
-
 -- From outside.
 
 pub outside_fits : (s : Cargo) (w n t : ℕ) (from to : Place) (flight : Option FlightDate) (at : LocalMinute) → is_outside from ≡ true → is_pair from to ≡ true → 1 ≤ n → n ≤ t → IsSome (s.declared w) → IsNoted s from → IsNoted s to → NamesFlight from flight → NamesFlight to flight →
@@ -133,7 +116,7 @@ came_with s measure w from to a flight at n pair most law =
     at_most c' c x k e f g = omega arith
 
 -- nothing came in with a move inside
-came_inside : (s : Cargo) (measure : Move → ℕ) (w : ℕ) (from to : Place) (a : Amount) (flight : Option FlightDate) (at : LocalMinute) → is_pair from to ≡ true → is_outside from ≡ false → IsLawful s →
+pub came_inside : (s : Cargo) (measure : Move → ℕ) (w : ℕ) (from to : Place) (a : Amount) (flight : Option FlightDate) (at : LocalMinute) → is_pair from to ≡ true → is_outside from ≡ false → IsLawful s →
     came measure (s.book ++ moved w from to a flight at) w ≤ came measure s.book w
 came_inside s measure w from to a flight at pair inside law =
     elim (a.pieces == 0) as (λ b. came measure (s.book ++ (if b then [] else record { awb = w; from = from; to = to; pieces = a.pieces; tenths = a.tenths; flight = flight; at = at } ∷ [])) w ≤ came measure s.book w) [
@@ -150,31 +133,5 @@ came_inside s measure w from to a flight at pair inside law =
     at_most : (c' c x : ℕ) → c' ≡ c + x → x ≡ 0 → c' ≤ c
     at_most c' c x e f = omega arith
 
--- Found.
-
-back_held : (s : Cargo) (w p : ℕ) → min p (there_are pieces_of s.book w Missing) ≤ there_are pieces_of s.book w Missing
-back_held s w p = omega arith
-
-surplus_heavy : (n t : ℕ) → (surplus n t).pieces ≤ (surplus n t).tenths
-surplus_heavy zero t = omega arith
-surplus_heavy (suc n) t = omega arith
-
 pub fits_parts : (a : Amount) → not (fits a) ≡ false → (a.pieces ≤ 9999) × (a.tenths ≤ 999999)
 fits_parts a e = let h = and_parts (nat_le a.pieces 9999) (nat_le a.tenths 999999) (not_false (fits a) e) in (leb-true _ _ h.0, leb-true _ _ h.1)
-
-pub keeps_found : (s : Cargo) (w p t : ℕ) (flight : Option FlightDate) (at : LocalMinute) (text : List ℕ) → there_are pieces_of s.book w Missing ≤ 9999 → IsLawful s → IfOk (effect s (order.Desk (desk.Found w p t flight)) at) (λ done. IsLawful (carried_out text done s))
-keeps_found s w p t flight at text few law = by_refusals s (order.Desk (desk.Found w p t flight)) at _ (λ none.
-    let known : IsSome (s.declared w) = is_known (s.declared w) none.0 in
-    let back : Amount = part (missing s.book w) (min p (missing s.book w).pieces) in
-    let more : Amount = surplus (p - (missing s.book w).pieces) t in
-    let room = fits_parts (plus (taken_and_found s.book w) more) none.1.0 in
-    let s1 : Cargo = with_moves s (moved w Missing Free back flight at) in
-    let law1 : IsLawful s1 = may_move s w Missing Free back flight at (λ some.
-    lawful_after s _ (inside_fits s w (min p (missing s.book w).pieces) Missing Free flight at refl refl some (back_held s w p) known tt tt tt tt few law) refl refl law) law in
-    let pieces1 : came pieces_of s1.book w ≤ came pieces_of s.book w = came_inside s pieces_of w Missing Free back flight at refl refl law in
-    let tenths1 : came tenths_of s1.book w ≤ came tenths_of s.book w = came_inside s tenths_of w Missing Free back flight at refl refl law in
-    let all : came pieces_of s.book w + more.pieces ≤ 9999 = room.0 in
-    let heavy : came tenths_of s.book w + more.tenths ≤ 999999 = room.1 in
-    let law2 : IsLawful (with_moves s1 (moved w Surplus Free more flight at)) = may_move s1 w Surplus Free more flight at (λ some.
-    lawful_after s1 _ (outside_fits s1 w more.pieces more.tenths Surplus Free flight at refl refl some (surplus_heavy (p - (missing s.book w).pieces) t) known tt tt tt tt (omega arith) (omega arith)) refl refl law1) law1 in
-    subst (λ (book : List Move). IsLawful (record s { book = book })) (append_assoc {A = Move} s.book (moved w Missing Free back flight at) (moved w Surplus Free more flight at)) law2)

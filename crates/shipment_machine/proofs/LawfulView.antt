@@ -13,13 +13,14 @@ use Rattle.shipment_machine.specs.declared.moves.Move.{Move}
 use Rattle.shipment_machine.specs.declared.moves.Expected.{Expected}
 use Rattle.shipment_machine.specs.declared.view.FlightLoad.{FlightLoad}
 use Rattle.shipment_machine.specs.Flights.{same_flight_date}
+use Rattle.shipment_machine.proofs.Places.{no_added}
 use Rattle.shipment_machine.proofs.FlightKeys.{same-is}
 use Rattle.shipment_machine.specs.Amount.{IsHeld}
 use Rattle.shipment_machine.specs.Book.{same_place, pieces_of, moved_in, moved_out, brings, built, waybills_of, waybills_on}
 use Rattle.shipment_machine.specs.Cargo.{Cargo}
 use Rattle.shipment_machine.specs.Views.{declaration, loads_of}
 use Rattle.shipment_machine.specs.Effect.{expected_amount}
-use Rattle.shipment_machine.specs.OnBoard.{IsOnBoard}
+use Rattle.shipment_machine.specs.Agreement.{IsOnBoard}
 use Rattle.shipment_machine.specs.Lawful.{IsLawfulMove, IsLawfulAmount, IsNoted, IsLawful}
 use Rattle.shipment_machine.proofs.Conserved.{held_built}
 
@@ -56,22 +57,12 @@ not_noted s flight law none (Built k) h = elim (same_flight_date flight k) as (�
   | true ↦ λ e. absurd (true≢false (sym h ∙ ap is_some (ap s.flights (sym (same-is flight k e))) ∙ ap is_some none))
   | false ↦ λ _. refl
 ] refl
-not_noted s flight law none Hand h = refl
-not_noted s flight law none Surplus h = refl
-not_noted s flight law none Free h = refl
-not_noted s flight law none Departed h = refl
-not_noted s flight law none Delivered h = refl
-not_noted s flight law none Missing h = refl
-
-no_amount : (b c : Bool) (n : ℕ) → c ≡ false → (if b && c then n else 0) ≡ 0
-no_amount true true n e = absurd (true≢false e)
-no_amount true false n e = refl
-no_amount false c n e = refl
+not_noted s flight law none p h = refl
 
 none_built : (s : Cargo) (flight : FlightDate) (w : ℕ) → IsLawful s → s.flights flight ≡ None → (book : List Move) → AllByRecursion (IsLawfulMove s) book → moved_in pieces_of book w (same_place (Built flight)) ≡ 0
 none_built s flight w law none [] h = refl
 none_built s flight w law none (m ∷ book) h =
-    let here : brings pieces_of w (same_place (Built flight)) m ≡ 0 = no_amount (m.awb == w) (same_place (Built flight) m.to) m.pieces (not_noted s flight law none m.to h.0.noted_to) in
+    let here : brings pieces_of w (same_place (Built flight)) m ≡ 0 = no_added (m.awb == w) (same_place (Built flight) m.to) m.pieces (not_noted s flight law none m.to h.0.noted_to) in
     let rest : moved_in pieces_of book w (same_place (Built flight)) ≡ 0 = none_built s flight w law none book h.1 in
     sum_by-cons (brings pieces_of w (same_place (Built flight))) m book ∙ both _ _ here rest
   where

@@ -6,8 +6,8 @@ pub mod BalanceLaws
 pub mod Keeps
 pub mod Rising
 pub mod OnFlight
-pub mod Receives
 pub mod FlightKeys
+pub mod Places
 pub mod ByFlight
 pub mod Conserved
 pub mod Shown
@@ -21,11 +21,9 @@ pub mod FlightMoves
 pub mod Departures
 pub mod Departed
 pub mod WrittenRows
-pub mod Shares
 pub mod KeepsMoves
 pub mod KeepsFlights
 pub mod KeepsRows
 pub mod KeepsAll
-pub mod StaysLawful
 pub mod FromView
 pub mod Opening

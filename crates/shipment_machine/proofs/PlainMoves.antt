@@ -14,9 +14,9 @@ use Rattle.shipment_machine.specs.Amount.{fits}
 use Rattle.shipment_machine.specs.Book.{same_place, pieces_of, moved_in, moved_out, brings, takes, taken_and_found, built}
 use Rattle.shipment_machine.specs.Cargo.{Cargo}
 use Rattle.shipment_machine.specs.Lawful.{IsLawful, departs_with, builds_on, StaysDeparted}
-use Rattle.shipment_machine.proofs.Conserved.{is_built}
+use Rattle.shipment_machine.proofs.Places.{is_built, not_built, not_built_on, added, no_added}
 use Rattle.shipment_machine.proofs.OnFlight.{same_waybills_on}
-use Rattle.shipment_machine.proofs.SoundBook.{IsFitting, IsSound, with_move, sound_after, added}
+use Rattle.shipment_machine.proofs.SoundBook.{IsFitting, IsSound, with_move, sound_after}
 
 le_test : (a b : ℕ) → a ≤ b → nat_le a b ≡ true
 le_test a b h = grind (arith, nat_tests)
@@ -33,29 +33,6 @@ pub within_of : (s : Cargo) (w : ℕ) → IsSound s → IsTrue (fits (taken_and_
 within_of s w h = and_from _ _ (le_test _ _ (h.pieces w)) (le_test _ _ (h.tenths w))
 
 -- What is built for a flight after a move.
-
-no_added : (b c : Bool) (n : ℕ) → c ≡ false → added b c n ≡ 0
-no_added true true n e = absurd (true≢false e)
-no_added true false n e = refl
-no_added false c n e = refl
-
-pub not_built : (p : Place) (k : FlightDate) → is_built p ≡ false → same_place (Built k) p ≡ false
-not_built (Built f) k e = absurd (true≢false e)
-not_built Hand k e = refl
-not_built Surplus k e = refl
-not_built Free k e = refl
-not_built Departed k e = refl
-not_built Delivered k e = refl
-not_built Missing k e = refl
-
-pub not_built_on : (p : Place) (k : FlightDate) → is_built p ≡ false → same_place p (Built k) ≡ false
-not_built_on (Built f) k e = absurd (true≢false e)
-not_built_on Hand k e = refl
-not_built_on Surplus k e = refl
-not_built_on Free k e = refl
-not_built_on Departed k e = refl
-not_built_on Delivered k e = refl
-not_built_on Missing k e = refl
 
 -- how what is built changes
 pub built_after : (book : List Move) (m : Move) (q : ℕ) (k : FlightDate) → (built (book ++ m ∷ []) q k).pieces

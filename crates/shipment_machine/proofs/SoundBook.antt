@@ -1,9 +1,12 @@
 -- One more move leaves a book sound: no place overdrawn, what came in within bounds, each move lawful.
-use Rattle.std.proofs.Common.{◌≡◌, ℕ, ◌+◌, ◌-◌, ◌≤◌, Bool, true, false, ◌&&◌, ◌==◌, IsSome, List, [], ◌∷◌, ◌++◌, refl, sym, ap, subst, ◌∙◌, arith, true≢false}
+use Rattle.std.proofs.Common.{◌≡◌, ℕ, ◌+◌, ◌-◌, ◌*◌, ◌/◌, ◌≤◌, Bool, true, false, ◌&&◌, ◌==◌, IsSome, List, [], ◌∷◌, ◌++◌, refl, sym, ap, subst, ◌∙◌, arith, true≢false}
 use Rattle.std.specs.Bool.{if◌then◌else◌}
 use Rattle.std.specs.List.{AllByRecursion}
 use Rattle.std.proofs.lemmas.List.Sums.{sum_by_push}
 use Rattle.std.proofs.lemmas.Bool.Decides.{nat_tests}
+use Rattle.std.proofs.lemmas.Nat.{le-div}
+use Rattle.imp_fields.specs.Amount.{share_of}
+use Rattle.imp_fields.proofs.ShareLemmas.{share_leaves, share_heavy}
 use Rattle.shipment_machine.specs.declared.flight.FlightDate.{FlightDate}
 use Rattle.shipment_machine.specs.declared.moves.Place.{Place}
 use Rattle.shipment_machine.specs.declared.moves.Place.TheVariants.{Hand, Surplus, Free, Built, Departed, Delivered, Missing}
@@ -11,8 +14,8 @@ use Rattle.shipment_machine.specs.declared.moves.Move.{Move}
 use Rattle.shipment_machine.specs.Book.{same_place, pieces_of, tenths_of, moved_in, moved_out, brings, takes}
 use Rattle.shipment_machine.specs.Cargo.{Cargo}
 use Rattle.shipment_machine.specs.Lawful.{is_outside, is_pair, IsStocked, IsNoted, NamesFlight, IsLawfulMove}
-use Rattle.shipment_machine.proofs.FlightKeys.{same-alike}
-use Rattle.shipment_machine.proofs.Conserved.{no_way_out, none_in, not_hand, not_surplus, came}
+use Rattle.shipment_machine.proofs.Conserved.{none_in, came}
+use Rattle.shipment_machine.proofs.Places.{no_way_out, not_hand, not_surplus, outside_split, outside_too, same_test, noted_under, added, no_added}
 
 -- what is left of an amount after a part of it is taken has at least a tenth a piece
 pub record Leaves (pieces tenths n t : ℕ) : Type 0 where
@@ -20,6 +23,23 @@ pub record Leaves (pieces tenths n t : ℕ) : Type 0 where
   pub light : t ≤ tenths
   pub rest : pieces - n ≤ tenths - t
   pub none : pieces - n ≡ 0 → tenths - t ≡ 0
+
+-- a part that is taken leaves its share of the weight
+pub part_leaves : (pieces tenths part : ℕ) → 1 ≤ part → pieces ≤ tenths → part ≤ pieces → Leaves pieces tenths part (share_of pieces tenths part)
+part_leaves pieces tenths part some heavy within =
+    let l = share_leaves pieces tenths part heavy within in
+    let light : share_of pieces tenths part ≤ tenths = l.0 in
+    let rest : pieces - part ≤ tenths - share_of pieces tenths part = l.1 in
+    record {
+      few = within;
+      light = light;
+      rest = rest;
+      none = λ z.
+          let same : part ≡ pieces = omega arith in
+          let all : pieces ≤ tenths * pieces / pieces = share_heavy pieces tenths pieces (omega arith) heavy in
+          let whole : tenths ≤ share_of pieces tenths part = subst (λ (n : ℕ). tenths ≤ tenths * n / pieces) (sym same) (le-div tenths (tenths * pieces) pieces (omega arith) (omega arith)) in
+          omega arith;
+    }
 
 abbrev pub there_are : (Move → ℕ) → List Move → ℕ → Place → ℕ
 there_are measure book w p = moved_in measure book w (same_place p) - moved_out measure book w (same_place p)
@@ -83,54 +103,10 @@ stock false false n t i o I O some heavy leaves h1 h2 h3 h4 = record {
   none = λ z. let e : i - o ≡ 0 = omega arith in let f : I - O ≡ 0 = h4 e in omega arith;
 }
 
--- one place is another, where a test says so
-same_test : (p f : Place) → same_place p f ≡ true → (x : Place) → same_place f x ≡ same_place p x
-same_test Hand Hand e x = refl
-same_test Surplus Surplus e x = refl
-same_test Free Free e x = refl
-same_test Departed Departed e x = refl
-same_test Delivered Delivered e x = refl
-same_test Missing Missing e x = refl
-same_test (Built j) (Built k) e (Built l) = sym (same-alike j k l e)
-same_test (Built j) (Built k) e Hand = refl
-same_test (Built j) (Built k) e Surplus = refl
-same_test (Built j) (Built k) e Free = refl
-same_test (Built j) (Built k) e Departed = refl
-same_test (Built j) (Built k) e Delivered = refl
-same_test (Built j) (Built k) e Missing = refl
-same_test p f e x = absurd (true≢false (sym e))
-
 same_there : (measure : Move → ℕ) (book : List Move) (w : ℕ) (p f : Place) → same_place p f ≡ true → there_are measure book w f ≡ there_are measure book w p
 same_there measure book w p f e =
     let tests : same_place f ≡ same_place p = λ i x. same_test p f e x i in
     ap (λ (there : Place → Bool). moved_in measure book w there - moved_out measure book w there) tests
-
-outside_too : (p f : Place) → same_place p f ≡ true → is_outside p ≡ false → is_outside f ≡ false
-outside_too p Hand e inside = absurd (true≢false (sym e ∙ no p inside))
-  where
-    no : (p : Place) → is_outside p ≡ false → same_place p Hand ≡ false
-    no Hand e = absurd (true≢false e)
-    no Surplus e = refl
-    no Free e = refl
-    no (Built f) e = refl
-    no Departed e = refl
-    no Delivered e = refl
-    no Missing e = refl
-outside_too p Surplus e inside = absurd (true≢false (sym e ∙ no p inside))
-  where
-    no : (p : Place) → is_outside p ≡ false → same_place p Surplus ≡ false
-    no Hand e = absurd (true≢false e)
-    no Surplus e = absurd (true≢false e)
-    no Free e = refl
-    no (Built f) e = refl
-    no Departed e = refl
-    no Delivered e = refl
-    no Missing e = refl
-outside_too p Free e inside = refl
-outside_too p (Built k) e inside = refl
-outside_too p Departed e inside = refl
-outside_too p Delivered e inside = refl
-outside_too p Missing e inside = refl
 
 both_true : (a b : Bool) → (a && b) ≡ true → (a ≡ true) × (b ≡ true)
 both_true true true e = (refl, refl)
@@ -174,24 +150,6 @@ stocked_after s m fit q p inside old =
 
 -- What came in.
 
-abbrev pub added : Bool → Bool → ℕ → ℕ
-added b c n = if b && c then n else 0
-
-no_added : (b c : Bool) (n : ℕ) → c ≡ false → added b c n ≡ 0
-no_added true true n e = absurd (true≢false e)
-no_added true false n e = refl
-no_added false c n e = refl
-
-outside_split : (b : Bool) (p : Place) (n : ℕ) → added b (same_place Hand p) n + added b (same_place Surplus p) n ≡ added b (is_outside p) n
-outside_split true Hand n = omega arith
-outside_split true Surplus n = omega arith
-outside_split true Free n = refl
-outside_split true (Built k) n = refl
-outside_split true Departed n = refl
-outside_split true Delivered n = refl
-outside_split true Missing n = refl
-outside_split false p n = refl
-
 pub came_after : (s : Cargo) (measure : Move → ℕ) (m : Move) (q : ℕ) → is_pair m.from m.to ≡ true → AllByRecursion (IsLawfulMove s) s.book → came measure (s.book ++ m ∷ []) q ≡ came measure s.book q + added (m.awb == q) (is_outside m.from) (measure m)
 came_after s measure m q pair moves =
     let inside = no_way_out m.from m.to pair in
@@ -217,15 +175,6 @@ all_push P Q f [] y h q = (q, tt)
 all_push P Q f (x ∷ xs) y h q = (f x h.0, all_push P Q f xs y h.1 q)
 
 -- a lawful move stays one where no more is asked of it
-pub noted_under : (s s' : Cargo) → ((k : FlightDate) → IsSome (s.flights k) → IsSome (s'.flights k)) → (p : Place) → IsNoted s p → IsNoted s' p
-noted_under s s' more Hand h = tt
-noted_under s s' more Surplus h = tt
-noted_under s s' more Free h = tt
-noted_under s s' more (Built f) h = more f h
-noted_under s s' more Departed h = tt
-noted_under s s' more Delivered h = tt
-noted_under s s' more Missing h = tt
-
 pub move_under : (s s' : Cargo) → ((w : ℕ) → IsSome (s.declared w) → IsSome (s'.declared w)) → ((k : FlightDate) → IsSome (s.flights k) → IsSome (s'.flights k)) → (m : Move) → IsLawfulMove s m → IsLawfulMove s' m
 move_under s s' known noted m l = record {
   pair = l.pair;

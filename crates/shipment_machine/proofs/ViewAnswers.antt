@@ -4,12 +4,13 @@ use Rattle.std.specs.Prelude.{is_some, IfOk, IfErr}
 use Rattle.std.specs.Bool.{if◌then◌else◌}
 use Rattle.std.proofs.lemmas.List.{length-map}
 use Rattle.imp_fields.specs.Date.{LocalMinute, resolved}
+use Rattle.shipment_machine.specs.declared.view.RowsKey.{RowsKey}
+use Rattle.shipment_machine.specs.declared.view.RowsKey.TheVariants as key
 use Rattle.shipment_machine.specs.declared.view.Rows.{Rows}
 use Rattle.shipment_machine.specs.declared.view.Rows.TheVariants as rows
 use Rattle.shipment_machine.specs.declared.command.InboundPart.{InboundPart}
 use Rattle.shipment_machine.specs.declared.command.ShipmentCommand.{ShipmentCommand}
 use Rattle.shipment_machine.specs.declared.command.ShipmentCommand.TheVariants as order
-use Rattle.shipment_machine.specs.declared.command.DeskCommand.TheVariants as desk
 use Rattle.shipment_machine.specs.declared.plans.Change.{Change}
 use Rattle.shipment_machine.specs.declared.plans.Plan.{Plan}
 use Rattle.shipment_machine.specs.declared.plans.PlanFault.{PlanFault}
@@ -19,13 +20,11 @@ use Rattle.shipment_machine.specs.declared.plans.Detail.TheVariants as detail
 use Rattle.imp_fields.specs.declared.fault.Why.TheVariants as why
 use Rattle.shipment_machine.specs.Book.{balances_of}
 use Rattle.shipment_machine.specs.Cargo.{Cargo}
-use Rattle.shipment_machine.specs.Views.{line_view_of}
-use Rattle.shipment_machine.specs.Effect.{Outcome, effect, decided, unless_refused, first_refusal, announcing, announced, lines_for, is_day, inbound_flight, inbound_part}
+use Rattle.shipment_machine.specs.Views.{line_view_of, rows_of}
+use Rattle.shipment_machine.specs.Effect.{Outcome, reads, effect, decided, unless_refused, first_refusal, announcing, announced, lines_for, is_day, inbound_flight, inbound_part}
 use Rattle.shipment_machine.specs.Announced.{no_earlier, announced_changes, part_key}
-use Rattle.shipment_machine.specs.FitsCommand.{AreSound, FitsCommand, rows_answer}
-use Rattle.shipment_machine.specs.Meant.{meant_by}
+use Rattle.shipment_machine.specs.Agreement.{AreSound, AreRowsOf, FitsCommand, rows_answer, meant_by, rows_for, outcome_of, RefusesAs, IsAnswer}
 use Rattle.shipment_machine.specs.Lawful.{IsLawful}
-use Rattle.shipment_machine.specs.Agreement.{rows_for, outcome_of, RefusesAs, IsAnswer}
 use Rattle.shipment_machine.proofs.Conserved.{held_free, held_built, held_missing, missing_came}
 use Rattle.shipment_machine.proofs.LawfulView.{held_expected, on_board, noted_outbound}
 use Rattle.shipment_machine.proofs.AnnouncedIs.{announced_is}
@@ -41,18 +40,18 @@ fits_part : (s : Cargo) (f : InboundPart) (at : LocalMinute) (meant : Option ℕ
 fits_part s f at meant true e = λ _. length-map (lines_for s.here f.lines) (line_view_of s (inbound_flight f at))
 fits_part s f at meant false e = λ h. absurd (true≢false (sym h ∙ e))
 
+-- the rows of a lawful state are sound
+are_rows : (s : Cargo) (k : RowsKey) → IsLawful s → AreRowsOf k (rows_of s k)
+are_rows s (key.Declaration w) law = tt
+are_rows s (key.Waybill w) law = sound s w law
+are_rows s (key.Manifest w flight) law = sound s w law
+are_rows s (key.Offload w flight) law = held_built s w flight law
+are_rows s (key.Departure flight) law = (on_board s flight law, noted_outbound s flight law)
+are_rows s (key.CheckIn w flight) law = held_expected s flight w law
+are_rows s key.Messages law = tt
+
 pub fits : (s : Cargo) (command : ShipmentCommand) (at : LocalMinute) → IsLawful s → FitsCommand s.here (rows_for s command at) command (meant_by command at)
-fits s (order.Desk (desk.Book w origin destination p t goods)) at law = tt
-fits s (order.Desk (desk.Receive w p t name)) at law = sound s w law
-fits s (order.Desk (desk.Manifest w flight unload p)) at law = sound s w law
-fits s (order.Desk (desk.Offload w flight p)) at law = held_built s w flight law
-fits s (order.Desk (desk.Depart flight)) at law = (on_board s flight law, noted_outbound s flight law)
-fits s (order.Desk (desk.CheckIn w flight counted)) at law = held_expected s flight w law
-fits s (order.Desk (desk.Notify w name)) at law = sound s w law
-fits s (order.Desk (desk.Deliver w p name)) at law = sound s w law
-fits s (order.Desk (desk.Missing w p flight)) at law = sound s w law
-fits s (order.Desk (desk.Found w p t flight)) at law = sound s w law
-fits s (order.Desk (desk.Confirm upto)) at law = tt
+fits s (order.Desk command) at law = are_rows s (reads command) law
 fits s (order.Fwb c) at law = tt
 fits s (order.Ffm f) at law = fits_part s f at (resolved f.date at.day) (is_day (resolved f.date at.day)) refl
 fits s (order.Fsu f) at law = tt
@@ -76,17 +75,7 @@ part_is s f at false e =
     ∙ sym (no_day (is_day (resolved f.date at.day)) dateless (if is_some (s.parts (inbound_part f at)) then Some (record { number = 213; detail = detail.Part (inbound_part f at) }) else None) (announcing s f at).outcome e)
 
 pub answers : (s : Cargo) (command : ShipmentCommand) (at : LocalMinute) → rows_answer s.here (rows_for s command at) command at (meant_by command at) ≡ effect s command at
-answers s (order.Desk (desk.Book w origin destination p t goods)) at = refl
-answers s (order.Desk (desk.Receive w p t name)) at = refl
-answers s (order.Desk (desk.Manifest w flight unload p)) at = refl
-answers s (order.Desk (desk.Offload w flight p)) at = refl
-answers s (order.Desk (desk.Depart flight)) at = refl
-answers s (order.Desk (desk.CheckIn w flight counted)) at = refl
-answers s (order.Desk (desk.Notify w name)) at = refl
-answers s (order.Desk (desk.Deliver w p name)) at = refl
-answers s (order.Desk (desk.Missing w p flight)) at = refl
-answers s (order.Desk (desk.Found w p t flight)) at = refl
-answers s (order.Desk (desk.Confirm upto)) at = refl
+answers s (order.Desk command) at = refl
 answers s (order.Fwb c) at = refl
 answers s (order.Ffm f) at = part_is s f at (is_day (resolved f.date at.day)) refl
 answers s (order.Fsu f) at = refl

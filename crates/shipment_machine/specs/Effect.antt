@@ -31,6 +31,7 @@ use Rattle.shipment_machine.specs.declared.command.InboundLine.{InboundLine}
 use Rattle.shipment_machine.specs.declared.command.InboundPart.{InboundPart}
 use Rattle.shipment_machine.specs.declared.command.ShipmentCommand.{ShipmentCommand}
 use Rattle.shipment_machine.specs.declared.command.ShipmentCommand.TheVariants as order
+use Rattle.shipment_machine.specs.declared.command.DeskCommand.{DeskCommand}
 use Rattle.shipment_machine.specs.declared.command.DeskCommand.TheVariants as desk
 use Rattle.shipment_machine.specs.declared.plans.Change.{Change}
 use Rattle.shipment_machine.specs.declared.plans.Change.TheVariants.{Declare, UseUp, NoteFlight, Expect, NotePart, Trail, Confirm}
@@ -41,9 +42,12 @@ use Rattle.shipment_machine.specs.declared.view.DeclarationView.{DeclarationView
 use Rattle.shipment_machine.specs.declared.view.WaybillView.{WaybillView}
 use Rattle.shipment_machine.specs.declared.view.FlightView.{FlightView}
 use Rattle.shipment_machine.specs.declared.view.FlightLoad.{FlightLoad}
-use Rattle.shipment_machine.specs.Book.{built}
+use Rattle.shipment_machine.specs.declared.view.RowsKey.{RowsKey}
+use Rattle.shipment_machine.specs.declared.view.RowsKey.TheVariants as key
+use Rattle.shipment_machine.specs.declared.view.Rows.{Rows}
+use Rattle.shipment_machine.specs.declared.view.Rows.TheVariants as rows
 use Rattle.shipment_machine.specs.Cargo.{Cargo, written_all}
-use Rattle.shipment_machine.specs.Views.{undeclared, declaration_view, waybill_view, flight_view, loads_of}
+use Rattle.shipment_machine.specs.Views.{undeclared, declaration_view, rows_of}
 
 -- what a command does that isn't refused
 pub record Outcome : Type 0 where
@@ -226,6 +230,10 @@ manifest_line a = record { consigned = consigned a.awb a.declared; pieces = a.lo
 -- the outcome of some moves, with their notices and a count
 abbrev pub does : List Move → List Notice → List Change → ℕ → Result Outcome Refusal
 does moves notices changes count = Ok (record { moves = moves; notices = notices; changes = changes; count = count })
+
+-- the rule where rows aren't those that the command reads: nothing is done
+abbrev pub no_rule : Rule
+no_rule = record { refusals = []; outcome = does [] [] [] 0 }
 
 -- what a rule says: the first refusal whose test holds, or the outcome
 abbrev pub decided : Rule → Result Outcome Refusal
@@ -432,20 +440,39 @@ noting_status declared w lines = record {
   outcome = does [] [] (map (λ line. Trail w line) lines) (length lines);
 }
 
+-- The commands of the desk: which rows each reads, and its rule for what they show.
+
+abbrev pub reads : DeskCommand → RowsKey
+reads (desk.Book w origin destination p t goods) = key.Declaration w
+reads (desk.Receive w p t name) = key.Waybill w
+reads (desk.Manifest w flight unload p) = key.Manifest w flight
+reads (desk.Offload w flight p) = key.Offload w flight
+reads (desk.Depart flight) = key.Departure flight
+reads (desk.CheckIn w flight counted) = key.CheckIn w flight
+reads (desk.Notify w name) = key.Waybill w
+reads (desk.Deliver w p name) = key.Waybill w
+reads (desk.Missing w p flight) = key.Waybill w
+reads (desk.Found w p t flight) = key.Waybill w
+reads (desk.Confirm upto) = key.Messages
+
+abbrev pub desk_rule : List ℕ → Rows → DeskCommand → LocalMinute → Rule
+desk_rule here (rows.Declaration view) (desk.Book w origin destination p t goods) at = declaring view w (booked origin destination p t goods)
+desk_rule here (rows.Waybill view) (desk.Receive w p t name) at = receiving here view w p t name at
+desk_rule here (rows.Manifest view on) (desk.Manifest w flight unload p) at = manifesting here view on w flight unload p at
+desk_rule here (rows.Offload declared outbound load) (desk.Offload w flight p) at = offloading here declared outbound load w flight p at
+desk_rule here (rows.Departure outbound loads) (desk.Depart flight) at = departing here outbound loads flight at
+desk_rule here (rows.CheckIn view expected) (desk.CheckIn w flight counted) at = checking_in here view expected w flight counted at
+desk_rule here (rows.Waybill view) (desk.Notify w name) at = notifying here view w name at
+desk_rule here (rows.Waybill view) (desk.Deliver w p name) at = delivering here view w p name at
+desk_rule here (rows.Waybill view) (desk.Missing w p flight) at = recording_missing here view w p flight at
+desk_rule here (rows.Waybill view) (desk.Found w p t flight) at = recording_found here view w p t flight at
+desk_rule here (rows.Messages confirmed last) (desk.Confirm upto) at = confirming confirmed last upto
+desk_rule here _ _ at = no_rule
+
 -- the rule of each command in a state
 abbrev pub rule : Cargo → ShipmentCommand → LocalMinute → Rule
-rule s (order.Desk (desk.Book w origin destination p t goods)) at = declaring (declaration_view s w) w (booked origin destination p t goods)
+rule s (order.Desk command) at = desk_rule s.here (rows_of s (reads command)) command at
 rule s (order.Fwb c) at = declaring (declaration_view s c.awb) c.awb (declared_by c)
-rule s (order.Desk (desk.Receive w p t name)) at = receiving s.here (waybill_view s w) w p t name at
-rule s (order.Desk (desk.Manifest w flight unload p)) at = manifesting s.here (waybill_view s w) (flight_view s w flight) w flight unload p at
-rule s (order.Desk (desk.Offload w flight p)) at = offloading s.here (s.declared w) (s.flights flight) (built s.book w flight) w flight p at
-rule s (order.Desk (desk.Depart flight)) at = departing s.here (s.flights flight) (loads_of s flight) flight at
-rule s (order.Desk (desk.CheckIn w flight counted)) at = checking_in s.here (waybill_view s w) (s.expected flight w) w flight counted at
-rule s (order.Desk (desk.Notify w name)) at = notifying s.here (waybill_view s w) w name at
-rule s (order.Desk (desk.Deliver w p name)) at = delivering s.here (waybill_view s w) w p name at
-rule s (order.Desk (desk.Missing w p flight)) at = recording_missing s.here (waybill_view s w) w p flight at
-rule s (order.Desk (desk.Found w p t flight)) at = recording_found s.here (waybill_view s w) w p t flight at
-rule s (order.Desk (desk.Confirm upto)) at = confirming s.confirmed (length s.outbox) upto
 rule s (order.Ffm f) at = announcing s f at
 rule s (order.Fsu f) at = noting_status (s.declared f.awb) f.awb f.lines
 

@@ -3,14 +3,11 @@ pub mod Numbers
 pub mod Flights
 pub mod Book
 pub mod Cargo
-pub mod OnBoard
 pub mod Views
 pub mod Splits
 pub mod Effect
 pub mod Claims
 pub mod Lawful
 pub mod Announced
-pub mod FitsCommand
-pub mod Meant
 pub mod Agreement
 pub mod Laws

@@ -8,6 +8,10 @@ use Rattle.shipment_machine.specs.declared.view.WaybillView.{WaybillView}
 use Rattle.shipment_machine.specs.declared.view.FlightView.{FlightView}
 use Rattle.shipment_machine.specs.declared.view.FlightLoad.{FlightLoad}
 use Rattle.shipment_machine.specs.declared.view.LineView.{LineView}
+use Rattle.shipment_machine.specs.declared.view.RowsKey.{RowsKey}
+use Rattle.shipment_machine.specs.declared.view.RowsKey.TheVariants as key
+use Rattle.shipment_machine.specs.declared.view.Rows.{Rows}
+use Rattle.shipment_machine.specs.declared.view.Rows.TheVariants as rows
 use Rattle.shipment_machine.specs.declared.command.CargoLine.{CargoLine}
 use Rattle.shipment_machine.specs.Book.{has_moves as is_moved, balances_of, built, waybills_on}
 use Rattle.shipment_machine.specs.Cargo.{Cargo}
@@ -42,3 +46,13 @@ loads_of s flight = map (λ w. record { awb = w; declared = declaration s w; loa
 -- what it has of a manifest's line
 abbrev pub line_view_of : Cargo → FlightDate → CargoLine → LineView
 line_view_of s flight c = record { declared = s.declared c.awb; holder = s.holders c.awb; expected = s.expected flight c.awb }
+
+-- these rows, as the state has them
+abbrev pub rows_of : Cargo → RowsKey → Rows
+rows_of s (key.Declaration w) = rows.Declaration (declaration_view s w)
+rows_of s (key.Waybill w) = rows.Waybill (waybill_view s w)
+rows_of s (key.Manifest w flight) = rows.Manifest (waybill_view s w) (flight_view s w flight)
+rows_of s (key.Offload w flight) = rows.Offload (s.declared w) (s.flights flight) (built s.book w flight)
+rows_of s (key.Departure flight) = rows.Departure (s.flights flight) (loads_of s flight)
+rows_of s (key.CheckIn w flight) = rows.CheckIn (waybill_view s w) (s.expected flight w)
+rows_of s key.Messages = rows.Messages s.confirmed (length s.outbox)

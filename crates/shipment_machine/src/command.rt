@@ -1,8 +1,10 @@
 ghost use Rattle.std.specs.Prelude.{◌≡◌, ℕ, ◌≤◌, ◌↔◌, length, IsSome, IfSome};
 ghost use Rattle.shipment_machine.specs.Amount.{IsCount};
+ghost use Rattle.shipment_machine.specs.Effect.{reads};
 
 use crate::flight::FlightDate;
 use crate::trail::TrailLines;
+use crate::view::RowsKey;
 use awb_number::Awb;
 use imp_fields::{Airport, DayMonth, Flight, Goods, Name, PartNumber, Pieces, Tenths};
 use std::marker::Model;
@@ -14,6 +16,9 @@ pub struct PieceCount {
 }
 
 impl Model for PieceCount {
+    ghost use Rattle.std.specs.Prelude.{ℕ};
+    ghost use Rattle.shipment_machine.specs.Amount.{IsCount};
+
     ghost Value = { ℕ };
 
     ghost view = { λ c. c.number };
@@ -191,6 +196,27 @@ pub enum DeskCommand {
     Confirm {
         upto: u32,
     },
+}
+
+impl DeskCommand {
+    /// Which rows the command reads.
+    pub fn reads(&self) -> RowsKey
+        ensures { result ≡ reads self.now }
+    {
+        match self {
+            DeskCommand::Book { awb, .. } => RowsKey::Declaration(*awb),
+            DeskCommand::Receive { awb, .. } => RowsKey::Waybill(*awb),
+            DeskCommand::Manifest { awb, flight, .. } => RowsKey::Manifest(*awb, *flight),
+            DeskCommand::Offload { awb, flight, .. } => RowsKey::Offload(*awb, *flight),
+            DeskCommand::Depart { flight } => RowsKey::Departure(*flight),
+            DeskCommand::CheckIn { awb, flight, .. } => RowsKey::CheckIn(*awb, *flight),
+            DeskCommand::Notify { awb, .. } => RowsKey::Waybill(*awb),
+            DeskCommand::Deliver { awb, .. } => RowsKey::Waybill(*awb),
+            DeskCommand::Missing { awb, .. } => RowsKey::Waybill(*awb),
+            DeskCommand::Found { awb, .. } => RowsKey::Waybill(*awb),
+            DeskCommand::Confirm { .. } => RowsKey::Messages,
+        }
+    }
 }
 
 /// A command of the desk that someone else keeps.

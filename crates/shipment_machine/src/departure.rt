@@ -2,8 +2,7 @@
 ghost use Rattle.std.specs.Prelude.{◌≡◌, ◌==◌, false, ◌+◌, ◌*◌, ◌≤◌, ◌<◌, All, IsSome, IfOk, map, length};
 ghost use Rattle.std.specs.List.{flat_map, sum_by};
 ghost use Rattle.shipment_machine.specs.Effect.{decided, departing, depart_moves, manifest_line, told};
-ghost use Rattle.shipment_machine.specs.Agreement.{IsAnswer};
-ghost use Rattle.shipment_machine.specs.OnBoard.{IsOnBoard};
+ghost use Rattle.shipment_machine.specs.Agreement.{IsAnswer, IsOnBoard};
 ghost use Rattle.shipment_machine.specs.declared.notice.Event.TheVariants as event;
 
 use crate::drafting::{

@@ -2,8 +2,7 @@
 ghost use Rattle.std.specs.Prelude.{◌≡◌, ◌+◌, ◌≤◌, ◌++◌, OnOk, min};
 ghost use Rattle.shipment_machine.specs.Amount.{IsHeld, part};
 ghost use Rattle.shipment_machine.specs.Effect.{decided, surplus, told_differs, recording_missing, recording_found};
-ghost use Rattle.shipment_machine.specs.Agreement.{IsAnswer};
-ghost use Rattle.shipment_machine.specs.FitsCommand.{AreSound};
+ghost use Rattle.shipment_machine.specs.Agreement.{IsAnswer, AreSound};
 
 use crate::amount::{Amount, part_of};
 use crate::drafting::{

@@ -9,7 +9,6 @@ mod claim;
 mod command;
 mod departure;
 mod drafting;
-mod fitting;
 mod flight;
 mod handover;
 mod inbound;
@@ -37,5 +36,6 @@ pub use planning::plan;
 pub use plans::{Change, Detail, Plan, PlanFault, Refusal};
 pub use trail::{TrailLine, TrailLines};
 pub use view::{
-    DeclarationView, FlightLoad, FlightView, LineView, LineViews, Loads, Rows, View, WaybillView,
+    DeclarationView, FlightLoad, FlightView, LineView, LineViews, Loads, Rows, RowsKey, View,
+    WaybillView,
 };

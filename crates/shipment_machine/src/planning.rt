@@ -1,28 +1,148 @@
-//! What each command does.
-ghost use Rattle.std.specs.Prelude.{◌≡◌, Ok, IfOk, IfErr};
+//! What each command does, where its view can be a lawful state's.
+ghost use Rattle.std.specs.Prelude.{◌≡◌, ◌↔◌, Ok, IfOk, IfErr, IsTrue, All, length};
+ghost use Rattle.std.specs.List.{filter};
+ghost use Rattle.std.specs.Str.{bytes_eq};
+ghost use Rattle.shipment_machine.specs.Amount.{IsHeld};
 ghost use Rattle.shipment_machine.specs.declared.command.ShipmentCommand.TheVariants as order;
-ghost use Rattle.shipment_machine.specs.FitsCommand.{FitsCommand, rows_answer};
 ghost use Rattle.shipment_machine.specs.Cargo.{Cargo};
-ghost use Rattle.shipment_machine.specs.Effect.{effect};
+ghost use Rattle.shipment_machine.specs.Effect.{effect, expected_amount, lines_for, is_day};
 ghost use Rattle.shipment_machine.specs.Lawful.{IsProper};
-ghost use Rattle.shipment_machine.specs.Meant.{meant_by};
-ghost use Rattle.shipment_machine.specs.Agreement.{IsAnswer, IsViewOf, RefusesAs, StaysLawful, outcome_of};
+ghost use Rattle.shipment_machine.specs.Agreement.{AreRowsOf, AreSound, FitsCommand, IsAnswer, IsOnBoard, IsViewOf, RefusesAs, StaysLawful, meant_by, outcome_of, rows_answer};
 
 use crate::acceptance::{book, booked, claim_of, receive};
+use crate::amount::Amount;
 use crate::arrival::check_in;
-use crate::command::{DeskCommand, ShipmentCommand};
+use crate::balances::Balances;
+use crate::command::{DeskCommand, InboundLine, ShipmentCommand};
 use crate::departure::depart;
 use crate::drafting::PlanContext;
-use crate::fitting::fits;
 use crate::handover::{deliver, notify};
 use crate::inbound::announce;
 use crate::irregular::{record_found, record_missing};
 use crate::messages::{confirm, note_status};
+use crate::moves::Expected;
 use crate::outbound::{manifest, offload};
 use crate::plans::{Plan, PlanFault};
-use crate::view::{Rows, View};
-use imp_fields::{Moment, resolve};
+use crate::view::{FlightLoad, Rows, RowsKey, View};
+use imp_fields::{Airport, LocalDay, Moment, resolve};
 use std::alloc::Global;
+
+/// Whether an amount is within the bounds, with at least a tenth a piece.
+fn is_held(amount: &Amount) -> bool
+    ensures { IsTrue result ↔ IsHeld amount.now }
+{
+    amount.pieces <= 9999 && amount.tenths <= 999_999 && amount.pieces <= amount.tenths
+}
+
+fn is_expected_held(expected: &Option<Expected>) -> bool
+    ensures { IsTrue result ↔ IsHeld (expected_amount expected.now) }
+{
+    match expected {
+        None => true,
+        Some(row) => row.pieces.number() <= row.tenths.number(),
+    }
+}
+
+/// Whether the balances can be ones of a lawful state.
+fn are_sound(balances: &Balances) -> bool
+    ensures { IsTrue result ↔ AreSound balances.now }
+{
+    let came = u64::from(balances.taken.tenths) + u64::from(balances.found.tenths);
+    is_held(&balances.free)
+        && is_held(&balances.missing)
+        && u64::from(balances.missing.tenths) <= came
+}
+
+fn is_on_board(aboard: &FlightLoad) -> bool
+    ensures { IsTrue result ↔ IsOnBoard aboard.now }
+{
+    aboard.load.pieces >= 1 && is_held(&aboard.load)
+}
+
+fn are_on_board(loads: &[FlightLoad]) -> bool
+    ensures { IsTrue result ↔ All IsOnBoard loads.now }
+{
+    for aboard in loads {
+        if !is_on_board(aboard) {
+            return false;
+        }
+    }
+    true
+}
+
+fn count_for(here: Airport, lines: &[InboundLine]) -> usize
+    ensures { result ≡ length (filter (λ line. bytes_eq line.unload here) lines.now) }
+{
+    lines.iter().filter(|line| line.unload == here).count()
+}
+
+/// How many lines are for an airport.
+fn lines_for(here: Airport, lines: &[InboundLine]) -> usize
+    ensures { result ≡ length (lines_for here lines.now) }
+{
+    count_for(here, lines)
+}
+
+/// Whether these can be the rows of a lawful state that a command of the desk reads.
+fn are_rows_of(key: RowsKey, rows: &Rows) -> bool
+    ensures { IsTrue result ↔ AreRowsOf key rows.now }
+{
+    match key {
+        RowsKey::Declaration(_) => matches!(rows, Rows::Declaration { .. }),
+        RowsKey::Waybill(_) => match rows {
+            Rows::Waybill { waybill } => are_sound(&waybill.balances),
+            _ => false,
+        },
+        RowsKey::Manifest(_, _) => match rows {
+            Rows::Manifest { waybill, .. } => are_sound(&waybill.balances),
+            _ => false,
+        },
+        RowsKey::Offload(_, _) => match rows {
+            Rows::Offload { load, .. } => is_held(load),
+            _ => false,
+        },
+        RowsKey::Departure(_) => match rows {
+            Rows::Departure { outbound, loads } => {
+                are_on_board(loads.as_slice())
+                    && (loads.as_slice().is_empty() || outbound.is_some())
+            }
+            _ => false,
+        },
+        RowsKey::CheckIn(_, _) => match rows {
+            Rows::CheckIn { expected, .. } => is_expected_held(expected),
+            _ => false,
+        },
+        RowsKey::Messages => matches!(rows, Rows::Messages { .. }),
+    }
+}
+
+/// Whether a day is one of a Moment.
+fn has_day(meant: Option<u32>) -> bool
+    ensures { result ≡ is_day meant }
+{
+    match meant {
+        None => false,
+        Some(day) => LocalDay::new(day).is_some(),
+    }
+}
+
+/// Whether the rows can be a lawful state's, for this command, whose date means this day.
+fn fits(view: &View, command: &ShipmentCommand<'_>, meant: Option<u32>) -> bool
+    ensures { IsTrue result ↔ FitsCommand view.now.here view.now.rows command.now meant }
+{
+    match command {
+        ShipmentCommand::Desk(desk) => are_rows_of(desk.get().reads(), &view.rows),
+        ShipmentCommand::Fwb(_) => matches!(view.rows, Rows::Declaration { .. }),
+        ShipmentCommand::Ffm(part) => match &view.rows {
+            Rows::Lines { lines, .. } => {
+                !has_day(meant)
+                    || lines.as_slice().len() == lines_for(view.here, part.lines.as_slice())
+            }
+            _ => false,
+        },
+        ShipmentCommand::Fsu(_) => matches!(view.rows, Rows::Status { .. }),
+    }
+}
 
 /// Plans a command of the desk from the rows that it reads.
 fn plan_desk<'a>(

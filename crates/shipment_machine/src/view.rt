@@ -2,6 +2,7 @@ ghost use Rattle.std.specs.Prelude.{◌≡◌, ◌≤◌, ◌↔◌, length, IsS
 
 use crate::amount::Amount;
 use crate::balances::Balances;
+use crate::flight::FlightDate;
 use crate::moves::{Declared, Expected, Outbound};
 use agent_stock::Holder;
 use awb_number::Awb;
@@ -119,6 +120,25 @@ impl LineViews {
     {
         self.rows.as_slice()
     }
+}
+
+/// Which rows a command of the desk reads.
+#[derive(Clone, Copy, Debug, PartialEq, Eq)]
+pub enum RowsKey {
+    /// What is known of a waybill that is to be declared.
+    Declaration(Awb),
+    /// A waybill with its balances.
+    Waybill(Awb),
+    /// A waybill, and the flight that it is to be built on.
+    Manifest(Awb, FlightDate),
+    /// What of a waybill is built on a flight.
+    Offload(Awb, FlightDate),
+    /// A flight, and what is built on it.
+    Departure(FlightDate),
+    /// A waybill, and what a flight brings of it.
+    CheckIn(Awb, FlightDate),
+    /// The messages.
+    Messages,
 }
 
 /// What a command reads, and no more.

@@ -1,6 +1,6 @@
 use Rattle.std.proofs.Common.{◌∙◌, sym}
 use Rattle.std.proofs.lemmas.List.{length-map}
-use Rattle.shipment_machine.proofs.fitting.lines_for.Goals as goal
+use Rattle.shipment_machine.proofs.planning.lines_for.Goals as goal
 
 pub returns : goal.returns
 returns c = c.count_for.ensures ∙ sym (length-map _ (λ line. line.cargo))
