@@ -2,8 +2,8 @@
 use Rattle.std.proofs.Common.{◌≡◌, ℕ, ◌+◌, ◌≤◌, true, nat_le, ap, arith}
 use Rattle.std.proofs.lemmas.Bool.{and_parts, leb-true}
 use Rattle.shipment_machine.specs.declared.amount.Amount.{Amount}
-use Rattle.shipment_machine.specs.Amount.{IsHeld, plus, fits}
-use Rattle.shipment_machine.specs.Book.{taken, found, taken_and_found, store, departed, delivered, missing, plus_all}
+use Rattle.shipment_machine.specs.Amount.{IsHeld, amount, plus, fits}
+use Rattle.shipment_machine.specs.Book.{taken, found, taken_and_found, store, departed, delivered, missing}
 use Rattle.shipment_machine.specs.Cargo.{Cargo}
 use Rattle.shipment_machine.specs.Lawful.{IsLawful}
 use Rattle.shipment_machine.proofs.Conserved.{is_conserved}
@@ -34,10 +34,10 @@ within_found s w law =
 abbrev IsEachWithin : (a b c d : Amount) → Type 0
 IsEachWithin a b c d = IsWithin a × IsWithin b × IsWithin c × IsWithin d
 
-parts : (whole a b c d : Amount) → IsWithin whole → whole ≡ plus_all a b c d → IsEachWithin a b c d
+parts : (whole a b c d : Amount) → IsWithin whole → whole ≡ plus a (plus d (plus b (plus c (amount 0 0)))) → IsEachWithin a b c d
 parts whole a b c d h e =
-    let p : whole.pieces ≡ ((a.pieces + b.pieces) + c.pieces) + d.pieces = ap (λ (x : Amount). x.pieces) e in
-    let t : whole.tenths ≡ ((a.tenths + b.tenths) + c.tenths) + d.tenths = ap (λ (x : Amount). x.tenths) e in
+    let p : whole.pieces ≡ a.pieces + (d.pieces + (b.pieces + (c.pieces + 0))) = ap (λ (x : Amount). x.pieces) e in
+    let t : whole.tenths ≡ a.tenths + (d.tenths + (b.tenths + (c.tenths + 0))) = ap (λ (x : Amount). x.tenths) e in
     let hp : whole.pieces ≤ 9999 = h.pieces in
     let ht : whole.tenths ≤ 999999 = h.tenths in (
       record { pieces = omega (arith, p, hp); tenths = omega (arith, t, ht) },

@@ -1,5 +1,5 @@
 -- The amounts of a lawful book agree, and no place holds more than came in.
-use Rattle.std.proofs.Common.{◌≡◌, ℕ, ◌+◌, ◌-◌, ◌≤◌, Bool, true, false, ◌&&◌, ◌==◌, None, List, [], ◌∷◌, refl, sym, ap, ◌∙◌, arith, true≢false}
+use Rattle.std.proofs.Common.{◌≡◌, ℕ, ◌+◌, ◌-◌, ◌≤◌, Bool, true, false, ◌&&◌, ◌||◌, ◌==◌, None, List, [], ◌∷◌, refl, sym, ap, ◌∙◌, arith, true≢false}
 use Rattle.std.specs.Bool.{if◌then◌else◌}
 use Rattle.std.specs.List.{AllByRecursion}
 use Rattle.std.proofs.lemmas.Bool.{and_parts, leb-true}
@@ -9,11 +9,12 @@ use Rattle.shipment_machine.specs.declared.moves.Place.{Place}
 use Rattle.shipment_machine.specs.declared.moves.Place.TheVariants.{Hand, Surplus, Free, Built, Departed, Delivered, Missing}
 use Rattle.shipment_machine.specs.declared.moves.Move.{Move}
 use Rattle.shipment_machine.specs.Amount.{IsHeld}
-use Rattle.shipment_machine.specs.Book.{same_place, in_store, pieces_of, tenths_of, moved_in, moved_out, brings, takes, free, built, missing, taken, found}
+use Rattle.shipment_machine.specs.Places.{same_place, in_store, is_outside, beyond_store}
+use Rattle.shipment_machine.specs.Book.{pieces_of, tenths_of, moved_in, moved_out, brings, takes, free, built, missing, taken, found}
 use Rattle.shipment_machine.specs.Cargo.{Cargo}
-use Rattle.shipment_machine.specs.Lawful.{is_outside, is_pair, IsLawfulMove, IsLawful}
+use Rattle.shipment_machine.specs.Lawful.{IsLawfulMove, IsLawful}
 use Rattle.shipment_machine.specs.Laws.{IsConserved}
-use Rattle.shipment_machine.proofs.BalanceLaws.{total_in, total_out}
+use Rattle.shipment_machine.proofs.BalanceLaws.{in_at, out_at, total_in, total_out}
 use Rattle.shipment_machine.proofs.ByFlight.{Entry, sum_all, sum_at, covered}
 use Rattle.shipment_machine.proofs.Places.{no_way_out, not_hand, not_surplus, is_built, no_added}
 
@@ -130,16 +131,41 @@ pub store_stays : (measure : Move → ℕ) (book : List Move) (w : ℕ) → AllS
 store_stays measure book w stay =
     omega (arith, (built_within measure book w flight_any stay).0, stay Free refl, store_in measure w book, store_out measure w book)
 
-equal_sums : (hi ho si so ti to di do' li lo mi mo n : ℕ) → hi + si + ti + di + li + mi ≡ n → ho + so + to + do' + lo + mo ≡ n → hi ≡ 0 → si ≡ 0 → to ≤ ti → do' ≤ di → lo ≤ li → mo ≤ mi →
-    (ho - hi) + (so - si) ≡ (((ti - to) + (di - do')) + (li - lo)) + (mi - mo)
-equal_sums hi ho si so ti to di do' li lo mi mo n a b c d e f g h = omega arith
+-- what is at these places together
+abbrev there_at : (Move → ℕ) → List Move → ℕ → List Place → ℕ
+there_at measure book w [] = 0
+there_at measure book w (place ∷ places) = there_is measure book w (same_place place) + there_at measure book w places
+
+-- whether none of these places is outside
+abbrev any_outside : List Place → Bool
+any_outside [] = false
+any_outside (place ∷ places) = is_outside place || any_outside places
+
+both_false : (a b : Bool) → (a || b) ≡ false → (a ≡ false) × (b ≡ false)
+both_false true b e = absurd (true≢false e)
+both_false false b e = (refl, e)
+
+all_stay : (measure : Move → ℕ) (book : List Move) (w : ℕ) (places : List Place) → any_outside places ≡ false → AllStay measure book w →
+    (out_at measure book w places ≤ in_at measure book w places) × (there_at measure book w places ≡ in_at measure book w places - out_at measure book w places)
+all_stay measure book w [] inside stay = (omega arith, refl)
+all_stay measure book w (place ∷ places) inside stay =
+    let parts = both_false (is_outside place) (any_outside places) inside in
+    let rest = all_stay measure book w places parts.1 stay in
+    let less : out_at measure book w places ≤ in_at measure book w places = rest.0 in
+    let same : there_at measure book w places ≡ in_at measure book w places - out_at measure book w places = rest.1 in
+    let here : moved_out measure book w (same_place place) ≤ moved_in measure book w (same_place place) = stay place parts.0 in
+    (omega arith, omega arith)
+
+equal_sums : (hi ho si so ti to i o there n : ℕ) → hi + si + ti + i ≡ n → ho + so + to + o ≡ n → hi ≡ 0 → si ≡ 0 → to ≤ ti → o ≤ i → there ≡ i - o →
+    (ho - hi) + (so - si) ≡ (ti - to) + there
+equal_sums hi ho si so ti to i o there n a b c d e f g = omega arith
 
 conserved : (s : Cargo) (measure : Move → ℕ) (w : ℕ) → IsLawful s → AllStay measure s.book w →
-    came measure s.book w ≡ ((there_is measure s.book w in_store + there_is measure s.book w (same_place Departed)) + there_is measure s.book w (same_place Delivered)) + there_is measure s.book w (same_place Missing)
+    came measure s.book w ≡ there_is measure s.book w in_store + there_at measure s.book w beyond_store
 conserved s measure w law stay =
-    let stored = store_stays measure s.book w stay in
-    equal_sums _ _ _ _ _ _ _ _ _ _ _ _ _ (total_in measure w s.book) (total_out measure w s.book) (none_in_hand s measure w law) (none_in_surplus s measure w law)
-    stored (stay Departed refl) (stay Delivered refl) (stay Missing refl)
+    let beyond = all_stay measure s.book w beyond_store refl stay in
+    equal_sums _ _ _ _ _ _ _ _ _ _ (total_in measure w s.book) (total_out measure w s.book) (none_in_hand s measure w law) (none_in_surplus s measure w law)
+    (store_stays measure s.book w stay) beyond.0 beyond.1
 
 pub stay_pieces : (s : Cargo) (w : ℕ) → IsLawful s → AllStay pieces_of s.book w
 stay_pieces s w law p inside = (law.stocked w p inside).pieces
@@ -162,7 +188,16 @@ load_within : (s : Cargo) (measure : Move → ℕ) (w : ℕ) (k : FlightDate) �
 load_within s measure w k law stay = omega (arith, conserved s measure w law stay, (built_within measure s.book w k stay).0, (built_within measure s.book w k stay).1, stay Free refl, store_in measure w s.book, store_out measure w s.book)
 
 missing_within : (s : Cargo) (measure : Move → ℕ) (w : ℕ) → IsLawful s → AllStay measure s.book w → there_is measure s.book w (same_place Missing) ≤ came measure s.book w
-missing_within s measure w law stay = omega (arith, conserved s measure w law stay)
+missing_within s measure w law stay =
+    let first : there_is measure s.book w (same_place Missing) ≤ there_at measure s.book w beyond_store = first_there measure s.book w Missing (rest beyond_store) in
+    omega (arith, conserved s measure w law stay, first)
+  where
+    rest : List Place → List Place
+    rest [] = []
+    rest (place ∷ places) = places
+
+    first_there : (measure : Move → ℕ) (book : List Move) (w : ℕ) (place : Place) (places : List Place) → there_is measure book w (same_place place) ≤ there_at measure book w (place ∷ places)
+    first_there measure book w place places = omega arith
 
 few_came : (s : Cargo) (w : ℕ) → IsLawful s → came pieces_of s.book w ≤ 9999
 few_came s w law = leb-true _ _ (and_parts _ _ (law.within w)).0

@@ -3,7 +3,7 @@ use Rattle.std.proofs.Common.{◌≡◌, ℕ, ◌-◌, ◌≤◌, Bool, false, L
 use Rattle.std.specs.Prelude.{pos, neg_ℤ, ◌-ℤ◌}
 use Rattle.std.proofs.lemmas.Int.{ints}
 use Rattle.shipment_machine.specs.declared.moves.Place.{Place}
-use Rattle.shipment_machine.specs.declared.moves.Place.TheVariants.{Hand, Surplus, Free, Built, Departed, Delivered, Missing}
+use Rattle.shipment_machine.specs.declared.moves.Place.TheVariants.{Hand, Surplus}
 use Rattle.shipment_machine.specs.declared.moves.Move.{Move}
 use Rattle.shipment_machine.specs.Book.{same_place, in_store, pieces_of, tenths_of, moved_in, moved_out, held, drawn}
 use Rattle.shipment_machine.specs.Cargo.{Cargo}
@@ -32,9 +32,5 @@ are_balances s w law = record {
   taken = outside s.book w (same_place Hand) (none_in_hand s pieces_of w law) (none_in_hand s tenths_of w law);
   found = outside s.book w (same_place Surplus) (none_in_surplus s pieces_of w law) (none_in_surplus s tenths_of w law);
   store = at_places s.book w in_store (store_stays pieces_of s.book w (stay_pieces s w law)) (store_stays tenths_of s.book w (stay_tenths s w law));
-  free = inside s w Free law refl;
-  built = λ flight. inside s w (Built flight) law refl;
-  departed = inside s w Departed law refl;
-  delivered = inside s w Delivered law refl;
-  missing = inside s w Missing law refl;
+  held = λ place e. inside s w place law e;
 }

@@ -1,4 +1,4 @@
--- A part of a manifest, told from what is kept of its lines' waybills.
+-- A part of a manifest, as it is answered from what is kept of its lines' waybills.
 use Rattle.std.specs.Prelude.{◌≡◌, ℕ, Bool, false, not, length, ◌==◌, if◌then◌else◌, Option, Some, None, is_none, Result, Ok, Err, List, [], ◌∷◌}
 use Rattle.shipment_machine.specs.declared.flight.FlightDate.{FlightDate}
 use Rattle.shipment_machine.specs.declared.moves.Expected.{Expected}
@@ -74,7 +74,7 @@ abbrev pub first_rows : Option Declared → Option Holder → ℕ → List Chang
 first_rows None who w = []
 first_rows (Some d) who w = declare who w d
 
--- a fault is a refusal that is due, or want of memory
+-- a fault is a refusal that is due, or there is no memory
 abbrev pub IsRefusal : Option Refusal → PlanFault → Type 0
 IsRefusal due (fault.Refused refusal) = due ≡ Some refusal
 IsRefusal due fault.Memory = Unit {0}

@@ -1,7 +1,7 @@
 -- What is to be declared.
 use Rattle.std.specs.Prelude.{false}
 use Rattle.shipment_machine.specs.declared.moves.Declared.{Declared}
-use Rattle.shipment_machine.specs.declared.claim.Claim.{Claim}
+use Rattle.shipment_machine.specs.declared.acceptance.Claim.{Claim}
 
 -- the declaration that a claim is for
 abbrev pub claimed : Claim → Declared

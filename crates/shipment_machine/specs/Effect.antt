@@ -37,7 +37,7 @@ use Rattle.shipment_machine.specs.declared.plans.Change.{Change}
 use Rattle.shipment_machine.specs.declared.plans.Change.TheVariants.{Declare, UseUp, NoteFlight, Expect, NotePart, Trail, Confirm}
 use Rattle.shipment_machine.specs.declared.plans.Refusal.{Refusal}
 use Rattle.shipment_machine.specs.declared.plans.Detail.TheVariants as detail
-use Rattle.shipment_machine.specs.declared.balances.Balances.{Balances}
+use Rattle.shipment_machine.specs.declared.moves.Balances.{Balances}
 use Rattle.shipment_machine.specs.declared.view.DeclarationView.{DeclarationView}
 use Rattle.shipment_machine.specs.declared.view.WaybillView.{WaybillView}
 use Rattle.shipment_machine.specs.declared.view.FlightView.{FlightView}

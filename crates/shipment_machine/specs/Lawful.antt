@@ -13,15 +13,10 @@ use Rattle.shipment_machine.specs.declared.command.ShipmentCommand.{ShipmentComm
 use Rattle.shipment_machine.specs.declared.command.ShipmentCommand.TheVariants as order
 use Rattle.shipment_machine.specs.declared.command.DeskCommand.TheVariants as desk
 use Rattle.shipment_machine.specs.Book.{same_place, pieces_of, tenths_of, moved_in, moved_out, held, built, taken_and_found, waybills_on}
+pub use Rattle.shipment_machine.specs.Places.{is_outside, is_pair}
 use Rattle.shipment_machine.specs.Cargo.{Cargo}
 use Rattle.shipment_machine.specs.Amount.{fits}
 use Rattle.shipment_machine.specs.Effect.{is_closed}
-
--- whether a place is outside the station
-abbrev pub is_outside : Place → Bool
-is_outside Hand = true
-is_outside Surplus = true
-is_outside _ = false
 
 -- No more of a waybill moved out of a place than into it; what is there weighs at least a tenth a piece, and nothing where it has no piece.
 pub record IsStocked (book : List Move) (w : ℕ) (p : Place) : Type 0 where
@@ -29,19 +24,6 @@ pub record IsStocked (book : List Move) (w : ℕ) (p : Place) : Type 0 where
   pub tenths : moved_out tenths_of book w (same_place p) ≤ moved_in tenths_of book w (same_place p)
   pub tenth_a_piece : (held book w (same_place p)).pieces ≤ (held book w (same_place p)).tenths
   pub no_weight_alone : (held book w (same_place p)).pieces ≡ 0 → (held book w (same_place p)).tenths ≡ 0
-
--- whether pieces may move so
-abbrev pub is_pair : Place → Place → Bool
-is_pair Hand Free = true
-is_pair Hand Missing = true
-is_pair Surplus Free = true
-is_pair Free (Built _) = true
-is_pair (Built _) Free = true
-is_pair (Built _) Departed = true
-is_pair Free Delivered = true
-is_pair Free Missing = true
-is_pair Missing Free = true
-is_pair _ _ = false
 
 -- the flight of a built place is noted
 abbrev pub IsNoted : Cargo → Place → Type 0

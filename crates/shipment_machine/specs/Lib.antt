@@ -1,10 +1,10 @@
 pub mod Amount
 pub mod Numbers
 pub mod Flights
+pub mod Places
 pub mod Book
 pub mod Cargo
 pub mod Views
-pub mod Splits
 pub mod Effect
 pub mod Claims
 pub mod Lawful

@@ -39,7 +39,7 @@ flight_view s w flight = record {
   load = built s.book w flight;
 }
 
--- what is built on a flight, rising
+-- what is built on a flight, ascending
 abbrev pub loads_of : Cargo → FlightDate → List FlightLoad
 loads_of s flight = map (λ w. record { awb = w; declared = declaration s w; load = built s.book w flight }) (waybills_on s.book flight)
 

@@ -6,20 +6,30 @@ ghost use Rattle.shipment_machine.specs.Agreement.{IsAnswer};
 ghost use Rattle.shipment_machine.specs.Claims.{claimed};
 
 use crate::amount::{Amount, is_within};
-use crate::claim::Claim;
 use crate::command::CargoLine;
-use crate::drafting::{
+use crate::moves::{Declared, Place};
+use crate::notice::Event;
+use crate::plan_parts::{
     PlanContext, add_move, add_notice, blank, fits_with, is_same, pieces_of, refuse_waybill,
     tenths_of,
 };
-use crate::moves::{Declared, Place};
-use crate::notice::Event;
 use crate::plans::{Change, Plan, PlanFault};
 use crate::view::{DeclarationView, WaybillView};
 use agent_stock::Holder;
 use awb_number::Awb;
 use imp_fields::{Airport, Goods, Name, Pieces, Tenths, book_weight, share};
 use std::alloc::AllocError;
+
+/// What is to be declared of a waybill, perhaps past what can be.
+#[derive(Clone, Copy, Debug)]
+pub(crate) struct Claim {
+    pub(crate) origin: Airport,
+    pub(crate) destination: Airport,
+    pub(crate) pieces: u32,
+    /// Tenths of a kilogram.
+    pub(crate) tenths: u64,
+    pub(crate) goods: Goods,
+}
 
 /// Whether a number is in stock with the desk, or void.
 pub(crate) fn is_at_desk_or_void(holder: Option<Holder>) -> bool
@@ -51,7 +61,8 @@ pub(crate) fn add_declaration<'a>(
 /// What is declared, unless it is past what can be.
 pub(crate) fn declared_as(claim: &Claim) -> Option<Declared>
     requires { 1 ≤ claim.now.pieces }
-    ensures { result ≡ (if fits (amount claim.now.pieces claim.now.tenths) then Some (claimed claim.now) else None) }
+    ensures { result ≡ (if fits (amount claim.now.pieces claim.now.tenths)
+        then Some (claimed claim.now) else None) }
 {
     if !is_within(u64::from(claim.pieces), claim.tenths) {
         return None;
@@ -142,7 +153,8 @@ pub(crate) fn receive<'a>(
     tenths: Tenths,
     name: Name,
 ) -> Result<Plan<'a>, PlanFault>
-    ensures { IsAnswer result (decided (receiving on.now.here view.now awb pieces tenths name on.now.at)) }
+    ensures { IsAnswer result
+        (decided (receiving on.now.here view.now awb pieces tenths name on.now.at)) }
 {
     let Some(declared) = &view.declared else {
         return Err(refuse_waybill(201, awb));
@@ -168,15 +180,8 @@ pub(crate) fn receive<'a>(
     }
     let event = Event::ReceivedFromShipper { name, at: on.at };
     let mut plan = blank(on.alloc, amount.pieces);
-    add_move(
-        &mut plan.moves,
-        awb,
-        Place::Hand,
-        Place::Free,
-        amount,
-        None,
-        on.at,
-    )?;
+    let (hand, free) = (Place::Hand, Place::Free);
+    add_move(&mut plan.moves, awb, hand, free, amount, None, on.at)?;
     add_notice(&mut plan.notices, on.here, awb, declared, event, amount)?;
     Ok(plan)
 }

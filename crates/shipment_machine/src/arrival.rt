@@ -1,20 +1,18 @@
 //! What a flight brought.
 ghost use Rattle.std.specs.Prelude.{◌≡◌, ◌+◌, ◌-◌, ◌*◌, ◌/◌, ◌≤◌, ◌<◌, ◌^◌, Some, None, IfSome, IfOk, if◌then◌else◌};
-ghost use Rattle.shipment_machine.specs.Amount.{IsHeld, plus, fits};
+ghost use Rattle.shipment_machine.specs.Amount.{GoesWith, IsHeld, IsPartOf, plus, fits};
 ghost use Rattle.shipment_machine.specs.Effect.{decided, came_in, expected_amount, counted_in, uncounted, counted_more, check_in_moves, check_in_notices, checking_in};
 ghost use Rattle.shipment_machine.specs.Agreement.{IsAnswer};
-ghost use Rattle.shipment_machine.specs.Splits.{IsPartOf, GoesWith};
 ghost use Rattle.shipment_machine.specs.declared.notice.Event.TheVariants as event;
 
 use crate::amount::Amount;
-use crate::balances::Balances;
 use crate::command::PieceCount;
-use crate::drafting::{
+use crate::flight::FlightDate;
+use crate::moves::{Balances, Declared, Expected, Move, Place};
+use crate::notice::{Event, Notice};
+use crate::plan_parts::{
     PlanContext, add_move, add_notice, blank, fits_with, refuse_waybill, together, widened,
 };
-use crate::flight::FlightDate;
-use crate::moves::{Declared, Expected, Move, Place};
-use crate::notice::{Event, Notice};
 use crate::plans::{Change, Plan, PlanFault};
 use crate::view::WaybillView;
 use awb_number::Awb;
@@ -69,7 +67,9 @@ fn more_of(balances: &Balances, whole: Amount, counted: u32) -> Option<Amount>
     requires held { IsHeld whole }
     requires some { 1 ≤ whole.pieces }
     requires few { counted ≤ 9999 }
-    ensures value { result ≡ (if fits (plus (came_in balances.now) (plus whole (counted_more whole counted))) then Some (counted_more whole counted) else None) }
+    ensures value { result
+        ≡ (if fits (plus (came_in balances.now) (plus whole (counted_more whole counted)))
+        then Some (counted_more whole counted) else None) }
     ensures fitting { IfSome result (GoesWith whole) }
 {
     let pieces = counted.saturating_sub(whole.pieces);
@@ -111,7 +111,8 @@ fn moves_in(
     requires some { 1 ≤ whole.pieces }
     requires surplus { more ≡ counted_more whole counted }
     requires fitting { GoesWith whole more }
-    ensures { IfOk result (λ moves. moves.items ≡ check_in_moves awb flight.now whole counted on.now.at) }
+    ensures { IfOk result (λ moves. moves.items
+        ≡ check_in_moves awb flight.now whole counted on.now.at) }
 {
     let found = counted_of(whole, counted);
     let rest = rest_of(whole, counted);
@@ -160,7 +161,8 @@ fn notices_in(
     requires some { 1 ≤ whole.pieces }
     requires surplus { more ≡ counted_more whole counted }
     requires fitting { GoesWith whole more }
-    ensures { IfOk result (λ notices. notices.items ≡ check_in_notices on.now.here awb declared.now flight.now whole counted on.now.at) }
+    ensures { IfOk result (λ notices. notices.items
+        ≡ check_in_notices on.now.here awb declared.now flight.now whole counted on.now.at) }
 {
     let found = counted_of(whole, counted);
     let rest = rest_of(whole, counted);
@@ -188,7 +190,8 @@ pub(crate) fn check_in<'a>(
     counted: PieceCount,
 ) -> Result<Plan<'a>, PlanFault>
     requires { IsHeld (expected_amount expected.now) }
-    ensures { IsAnswer result (decided (checking_in on.now.here view.now expected.now awb flight.now counted on.now.at)) }
+    ensures { IsAnswer result
+        (decided (checking_in on.now.here view.now expected.now awb flight.now counted on.now.at)) }
 {
     let Some(declared) = &view.declared else {
         return Err(refuse_waybill(201, awb));

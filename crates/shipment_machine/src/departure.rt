@@ -5,12 +5,12 @@ ghost use Rattle.shipment_machine.specs.Effect.{decided, departing, depart_moves
 ghost use Rattle.shipment_machine.specs.Agreement.{IsAnswer, IsOnBoard};
 ghost use Rattle.shipment_machine.specs.declared.notice.Event.TheVariants as event;
 
-use crate::drafting::{
-    PlanContext, add_move, add_notice, blank, consigned_as, pieces_of, refuse_flight, tenths_of,
-};
 use crate::flight::FlightDate;
 use crate::moves::{Move, Outbound, Place};
 use crate::notice::{Event, ManifestLine, ManifestLines, Notice};
+use crate::plan_parts::{
+    PlanContext, add_move, add_notice, blank, consigned_as, pieces_of, refuse_flight, tenths_of,
+};
 use crate::plans::{Change, Plan, PlanFault};
 use crate::view::{FlightLoad, Loads};
 use imp_fields::Airport;
@@ -49,7 +49,9 @@ fn departing_notices(
     unload: Airport,
 ) -> Result<Vec<Notice>, AllocError>
     requires { All IsOnBoard loads.now }
-    ensures { IfOk result (λ notices. notices.items ≡ flat_map (λ a. told on.now.here a.awb a.declared (event.Departed flight.now unload) a.load) loads.now) }
+    ensures { IfOk result (λ notices. notices.items
+        ≡ flat_map (λ a. told on.now.here a.awb a.declared
+        (event.Departed flight.now unload) a.load) loads.now) }
 {
     let mut notices = Vec::new(on.alloc);
     for aboard in loads {
@@ -117,7 +119,8 @@ pub(crate) fn depart<'a>(
 ) -> Result<Plan<'a>, PlanFault>
     requires on_board { All IsOnBoard loads.now }
     requires noted { (length loads.now == 0) ≡ false → IsSome outbound.now }
-    ensures { IsAnswer result (decided (departing on.now.here outbound.now loads.now flight.now on.now.at)) }
+    ensures { IsAnswer result
+        (decided (departing on.now.here outbound.now loads.now flight.now on.now.at)) }
 {
     let loads = loads.as_slice();
     if let Some(noted) = outbound

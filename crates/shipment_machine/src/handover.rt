@@ -5,11 +5,11 @@ ghost use Rattle.shipment_machine.specs.Effect.{decided, notifying, delivering};
 ghost use Rattle.shipment_machine.specs.Agreement.{IsAnswer};
 
 use crate::amount::part_of;
-use crate::drafting::{
-    PlanContext, add_move, add_notice, blank, is_same, refuse_free, refuse_waybill,
-};
 use crate::moves::{Declared, Place};
 use crate::notice::Event;
+use crate::plan_parts::{
+    PlanContext, add_move, add_notice, blank, is_same, refuse_free, refuse_waybill,
+};
 use crate::plans::{Change, Plan, PlanFault};
 use crate::view::WaybillView;
 use awb_number::Awb;
@@ -57,7 +57,8 @@ pub(crate) fn deliver<'a>(
     name: Name,
 ) -> Result<Plan<'a>, PlanFault>
     requires { IsHeld view.now.balances.free }
-    ensures { IsAnswer result (decided (delivering on.now.here view.now awb pieces name on.now.at)) }
+    ensures { IsAnswer result
+        (decided (delivering on.now.here view.now awb pieces name on.now.at)) }
 {
     let Some(declared) = &view.declared else {
         return Err(refuse_waybill(201, awb));

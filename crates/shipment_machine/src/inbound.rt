@@ -14,9 +14,11 @@ ghost use Rattle.shipment_machine.specs.declared.plans.Change.TheVariants as cha
 use crate::acceptance::{add_declaration, claim_of, declared_as, is_at_desk_or_void};
 use crate::amount::is_within;
 use crate::command::{CargoLine, CargoRef, InboundLine, InboundPart};
-use crate::drafting::{PlanContext, blank, is_same, pieces_of, refuse_waybill, tenths_of, widened};
 use crate::flight::FlightDate;
 use crate::moves::{Declared, Expected, Part};
+use crate::plan_parts::{
+    PlanContext, blank, is_same, pieces_of, refuse_waybill, tenths_of, widened,
+};
 use crate::plans::{Change, Detail, Plan, PlanFault, Refusal};
 use crate::view::{LineView, LineViews};
 use agent_stock::Holder;
@@ -34,7 +36,10 @@ struct Finding {
 
 /// What is expected after one more line, unless it is past what can be.
 fn expected_with(so_far: Option<Expected>, line: &CargoLine) -> Option<Expected>
-    ensures { result ≡ (if fits (amount (expected_after so_far line.now).pieces (expected_after so_far line.now).tenths) then Some (expected_after so_far line.now) else None) }
+    ensures { result
+        ≡ (if fits (amount (expected_after so_far line.now).pieces
+        (expected_after so_far line.now).tenths) then Some (expected_after so_far line.now)
+        else None) }
 {
     let (pieces, tenths) = match so_far {
         None => (0, 0),
@@ -56,8 +61,10 @@ fn expected_with(so_far: Option<Expected>, line: &CargoLine) -> Option<Expected>
 /// Tests a line after those before it. `before` is what is expected of its waybill by an earlier line.
 fn find(before: Option<Expected>, line: &CargoLine, row: &LineView) -> Result<Finding, PlanFault>
     ensures due { OnOk result (refusal_now before line.now row.now ≡ None) }
-    ensures declared { IfOk result (λ finding. finding.declared ≡ (if is_new before row.now then Some (declared_by line.now) else None)) }
-    ensures expected { IfOk result (λ finding. finding.expected ≡ expected_now before line.now row.now) }
+    ensures declared { IfOk result (λ finding. finding.declared
+        ≡ (if is_new before row.now then Some (declared_by line.now) else None)) }
+    ensures expected { IfOk result (λ finding. finding.expected
+        ≡ expected_now before line.now row.now) }
     ensures refused { IfErr result (IsRefusal (refusal_now before line.now row.now)) }
 {
     let new = before.is_none() && row.declared.is_none();
@@ -96,8 +103,11 @@ fn write_line<'a>(
     holder: Option<Holder>,
     finding: &Finding,
 ) -> Result<(), AllocError>
-    ensures changes { OnOk result (changes.new.items ≡ changes.old.items ++ first_rows finding.now.declared holder awb ++ change.Expect flight.now awb finding.now.expected ∷ []) }
-    ensures earlier { OnOk result ((q : ℕ) → get nat_eq earlier.new q ≡ with_line (get nat_eq earlier.old) awb finding.now.expected q) }
+    ensures changes { OnOk result (changes.new.items ≡ changes.old.items
+        ++ first_rows finding.now.declared holder awb
+        ++ change.Expect flight.now awb finding.now.expected ∷ []) }
+    ensures earlier { OnOk result ((q : ℕ) → get nat_eq earlier.new q
+        ≡ with_line (get nat_eq earlier.old) awb finding.now.expected q) }
 {
     if let Some(declared) = &finding.declared {
         add_declaration(changes, holder, awb, *declared)?;
@@ -119,10 +129,15 @@ fn add_line<'a>(
     line: &CargoLine,
     row: &LineView,
 ) -> Result<(), PlanFault>
-    ensures due { OnOk result (refusal_now (get nat_eq earlier.old line.now.awb) line.now row.now ≡ None) }
-    ensures changes { OnOk result (changes.new.items ≡ changes.old.items ++ changes_now (get nat_eq earlier.old line.now.awb) flight.now line.now row.now) }
-    ensures earlier { OnOk result ((q : ℕ) → get nat_eq earlier.new q ≡ with_line (get nat_eq earlier.old) line.now.awb (expected_now (get nat_eq earlier.old line.now.awb) line.now row.now) q) }
-    ensures refused { IfErr result (IsRefusal (refusal_now (get nat_eq earlier.old line.now.awb) line.now row.now)) }
+    ensures due { OnOk result (refusal_now (get nat_eq earlier.old line.now.awb) line.now row.now
+        ≡ None) }
+    ensures changes { OnOk result (changes.new.items ≡ changes.old.items
+        ++ changes_now (get nat_eq earlier.old line.now.awb) flight.now line.now row.now) }
+    ensures earlier { OnOk result ((q : ℕ) → get nat_eq earlier.new q
+        ≡ with_line (get nat_eq earlier.old) line.now.awb
+        (expected_now (get nat_eq earlier.old line.now.awb) line.now row.now) q) }
+    ensures refused { IfErr result (IsRefusal
+        (refusal_now (get nat_eq earlier.old line.now.awb) line.now row.now)) }
 {
     let before = earlier.get(&line.awb.key()).copied();
     match find(before, line, row) {
@@ -160,8 +175,10 @@ pub(crate) fn announced<'a>(
     rows: &[LineView],
 ) -> Result<Vec<Change<'a>>, PlanFault>
     requires { length rows.now ≡ length lines.now }
-    ensures ok { IfOk result (λ changes. announced_changes no_earlier flight.now lines.now rows.now ≡ Ok changes.items) }
-    ensures refused { IfErr result (IsPartFault (announced_changes no_earlier flight.now lines.now rows.now)) }
+    ensures ok { IfOk result (λ changes. announced_changes no_earlier flight.now lines.now rows.now
+        ≡ Ok changes.items) }
+    ensures refused { IfErr result (IsPartFault
+        (announced_changes no_earlier flight.now lines.now rows.now)) }
 {
     let mut changes = Vec::new(alloc);
     let mut earlier = HashMap::new(alloc);
@@ -173,7 +190,11 @@ pub(crate) fn announced<'a>(
 
 /// The part of a manifest that a telegram is, its day being known.
 fn key_of(part: &InboundPart<'_>, day: LocalDay) -> Part
-    ensures { result ≡ record { flight = record { flight = part.now.flight; day = day }; airport = part.now.loaded; number = part.now.number } }
+    ensures { result ≡ record {
+      flight = record { flight = part.now.flight; day = day };
+      airport = part.now.loaded;
+      number = part.now.number;
+    } }
 {
     Part {
         flight: FlightDate {
@@ -206,7 +227,8 @@ pub(crate) fn announce<'a>(
     part: &InboundPart<'_>,
     meant: Option<u32>,
 ) -> Result<Plan<'a>, PlanFault>
-    requires { is_day meant ≡ true → length rows.now ≡ length (lines_for on.now.here part.now.lines) }
+    requires { is_day meant ≡ true → length rows.now
+        ≡ length (lines_for on.now.here part.now.lines) }
     ensures answer { IsAnswer result (part_answer on.now.here taken rows.now part.now meant) }
     ensures some { IfOk result (λ _. All HasPieces part.now.lines) }
 {

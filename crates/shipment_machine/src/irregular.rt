@@ -5,12 +5,13 @@ ghost use Rattle.shipment_machine.specs.Effect.{decided, surplus, told_differs, 
 ghost use Rattle.shipment_machine.specs.Agreement.{IsAnswer, AreSound};
 
 use crate::amount::{Amount, part_of};
-use crate::drafting::{
-    PlanContext, add_move, add_notice, blank, fits_with, refuse_free, refuse_waybill, together,
-};
 use crate::flight::FlightDate;
 use crate::moves::{Declared, Place};
 use crate::notice::{Event, Notice};
+use crate::plan_parts::{
+    PlanContext, add_move, add_notice, blank, fits_with, refuse_free, refuse_waybill, together,
+    widened,
+};
 use crate::plans::{Plan, PlanFault};
 use crate::view::WaybillView;
 use awb_number::Awb;
@@ -61,7 +62,8 @@ fn add_discrepancy(
     amount: Amount,
 ) -> Result<(), AllocError>
     requires { IsHeld amount }
-    ensures { OnOk result (notices.new.items ≡ notices.old.items ++ told_differs on.now.here awb declared.now flight.now discrepancy on.now.at amount) }
+    ensures { OnOk result (notices.new.items ≡ notices.old.items
+        ++ told_differs on.now.here awb declared.now flight.now discrepancy on.now.at amount) }
 {
     let Some(flight) = *flight else {
         return Ok(());
@@ -83,7 +85,8 @@ pub(crate) fn record_missing<'a>(
     flight: &Option<FlightDate>,
 ) -> Result<Plan<'a>, PlanFault>
     requires { IsHeld view.now.balances.free }
-    ensures { IsAnswer result (decided (recording_missing on.now.here view.now awb pieces flight.now on.now.at)) }
+    ensures { IsAnswer result
+        (decided (recording_missing on.now.here view.now awb pieces flight.now on.now.at)) }
 {
     let Some(declared) = &view.declared else {
         return Err(refuse_waybill(201, awb));
@@ -118,7 +121,8 @@ pub(crate) fn record_found<'a>(
     flight: &Option<FlightDate>,
 ) -> Result<Plan<'a>, PlanFault>
     requires { AreSound view.now.balances }
-    ensures { IsAnswer result (decided (recording_found on.now.here view.now awb pieces tenths flight.now on.now.at)) }
+    ensures { IsAnswer result
+        (decided (recording_found on.now.here view.now awb pieces tenths flight.now on.now.at)) }
 {
     let Some(declared) = &view.declared else {
         return Err(refuse_waybill(201, awb));
@@ -128,11 +132,7 @@ pub(crate) fn record_found<'a>(
         pieces.number().saturating_sub(missing.pieces),
         tenths.number(),
     );
-    if !fits_with(
-        &view.balances,
-        u64::from(more.pieces),
-        u64::from(more.tenths),
-    ) {
+    if !fits_with(&view.balances, widened(more.pieces), widened(more.tenths)) {
         return Err(refuse_waybill(217, awb));
     }
     let back = returned(missing, pieces.number());

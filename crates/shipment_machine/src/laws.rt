@@ -7,14 +7,15 @@ ghost use Rattle.shipment_machine.specs.Lawful.{IsLawful};
 ghost use Rattle.shipment_machine.specs.Numbers.{IsAscending, is_in};
 ghost use Rattle.shipment_machine.specs.Laws.{AreBalances, BalancesAgree, IsConserved, KeepsLawful};
 
-/// For each waybill what was taken over or found is in store, departed, delivered or missing, in any list of moves.
+/// For each waybill what was taken over or found is in store, missing, departed or delivered, in
+/// any list of moves.
 pub fn balance_law()
     ensures pieces { (book : List Move) (w : ℕ) → BalancesAgree pieces_of book w }
     ensures tenths { (book : List Move) (w : ℕ) → BalancesAgree tenths_of book w }
 {}
 
-/// In a lawful state the amounts themselves agree: what was taken over or found is in store, departed, delivered or missing,
-/// in pieces and in tenths, and no amount is below nothing.
+/// In a lawful state the amounts themselves agree: what was taken over or found is in store, missing,
+/// departed or delivered, in pieces and in tenths, and no amount is below nothing.
 pub fn conservation_law()
     ensures { (s : Cargo) (w : ℕ) → IsLawful s → IsConserved s.book w }
 {}

@@ -4,11 +4,8 @@
 mod acceptance;
 mod amount;
 mod arrival;
-mod balances;
-mod claim;
 mod command;
 mod departure;
-mod drafting;
 mod flight;
 mod handover;
 mod inbound;
@@ -18,19 +15,19 @@ mod messages;
 mod moves;
 mod notice;
 mod outbound;
+mod plan_parts;
 mod planning;
 mod plans;
 mod trail;
 mod view;
 
 pub use amount::Amount;
-pub use balances::Balances;
 pub use command::{
     CargoLine, CargoRef, DeskCommand, DeskRef, InboundLine, InboundLines, InboundPart,
     InboundStatus, PieceCount, ShipmentCommand,
 };
 pub use flight::FlightDate;
-pub use moves::{Declared, Expected, Move, Outbound, Part, Place};
+pub use moves::{Balances, Declared, Expected, Move, Outbound, Part, Place};
 pub use notice::{Event, ManifestLine, ManifestLines, Notice};
 pub use planning::plan;
 pub use plans::{Change, Detail, Plan, PlanFault, Refusal};

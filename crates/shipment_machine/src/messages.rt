@@ -7,8 +7,8 @@ ghost use Rattle.shipment_machine.specs.declared.plans.Change.TheVariants as cha
 ghost use Rattle.shipment_machine.specs.Agreement.{IsAnswer};
 
 use crate::command::InboundStatus;
-use crate::drafting::{PlanContext, blank, refuse_waybill};
 use crate::moves::Declared;
+use crate::plan_parts::{PlanContext, blank, refuse_waybill};
 use crate::plans::{Change, Detail, Plan, PlanFault, Refusal};
 use crate::trail::TrailLine;
 use awb_number::Awb;
@@ -20,7 +20,8 @@ fn trail_of<'a>(
     awb: Awb,
     lines: &[TrailLine<'a>],
 ) -> Result<Vec<Change<'a>>, AllocError>
-    ensures { IfOk result (λ changes. changes.items ≡ map (λ line. change.Trail awb line) lines.now) }
+    ensures { IfOk result (λ changes. changes.items
+        ≡ map (λ line. change.Trail awb line) lines.now) }
 {
     let mut changes = Vec::new(on.alloc);
     for line in lines {
@@ -38,7 +39,8 @@ pub(crate) fn note_status<'a>(
     declared: &Option<Declared>,
     status: &InboundStatus<'a>,
 ) -> Result<Plan<'a>, PlanFault>
-    ensures answer { IsAnswer result (decided (noting_status declared.now status.now.awb status.now.lines)) }
+    ensures answer { IsAnswer result (decided
+        (noting_status declared.now status.now.awb status.now.lines)) }
     ensures printable { IfOk result (λ _. IsTrue (list_all is_line status.now.lines)) }
 {
     if declared.is_none() {

@@ -1,3 +1,4 @@
+use crate::amount::Amount;
 use crate::flight::FlightDate;
 use awb_number::Awb;
 use imp_fields::{Airport, BookTenths, Goods, Moment, PartNumber, Pieces};
@@ -16,6 +17,19 @@ pub enum Place {
     Departed,
     Delivered,
     Missing,
+}
+
+/// The balances of a waybill: what came in from outside, and what is at each place but the built ones.
+#[derive(Clone, Copy, Debug, PartialEq, Eq)]
+pub struct Balances {
+    /// What was taken over from a shipper, an agent or an airline.
+    pub taken: Amount,
+    /// What no one had announced.
+    pub found: Amount,
+    pub free: Amount,
+    pub missing: Amount,
+    pub departed: Amount,
+    pub delivered: Amount,
 }
 
 /// A line of the movement book.

@@ -5,12 +5,12 @@ ghost use Rattle.shipment_machine.specs.Effect.{decided, manifesting, offloading
 ghost use Rattle.shipment_machine.specs.Agreement.{IsAnswer};
 
 use crate::amount::{Amount, part_of};
-use crate::drafting::{
-    PlanContext, add_move, add_notice, blank, is_same, refuse_flight, refuse_free, refuse_waybill,
-};
 use crate::flight::FlightDate;
 use crate::moves::{Declared, Outbound, Place};
 use crate::notice::Event;
+use crate::plan_parts::{
+    PlanContext, add_move, add_notice, blank, is_same, refuse_flight, refuse_free, refuse_waybill,
+};
 use crate::plans::{Change, Plan, PlanFault};
 use crate::view::{FlightView, WaybillView};
 use awb_number::Awb;
@@ -27,7 +27,9 @@ pub(crate) fn manifest<'a>(
     pieces: Pieces,
 ) -> Result<Plan<'a>, PlanFault>
     requires { IsHeld view.now.balances.free }
-    ensures { IsAnswer result (decided (manifesting on.now.here view.now beside.now awb flight.now unload pieces on.now.at)) }
+    ensures { IsAnswer result
+        (decided (manifesting on.now.here view.now beside.now awb flight.now unload pieces
+        on.now.at)) }
 {
     let Some(declared) = &view.declared else {
         return Err(refuse_waybill(201, awb));
@@ -84,7 +86,9 @@ pub(crate) fn offload<'a>(
     pieces: Pieces,
 ) -> Result<Plan<'a>, PlanFault>
     requires { IsHeld load }
-    ensures { IsAnswer result (decided (offloading on.now.here declared.now outbound.now load awb flight.now pieces on.now.at)) }
+    ensures { IsAnswer result
+        (decided (offloading on.now.here declared.now outbound.now load awb flight.now pieces
+        on.now.at)) }
 {
     let Some(declared) = declared else {
         return Err(refuse_waybill(201, awb));

@@ -12,16 +12,15 @@ ghost use Rattle.shipment_machine.specs.Agreement.{AreRowsOf, AreSound, FitsComm
 use crate::acceptance::{book, booked, claim_of, receive};
 use crate::amount::Amount;
 use crate::arrival::check_in;
-use crate::balances::Balances;
 use crate::command::{DeskCommand, InboundLine, ShipmentCommand};
 use crate::departure::depart;
-use crate::drafting::PlanContext;
 use crate::handover::{deliver, notify};
 use crate::inbound::announce;
 use crate::irregular::{record_found, record_missing};
 use crate::messages::{confirm, note_status};
-use crate::moves::Expected;
+use crate::moves::{Balances, Expected};
 use crate::outbound::{manifest, offload};
+use crate::plan_parts::PlanContext;
 use crate::plans::{Plan, PlanFault};
 use crate::view::{FlightLoad, Rows, RowsKey, View};
 use imp_fields::{Airport, LocalDay, Moment, resolve};
@@ -152,7 +151,8 @@ fn plan_desk<'a>(
     meant: Option<u32>,
 ) -> Result<Plan<'a>, PlanFault>
     requires { FitsCommand on.now.here rows.now (order.Desk command.now) meant }
-    ensures answer { IsAnswer result (rows_answer on.now.here rows.now (order.Desk command.now) on.now.at meant) }
+    ensures answer { IsAnswer result (rows_answer on.now.here rows.now
+        (order.Desk command.now) on.now.at meant) }
     ensures proper { IsProper (order.Desk command.now) }
 {
     match rows {
@@ -247,7 +247,8 @@ fn plan_from<'a>(
     meant: Option<u32>,
 ) -> Result<Plan<'a>, PlanFault>
     requires { FitsCommand on.now.here rows.now command.now meant }
-    ensures answer { IsAnswer result (rows_answer on.now.here rows.now command.now on.now.at meant) }
+    ensures answer { IsAnswer result
+        (rows_answer on.now.here rows.now command.now on.now.at meant) }
     // The types say so.
     ensures proper { IfOk result (λ _. IsProper command.now) }
 {
@@ -294,10 +295,13 @@ pub fn plan<'a>(
     command: &ShipmentCommand<'a>,
     at: Moment,
 ) -> Result<Plan<'a>, PlanFault>
-    ensures planned { (s : Cargo) → IsViewOf s command.now at view.now → IfOk result (λ plan. effect s command.now at ≡ Ok (outcome_of plan)) }
-    ensures refused { (s : Cargo) → IsViewOf s command.now at view.now → IfErr result (RefusesAs (effect s command.now at)) }
+    ensures planned { (s : Cargo) → IsViewOf s command.now at view.now
+        → IfOk result (λ plan. effect s command.now at ≡ Ok (outcome_of plan)) }
+    ensures refused { (s : Cargo) → IsViewOf s command.now at view.now
+        → IfErr result (RefusesAs (effect s command.now at)) }
     // The text of a part that the telegram is has yet to be kept.
-    ensures stays_lawful { (s : Cargo) → IsViewOf s command.now at view.now → IfOk result (StaysLawful s) }
+    ensures stays_lawful { (s : Cargo) → IsViewOf s command.now at view.now
+        → IfOk result (StaysLawful s) }
 {
     let meant = day_meant(command, at);
     if !fits(view, command, meant) {

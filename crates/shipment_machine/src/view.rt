@@ -1,9 +1,8 @@
 ghost use Rattle.std.specs.Prelude.{◌≡◌, ◌≤◌, ◌↔◌, length, IsSome, IfSome};
 
 use crate::amount::Amount;
-use crate::balances::Balances;
 use crate::flight::FlightDate;
-use crate::moves::{Declared, Expected, Outbound};
+use crate::moves::{Balances, Declared, Expected, Outbound};
 use agent_stock::Holder;
 use awb_number::Awb;
 use imp_fields::Airport;
@@ -44,7 +43,7 @@ pub struct FlightLoad {
     pub load: Amount,
 }
 
-/// All waybills on a flight, their numbers rising, 500 at most.
+/// All waybills on a flight, in ascending order, 500 at most.
 #[derive(Drop)]
 pub struct Loads {
     loads: Vec<FlightLoad>,

@@ -178,16 +178,8 @@ noted_quiet false change quiet = tt
 
 outcome_quiet : (s : Cargo) (c : DeskCommand) (at : LocalMinute) → Quiet (rule s (shipment.Desk c) at).outcome
 outcome_quiet s (desk.Book w origin destination p t goods) at = used_quiet (s.holders w) w
-outcome_quiet s (desk.Receive w p t name) at = tt
 outcome_quiet s (desk.Manifest w flight unload p) at = noted_quiet _ _ tt
-outcome_quiet s (desk.Offload w flight p) at = tt
-outcome_quiet s (desk.Depart flight) at = tt
-outcome_quiet s (desk.CheckIn w flight counted) at = tt
-outcome_quiet s (desk.Notify w name) at = tt
-outcome_quiet s (desk.Deliver w p name) at = tt
-outcome_quiet s (desk.Missing w p flight) at = tt
-outcome_quiet s (desk.Found w p t flight) at = tt
-outcome_quiet s (desk.Confirm upto) at = tt
+outcome_quiet s c at = tt
 
 desk_quiet : (s : Cargo) (c : DeskCommand) (at : LocalMinute) → Quiet (effect s (shipment.Desk c) at)
 desk_quiet s c at = unless (first_refusal (rule s (shipment.Desk c) at).refusals) (rule s (shipment.Desk c) at).outcome (outcome_quiet s c at)
@@ -196,16 +188,7 @@ desk_quiet s c at = unless (first_refusal (rule s (shipment.Desk c) at).refusals
 
 desk_proper : (c : DeskCommand) → IsDeskCommand c → IsProper (shipment.Desk c)
 desk_proper (desk.Book w origin destination p t goods) range = range.3.0
-desk_proper (desk.Receive w p t name) range = tt
-desk_proper (desk.Manifest w flight unload p) range = tt
-desk_proper (desk.Offload w flight p) range = tt
-desk_proper (desk.Depart flight) range = tt
-desk_proper (desk.CheckIn w flight counted) range = tt
-desk_proper (desk.Notify w name) range = tt
-desk_proper (desk.Deliver w p name) range = tt
-desk_proper (desk.Missing w p flight) range = tt
-desk_proper (desk.Found w p t flight) range = tt
-desk_proper (desk.Confirm upto) range = tt
+desk_proper c range = tt
 
 lines_proper : (lines : List InboundLine) → AllByRecursion IsInboundLine lines → AllByRecursion HasPieces lines
 lines_proper [] all = tt

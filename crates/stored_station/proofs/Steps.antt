@@ -130,16 +130,8 @@ noted_quiet false change quiet = tt
 
 outcome_quiet : (s : Cargo) (c : DeskCommand) (at : LocalMinute) → Quiet (rule s (shipment.Desk c) at).outcome
 outcome_quiet s (desk.Book w origin destination p t goods) at = used_quiet (s.holders w) w
-outcome_quiet s (desk.Receive w p t name) at = tt
 outcome_quiet s (desk.Manifest w flight unload p) at = noted_quiet _ _ tt
-outcome_quiet s (desk.Offload w flight p) at = tt
-outcome_quiet s (desk.Depart flight) at = tt
-outcome_quiet s (desk.CheckIn w flight counted) at = tt
-outcome_quiet s (desk.Notify w name) at = tt
-outcome_quiet s (desk.Deliver w p name) at = tt
-outcome_quiet s (desk.Missing w p flight) at = tt
-outcome_quiet s (desk.Found w p t flight) at = tt
-outcome_quiet s (desk.Confirm upto) at = tt
+outcome_quiet s c at = tt
 
 desk_quiet : (s : Cargo) (c : DeskCommand) (at : LocalMinute) → Quiet (effect s (shipment.Desk c) at)
 desk_quiet s c at = unless (first_refusal (rule s (shipment.Desk c) at).refusals) (rule s (shipment.Desk c) at).outcome (outcome_quiet s c at)

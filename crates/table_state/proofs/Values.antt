@@ -14,7 +14,7 @@ use Rattle.stock_tables.specs.Stocked.{Stocked}
 use Rattle.row_values.specs.Stock.{holders_in}
 use Rattle.shipment_machine.specs.Book.{has_moves, balances_of, built, waybills_of}
 use Rattle.shipment_machine.specs.declared.amount.Amount.{Amount}
-use Rattle.shipment_machine.specs.declared.balances.Balances.{Balances}
+use Rattle.shipment_machine.specs.declared.moves.Balances.{Balances}
 use Rattle.row_values.specs.Counts.{AreCounts, AreBuilds}
 use Rattle.state_store.specs.declared.store.Load.{Load}
 use Rattle.shipment_machine.specs.declared.flight.FlightDate.{FlightDate}

@@ -1,6 +1,6 @@
 use Rattle.std.proofs.Common.{◌+◌, sym, ap, ◌∙◌}
 use Rattle.shipment_machine.specs.declared.amount.Amount.{Amount}
-use Rattle.shipment_machine.specs.declared.balances.Balances.{Balances}
+use Rattle.shipment_machine.specs.declared.moves.Balances.{Balances}
 use Rattle.shipment_machine.specs.Book.{store}
 use Rattle.state_store.proofs.telling.stored.Goals as goal
 

@@ -1,5 +1,5 @@
 use Rattle.std.proofs.Common.{◌∙◌, ap}
-use Rattle.shipment_machine.specs.declared.balances.Balances.{Balances}
+use Rattle.shipment_machine.specs.declared.moves.Balances.{Balances}
 use Rattle.shipment_machine.specs.Book.{store}
 use Rattle.plain_cargo.proofs.Within.{within_places}
 use Rattle.plain_cargo.specs.Plain.{cargo_of}

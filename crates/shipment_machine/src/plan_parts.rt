@@ -7,9 +7,8 @@ ghost use Rattle.shipment_machine.specs.Effect.{about as waybill_refusal, only_f
 ghost use Rattle.shipment_machine.specs.declared.plans.PlanFault.TheVariants as fault;
 
 use crate::amount::{Amount, is_within};
-use crate::balances::Balances;
 use crate::flight::FlightDate;
-use crate::moves::{Declared, Move, Place};
+use crate::moves::{Balances, Declared, Move, Place};
 use crate::notice::{Event, Notice};
 use crate::plans::{Detail, Plan, PlanFault, Refusal};
 use awb_number::Awb;
@@ -44,7 +43,7 @@ pub(crate) fn refuse_flight(number: u16, flight: FlightDate) -> PlanFault
     })
 }
 
-/// The refusal for want of free pieces.
+/// The refusal where too few pieces are free.
 pub(crate) fn refuse_free(free: Amount) -> PlanFault
     requires { IsHeld free }
     ensures { result ≡ fault.Refused (free_refusal free.pieces) }
@@ -149,7 +148,8 @@ pub(crate) fn add_move(
     at: Moment,
 ) -> Result<(), AllocError>
     requires { IsHeld amount }
-    ensures { OnOk result (moves.new.items ≡ moves.old.items ++ moved awb from to amount flight at) }
+    ensures { OnOk result (moves.new.items ≡ moves.old.items
+        ++ moved awb from to amount flight at) }
 {
     if amount.pieces == 0 {
         return Ok(());
@@ -176,7 +176,8 @@ pub(crate) fn add_notice(
     amount: Amount,
 ) -> Result<(), AllocError>
     requires { IsHeld amount }
-    ensures { OnOk result (notices.new.items ≡ notices.old.items ++ told here awb declared.now event amount) }
+    ensures { OnOk result (notices.new.items ≡ notices.old.items
+        ++ told here awb declared.now event amount) }
 {
     if amount.pieces == 0 {
         return Ok(());
