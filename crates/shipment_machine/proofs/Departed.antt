@@ -17,7 +17,7 @@ use Rattle.shipment_machine.specs.Flights.{same_flight_date}
 use Rattle.shipment_machine.specs.Book.{same_place, pieces_of, built, has_moves, waybills_on}
 use Rattle.shipment_machine.specs.Cargo.{Cargo}
 use Rattle.shipment_machine.specs.Views.{declaration, loads_of}
-use Rattle.shipment_machine.specs.Effect.{is_closed, moved, depart_moves}
+use Rattle.shipment_machine.specs.Effect.{is_closed, move_of, depart_moves}
 use Rattle.shipment_machine.specs.Lawful.{IsLawful, IsLawfulMove, IsNoted, departs_with}
 use Rattle.shipment_machine.proofs.Places.{added}
 use Rattle.shipment_machine.proofs.FlightKeys.{same-comm}
@@ -164,11 +164,11 @@ abbrev aboard_of : Cargo → FlightDate → ℕ → FlightLoad
 aboard_of s flight w = record { awb = w; declared = declaration s w; load = built s.book w flight }
 
 moves_of : (s : Cargo) (flight : FlightDate) (at : LocalMinute) (ws : List ℕ) → ((w : ℕ) → is_in w ws ≡ true → 1 ≤ (built s.book w flight).pieces) →
-    flat_map (λ a. moved a.awb (Built flight) Departed a.load (Some flight) at) (map (aboard_of s flight) ws) ≡ off (loaded s flight) flight (Some flight) at ws
+    flat_map (λ a. move_of a.awb (Built flight) Departed a.load (Some flight) at) (map (aboard_of s flight) ws) ≡ off (loaded s flight) flight (Some flight) at ws
 moves_of s flight at [] some = refl
 moves_of s flight at (w ∷ ws) some =
     let first : ((built s.book w flight).pieces == 0) ≡ false = positive _ (some w (in_first w (is_in w ws))) in
-    ap (λ (b : Bool). (if b then [] else off_flight w flight (built s.book w flight) (Some flight) at ∷ []) ++ flat_map (λ a. moved a.awb (Built flight) Departed a.load (Some flight) at) (map (aboard_of s flight) ws)) first
+    ap (λ (b : Bool). (if b then [] else off_flight w flight (built s.book w flight) (Some flight) at ∷ []) ++ flat_map (λ a. move_of a.awb (Built flight) Departed a.load (Some flight) at) (map (aboard_of s flight) ws)) first
     ∙ ap (λ (ms : List Move). off_flight w flight (built s.book w flight) (Some flight) at ∷ ms) (moves_of s flight at ws (λ q h. some q (in_later w q (is_in q ws) h)))
   where
     positive : (n : ℕ) → 1 ≤ n → (n == 0) ≡ false

@@ -6,8 +6,6 @@ use Rattle.std.specs.List.{AllByRecursion}
 use Rattle.std.proofs.lemmas.Bool.{ltb-false}
 use Rattle.std.proofs.lemmas.List.{append-nil}
 use Rattle.imp_fields.specs.Date.{LocalMinute}
-use Rattle.shipment_machine.specs.declared.moves.Place.{Place}
-use Rattle.shipment_machine.specs.declared.moves.Place.TheVariants.{Hand, Surplus, Free, Built, Departed, Delivered, Missing}
 use Rattle.shipment_machine.specs.declared.moves.Move.{Move}
 use Rattle.shipment_machine.specs.declared.moves.Declared.{Declared}
 use Rattle.shipment_machine.specs.declared.moves.Expected.{Expected}
@@ -18,7 +16,7 @@ use Rattle.shipment_machine.specs.declared.plans.Refusal.{Refusal}
 use Rattle.shipment_machine.specs.Cargo.{Cargo}
 use Rattle.shipment_machine.specs.Views.{declaration, undeclared}
 use Rattle.shipment_machine.specs.Effect.{Outcome, effect, rule, first_refusal, unless_refused, carried_out}
-use Rattle.shipment_machine.specs.Lawful.{IsLawful, IsLawfulAmount, IsNoted}
+use Rattle.shipment_machine.specs.Lawful.{IsLawful, IsLawfulAmount}
 use Rattle.shipment_machine.proofs.Places.{noted_under}
 
 -- no test of a list of refusals holds

@@ -1,5 +1,5 @@
 -- Whatever is done, a lawful state stays lawful. The commands that take up few lines are here, the others in files of their own.
-use Rattle.std.proofs.Common.{◌≡◌, ℕ, zero, suc, ◌+◌, ◌-◌, ◌≤◌, min, max, true, false, Option, Some, None, IsSome, List, ◌++◌, refl, subst, arith, append_assoc}
+use Rattle.std.proofs.Common.{◌≡◌, ℕ, zero, suc, ◌+◌, ◌-◌, ◌≤◌, min, max, true, false, Option, Some, None, IsSome, List, refl, subst, arith, append_assoc}
 use Rattle.std.specs.Prelude.{IfOk}
 use Rattle.std.proofs.lemmas.Bool.{ltb-false}
 use Rattle.std.proofs.lemmas.List.Elements.{recursion_from_All}
@@ -15,8 +15,8 @@ use Rattle.shipment_machine.specs.declared.command.ShipmentCommand.TheVariants a
 use Rattle.shipment_machine.specs.Amount.{amount, part, plus}
 use Rattle.shipment_machine.specs.Book.{pieces_of, tenths_of, free, built, missing, taken_and_found}
 use Rattle.shipment_machine.specs.Cargo.{Cargo}
-use Rattle.shipment_machine.specs.Effect.{effect, carried_out, moved, surplus}
-use Rattle.shipment_machine.specs.Lawful.{is_pair, IsLawful, IsNoted, IsProper, NamesFlight, HasPieces}
+use Rattle.shipment_machine.specs.Effect.{effect, carried_out, move_of, surplus}
+use Rattle.shipment_machine.specs.Lawful.{is_pair, IsLawful, IsNoted, NamesFlight, HasPieces}
 use Rattle.shipment_machine.specs.Laws.{KeepsLawful}
 use Rattle.shipment_machine.proofs.Places.{is_built}
 use Rattle.shipment_machine.proofs.Conserved.{came, held_free, held_built, held_missing}
@@ -35,7 +35,7 @@ Keeps s command = (at : LocalMinute) (text : List ℕ) → IsLawful s → IfOk (
 
 -- a part of the free cargo may go to a place that isn't built
 free_to : (s : Cargo) (w p : ℕ) (to : Place) (flight : Option FlightDate) (at : LocalMinute) → is_pair Free to ≡ true → is_built to ≡ false → IsNoted s to → NamesFlight to flight
-    → IsSome (s.declared w) → p ≤ there_are pieces_of s.book w Free → IsLawful s → IsLawful (with_moves s (moved w Free to (part (free s.book w) p) flight at))
+    → IsSome (s.declared w) → p ≤ there_are pieces_of s.book w Free → IsLawful s → IsLawful (with_moves s (move_of w Free to (part (free s.book w) p) flight at))
 free_to s w p to flight at pair plain noted names known within law =
     let held = held_free s w law in
     may_move s w Free to (part (free s.book w) p) flight at (λ some.
@@ -89,16 +89,16 @@ keeps_found s w p t flight at text law = by_refusals s (order.Desk (desk.Found w
     let back : Amount = part (missing s.book w) (min p (missing s.book w).pieces) in
     let more : Amount = surplus (p - (missing s.book w).pieces) t in
     let room = fits_parts (plus (taken_and_found s.book w) more) none.1.0 in
-    let s1 : Cargo = with_moves s (moved w Missing Free back flight at) in
+    let s1 : Cargo = with_moves s (move_of w Missing Free back flight at) in
     let law1 : IsLawful s1 = may_move s w Missing Free back flight at (λ some.
     lawful_after s _ (inside_fits s w (min p (missing s.book w).pieces) Missing Free flight at refl refl some (back_held s w p) known tt tt tt tt held.pieces law) refl refl law) law in
     let pieces1 : came pieces_of s1.book w ≤ came pieces_of s.book w = came_inside s pieces_of w Missing Free back flight at refl refl law in
     let tenths1 : came tenths_of s1.book w ≤ came tenths_of s.book w = came_inside s tenths_of w Missing Free back flight at refl refl law in
     let all : came pieces_of s.book w + more.pieces ≤ 9999 = room.0 in
     let heavy : came tenths_of s.book w + more.tenths ≤ 999999 = room.1 in
-    let law2 : IsLawful (with_moves s1 (moved w Surplus Free more flight at)) = may_move s1 w Surplus Free more flight at (λ some.
+    let law2 : IsLawful (with_moves s1 (move_of w Surplus Free more flight at)) = may_move s1 w Surplus Free more flight at (λ some.
     lawful_after s1 _ (outside_fits s1 w more.pieces more.tenths Surplus Free flight at refl refl some (surplus_heavy (p - (missing s.book w).pieces) t) known tt tt tt tt (omega arith) (omega arith)) refl refl law1) law1 in
-    subst (λ (book : List Move). IsLawful (record s { book = book })) (append_assoc {A = Move} s.book (moved w Missing Free back flight at) (moved w Surplus Free more flight at)) law2)
+    subst (λ (book : List Move). IsLawful (record s { book = book })) (append_assoc {A = Move} s.book (move_of w Missing Free back flight at) (move_of w Surplus Free more flight at)) law2)
 
 pub keeps_lawful : KeepsLawful
 keeps_lawful s (order.Desk (desk.Book w origin destination p t goods)) at text law proper = keeps_book s w origin destination p t goods at text proper law

@@ -22,7 +22,7 @@ use Rattle.shipment_machine.specs.Amount.{part, less, plus}
 use Rattle.shipment_machine.specs.Book.{pieces_of, tenths_of, free, built, taken_and_found, waybills_on}
 use Rattle.shipment_machine.specs.Cargo.{Cargo, written_all}
 use Rattle.shipment_machine.specs.Views.{declaration}
-use Rattle.shipment_machine.specs.Effect.{effect, carried_out, moved, is_closed, unload_of, expected_amount, counted_in, uncounted, counted_more, check_in_moves}
+use Rattle.shipment_machine.specs.Effect.{effect, carried_out, move_of, is_closed, unload_of, expected_amount, counted_in, uncounted, counted_more, check_in_moves}
 use Rattle.shipment_machine.specs.Lawful.{IsLawful, IsLawfulAmount, IsNoted}
 use Rattle.shipment_machine.proofs.FlightKeys.{same-refl}
 use Rattle.shipment_machine.proofs.OnFlight.{is_in-waybills_on}
@@ -74,20 +74,20 @@ keeps_check_in s w flight counted at text law = by_refusals s (order.Desk (desk.
     let all : came pieces_of s.book w + (e.pieces + more.pieces) ≤ 9999 = room.0 in
     let heavy : came tenths_of s.book w + (e.tenths + more.tenths) ≤ 999999 = room.1 in
     let sp : Split e first rest = split e counted fine in
-    let s1 : Cargo = with_moves s (moved w Hand Free first (Some flight) at) in
+    let s1 : Cargo = with_moves s (move_of w Hand Free first (Some flight) at) in
     let law1 : IsLawful s1 = may_move s w Hand Free first (Some flight) at (λ some.
     lawful_after s _ (outside_fits s w first.pieces first.tenths Hand Free (Some flight) at refl refl some sp.heavy known tt tt tt tt (omega (arith, sp.pieces)) (omega (arith, sp.tenths))) refl refl law) law in
     let pieces1 : came pieces_of s1.book w ≤ came pieces_of s.book w + first.pieces = came_with s pieces_of w Hand Free first (Some flight) at first.pieces refl (omega arith) law in
     let tenths1 : came tenths_of s1.book w ≤ came tenths_of s.book w + first.tenths = came_with s tenths_of w Hand Free first (Some flight) at first.tenths refl (omega arith) law in
-    let s2 : Cargo = with_moves s1 (moved w Hand Missing rest (Some flight) at) in
+    let s2 : Cargo = with_moves s1 (move_of w Hand Missing rest (Some flight) at) in
     let law2 : IsLawful s2 = may_move s1 w Hand Missing rest (Some flight) at (λ some.
     lawful_after s1 _ (outside_fits s1 w rest.pieces rest.tenths Hand Missing (Some flight) at refl refl some sp.rest_heavy known tt tt tt tt (omega (arith, sp.pieces)) (omega (arith, sp.tenths))) refl refl law1) law1 in
     let pieces2 : came pieces_of s2.book w ≤ came pieces_of s1.book w + rest.pieces = came_with s1 pieces_of w Hand Missing rest (Some flight) at rest.pieces refl (omega arith) law1 in
     let tenths2 : came tenths_of s2.book w ≤ came tenths_of s1.book w + rest.tenths = came_with s1 tenths_of w Hand Missing rest (Some flight) at rest.tenths refl (omega arith) law1 in
-    let law3 : IsLawful (with_moves s2 (moved w Surplus Free more (Some flight) at)) = may_move s2 w Surplus Free more (Some flight) at (λ some.
+    let law3 : IsLawful (with_moves s2 (move_of w Surplus Free more (Some flight) at)) = may_move s2 w Surplus Free more (Some flight) at (λ some.
     lawful_after s2 _ (outside_fits s2 w more.pieces more.tenths Surplus Free (Some flight) at refl refl some (share_heavy e.pieces e.tenths (counted - e.pieces) fine.some fine.tenth_a_piece) known tt tt tt tt (omega (arith, sp.pieces)) (omega (arith, sp.tenths))) refl refl law2) law2 in
-    let joined : ((s.book ++ moved w Hand Free first (Some flight) at) ++ moved w Hand Missing rest (Some flight) at) ++ moved w Surplus Free more (Some flight) at ≡ s.book ++ check_in_moves w flight e counted at =
-    join s.book (moved w Hand Free first (Some flight) at) (moved w Hand Missing rest (Some flight) at) (moved w Surplus Free more (Some flight) at) in
+    let joined : ((s.book ++ move_of w Hand Free first (Some flight) at) ++ move_of w Hand Missing rest (Some flight) at) ++ move_of w Surplus Free more (Some flight) at ≡ s.book ++ check_in_moves w flight e counted at =
+    join s.book (move_of w Hand Free first (Some flight) at) (move_of w Hand Missing rest (Some flight) at) (move_of w Surplus Free more (Some flight) at) in
     expects text (record s { book = s.book ++ check_in_moves w flight e counted at }) flight w (record { pieces = e.pieces; tenths = e.tenths; checked = true }) fine known
     (subst (λ (book : List Move). IsLawful (record s { book = book })) joined law3))
   where
@@ -110,7 +110,7 @@ room_for s w flight e = elim ((built s.book w flight).pieces == 0) as (λ b. ((b
 
 -- onto a noted flight
 onto : (s : Cargo) (w p : ℕ) (flight : FlightDate) (at : LocalMinute) → IsSome (s.declared w) → is_closed (s.flights flight) ≡ false → IsNoted s (Built flight) → p ≤ there_are pieces_of s.book w Free → there_are pieces_of s.book w Free ≤ 9999 → HasRoom s w flight → IsLawful s →
-    IsLawful (with_moves s (moved w Free (Built flight) (part (free s.book w) p) (Some flight) at))
+    IsLawful (with_moves s (move_of w Free (Built flight) (part (free s.book w) p) (Some flight) at))
 onto s w p flight at known ajar noted within few room law =
     may_move s w Free (Built flight) (part (free s.book w) p) (Some flight) at (λ some.
     manifested s w p _ flight (Some flight) at (inside_fits s w p Free (Built flight) (Some flight) at refl refl some within known tt noted tt refl few law) ajar room law) law
@@ -124,7 +124,7 @@ keeps_manifest s w p flight unload at text law = by_refusals s (order.Desk (desk
     let within : p ≤ there_are pieces_of s.book w Free = ltb-false _ _ none.1.1.1.1.0 in
     let room : HasRoom s w flight = room_for s w flight none.1.1.1.1.1.0 in
     let o : Outbound = record { unload = unload; closed = false } in
-    elim (s.flights flight) as (λ was. s.flights flight ≡ was → IsLawful (written_all text (if is_none was then NoteFlight flight o ∷ [] else []) (with_moves s (moved w Free (Built flight) (part (free s.book w) p) (Some flight) at)))) [
+    elim (s.flights flight) as (λ was. s.flights flight ≡ was → IsLawful (written_all text (if is_none was then NoteFlight flight o ∷ [] else []) (with_moves s (move_of w Free (Built flight) (part (free s.book w) p) (Some flight) at)))) [
       | None ↦ λ e. onto (with_note s flight o) w p flight at known (ap (λ (b : Bool). is_closed (if b then Some o else s.flights flight)) (same-refl flight)) (ap (λ (b : Bool). is_some (if b then Some o else s.flights flight)) (same-refl flight)) within few room
           (noted_open s flight o e refl away law)
       | Some was ↦ λ e. onto s w p flight at known none.1.1.0 (ap is_some e) within few room law

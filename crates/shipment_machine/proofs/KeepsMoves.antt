@@ -1,7 +1,7 @@
 -- Moves that keep a state lawful: a part of what is at a place, or pieces from outside.
-use Rattle.std.proofs.Common.{◌≡◌, ℕ, zero, suc, ◌+◌, ◌-◌, ◌≤◌, min, Bool, true, false, not, ◌==◌, nat_le, Option, Some, None, is_none, IsSome, IfOk, List, [], ◌∷◌, ◌++◌, refl, sym, subst, ◌∙◌, arith, append_assoc, true≢false}
+use Rattle.std.proofs.Common.{◌≡◌, ℕ, ◌+◌, ◌≤◌, Bool, true, false, not, ◌==◌, nat_le, Option, Some, None, is_none, IsSome, List, [], ◌∷◌, ◌++◌, refl, sym, subst, ◌∙◌, arith, true≢false}
 use Rattle.std.specs.Bool.{if◌then◌else◌}
-use Rattle.std.proofs.lemmas.Bool.{and_parts, leb-true, ltb-false}
+use Rattle.std.proofs.lemmas.Bool.{and_parts, leb-true}
 use Rattle.std.proofs.lemmas.Bool.Decides.{nat_tests}
 use Rattle.std.proofs.lemmas.List.{append-nil}
 use Rattle.imp_fields.specs.Amount.{share_of}
@@ -9,21 +9,16 @@ use Rattle.imp_fields.specs.Date.{LocalMinute}
 use Rattle.shipment_machine.specs.declared.amount.Amount.{Amount}
 use Rattle.shipment_machine.specs.declared.flight.FlightDate.{FlightDate}
 use Rattle.shipment_machine.specs.declared.moves.Place.{Place}
-use Rattle.shipment_machine.specs.declared.moves.Place.TheVariants.{Surplus, Free, Built, Delivered, Missing}
 use Rattle.shipment_machine.specs.declared.moves.Move.{Move}
-use Rattle.shipment_machine.specs.declared.command.ShipmentCommand.TheVariants as order
-use Rattle.shipment_machine.specs.declared.command.DeskCommand.TheVariants as desk
-use Rattle.shipment_machine.specs.Amount.{part, plus, fits}
-use Rattle.shipment_machine.specs.Book.{pieces_of, tenths_of, free, built, missing, taken_and_found}
+use Rattle.shipment_machine.specs.Amount.{fits}
+use Rattle.shipment_machine.specs.Book.{pieces_of, tenths_of}
 use Rattle.shipment_machine.specs.Cargo.{Cargo}
-use Rattle.shipment_machine.specs.Effect.{effect, carried_out, moved, surplus}
+use Rattle.shipment_machine.specs.Effect.{move_of}
 use Rattle.shipment_machine.specs.Lawful.{is_outside, is_pair, IsLawful, IsNoted, NamesFlight}
 use Rattle.shipment_machine.proofs.Conserved.{came}
-use Rattle.shipment_machine.proofs.Keeps.{by_refusals}
 use Rattle.shipment_machine.proofs.SoundBook.{IsFitting, with_move, there_are, came_after, part_leaves}
 use Rattle.shipment_machine.proofs.Places.{added}
-use Rattle.shipment_machine.proofs.PlainMoves.{sound_of, lawful_after}
-use Rattle.shipment_machine.proofs.FlightMoves.{offloaded}
+use Rattle.shipment_machine.proofs.PlainMoves.{sound_of}
 use Rattle.imp_fields.proofs.ShareLemmas.{share_heavy}
 
 pub not_false : (b : Bool) → not b ≡ false → b ≡ true
@@ -43,7 +38,7 @@ rests s law = subst (λ (book : List Move). IsLawful (record s { book = book }))
 
 -- a move that is made where it has a piece
 pub may_move : (s : Cargo) (w : ℕ) (from to : Place) (a : Amount) (flight : Option FlightDate) (at : LocalMinute) →
-    (1 ≤ a.pieces → IsLawful (with_move s (record { awb = w; from = from; to = to; pieces = a.pieces; tenths = a.tenths; flight = flight; at = at }))) → IsLawful s → IsLawful (with_moves s (moved w from to a flight at))
+    (1 ≤ a.pieces → IsLawful (with_move s (record { awb = w; from = from; to = to; pieces = a.pieces; tenths = a.tenths; flight = flight; at = at }))) → IsLawful s → IsLawful (with_moves s (move_of w from to a flight at))
 may_move s w from to a flight at moves law =
     elim (a.pieces == 0) as (λ b. (a.pieces == 0) ≡ b → IsLawful (with_moves s (if b then [] else record { awb = w; from = from; to = to; pieces = a.pieces; tenths = a.tenths; flight = flight; at = at } ∷ []))) [
       | true ↦ λ _. rests s law
@@ -99,7 +94,7 @@ outside_fits s w n t from to flight at outside pair some heavy known noted_from 
 
 -- what came in with a move, at most
 pub came_with : (s : Cargo) (measure : Move → ℕ) (w : ℕ) (from to : Place) (a : Amount) (flight : Option FlightDate) (at : LocalMinute) (n : ℕ) → is_pair from to ≡ true → measure (record { awb = w; from = from; to = to; pieces = a.pieces; tenths = a.tenths; flight = flight; at = at }) ≤ n → IsLawful s →
-    came measure (s.book ++ moved w from to a flight at) w ≤ came measure s.book w + n
+    came measure (s.book ++ move_of w from to a flight at) w ≤ came measure s.book w + n
 came_with s measure w from to a flight at n pair most law =
     elim (a.pieces == 0) as (λ b. came measure (s.book ++ (if b then [] else record { awb = w; from = from; to = to; pieces = a.pieces; tenths = a.tenths; flight = flight; at = at } ∷ [])) w ≤ came measure s.book w + n) [
       | true ↦ subst (λ (book : List Move). came measure book w ≤ came measure s.book w + n) (sym (append-nil s.book)) (omega arith)
@@ -117,7 +112,7 @@ came_with s measure w from to a flight at n pair most law =
 
 -- nothing came in with a move inside
 pub came_inside : (s : Cargo) (measure : Move → ℕ) (w : ℕ) (from to : Place) (a : Amount) (flight : Option FlightDate) (at : LocalMinute) → is_pair from to ≡ true → is_outside from ≡ false → IsLawful s →
-    came measure (s.book ++ moved w from to a flight at) w ≤ came measure s.book w
+    came measure (s.book ++ move_of w from to a flight at) w ≤ came measure s.book w
 came_inside s measure w from to a flight at pair inside law =
     elim (a.pieces == 0) as (λ b. came measure (s.book ++ (if b then [] else record { awb = w; from = from; to = to; pieces = a.pieces; tenths = a.tenths; flight = flight; at = at } ∷ [])) w ≤ came measure s.book w) [
       | true ↦ subst (λ (book : List Move). came measure book w ≤ came measure s.book w) (sym (append-nil s.book)) (omega arith)

@@ -28,7 +28,8 @@ abbrev pub rows_for : Cargo → ShipmentCommand → LocalMinute → Rows
 rows_for s (order.Desk command) at = rows_of s (reads command)
 rows_for s (order.Fwb c) at = rows_of s (key.Declaration c.awb)
 rows_for s (order.Ffm f) at =
-    if is_day (resolved f.date at.day) then rows.Lines (is_some (s.parts (inbound_part f at))) (map (line_view_of s (inbound_flight f at)) (lines_for s.here f.lines))
+    if is_day (resolved f.date at.day) then rows.Lines (is_some (s.parts (inbound_part f at)))
+    (map (line_view_of s (inbound_flight f at)) (lines_for s.here f.lines))
     else rows.Lines false []
 rows_for s (order.Fsu f) at = rows.Status (s.declared f.awb)
 
@@ -50,11 +51,15 @@ meant_by (order.Ffm f) at = resolved f.date at.day
 meant_by (order.Fsu f) at = None
 
 -- the answer to a command, from the rows that it reads; a manifest's date means this day
-abbrev pub rows_answer : List ℕ → Rows → ShipmentCommand → LocalMinute → Option ℕ → Result Outcome Refusal
+abbrev pub rows_answer : List ℕ → Rows → ShipmentCommand → LocalMinute → Option ℕ
+    → Result Outcome Refusal
 rows_answer here read (order.Desk command) at meant = decided (desk_rule here read command at)
-rows_answer here (rows.Declaration view) (order.Fwb c) at meant = decided (declaring view c.awb (declared_by c))
-rows_answer here (rows.Lines taken lines) (order.Ffm f) at meant = part_answer here taken lines f meant
-rows_answer here (rows.Status declared) (order.Fsu f) at meant = decided (noting_status declared f.awb f.lines)
+rows_answer here (rows.Declaration view) (order.Fwb c) at meant =
+    decided (declaring view c.awb (declared_by c))
+rows_answer here (rows.Lines taken lines) (order.Ffm f) at meant =
+    part_answer here taken lines f meant
+rows_answer here (rows.Status declared) (order.Fsu f) at meant =
+    decided (noting_status declared f.awb f.lines)
 rows_answer here _ _ at meant = decided no_rule
 
 -- Which rows fit a command.
@@ -76,7 +81,8 @@ AreRowsOf (key.Declaration w) (rows.Declaration view) = ⊤
 AreRowsOf (key.Waybill w) (rows.Waybill view) = AreSound view.balances
 AreRowsOf (key.Manifest w flight) (rows.Manifest view on) = AreSound view.balances
 AreRowsOf (key.Offload w flight) (rows.Offload declared outbound load) = IsHeld load
-AreRowsOf (key.Departure flight) (rows.Departure outbound loads) = All IsOnBoard loads × ((length loads == 0) ≡ false → IsSome outbound)
+AreRowsOf (key.Departure flight) (rows.Departure outbound loads) =
+    All IsOnBoard loads × ((length loads == 0) ≡ false → IsSome outbound)
 AreRowsOf (key.CheckIn w flight) (rows.CheckIn view expected) = IsHeld (expected_amount expected)
 AreRowsOf key.Messages (rows.Messages confirmed last) = ⊤
 AreRowsOf _ _ = ⊥
@@ -85,7 +91,8 @@ AreRowsOf _ _ = ⊥
 abbrev pub FitsCommand : List ℕ → Rows → ShipmentCommand → Option ℕ → Type 0
 FitsCommand here read (order.Desk command) meant = AreRowsOf (reads command) read
 FitsCommand here read (order.Fwb c) meant = AreRowsOf (key.Declaration c.awb) read
-FitsCommand here (rows.Lines taken lines) (order.Ffm f) meant = is_day meant ≡ true → length lines ≡ length (lines_for here f.lines)
+FitsCommand here (rows.Lines taken lines) (order.Ffm f) meant =
+    is_day meant ≡ true → length lines ≡ length (lines_for here f.lines)
 FitsCommand here (rows.Status declared) (order.Fsu f) meant = ⊤
 FitsCommand here _ _ meant = ⊥
 
@@ -93,7 +100,13 @@ FitsCommand here _ _ meant = ⊥
 
 -- what a plan does
 abbrev pub outcome_of : Plan → Outcome
-outcome_of plan = record { moves = plan.moves.items; notices = plan.notices.items; changes = plan.changes.items; count = plan.count }
+outcome_of plan =
+    record {
+      moves = plan.moves.items;
+      notices = plan.notices.items;
+      changes = plan.changes.items;
+      count = plan.count;
+    }
 
 -- a refusal is the effect's; out of memory, nothing is said; an effect never comes as a view that doesn't fit
 abbrev pub RefusesAs : Result Outcome Refusal → PlanFault → Type 0

@@ -38,25 +38,35 @@ expected_so_far None row = row.expected
 expected_so_far (Some e) row = Some e
 
 abbrev pub refusal_now : Option Expected → CargoLine → LineView → Option Refusal
-refusal_now before c row = first_refusal (row_refusals (is_new before row) row.holder (expected_so_far before row) c)
+refusal_now before c row =
+    first_refusal (row_refusals (is_new before row) row.holder (expected_so_far before row) c)
 
 abbrev pub changes_now : Option Expected → FlightDate → CargoLine → LineView → List Change
-changes_now before flight c row = row_changes (is_new before row) row.holder (expected_so_far before row) flight c
+changes_now before flight c row =
+    row_changes (is_new before row) row.holder (expected_so_far before row) flight c
 
 abbrev pub expected_now : Option Expected → CargoLine → LineView → Expected
 expected_now before c row = expected_after (expected_so_far before row) c
 
 -- what all lines write, each after those before it; or the first refusal
-abbrev pub announced_changes : Earlier → FlightDate → List CargoLine → List LineView → Result (List Change) Refusal
+abbrev pub announced_changes : Earlier → FlightDate → List CargoLine → List LineView
+    → Result (List Change) Refusal
 announced_changes earlier flight [] rows = Ok []
 announced_changes earlier flight (c ∷ cs) [] = Ok []
 announced_changes earlier flight (c ∷ cs) (row ∷ rows) =
     unless_refused (refusal_now (earlier c.awb) c row)
-    (then_write (changes_now (earlier c.awb) flight c row) (announced_changes (with_line earlier c.awb (expected_now (earlier c.awb) c row)) flight cs rows))
+    (then_write (changes_now (earlier c.awb) flight c row)
+    (announced_changes (with_line earlier c.awb (expected_now (earlier c.awb) c row)) flight cs
+    rows))
 
 -- the part that a telegram is, where its date means this day
 abbrev pub part_key : InboundPart → Option ℕ → Part
-part_key f meant = record { flight = record { flight = f.flight; day = unwrap_or meant 0 }; airport = f.loaded; number = f.number }
+part_key f meant =
+    record {
+      flight = record { flight = f.flight; day = unwrap_or meant 0 };
+      airport = f.loaded;
+      number = f.number;
+    }
 
 abbrev pub part_tests : Bool → InboundPart → Option ℕ → List (Bool × Refusal)
 part_tests taken f meant =
@@ -64,10 +74,12 @@ part_tests taken f meant =
     ∷ (taken, record { number = 213; detail = detail.Part (part_key f meant) }) ∷ []
 
 -- what it is answered, where it was taken or not, from the rows of its lines for here
-abbrev pub part_answer : List ℕ → Bool → List LineView → InboundPart → Option ℕ → Result Outcome Refusal
+abbrev pub part_answer : List ℕ → Bool → List LineView → InboundPart → Option ℕ
+    → Result Outcome Refusal
 part_answer here taken rows f meant =
     unless_refused (first_refusal (part_tests taken f meant))
-    (announced (part_key f meant) (length (lines_for here f.lines)) (announced_changes no_earlier (part_key f meant).flight (lines_for here f.lines) rows))
+    (announced (part_key f meant) (length (lines_for here f.lines))
+    (announced_changes no_earlier (part_key f meant).flight (lines_for here f.lines) rows))
 
 -- the rows of a waybill that a line declares, if it does
 abbrev pub first_rows : Option Declared → Option Holder → ℕ → List Change

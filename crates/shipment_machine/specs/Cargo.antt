@@ -47,15 +47,23 @@ opening_cargo here = record {
 
 -- whether two parts of manifests are one
 abbrev pub same_part : Part → Part → Bool
-same_part a b = same_flight_date a.flight b.flight && bytes_eq a.airport b.airport && (a.number == b.number)
+same_part a b =
+    same_flight_date a.flight b.flight && bytes_eq a.airport b.airport && (a.number == b.number)
 
 -- the state after one row is written, where the telegram in work has this text
 abbrev pub written : List ℕ → Change → Cargo → Cargo
-written text (Declare w declared) s = record s { declared = λ q. if q == w then Some declared else s.declared q }
+written text (Declare w declared) s =
+    record s { declared = λ q. if q == w then Some declared else s.declared q }
 written text (UseUp w) s = record s { holders = λ q. if q == w then Some Used else s.holders q }
-written text (NoteFlight flight outbound) s = record s { flights = λ k. if same_flight_date k flight then Some outbound else s.flights k }
-written text (Expect flight w expected) s = record s { expected = λ k q. if same_flight_date k flight && (q == w) then Some expected else s.expected k q }
-written text (NotePart part) s = record s { parts = λ k. if same_part k part then Some text else s.parts k }
+written text (NoteFlight flight outbound) s =
+    record s { flights = λ k. if same_flight_date k flight then Some outbound else s.flights k }
+written text (Expect flight w expected) s =
+    record s {
+      expected = λ k q. if same_flight_date k flight && (q == w) then Some expected
+          else s.expected k q;
+    }
+written text (NotePart part) s =
+    record s { parts = λ k. if same_part k part then Some text else s.parts k }
 written text (Trail w line) s = record s { trail = s.trail ++ (w, line) ∷ [] }
 written text (Confirm upto) s = record s { confirmed = upto }
 

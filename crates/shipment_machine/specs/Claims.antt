@@ -5,4 +5,12 @@ use Rattle.shipment_machine.specs.declared.acceptance.Claim.{Claim}
 
 -- the declaration that a claim is for
 abbrev pub claimed : Claim → Declared
-claimed c = record { origin = c.origin; destination = c.destination; pieces = c.pieces; tenths = c.tenths; goods = c.goods; notified = false }
+claimed c =
+    record {
+      origin = c.origin;
+      destination = c.destination;
+      pieces = c.pieces;
+      tenths = c.tenths;
+      goods = c.goods;
+      notified = false;
+    }

@@ -164,18 +164,26 @@ row_refusals new who expected c =
     let e = expected_after expected c in
     (is_checked expected, about 214 c.awb)
     ∷ (new && at_desk_or_void who, about 203 c.awb)
-    ∷ ((new && not (fits (amount d.pieces d.tenths))) || not (fits (amount e.pieces e.tenths)), about 217 c.awb) ∷ []
+    ∷ (
+      (new && not (fits (amount d.pieces d.tenths))) || not (fits (amount e.pieces e.tenths)),
+      about 217 c.awb,
+    ) ∷ []
 
 -- what a line writes: an unknown waybill is declared, and the line adds to what is expected
-abbrev pub row_changes : Bool → Option Holder → Option Expected → FlightDate → CargoLine → List Change
-row_changes new who expected flight c = (if new then declare who c.awb (declared_by c) else []) ++ Expect flight c.awb (expected_after expected c) ∷ []
+abbrev pub row_changes : Bool → Option Holder → Option Expected → FlightDate → CargoLine
+    → List Change
+row_changes new who expected flight c =
+    (if new then declare who c.awb (declared_by c) else [])
+    ++ Expect flight c.awb (expected_after expected c) ∷ []
 
 -- the same in a state, which the lines before it have changed
 abbrev pub line_refusals : Cargo → FlightDate → CargoLine → List (Bool × Refusal)
-line_refusals s flight c = row_refusals (is_none (s.declared c.awb)) (s.holders c.awb) (s.expected flight c.awb) c
+line_refusals s flight c =
+    row_refusals (is_none (s.declared c.awb)) (s.holders c.awb) (s.expected flight c.awb) c
 
 abbrev pub line_changes : Cargo → FlightDate → CargoLine → List Change
-line_changes s flight c = row_changes (is_none (s.declared c.awb)) (s.holders c.awb) (s.expected flight c.awb) flight c
+line_changes s flight c =
+    row_changes (is_none (s.declared c.awb)) (s.holders c.awb) (s.expected flight c.awb) flight c
 
 -- in front of what the later lines write
 abbrev pub then_write : List Change → Result (List Change) Refusal → Result (List Change) Refusal
@@ -191,7 +199,8 @@ abbrev pub lines_changes : Cargo → FlightDate → List CargoLine → Result (L
 lines_changes s flight [] = Ok []
 lines_changes s flight (c ∷ cs) =
     unless_refused (first_refusal (line_refusals s flight c))
-    (then_write (line_changes s flight c) (lines_changes (written_all [] (line_changes s flight c) s) flight cs))
+    (then_write (line_changes s flight c)
+    (lines_changes (written_all [] (line_changes s flight c) s) flight cs))
 
 -- the day must exist, and be one of a Moment
 abbrev pub is_day : Option ℕ → Bool
@@ -201,22 +210,41 @@ is_day (Some day) = is_moment_day day
 -- Moves and notices.
 
 -- a move, unless it is of no piece
-abbrev pub moved : ℕ → Place → Place → Amount → Option FlightDate → LocalMinute → List Move
-moved w from to a flight at =
-    if a.pieces == 0 then [] else record { awb = w; from = from; to = to; pieces = a.pieces; tenths = a.tenths; flight = flight; at = at } ∷ []
+abbrev pub move_of : ℕ → Place → Place → Amount → Option FlightDate → LocalMinute → List Move
+move_of w from to a flight at =
+    if a.pieces == 0 then []
+    else record {
+      awb = w;
+      from = from;
+      to = to;
+      pieces = a.pieces;
+      tenths = a.tenths;
+      flight = flight;
+      at = at;
+    } ∷ []
 
 -- a waybill as a message names it
 abbrev pub consigned : ℕ → Declared → Consigned
-consigned w d = record { awb = w; origin = d.origin; destination = d.destination; pieces = d.pieces; tenths = d.tenths }
+consigned w d =
+    record {
+      awb = w;
+      origin = d.origin;
+      destination = d.destination;
+      pieces = d.pieces;
+      tenths = d.tenths;
+    }
 
 -- a status message from here, unless it is of no piece
-abbrev pub told : List ℕ → ℕ → Declared → Event → Amount → List Notice
-told here w d event a = if a.pieces == 0 then [] else notice.Status here (consigned w d) event a.pieces a.tenths ∷ []
+abbrev pub status_of : List ℕ → ℕ → Declared → Event → Amount → List Notice
+status_of here w d event a =
+    if a.pieces == 0 then [] else notice.Status here (consigned w d) event a.pieces a.tenths ∷ []
 
 -- a discrepancy, where a flight is named
-abbrev pub told_differs : List ℕ → ℕ → Declared → Option FlightDate → Discrepancy → LocalMinute → Amount → List Notice
-told_differs here w d None kind at a = []
-told_differs here w d (Some flight) kind at a = told here w d (event.Differs flight at kind) a
+abbrev pub discrepancy_of : List ℕ → ℕ → Declared → Option FlightDate → Discrepancy → LocalMinute
+    → Amount → List Notice
+discrepancy_of here w d None kind at a = []
+discrepancy_of here w d (Some flight) kind at a =
+    status_of here w d (event.Differs flight at kind) a
 
 -- where a noted flight unloads
 abbrev pub unload_of : Option Outbound → List ℕ
@@ -225,11 +253,18 @@ unload_of (Some outbound) = outbound.unload
 
 -- a waybill on a manifest, with all of it that is built on the flight
 abbrev pub manifest_line : FlightLoad → ManifestLine
-manifest_line a = record { consigned = consigned a.awb a.declared; pieces = a.load.pieces; tenths = a.load.tenths; goods = a.declared.goods }
+manifest_line a =
+    record {
+      consigned = consigned a.awb a.declared;
+      pieces = a.load.pieces;
+      tenths = a.load.tenths;
+      goods = a.declared.goods;
+    }
 
 -- the outcome of some moves, with their notices and a count
 abbrev pub does : List Move → List Notice → List Change → ℕ → Result Outcome Refusal
-does moves notices changes count = Ok (record { moves = moves; notices = notices; changes = changes; count = count })
+does moves notices changes count =
+    Ok (record { moves = moves; notices = notices; changes = changes; count = count })
 
 -- the rule where rows aren't those that the command reads: nothing is done
 abbrev pub no_rule : Rule
@@ -252,7 +287,14 @@ came_in b = plus b.taken b.found
 -- Book and FWB: the waybill is declared.
 abbrev pub booked : List ℕ → List ℕ → ℕ → ℕ → List ℕ → Declared
 booked origin destination p t goods =
-    record { origin = origin; destination = destination; pieces = p; tenths = book_weight_of p t; goods = goods; notified = false }
+    record {
+      origin = origin;
+      destination = destination;
+      pieces = p;
+      tenths = book_weight_of p t;
+      goods = goods;
+      notified = false;
+    }
 
 abbrev pub declaring : DeclarationView → ℕ → Declared → Rule
 declaring view w d = record {
@@ -272,11 +314,14 @@ receiving here view w p t name at =
           ∷ (not (bytes_eq d.origin here), about 204 w)
           ∷ (nat_lt d.pieces (view.balances.taken.pieces + p), about 205 w)
           ∷ (not (fits (plus (came_in view.balances) a)), about 217 w) ∷ [];
-      outcome = does (moved w place.Hand place.Free a None at) (told here w d (event.ReceivedFromShipper name at) a) [] p;
+      outcome =
+          does (move_of w place.Hand place.Free a None at)
+          (status_of here w d (event.ReceivedFromShipper name at) a) [] p;
     }
 
 -- Manifest: free pieces are built on a flight, which is noted where it is new.
-abbrev pub manifesting : List ℕ → WaybillView → FlightView → ℕ → FlightDate → List ℕ → ℕ → LocalMinute → Rule
+abbrev pub manifesting : List ℕ → WaybillView → FlightView → ℕ → FlightDate → List ℕ → ℕ
+    → LocalMinute → Rule
 manifesting here view on w flight unload p at =
     let free = view.balances.free in
     let a = part free p in
@@ -287,36 +332,43 @@ manifesting here view on w flight unload p at =
           ∷ (goes_elsewhere on.outbound unload, on_flight 218 flight)
           ∷ (nat_lt free.pieces p, only_free free.pieces)
           ∷ ((on.load.pieces == 0) && nat_le 500 on.waybills, on_flight 219 flight) ∷ [];
-      outcome = does (moved w place.Free (place.Built flight) a (Some flight) at)
-          (told here w (declared_as view.declared) (event.Manifested flight unload) a)
-          (if is_none on.outbound then NoteFlight flight (record { unload = unload; closed = false }) ∷ [] else []) p;
+      outcome = does (move_of w place.Free (place.Built flight) a (Some flight) at)
+          (status_of here w (declared_as view.declared) (event.Manifested flight unload) a)
+          (if is_none on.outbound
+          then NoteFlight flight (record { unload = unload; closed = false }) ∷ []
+          else []) p;
     }
 
 -- Offload: built pieces are free again.
-abbrev pub offloading : List ℕ → Option Declared → Option Outbound → Amount → ℕ → FlightDate → ℕ → LocalMinute → Rule
+abbrev pub offloading : List ℕ → Option Declared → Option Outbound → Amount → ℕ → FlightDate → ℕ
+    → LocalMinute → Rule
 offloading here declared outbound load w flight p at =
     let a = part load p in
     record {
       refusals = (is_none declared, about 201 w)
           ∷ (is_closed outbound, on_flight 208 flight)
           ∷ (nat_lt load.pieces p, about 207 w) ∷ [];
-      outcome = does (moved w (place.Built flight) place.Free a (Some flight) at)
-          (told here w (declared_as declared) (event.Differs flight at discrepancy.Offloaded) a) [] p;
+      outcome = does (move_of w (place.Built flight) place.Free a (Some flight) at)
+          (status_of here w (declared_as declared)
+          (event.Differs flight at discrepancy.Offloaded) a) [] p;
     }
 
 -- Depart: each waybill on the flight moves off with all that is built of it, and the flight is closed.
 abbrev pub depart_moves : List FlightLoad → FlightDate → LocalMinute → List Move
-depart_moves loads flight at = flat_map (λ a. moved a.awb (place.Built flight) place.Departed a.load (Some flight) at) loads
+depart_moves loads flight at =
+    flat_map (λ a. move_of a.awb (place.Built flight) place.Departed a.load (Some flight) at) loads
 
 abbrev pub depart_notices : List ℕ → List ℕ → List FlightLoad → FlightDate → List Notice
 depart_notices here unload loads flight =
-    flat_map (λ a. told here a.awb a.declared (event.Departed flight unload) a.load) loads
+    flat_map (λ a. status_of here a.awb a.declared (event.Departed flight unload) a.load) loads
     ++ notice.Manifest here flight unload (map manifest_line loads) ∷ []
 
 abbrev pub departing : List ℕ → Option Outbound → List FlightLoad → FlightDate → LocalMinute → Rule
 departing here outbound loads flight at = record {
-  refusals = (is_closed outbound, on_flight 208 flight) ∷ (length loads == 0, on_flight 209 flight) ∷ [];
-  outcome = does (depart_moves loads flight at) (depart_notices here (unload_of outbound) loads flight)
+  refusals =
+      (is_closed outbound, on_flight 208 flight) ∷ (length loads == 0, on_flight 209 flight) ∷ [];
+  outcome =
+      does (depart_moves loads flight at) (depart_notices here (unload_of outbound) loads flight)
       (NoteFlight flight (record { unload = unload_of outbound; closed = true }) ∷ [])
       (sum_by (λ a. a.load.pieces) loads);
 }
@@ -334,26 +386,35 @@ counted_more e counted = part e (counted - e.pieces)
 
 abbrev pub check_in_moves : ℕ → FlightDate → Amount → ℕ → LocalMinute → List Move
 check_in_moves w flight e counted at =
-    moved w place.Hand place.Free (counted_in e counted) (Some flight) at
-    ++ moved w place.Hand place.Missing (uncounted e counted) (Some flight) at
-    ++ moved w place.Surplus place.Free (counted_more e counted) (Some flight) at
+    move_of w place.Hand place.Free (counted_in e counted) (Some flight) at
+    ++ move_of w place.Hand place.Missing (uncounted e counted) (Some flight) at
+    ++ move_of w place.Surplus place.Free (counted_more e counted) (Some flight) at
 
-abbrev pub check_in_notices : List ℕ → ℕ → Declared → FlightDate → Amount → ℕ → LocalMinute → List Notice
+abbrev pub check_in_notices : List ℕ → ℕ → Declared → FlightDate → Amount → ℕ → LocalMinute
+    → List Notice
 check_in_notices here w d flight e counted at =
-    told here w d (event.ReceivedFromFlight flight at) (plus (counted_in e counted) (counted_more e counted))
-    ++ told here w d (event.Differs flight at discrepancy.Missing) (uncounted e counted)
-    ++ told here w d (event.Differs flight at discrepancy.Found) (counted_more e counted)
+    status_of here w d (event.ReceivedFromFlight flight at)
+    (plus (counted_in e counted) (counted_more e counted))
+    ++ status_of here w d (event.Differs flight at discrepancy.Missing) (uncounted e counted)
+    ++ status_of here w d (event.Differs flight at discrepancy.Found) (counted_more e counted)
 
-abbrev pub checking_in : List ℕ → WaybillView → Option Expected → ℕ → FlightDate → ℕ → LocalMinute → Rule
+abbrev pub checking_in : List ℕ → WaybillView → Option Expected → ℕ → FlightDate → ℕ → LocalMinute
+    → Rule
 checking_in here view expected w flight counted at =
     let e = expected_amount expected in
     record {
       refusals = (is_none view.declared, about 201 w)
           ∷ (is_none expected, about 211 w)
           ∷ (is_checked expected, about 212 w)
-          ∷ (not (fits (plus (came_in view.balances) (plus e (counted_more e counted)))), about 217 w) ∷ [];
-      outcome = does (check_in_moves w flight e counted at) (check_in_notices here w (declared_as view.declared) flight e counted at)
-          (Expect flight w (record { pieces = e.pieces; tenths = e.tenths; checked = true }) ∷ []) counted;
+          ∷ (
+            not (fits (plus (came_in view.balances) (plus e (counted_more e counted)))),
+            about 217 w,
+          ) ∷ [];
+      outcome =
+          does (check_in_moves w flight e counted at)
+          (check_in_notices here w (declared_as view.declared) flight e counted at)
+          (Expect flight w (record { pieces = e.pieces; tenths = e.tenths; checked = true })
+          ∷ []) counted;
     }
 
 -- Notify: the consignee is told of all that is free.
@@ -365,7 +426,9 @@ notifying here view w name at =
       refusals = (is_none view.declared, about 201 w)
           ∷ (not (bytes_eq d.destination here), about 204 w)
           ∷ (free.pieces == 0, only_free 0) ∷ [];
-      outcome = does [] (told here w d (event.Notified name at) free) (Declare w (record d { notified = true }) ∷ []) free.pieces;
+      outcome =
+          does [] (status_of here w d (event.Notified name at) free)
+          (Declare w (record d { notified = true }) ∷ []) free.pieces;
     }
 
 -- Deliver: free pieces go to the consignee, who was notified.
@@ -379,7 +442,9 @@ delivering here view w p name at =
           ∷ (not (bytes_eq d.destination here), about 204 w)
           ∷ (not d.notified, about 210 w)
           ∷ (nat_lt free.pieces p, only_free free.pieces) ∷ [];
-      outcome = does (moved w place.Free place.Delivered a None at) (told here w d (event.Delivered name at) a) [] p;
+      outcome =
+          does (move_of w place.Free place.Delivered a None at)
+          (status_of here w d (event.Delivered name at) a) [] p;
     }
 
 -- Missing: free pieces are missing.
@@ -388,9 +453,10 @@ recording_missing here view w p flight at =
     let free = view.balances.free in
     let a = part free p in
     record {
-      refusals = (is_none view.declared, about 201 w) ∷ (nat_lt free.pieces p, only_free free.pieces) ∷ [];
-      outcome = does (moved w place.Free place.Missing a flight at)
-          (told_differs here w (declared_as view.declared) flight discrepancy.Missing at a) [] p;
+      refusals =
+          (is_none view.declared, about 201 w) ∷ (nat_lt free.pieces p, only_free free.pieces) ∷ [];
+      outcome = does (move_of w place.Free place.Missing a flight at)
+          (discrepancy_of here w (declared_as view.declared) flight discrepancy.Missing at a) [] p;
     }
 
 -- Found: missing pieces come back first; the others are a surplus.
@@ -400,21 +466,28 @@ come_back missing p = part missing (min p missing.pieces)
 abbrev pub come_new : Amount → ℕ → ℕ → Amount
 come_new missing p t = surplus (p - missing.pieces) t
 
-abbrev pub recording_found : List ℕ → WaybillView → ℕ → ℕ → ℕ → Option FlightDate → LocalMinute → Rule
+abbrev pub recording_found : List ℕ → WaybillView → ℕ → ℕ → ℕ → Option FlightDate → LocalMinute
+    → Rule
 recording_found here view w p t flight at =
     let back = come_back view.balances.missing p in
     let new = come_new view.balances.missing p t in
     record {
       refusals = (is_none view.declared, about 201 w)
           ∷ (not (fits (plus (came_in view.balances) new)), about 217 w) ∷ [];
-      outcome = does (moved w place.Missing place.Free back flight at ++ moved w place.Surplus place.Free new flight at)
-          (told_differs here w (declared_as view.declared) flight discrepancy.Found at (plus back new)) [] p;
+      outcome =
+          does (move_of w place.Missing place.Free back flight at
+          ++ move_of w place.Surplus place.Free new flight at)
+          (discrepancy_of here w (declared_as view.declared) flight discrepancy.Found at
+          (plus back new)) [] p;
     }
 
 -- Confirm: the mark moves up, to the last message at most.
 abbrev pub confirming : ℕ → ℕ → ℕ → Rule
 confirming confirmed last upto = record {
-  refusals = (nat_lt upto confirmed || nat_lt last upto, record { number = 401; detail = detail.Messages confirmed last }) ∷ [];
+  refusals = (
+    nat_lt upto confirmed || nat_lt last upto,
+    record { number = 401; detail = detail.Messages confirmed last },
+  ) ∷ [];
   outcome = does [] [] (Confirm upto ∷ []) (upto - confirmed);
 }
 
@@ -428,7 +501,10 @@ announcing s f at =
     let key = inbound_part f at in
     let lines = lines_for s.here f.lines in
     record {
-      refusals = (not (is_day (resolved f.date at.day)), record { number = 301; detail = detail.Line 2 why.Date })
+      refusals = (
+        not (is_day (resolved f.date at.day)),
+        record { number = 301; detail = detail.Line 2 why.Date },
+      )
           ∷ (is_some (s.parts key), record { number = 213; detail = detail.Part key }) ∷ [];
       outcome = announced key (length lines) (lines_changes s (inbound_flight f at) lines);
     }
@@ -456,17 +532,25 @@ reads (desk.Found w p t flight) = key.Waybill w
 reads (desk.Confirm upto) = key.Messages
 
 abbrev pub desk_rule : List ℕ → Rows → DeskCommand → LocalMinute → Rule
-desk_rule here (rows.Declaration view) (desk.Book w origin destination p t goods) at = declaring view w (booked origin destination p t goods)
+desk_rule here (rows.Declaration view) (desk.Book w origin destination p t goods) at =
+    declaring view w (booked origin destination p t goods)
 desk_rule here (rows.Waybill view) (desk.Receive w p t name) at = receiving here view w p t name at
-desk_rule here (rows.Manifest view on) (desk.Manifest w flight unload p) at = manifesting here view on w flight unload p at
-desk_rule here (rows.Offload declared outbound load) (desk.Offload w flight p) at = offloading here declared outbound load w flight p at
-desk_rule here (rows.Departure outbound loads) (desk.Depart flight) at = departing here outbound loads flight at
-desk_rule here (rows.CheckIn view expected) (desk.CheckIn w flight counted) at = checking_in here view expected w flight counted at
+desk_rule here (rows.Manifest view on) (desk.Manifest w flight unload p) at =
+    manifesting here view on w flight unload p at
+desk_rule here (rows.Offload declared outbound load) (desk.Offload w flight p) at =
+    offloading here declared outbound load w flight p at
+desk_rule here (rows.Departure outbound loads) (desk.Depart flight) at =
+    departing here outbound loads flight at
+desk_rule here (rows.CheckIn view expected) (desk.CheckIn w flight counted) at =
+    checking_in here view expected w flight counted at
 desk_rule here (rows.Waybill view) (desk.Notify w name) at = notifying here view w name at
 desk_rule here (rows.Waybill view) (desk.Deliver w p name) at = delivering here view w p name at
-desk_rule here (rows.Waybill view) (desk.Missing w p flight) at = recording_missing here view w p flight at
-desk_rule here (rows.Waybill view) (desk.Found w p t flight) at = recording_found here view w p t flight at
-desk_rule here (rows.Messages confirmed last) (desk.Confirm upto) at = confirming confirmed last upto
+desk_rule here (rows.Waybill view) (desk.Missing w p flight) at =
+    recording_missing here view w p flight at
+desk_rule here (rows.Waybill view) (desk.Found w p t flight) at =
+    recording_found here view w p t flight at
+desk_rule here (rows.Messages confirmed last) (desk.Confirm upto) at =
+    confirming confirmed last upto
 desk_rule here _ _ at = no_rule
 
 -- the rule of each command in a state

@@ -1,12 +1,12 @@
 -- What holds of every state of a station.
-use Rattle.std.specs.Prelude.{◌≡◌, ℕ, ◌≤◌, Bool, true, false, ◌&&◌, ◌↔◌, IsTrue, IsSome, IfSome, ⊤, Option, Some, List, [], ◌∷◌, length, All}
+use Rattle.std.specs.Prelude.{◌≡◌, ℕ, ◌≤◌, Bool, false, ◌&&◌, ◌↔◌, IsTrue, IsSome, IfSome, ⊤, Option, Some, List, [], ◌∷◌, length, All}
 use Rattle.std.specs.List.{AllByRecursion, list_all, list_any}
 use Rattle.imp_fields.specs.Characters.{is_line}
 use Rattle.std.specs.Str.{bytes_eq}
 use Rattle.shipment_machine.specs.declared.flight.FlightDate.{FlightDate}
 use Rattle.agent_stock.specs.declared.stock.Holder.TheVariants.{Used}
 use Rattle.shipment_machine.specs.declared.moves.Place.{Place}
-use Rattle.shipment_machine.specs.declared.moves.Place.TheVariants.{Hand, Surplus, Free, Built, Departed, Delivered, Missing}
+use Rattle.shipment_machine.specs.declared.moves.Place.TheVariants.{Built, Departed}
 use Rattle.shipment_machine.specs.declared.moves.Move.{Move}
 use Rattle.shipment_machine.specs.declared.command.InboundLine.{InboundLine}
 use Rattle.shipment_machine.specs.declared.command.ShipmentCommand.{ShipmentCommand}
@@ -23,7 +23,8 @@ pub record IsStocked (book : List Move) (w : ℕ) (p : Place) : Type 0 where
   pub pieces : moved_out pieces_of book w (same_place p) ≤ moved_in pieces_of book w (same_place p)
   pub tenths : moved_out tenths_of book w (same_place p) ≤ moved_in tenths_of book w (same_place p)
   pub tenth_a_piece : (held book w (same_place p)).pieces ≤ (held book w (same_place p)).tenths
-  pub no_weight_alone : (held book w (same_place p)).pieces ≡ 0 → (held book w (same_place p)).tenths ≡ 0
+  pub no_weight_alone : (held book w (same_place p)).pieces ≡ 0
+      → (held book w (same_place p)).tenths ≡ 0
 
 -- the flight of a built place is noted
 abbrev pub IsNoted : Cargo → Place → Type 0
@@ -63,22 +64,29 @@ builds_on flight m = same_place m.to (Built flight)
 -- once a flight has departed nothing is built on it
 abbrev pub StaysDeparted : FlightDate → List Move → Type 0
 StaysDeparted flight [] = ⊤
-StaysDeparted flight (m ∷ later) = (IsTrue (departs_with flight m) → list_any (builds_on flight) later ≡ false) × StaysDeparted flight later
+StaysDeparted flight (m ∷ later) =
+    (IsTrue (departs_with flight m) → list_any (builds_on flight) later ≡ false)
+    × StaysDeparted flight later
 
 -- A lawful state. That the text of each noted part is kept is said of the whole station.
 pub record IsLawful (s : Cargo) : Type 0 where
   pub stocked : (w : ℕ) (p : Place) → is_outside p ≡ false → IsStocked s.book w p
   pub within : (w : ℕ) → IsTrue (fits (taken_and_found s.book w))
   pub declarations : (w : ℕ) → IfSome (s.declared w) (λ d. IsLawfulAmount d.pieces d.tenths)
-  pub expectations : (flight : FlightDate) (w : ℕ) → IfSome (s.expected flight w) (λ e. IsLawfulAmount e.pieces e.tenths × IsSome (s.declared w))
+  pub expectations : (flight : FlightDate) (w : ℕ)
+      → IfSome (s.expected flight w) (λ e. IsLawfulAmount e.pieces e.tenths × IsSome (s.declared w))
   pub moves : AllByRecursion (IsLawfulMove s) s.book
-  pub trail : AllByRecursion (λ (row : ℕ × List ℕ). IsSome (s.declared row.0) × IsTrue (is_line row.1)) s.trail
+  pub trail : AllByRecursion (λ (row : ℕ × List ℕ). IsSome (s.declared row.0)
+      × IsTrue (is_line row.1)) s.trail
   pub used : (w : ℕ) → s.holders w ≡ Some Used → IsSome (s.declared w)
-  pub closed : (flight : FlightDate) → IsTrue (is_closed (s.flights flight)) ↔ IsTrue (list_any (departs_with flight) s.book)
+  pub closed : (flight : FlightDate) → IsTrue (is_closed (s.flights flight))
+      ↔ IsTrue (list_any (departs_with flight) s.book)
   pub departed : (flight : FlightDate) → StaysDeparted flight s.book
-  pub empty : (flight : FlightDate) (w : ℕ) → IsTrue (is_closed (s.flights flight)) → (built s.book w flight).pieces ≡ 0
+  pub empty : (flight : FlightDate) (w : ℕ) → IsTrue (is_closed (s.flights flight))
+      → (built s.book w flight).pieces ≡ 0
   pub room : (flight : FlightDate) → length (waybills_on s.book flight) ≤ 500
-  pub outbound : (flight : FlightDate) → IfSome (s.flights flight) (λ o. bytes_eq o.unload s.here ≡ false)
+  pub outbound : (flight : FlightDate) → IfSome (s.flights flight)
+      (λ o. bytes_eq o.unload s.here ≡ false)
   pub mark : s.confirmed ≤ length s.outbox
 
 -- whether a command is one that its types allow: each declared or announced line has a piece, each line of a trail prints

@@ -18,14 +18,16 @@ use Rattle.shipment_machine.specs.Cargo.{Cargo}
 
 -- what is declared of a waybill that has a declaration
 abbrev pub undeclared : Declared
-undeclared = record { origin = []; destination = []; pieces = 0; tenths = 0; goods = []; notified = false }
+undeclared =
+    record { origin = []; destination = []; pieces = 0; tenths = 0; goods = []; notified = false }
 
 abbrev pub declaration : Cargo → ℕ → Declared
 declaration s w = unwrap_or (s.declared w) undeclared
 
 -- what the state has of a waybill that is declared
 abbrev pub declaration_view : Cargo → ℕ → DeclarationView
-declaration_view s w = record { declared = s.declared w; has_moves = is_moved s.book w; holder = s.holders w }
+declaration_view s w =
+    record { declared = s.declared w; has_moves = is_moved s.book w; holder = s.holders w }
 
 -- what it has of a waybill with its balances
 abbrev pub waybill_view : Cargo → ℕ → WaybillView
@@ -41,18 +43,26 @@ flight_view s w flight = record {
 
 -- what is built on a flight, ascending
 abbrev pub loads_of : Cargo → FlightDate → List FlightLoad
-loads_of s flight = map (λ w. record { awb = w; declared = declaration s w; load = built s.book w flight }) (waybills_on s.book flight)
+loads_of s flight =
+    map (λ w. record { awb = w; declared = declaration s w; load = built s.book w flight })
+    (waybills_on s.book flight)
 
 -- what it has of a manifest's line
 abbrev pub line_view_of : Cargo → FlightDate → CargoLine → LineView
-line_view_of s flight c = record { declared = s.declared c.awb; holder = s.holders c.awb; expected = s.expected flight c.awb }
+line_view_of s flight c =
+    record {
+      declared = s.declared c.awb;
+      holder = s.holders c.awb;
+      expected = s.expected flight c.awb;
+    }
 
 -- these rows, as the state has them
 abbrev pub rows_of : Cargo → RowsKey → Rows
 rows_of s (key.Declaration w) = rows.Declaration (declaration_view s w)
 rows_of s (key.Waybill w) = rows.Waybill (waybill_view s w)
 rows_of s (key.Manifest w flight) = rows.Manifest (waybill_view s w) (flight_view s w flight)
-rows_of s (key.Offload w flight) = rows.Offload (s.declared w) (s.flights flight) (built s.book w flight)
+rows_of s (key.Offload w flight) =
+    rows.Offload (s.declared w) (s.flights flight) (built s.book w flight)
 rows_of s (key.Departure flight) = rows.Departure (s.flights flight) (loads_of s flight)
 rows_of s (key.CheckIn w flight) = rows.CheckIn (waybill_view s w) (s.expected flight w)
 rows_of s key.Messages = rows.Messages s.confirmed (length s.outbox)

@@ -1,7 +1,7 @@
 //! What leaves with a flight.
 ghost use Rattle.std.specs.Prelude.{◌≡◌, ◌==◌, false, ◌+◌, ◌*◌, ◌≤◌, ◌<◌, All, IsSome, IfOk, map, length};
 ghost use Rattle.std.specs.List.{flat_map, sum_by};
-ghost use Rattle.shipment_machine.specs.Effect.{decided, departing, depart_moves, manifest_line, told};
+ghost use Rattle.shipment_machine.specs.Effect.{decided, departing, depart_moves, manifest_line, status_of};
 ghost use Rattle.shipment_machine.specs.Agreement.{IsAnswer, IsOnBoard};
 ghost use Rattle.shipment_machine.specs.declared.notice.Event.TheVariants as event;
 
@@ -50,7 +50,7 @@ fn departing_notices(
 ) -> Result<Vec<Notice>, AllocError>
     requires { All IsOnBoard loads.now }
     ensures { IfOk result (λ notices. notices.items
-        ≡ flat_map (λ a. told on.now.here a.awb a.declared
+        ≡ flat_map (λ a. status_of on.now.here a.awb a.declared
         (event.Departed flight.now unload) a.load) loads.now) }
 {
     let mut notices = Vec::new(on.alloc);

@@ -1,7 +1,7 @@
 //! What is missing and found.
 ghost use Rattle.std.specs.Prelude.{◌≡◌, ◌+◌, ◌≤◌, ◌++◌, OnOk, min};
 ghost use Rattle.shipment_machine.specs.Amount.{IsHeld, part};
-ghost use Rattle.shipment_machine.specs.Effect.{decided, surplus, told_differs, recording_missing, recording_found};
+ghost use Rattle.shipment_machine.specs.Effect.{decided, surplus, discrepancy_of, recording_missing, recording_found};
 ghost use Rattle.shipment_machine.specs.Agreement.{IsAnswer, AreSound};
 
 use crate::amount::{Amount, part_of};
@@ -63,7 +63,7 @@ fn add_discrepancy(
 ) -> Result<(), AllocError>
     requires { IsHeld amount }
     ensures { OnOk result (notices.new.items ≡ notices.old.items
-        ++ told_differs on.now.here awb declared.now flight.now discrepancy on.now.at amount) }
+        ++ discrepancy_of on.now.here awb declared.now flight.now discrepancy on.now.at amount) }
 {
     let Some(flight) = *flight else {
         return Ok(());

@@ -3,7 +3,7 @@ ghost use Rattle.std.specs.Prelude.{◌≡◌, ◌<◌, ◌^◌, ◌+◌, ◌≤
 ghost use Rattle.std.specs.Str.{bytes_eq};
 ghost use Rattle.imp_fields.specs.Amount.{IsPieces, IsBookTenths};
 ghost use Rattle.shipment_machine.specs.Amount.{IsHeld, amount, plus, fits};
-ghost use Rattle.shipment_machine.specs.Effect.{about as waybill_refusal, only_free as free_refusal, on_flight as flight_refusal, moved, told, consigned, came_in};
+ghost use Rattle.shipment_machine.specs.Effect.{about as waybill_refusal, only_free as free_refusal, on_flight as flight_refusal, move_of, status_of, consigned, came_in};
 ghost use Rattle.shipment_machine.specs.declared.plans.PlanFault.TheVariants as fault;
 
 use crate::amount::{Amount, is_within};
@@ -149,7 +149,7 @@ pub(crate) fn add_move(
 ) -> Result<(), AllocError>
     requires { IsHeld amount }
     ensures { OnOk result (moves.new.items ≡ moves.old.items
-        ++ moved awb from to amount flight at) }
+        ++ move_of awb from to amount flight at) }
 {
     if amount.pieces == 0 {
         return Ok(());
@@ -177,7 +177,7 @@ pub(crate) fn add_notice(
 ) -> Result<(), AllocError>
     requires { IsHeld amount }
     ensures { OnOk result (notices.new.items ≡ notices.old.items
-        ++ told here awb declared.now event amount) }
+        ++ status_of here awb declared.now event amount) }
 {
     if amount.pieces == 0 {
         return Ok(());
