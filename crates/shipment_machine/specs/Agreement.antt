@@ -43,7 +43,8 @@ IsViewOf s command at view = IsLawful s × (view ≡ view_of s command at)
 
 -- What is answered from the rows.
 
--- the day that a command's date means: that of a manifest; other commands have no date to be looked up
+-- the day that a command's date means: that of a manifest; other commands have no date to be looked
+-- up
 abbrev pub meant_by : ShipmentCommand → LocalMinute → Option ℕ
 meant_by (order.Desk command) at = None
 meant_by (order.Fwb c) at = None
@@ -108,7 +109,8 @@ outcome_of plan =
       count = plan.count;
     }
 
--- a refusal is the effect's; out of memory, nothing is said; an effect never comes as a view that doesn't fit
+-- a refusal is the effect's; out of memory, nothing is said; an effect never comes as a view that
+-- doesn't fit
 abbrev pub RefusesAs : Result Outcome Refusal → PlanFault → Type 0
 RefusesAs answer (fault.Refused refusal) = answer ≡ Err refusal
 RefusesAs answer fault.Memory = Unit {0}

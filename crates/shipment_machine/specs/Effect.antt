@@ -1,4 +1,5 @@
--- What each command does: it is refused for the first reason that fits, or it makes moves, notices and changes of rows.
+-- What each command does: it is refused for the first reason that fits, or it makes moves, notices
+-- and changes of rows.
 use Rattle.std.specs.Prelude.{ℕ, zero, suc, ◌+◌, ◌-◌, min, max, Bool, true, false, not, ◌&&◌, ◌||◌, ◌==◌, nat_lt, nat_le, if◌then◌else◌, Option, Some, None, is_some, is_none, Result, Ok, Err, List, [], ◌∷◌, ◌++◌, map, length}
 use Rattle.std.specs.Option.{unwrap_or}
 use Rattle.std.specs.List.{filter, flat_map, sum_by}
@@ -157,7 +158,8 @@ expected_after old c = record {
   checked = false;
 }
 
--- why a line is refused, where the waybill is new or not, has this holder, and so much is expected of it so far
+-- why a line is refused, where the waybill is new or not, has this holder, and so much is expected
+-- of it so far
 abbrev pub row_refusals : Bool → Option Holder → Option Expected → CargoLine → List (Bool × Refusal)
 row_refusals new who expected c =
     let d = declared_by c in
@@ -353,7 +355,8 @@ offloading here declared outbound load w flight p at =
           (event.Differs flight at discrepancy.Offloaded) a) [] p;
     }
 
--- Depart: each waybill on the flight moves off with all that is built of it, and the flight is closed.
+-- Depart: each waybill on the flight moves off with all that is built of it, and the flight is
+-- closed.
 abbrev pub depart_moves : List FlightLoad → FlightDate → LocalMinute → List Move
 depart_moves loads flight at =
     flat_map (λ a. move_of a.awb (place.Built flight) place.Departed a.load (Some flight) at) loads
@@ -373,8 +376,8 @@ departing here outbound loads flight at = record {
       (sum_by (λ a. a.load.pieces) loads);
 }
 
--- Check-in: what was counted goes to the free cargo, the rest of what was expected to the missing, the surplus comes from
--- outside.
+-- Check-in: what was counted goes to the free cargo, the rest of what was expected to the missing,
+-- the surplus comes from outside.
 abbrev pub counted_in : Amount → ℕ → Amount
 counted_in e counted = if nat_le counted e.pieces then part e counted else e
 
@@ -564,6 +567,7 @@ rule s (order.Fsu f) at = noting_status (s.declared f.awb) f.awb f.lines
 abbrev pub effect : Cargo → ShipmentCommand → LocalMinute → Result Outcome Refusal
 effect s command at = decided (rule s command at)
 
--- the state afterwards, where the telegram in work has this text; the notices' texts aren't in the outbox yet
+-- the state afterwards, where the telegram in work has this text; the notices' texts aren't in the
+-- outbox yet
 abbrev pub carried_out : List ℕ → Outcome → Cargo → Cargo
 carried_out text done s = written_all text done.changes (record s { book = s.book ++ done.moves })

@@ -18,7 +18,8 @@ use Rattle.shipment_machine.specs.Cargo.{Cargo}
 use Rattle.shipment_machine.specs.Amount.{fits}
 use Rattle.shipment_machine.specs.Effect.{is_closed}
 
--- No more of a waybill moved out of a place than into it; what is there weighs at least a tenth a piece, and nothing where it has no piece.
+-- No more of a waybill moved out of a place than into it; what is there weighs at least a tenth a
+-- piece, and nothing where it has no piece.
 pub record IsStocked (book : List Move) (w : ℕ) (p : Place) : Type 0 where
   pub pieces : moved_out pieces_of book w (same_place p) ≤ moved_in pieces_of book w (same_place p)
   pub tenths : moved_out tenths_of book w (same_place p) ≤ moved_in tenths_of book w (same_place p)
@@ -89,7 +90,8 @@ pub record IsLawful (s : Cargo) : Type 0 where
       (λ o. bytes_eq o.unload s.here ≡ false)
   pub mark : s.confirmed ≤ length s.outbox
 
--- whether a command is one that its types allow: each declared or announced line has a piece, each line of a trail prints
+-- whether a command is one that its types allow: each declared or announced line has a piece, each
+-- line of a trail prints
 abbrev pub HasPieces : InboundLine → Type 0
 HasPieces l = 1 ≤ l.cargo.pieces
 

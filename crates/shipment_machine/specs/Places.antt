@@ -27,7 +27,7 @@ is_outside Hand = true
 is_outside Surplus = true
 is_outside _ = false
 
--- the places of the station that are not in its store
+-- the places beyond the store, where pieces are missing or have left
 abbrev pub beyond_store : List Place
 beyond_store = Missing ∷ Departed ∷ Delivered ∷ []
 

@@ -77,8 +77,8 @@ pub(crate) fn declared_as(claim: &Claim) -> Option<Declared>
     })
 }
 
-/// What a consignment line of a telegram declares: its total, where it exceeds its own pieces, at the
-/// same weight a piece.
+/// What a consignment line of a telegram declares: its total, where it exceeds its own pieces, at
+/// the same weight a piece.
 pub(crate) fn claim_of(line: &CargoLine) -> Claim
     ensures value { claimed result ≡ declared_by line.now }
     ensures own { 1 ≤ line.now.pieces }

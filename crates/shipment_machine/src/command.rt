@@ -279,7 +279,8 @@ impl<'a> CargoRef<'a> {
     }
 }
 
-/// What changes the cargo: a command of the desk, or the content of a telegram. It is planned as borrowed.
+/// What changes the cargo: a command of the desk, or the content of a telegram. It is planned as
+/// borrowed.
 #[derive(Drop)]
 pub enum ShipmentCommand<'a> {
     Desk(DeskRef<'a>),

@@ -27,7 +27,8 @@ use imp_fields::{Airport, LocalDay, Why, book_weight};
 use std::alloc::{AllocError, Global};
 use std::collections::HashMap;
 
-/// What a line is found to do: what it declares, if its waybill is new, and what is expected after it.
+/// What a line is found to do: what it declares, if its waybill is new, and what is expected after
+/// it.
 #[derive(Clone, Copy)]
 struct Finding {
     declared: Option<Declared>,
@@ -58,7 +59,8 @@ fn expected_with(so_far: Option<Expected>, line: &CargoLine) -> Option<Expected>
     })
 }
 
-/// Tests a line after those before it. `before` is what is expected of its waybill by an earlier line.
+/// Tests a line after those before it. `before` is what is expected of its waybill by an earlier
+/// line.
 fn find(before: Option<Expected>, line: &CargoLine, row: &LineView) -> Result<Finding, PlanFault>
     ensures due { OnOk result (refusal_now before line.now row.now ≡ None) }
     ensures declared { IfOk result (λ finding. finding.declared

@@ -7,15 +7,15 @@ ghost use Rattle.shipment_machine.specs.Lawful.{IsLawful};
 ghost use Rattle.shipment_machine.specs.Numbers.{IsAscending, is_in};
 ghost use Rattle.shipment_machine.specs.Laws.{AreBalances, BalancesAgree, IsConserved, KeepsLawful};
 
-/// For each waybill what was taken over or found is in store, missing, departed or delivered, in
-/// any list of moves.
+/// For each waybill what was taken over or found is in store or at a place beyond the store, in any
+/// list of moves.
 pub fn balance_law()
     ensures pieces { (book : List Move) (w : ℕ) → BalancesAgree pieces_of book w }
     ensures tenths { (book : List Move) (w : ℕ) → BalancesAgree tenths_of book w }
 {}
 
-/// In a lawful state the amounts themselves agree: what was taken over or found is in store, missing,
-/// departed or delivered, in pieces and in tenths, and no amount is below nothing.
+/// In a lawful state the amounts themselves agree: what was taken over or found is in store or at a
+/// place beyond the store, in pieces and in tenths, and no amount is below nothing.
 pub fn conservation_law()
     ensures { (s : Cargo) (w : ℕ) → IsLawful s → IsConserved s.book w }
 {}
@@ -36,8 +36,9 @@ pub fn waybills_law()
     ensures moved { (book : List Move) (w : ℕ) → is_in w (waybills_of book) ≡ has_moves book w }
 {}
 
-/// In a lawful state each amount that is shown of a waybill is a balance of the book: what was taken over and found are those of the
-/// places outside with the other sign, and the others are those of their places.
+/// In a lawful state each amount that is shown of a waybill is a balance of the book: what was
+/// taken over and found are those of the places outside with the other sign, and the others are
+/// those of their places.
 pub fn amounts_law()
     ensures { (s : Cargo) (w : ℕ) → IsLawful s → AreBalances s.book w }
 {}

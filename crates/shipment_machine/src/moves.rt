@@ -19,7 +19,8 @@ pub enum Place {
     Missing,
 }
 
-/// The balances of a waybill: what came in from outside, and what is at each place but the built ones.
+/// The balances of a waybill: what came in from outside, and what is at each place but the built
+/// ones.
 #[derive(Clone, Copy, Debug, PartialEq, Eq)]
 pub struct Balances {
     /// What was taken over from a shipper, an agent or an airline.

@@ -283,12 +283,12 @@ fn day_meant(command: &ShipmentCommand<'_>, at: Moment) -> Option<u32>
     }
 }
 
-/// What a command does at a moment, or the refusal that is due. The view shows what a lawful state has for the command: what is
-/// promised holds of each state that has this view. Nothing is copied of a telegram's lines, and a plan takes time in proportion
-/// to the view.
+/// What a command does at a moment, or the refusal that is due. The view shows what a lawful state
+/// has for the command: what is promised holds of each state that has this view. Nothing is copied
+/// of a telegram's lines, and a plan takes time in proportion to the view.
 ///
-/// The first refusal of the command's list is returned, with its detail. `Unfit` comes only for a view that no lawful state has
-/// for the command; out of memory, nothing is said of the command.
+/// The first refusal of the command's list is returned, with its detail. `Unfit` comes only for a
+/// view that no lawful state has for the command; out of memory, nothing is said of the command.
 pub fn plan<'a>(
     alloc: Global,
     view: &View,

@@ -4,8 +4,8 @@ ghost use Rattle.imp_fields.specs.Characters.{is_line};
 
 use std::marker::Model;
 
-/// A line of a waybill's trail, as a status message (Cargo-IMP FSU) had it: 0 to 255 bytes of printable ASCII that
-/// someone else keeps.
+/// A line of a waybill's trail, as a status message (Cargo-IMP FSU) had it: 0 to 255 bytes of
+/// printable ASCII that someone else keeps.
 #[derive(Drop)]
 pub struct TrailLine<'a> {
     bytes: &'a [u8],

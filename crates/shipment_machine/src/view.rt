@@ -177,7 +177,8 @@ pub enum Rows {
         confirmed: u32,
         last: u32,
     },
-    /// A part of a manifest: whether the part was taken, and each line for here. Where its date means no day: nothing.
+    /// A part of a manifest: whether the part was taken, and each line for here. Where its date
+    /// means no day: nothing.
     Lines {
         taken: bool,
         lines: LineViews,
