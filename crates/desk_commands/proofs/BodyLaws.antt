@@ -11,26 +11,26 @@ use Rattle.imp_fields.specs.Flight.{Designator, flight_of}
 use Rattle.imp_fields.specs.Steps.{◌>>=◌, where_true}
 use Rattle.desk_commands.specs.declared.command.Command.{Command}
 use Rattle.desk_commands.specs.declared.verb.Verb.{Verb}
-use Rattle.desk_commands.specs.declared.field.Field.{Field}
-use Rattle.desk_commands.specs.declared.field.Kind.{Kind}
-use Rattle.desk_commands.specs.declared.field.Kind.TheVariants as kind
-use Rattle.desk_commands.specs.declared.given.Given.{Given}
-use Rattle.desk_commands.specs.declared.given.Given.TheVariants.{Text, Number, Flight, Absent}
+use Rattle.desk_commands.specs.declared.verb.Field.{Field}
+use Rattle.desk_commands.specs.declared.verb.Kind.{Kind}
+use Rattle.desk_commands.specs.declared.verb.Kind.TheVariants as kind
+use Rattle.desk_commands.specs.declared.field_value.FieldValue.{FieldValue}
+use Rattle.desk_commands.specs.declared.field_value.FieldValue.TheVariants.{Text, Number, Flight, Absent}
 use Rattle.desk_commands.specs.Body.{members_len, member_count, IsMember, AreMembers, IsBodyOf, text_member, number_member, flight_member, member_says, member_if_any, field_says, fields_say, body_says}
-use Rattle.desk_commands.specs.Command.{verb_of, values_of}
-use Rattle.desk_commands.specs.Field.{name, kind_of, row, places}
-use Rattle.desk_commands.specs.Given.{is_present}
-use Rattle.desk_commands.specs.Lines.{spread}
-use Rattle.desk_commands.specs.Reading.{command_of}
-use Rattle.desk_commands.proofs.Again.{filled, made_again}
-use Rattle.desk_commands.proofs.Fit.{Fits, AreFit, fits, places_are, row_short, values_short}
+use Rattle.desk_commands.specs.Command.{verb_of, values_of, command_of}
+use Rattle.desk_commands.specs.Verb.{row, places, name, kind_of}
+use Rattle.desk_commands.specs.FieldValue.{is_present}
+use Rattle.desk_commands.specs.Lines.{places_of}
+use Rattle.desk_commands.proofs.EachVerb.{made_again, fits, made_of_list}
+use Rattle.desk_commands.proofs.Fit.{values_in_places, Fits, AreFit}
+use Rattle.desk_commands.proofs.Made.{IsTyped, AreTyped}
+use Rattle.desk_commands.proofs.Verbs.{places_are, row_short, values_short}
 use Rattle.desk_commands.proofs.LineLaws.{flight_made}
-use Rattle.desk_commands.proofs.Made.{IsGiven, AllGiven, made_of_list}
 use Rattle.desk_commands.proofs.Steps.{some_is, passes, passed, go_on, again2, made2, bound, made1}
 
 -- ---- one member
 
-pub member_again : (k : Kind) (g : Given) (d : Data) (key : List ℕ) → Fits k g → IsMember d key g → member_if_any k (get key d) ≡ Some g
+pub member_again : (k : Kind) (g : FieldValue) (d : Data) (key : List ℕ) → Fits k g → IsMember d key g → member_if_any k (get key d) ≡ Some g
 member_again kind.Text (Text t) d key h m = ap (member_if_any kind.Text) m
 member_again kind.Text (Number n) d key h m = absurd h
 member_again kind.Text (Flight f) d key h m = absurd h
@@ -52,10 +52,10 @@ member_again kind.TextIfAny (Number n) d key h m = absurd h
 member_again kind.TextIfAny (Flight f) d key h m = absurd h
 member_again kind.TextIfAny Absent d key h m = ap (member_if_any kind.TextIfAny) m
 
-abbrev IsRead : Data → List ℕ → Given → Type 0
-IsRead d key g = IsMember d key g × IsGiven g
+abbrev IsRead : Data → List ℕ → FieldValue → Type 0
+IsRead d key g = IsMember d key g × IsTyped g
 
-text_made : (d : Data) (key : List ℕ) (x : Data) (g : Given) → get key d ≡ Some x → text_member x ≡ Some g → IsRead d key g
+text_made : (d : Data) (key : List ℕ) (x : Data) (g : FieldValue) → get key d ≡ Some x → text_member x ≡ Some g → IsRead d key g
 text_made d key null g e h = cc h
 text_made d key (boolean b) g e h = cc h
 text_made d key (number n) g e h = cc h
@@ -63,7 +63,7 @@ text_made d key (string s) g e h = subst (IsRead d key) (some_is (Text s) g h) (
 text_made d key (array ds) g e h = cc h
 text_made d key (object ms) g e h = cc h
 
-number_made : (d : Data) (key : List ℕ) (x : Data) (g : Given) → get key d ≡ Some x → number_member x ≡ Some g → IsRead d key g
+number_made : (d : Data) (key : List ℕ) (x : Data) (g : FieldValue) → get key d ≡ Some x → number_member x ≡ Some g → IsRead d key g
 number_made d key null g e h = cc h
 number_made d key (boolean b) g e h = cc h
 number_made d key (number (unsigned n)) g e h =
@@ -75,7 +75,7 @@ number_made d key (string s) g e h = cc h
 number_made d key (array ds) g e h = cc h
 number_made d key (object ms) g e h = cc h
 
-flight_read : (d : Data) (key : List ℕ) (x : Data) (g : Given) → get key d ≡ Some x → flight_member x ≡ Some g → IsRead d key g
+flight_read : (d : Data) (key : List ℕ) (x : Data) (g : FieldValue) → get key d ≡ Some x → flight_member x ≡ Some g → IsRead d key g
 flight_read d key null g e h = cc h
 flight_read d key (boolean b) g e h = cc h
 flight_read d key (number n) g e h = cc h
@@ -85,73 +85,73 @@ flight_read d key (string s) g e h =
 flight_read d key (array ds) g e h = cc h
 flight_read d key (object ms) g e h = cc h
 
-kind_made : (k : Kind) (d : Data) (key : List ℕ) (x : Data) (g : Given) → get key d ≡ Some x → member_says k x ≡ Some g → IsRead d key g
+kind_made : (k : Kind) (d : Data) (key : List ℕ) (x : Data) (g : FieldValue) → get key d ≡ Some x → member_says k x ≡ Some g → IsRead d key g
 kind_made kind.Text d key x g e h = text_made d key x g e h
 kind_made kind.Number d key x g e h = number_made d key x g e h
 kind_made kind.Flight d key x g e h = flight_read d key x g e h
 kind_made kind.FlightIfAny d key x g e h = flight_read d key x g e h
 kind_made kind.TextIfAny d key x g e h = text_made d key x g e h
 
-member_made : (k : Kind) (d : Data) (key : List ℕ) (o : Option Data) (g : Given) → get key d ≡ o → member_if_any k o ≡ Some g → IsRead d key g
-member_made k d key None g e h = subst (IsRead d key) (some_is {A = Given} Absent g h) (e, tt)
+member_made : (k : Kind) (d : Data) (key : List ℕ) (o : Option Data) (g : FieldValue) → get key d ≡ o → member_if_any k o ≡ Some g → IsRead d key g
+member_made k d key None g e h = subst (IsRead d key) (some_is {A = FieldValue} Absent g h) (e, tt)
 member_made k d key (Some x) g e h = kind_made k d key x g e h
 
 -- ---- the members of a row
 
-fields_again : (n : ℕ) (fs : List Field) (gs : List Given) (d : Data) → AreFit fs gs → AreMembers d fs gs → fields_say (spread n fs) d ≡ Some (filled n gs)
+fields_again : (n : ℕ) (fs : List Field) (gs : List FieldValue) (d : Data) → AreFit fs gs → AreMembers d fs gs → fields_say (places_of n fs) d ≡ Some (values_in_places n gs)
 fields_again zero fs gs d h m = refl
 fields_again (suc n) [] [] d h m =
-    again2 (Some Absent) (fields_say (spread n []) d) (λ (g : Given) (gs : List Given). g ∷ gs) Absent (filled n []) refl (fields_again n [] [] d tt tt)
+    again2 (Some Absent) (fields_say (places_of n []) d) (λ (g : FieldValue) (gs : List FieldValue). g ∷ gs) Absent (values_in_places n []) refl (fields_again n [] [] d tt tt)
 fields_again (suc n) [] (g ∷ gs) d h m = absurd h
 fields_again (suc n) (f ∷ fs) [] d h m = absurd h
 fields_again (suc n) (f ∷ fs) (g ∷ gs) d h m =
-    again2 (field_says (Some f) d) (fields_say (spread n fs) d) (λ (g : Given) (gs : List Given). g ∷ gs) g (filled n gs)
+    again2 (field_says (Some f) d) (fields_say (places_of n fs) d) (λ (g : FieldValue) (gs : List FieldValue). g ∷ gs) g (values_in_places n gs)
     (member_again (kind_of f) g d (name f) h.0 m.0) (fields_again n fs gs d h.1 m.1)
 
-record AreFields (n : ℕ) (d : Data) (fs : List Field) (six : List Given) : Type 0 where
-  pub given : AllGiven six
+record AreFields (n : ℕ) (d : Data) (fs : List Field) (six : List FieldValue) : Type 0 where
+  pub typed : AreTyped six
   pub members : AreMembers d fs (take (length fs) six)
-  pub are_six : six ≡ filled n (take (length fs) six)
+  pub are_six : six ≡ values_in_places n (take (length fs) six)
 
-fields_made : (n : ℕ) (fs : List Field) (d : Data) (six : List Given) → length fs ≤ n → fields_say (spread n fs) d ≡ Some six → AreFields n d fs six
-fields_made zero [] d six fit h = subst (AreFields 0 d []) (some_is {A = List Given} [] six h) (record { given = tt; members = tt; are_six = refl })
+fields_made : (n : ℕ) (fs : List Field) (d : Data) (six : List FieldValue) → length fs ≤ n → fields_say (places_of n fs) d ≡ Some six → AreFields n d fs six
+fields_made zero [] d six fit h = subst (AreFields 0 d []) (some_is {A = List FieldValue} [] six h) (record { typed = tt; members = tt; are_six = refl })
 fields_made zero (f ∷ fs) d six fit h = absurd (omega (arith, fit))
 fields_made (suc n) [] d six fit h =
-    let r = made2 (Some Absent) (fields_say (spread n []) d) (λ (g : Given) (gs : List Given). g ∷ gs) six h in
+    let r = made2 (Some Absent) (fields_say (places_of n []) d) (λ (g : FieldValue) (gs : List FieldValue). g ∷ gs) six h in
     let more = fields_made n [] d r.b (omega arith) r.is_b in
-    let first = some_is {A = Given} Absent r.a r.is_a in
-    subst (AreFields (suc n) d []) (ap (λ (g : Given). g ∷ r.b) first ∙ r.same) (record { given = (tt, more.given); members = tt; are_six = λ i. Absent ∷ more.are_six i })
+    let first = some_is {A = FieldValue} Absent r.a r.is_a in
+    subst (AreFields (suc n) d []) (ap (λ (g : FieldValue). g ∷ r.b) first ∙ r.same) (record { typed = (tt, more.typed); members = tt; are_six = λ i. Absent ∷ more.are_six i })
 fields_made (suc n) (f ∷ fs) d six fit h =
-    let r = made2 (field_says (Some f) d) (fields_say (spread n fs) d) (λ (g : Given) (gs : List Given). g ∷ gs) six h in
+    let r = made2 (field_says (Some f) d) (fields_say (places_of n fs) d) (λ (g : FieldValue) (gs : List FieldValue). g ∷ gs) six h in
     let more = fields_made n fs d r.b (omega (arith, fit)) r.is_b in
     let one = member_made (kind_of f) d (name f) (get (name f) d) r.a refl r.is_a in
-    subst (AreFields (suc n) d (f ∷ fs)) r.same (record { given = (one.1, more.given); members = (one.0, more.members); are_six = λ i. r.a ∷ more.are_six i })
+    subst (AreFields (suc n) d (f ∷ fs)) r.same (record { typed = (one.1, more.typed); members = (one.0, more.members); are_six = λ i. r.a ∷ more.are_six i })
 
 -- what is absent at the end isn't counted
-abbrev counted : ℕ → List Given → ℕ
-counted a gs = fold (λ (n : ℕ) (g : Given). n + cond (is_present g) 1 0) a gs
+abbrev counted : ℕ → List FieldValue → ℕ
+counted a gs = fold (λ (n : ℕ) (g : FieldValue). n + cond (is_present g) 1 0) a gs
 
-counted_absent : (n a : ℕ) → counted a (filled n []) ≡ a
+counted_absent : (n a : ℕ) → counted a (values_in_places n []) ≡ a
 counted_absent zero a = refl
 counted_absent (suc n) a = let none : a + 0 ≡ a = omega arith in counted_absent n (a + 0) ∙ none
 
-counted_filled : (n a : ℕ) (gs : List Given) → length gs ≤ n → counted a (filled n gs) ≡ counted a gs
-counted_filled n a [] h = counted_absent n a
-counted_filled zero a (g ∷ gs) h = absurd (omega (arith, h))
-counted_filled (suc n) a (g ∷ gs) h = counted_filled n (a + cond (is_present g) 1 0) gs (omega (arith, h))
+counted_in_places : (n a : ℕ) (gs : List FieldValue) → length gs ≤ n → counted a (values_in_places n gs) ≡ counted a gs
+counted_in_places n a [] h = counted_absent n a
+counted_in_places zero a (g ∷ gs) h = absurd (omega (arith, h))
+counted_in_places (suc n) a (g ∷ gs) h = counted_in_places n (a + cond (is_present g) 1 0) gs (omega (arith, h))
 
 -- ---- whole bodies
 
 body_at : (d : Data) (c : Command) → IsBodyOf (verb_of c) d c → body_says (verb_of c) d ≡ Some c
 body_at d c h =
     let v = verb_of c in
-    let six = filled 6 (values_of c) in
+    let six = values_in_places 6 (values_of c) in
     let k = count_by is_present (values_of c) in
     go_on (member_count d) (λ count. fields_say (places v) d >>= λ gs. where_true (count == count_by is_present gs) gs >>= command_of v) k (Some c) h.no_other
     (go_on (fields_say (places v) d) (λ gs. where_true (k == count_by is_present gs) gs >>= command_of v) six (Some c)
     (ap (λ p. fields_say p d) (places_are v) ∙ fields_again 6 (row v) (values_of c) d (fits c h.in_range) h.members)
     (go_on (where_true (k == count_by is_present six) six) (command_of v) six (Some c)
-    (passes (k == count_by is_present six) six (eq-eqb _ _ (sym (counted_filled 6 0 (values_of c) (values_short c))))) (made_again c h.in_range)))
+    (passes (k == count_by is_present six) six (eq-eqb _ _ (sym (counted_in_places 6 0 (values_of c) (values_short c h.in_range))))) (made_again c h.in_range)))
 
 pub body_again : (v : Verb) (d : Data) (c : Command) → IsBodyOf v d c → body_says v d ≡ Some c
 body_again v d c h = subst (λ u. IsBodyOf u d c → body_says u d ≡ Some c) h.verb_is (body_at d c) h
@@ -163,9 +163,9 @@ body_made v d c h =
     let t = bound (where_true (n.x == count_by is_present g.x) g.x) (command_of v) c g.goes in
     let p = passed (n.x == count_by is_present g.x) g.x t.x t.is_x in
     let f = fields_made 6 (row v) d g.x (row_short v) (ap (λ q. fields_say q d) (sym (places_are v)) ∙ g.is_x) in
-    let m = made_of_list v g.x c f.given (ap (command_of v) p.1 ∙ t.goes) in
-    let six : g.x ≡ filled 6 (values_of c) = f.are_six ∙ ap (filled 6) m.front in
-    let count : n.x ≡ count_by is_present (values_of c) = eqb-true _ _ p.0 ∙ ap (count_by is_present) six ∙ counted_filled 6 0 (values_of c) (values_short c) in
+    let m = made_of_list v g.x c f.typed (ap (command_of v) p.1 ∙ t.goes) in
+    let six : g.x ≡ values_in_places 6 (values_of c) = f.are_six ∙ ap (values_in_places 6) m.front in
+    let count : n.x ≡ count_by is_present (values_of c) = eqb-true _ _ p.0 ∙ ap (count_by is_present) six ∙ counted_in_places 6 0 (values_of c) (values_short c m.in_range) in
     record {
       in_range = m.in_range;
       verb_is = m.verb_is;
@@ -182,14 +182,14 @@ members_len-view (m ∷ ms) = ap suc (members_len-view ms)
 pub members_counted : (ms : List (String Global × Value)) (d : Data) (k : ℕ) → Some (members_view ms) ≡ as_object d → k ≡ length ms → member_count d ≡ Some k
 members_counted ms d k e len = ap (option_map members_len) (sym e) ∙ ap (λ (n : ℕ). Some n) (members_len-view ms ∙ sym len)
 
-pub body_read : (v : Verb) (d : Data) (k : ℕ) (six : List Given) → member_count d ≡ Some k → Some six ≡ fields_say (places v) d
+pub body_read : (v : Verb) (d : Data) (k : ℕ) (six : List FieldValue) → member_count d ≡ Some k → Some six ≡ fields_say (places v) d
     → body_says v d ≡ (where_true (k == count_by is_present six) six >>= command_of v)
 body_read v d k six e f =
     ap (λ (o : Option ℕ). o >>= λ count. fields_say (places v) d >>= λ gs. where_true (count == count_by is_present gs) gs >>= command_of v) e
-    ∙ ap (λ (o : Option (List Given)). o >>= λ gs. where_true (k == count_by is_present gs) gs >>= command_of v) (sym f)
+    ∙ ap (λ (o : Option (List FieldValue)). o >>= λ gs. where_true (k == count_by is_present gs) gs >>= command_of v) (sym f)
 
-pub same_count : (v : Verb) (k : ℕ) (six : List Given) → k ≡ count_by is_present six → (where_true (k == count_by is_present six) six >>= command_of v) ≡ command_of v six
-same_count v k six e = ap (λ (o : Option (List Given)). o >>= command_of v) (passes (k == count_by is_present six) six (eq-eqb _ _ e))
+pub same_count : (v : Verb) (k : ℕ) (six : List FieldValue) → k ≡ count_by is_present six → (where_true (k == count_by is_present six) six >>= command_of v) ≡ command_of v six
+same_count v k six e = ap (λ (o : Option (List FieldValue)). o >>= command_of v) (passes (k == count_by is_present six) six (eq-eqb _ _ e))
 
-pub other_count : (v : Verb) (k : ℕ) (six : List Given) → (k ≡ count_by is_present six → ⊥) → (where_true (k == count_by is_present six) six >>= command_of v) ≡ None
+pub other_count : (v : Verb) (k : ℕ) (six : List FieldValue) → (k ≡ count_by is_present six → ⊥) → (where_true (k == count_by is_present six) six >>= command_of v) ≡ None
 other_count v k six differs = ap (λ (b : Bool). where_true b six >>= command_of v) (ne_eqb k (count_by is_present six) differs)

@@ -21,97 +21,96 @@ use Rattle.agent_stock.specs.Code.{is_agent_code}
 use Rattle.agent_stock.specs.declared.stock.Run.{Run}
 use Rattle.shipment_machine.specs.Amount.{IsCount}
 use Rattle.shipment_machine.specs.declared.flight.FlightDate.{FlightDate}
-use Rattle.desk_commands.specs.declared.given.Given.{Given}
-use Rattle.desk_commands.specs.declared.given.Given.TheVariants.{Text, Number, Flight, Absent}
-use Rattle.desk_commands.specs.Command.{prefix_text, serial_text, number, flight, day, flight_if_any, day_if_any}
+use Rattle.desk_commands.specs.declared.field_value.FieldValue.{FieldValue}
+use Rattle.desk_commands.specs.declared.field_value.FieldValue.TheVariants.{Text, Number, Flight, Absent}
+use Rattle.desk_commands.specs.Command.{prefix_text, serial_text, number, flight, day, flight_if_any, day_if_any, IsRun, IsFlightDate, IsAirport}
 use Rattle.desk_commands.specs.Day.{day_of}
-use Rattle.desk_commands.specs.Ranges.{IsRun, IsFlightDate, IsAirport}
-use Rattle.desk_commands.specs.Reading.{text_in, number_in, flight_in, digits_of, digits_in, awb_of, awb_in, airport_in, name_in, goods_in, agent_in, day_in, pieces_in, tenths_in, counted_in, count_in, run_in, flight_date_in, flight_if_any_in}
+use Rattle.desk_commands.specs.FieldValue.{text_in, number_in, flight_in, digits_of, digits_in, awb_of, awb_in, airport_in, name_in, goods_in, agent_in, day_in, pieces_in, tenths_in, counted_in, count_in, run_in, flight_date_in, flight_if_any_in}
 use Rattle.desk_commands.proofs.Days.{day_is, day_again}
 use Rattle.desk_commands.proofs.Steps.{some_is, passed, passes, made2, made3, go_on}
 
 -- ---- what is read of a text
 
-record FromText {A : Type 0} (of : List ℕ → Option A) (g : Given) (x : A) : Type 0 where
+record FromText {A : Type 0} (of : List ℕ → Option A) (g : FieldValue) (x : A) : Type 0 where
   pub text : List ℕ
   pub is_text : g ≡ Text text
   pub read : of text ≡ Some x
 
-from_text : {A : Type 0} (of : List ℕ → Option A) (g : Given) (x : A) → (text_in g >>= of) ≡ Some x → FromText of g x
+from_text : {A : Type 0} (of : List ℕ → Option A) (g : FieldValue) (x : A) → (text_in g >>= of) ≡ Some x → FromText of g x
 from_text of (Text text) x h = record { text = text; is_text = refl; read = h }
 from_text of (Number n) x h = cc h
 from_text of (Flight f) x h = cc h
 from_text of Absent x h = cc h
 
-record FromNumber {A : Type 0} (of : ℕ → Option A) (g : Given) (x : A) : Type 0 where
+record FromNumber {A : Type 0} (of : ℕ → Option A) (g : FieldValue) (x : A) : Type 0 where
   pub value : ℕ
   pub is_number : g ≡ Number value
   pub read : of value ≡ Some x
 
-from_number : {A : Type 0} (of : ℕ → Option A) (g : Given) (x : A) → (number_in g >>= of) ≡ Some x → FromNumber of g x
+from_number : {A : Type 0} (of : ℕ → Option A) (g : FieldValue) (x : A) → (number_in g >>= of) ≡ Some x → FromNumber of g x
 from_number of (Text text) x h = cc h
 from_number of (Number n) x h = record { value = n; is_number = refl; read = h }
 from_number of (Flight f) x h = cc h
 from_number of Absent x h = cc h
 
-pub number_is : (g : Given) (n : ℕ) → number_in g ≡ Some n → g ≡ Number n
+pub number_is : (g : FieldValue) (n : ℕ) → number_in g ≡ Some n → g ≡ Number n
 number_is (Text text) n h = cc h
 number_is (Number m) n h = ap Number (some_is m n h)
 number_is (Flight f) n h = cc h
 number_is Absent n h = cc h
 
-pub flight_is : (g : Given) (f : Designator) → flight_in g ≡ Some f → g ≡ Flight f
+pub flight_is : (g : FieldValue) (f : Designator) → flight_in g ≡ Some f → g ≡ Flight f
 flight_is (Text text) f h = cc h
 flight_is (Number m) f h = cc h
 flight_is (Flight e) f h = ap Flight (some_is e f h)
 flight_is Absent f h = cc h
 
 -- a text that passes a test
-tested : (test : List ℕ → Bool) (g : Given) (t : List ℕ) → (text_in g >>= λ text. where_true (test text) text) ≡ Some t → (IsTrue (test t)) × (g ≡ Text t)
+tested : (test : List ℕ → Bool) (g : FieldValue) (t : List ℕ) → (text_in g >>= λ text. where_true (test text) text) ≡ Some t → (IsTrue (test t)) × (g ≡ Text t)
 tested test g t h =
     let r = from_text (λ text. where_true (test text) text) g t h in
     let p = passed (test r.text) r.text t r.read in
     (subst (λ x. test x ≡ true) p.1 p.0, r.is_text ∙ ap Text p.1)
 
-pub airport_is : (g : Given) (t : List ℕ) → airport_in g ≡ Some t → IsAirport t × (g ≡ Text t)
+pub airport_is : (g : FieldValue) (t : List ℕ) → airport_in g ≡ Some t → IsAirport t × (g ≡ Text t)
 airport_is g t h = tested is_airport g t h
 
-pub name_is : (g : Given) (t : List ℕ) → name_in g ≡ Some t → IsTrue (is_name t) × (g ≡ Text t)
+pub name_is : (g : FieldValue) (t : List ℕ) → name_in g ≡ Some t → IsTrue (is_name t) × (g ≡ Text t)
 name_is g t h = tested is_name g t h
 
-pub goods_is : (g : Given) (t : List ℕ) → goods_in g ≡ Some t → IsTrue (is_goods t) × (g ≡ Text t)
+pub goods_is : (g : FieldValue) (t : List ℕ) → goods_in g ≡ Some t → IsTrue (is_goods t) × (g ≡ Text t)
 goods_is g t h = tested is_goods g t h
 
-pub agent_is : (g : Given) (t : List ℕ) → agent_in g ≡ Some t → IsTrue (is_agent_code t) × (g ≡ Text t)
+pub agent_is : (g : FieldValue) (t : List ℕ) → agent_in g ≡ Some t → IsTrue (is_agent_code t) × (g ≡ Text t)
 agent_is g t h = tested is_agent_code g t h
 
 -- a number that passes a test
-counted : (test : ℕ → Bool) (g : Given) (n : ℕ) → (number_in g >>= λ m. where_true (test m) m) ≡ Some n → (test n ≡ true) × (g ≡ Number n)
+counted : (test : ℕ → Bool) (g : FieldValue) (n : ℕ) → (number_in g >>= λ m. where_true (test m) m) ≡ Some n → (test n ≡ true) × (g ≡ Number n)
 counted test g n h =
     let r = from_number (λ m. where_true (test m) m) g n h in
     let p = passed (test r.value) r.value n r.read in
     (subst (λ x. test x ≡ true) p.1 p.0, r.is_number ∙ ap Number p.1)
 
-pub pieces_is : (g : Given) (n : ℕ) → pieces_in g ≡ Some n → IsPieces n × (g ≡ Number n)
+pub pieces_is : (g : FieldValue) (n : ℕ) → pieces_in g ≡ Some n → IsPieces n × (g ≡ Number n)
 pieces_is g n h =
     let r = counted (λ m. nat_le 1 m && nat_le m 9999) g n h in
     let p = and_parts _ _ r.0 in
     ((leb-true _ _ p.0, leb-true _ _ p.1), r.1)
 
-pub tenths_is : (g : Given) (n : ℕ) → tenths_in g ≡ Some n → IsTenths n × (g ≡ Number n)
+pub tenths_is : (g : FieldValue) (n : ℕ) → tenths_in g ≡ Some n → IsTenths n × (g ≡ Number n)
 tenths_is g n h = let r = counted (λ m. nat_le m 99_999_990) g n h in (leb-true _ _ r.0, r.1)
 
-pub counted_is : (g : Given) (n : ℕ) → counted_in g ≡ Some n → IsCount n × (g ≡ Number n)
+pub counted_is : (g : FieldValue) (n : ℕ) → counted_in g ≡ Some n → IsCount n × (g ≡ Number n)
 counted_is g n h = let r = counted (λ m. nat_le m 9999) g n h in (leb-true _ _ r.0, r.1)
 
-pub count_is : (g : Given) (n : ℕ) → count_in g ≡ Some n → (n ≤ 9_999_999) × (g ≡ Number n)
+pub count_is : (g : FieldValue) (n : ℕ) → count_in g ≡ Some n → (n ≤ 9_999_999) × (g ≡ Number n)
 count_is g n h = let r = counted (λ m. nat_le m 9_999_999) g n h in (leb-true _ _ r.0, r.1)
 
 ok_is : (r : Result ℕ AwbFault) (w : ℕ) → result_ok r ≡ Some w → r ≡ Ok w
 ok_is (Ok v) w h = ap (λ (x : ℕ). Ok x) (some_is v w h)
 ok_is (Err fault) w h = cc h
 
-pub awb_is : (g : Given) (w : ℕ) → awb_in g ≡ Some w → IsNumber w × (g ≡ number w)
+pub awb_is : (g : FieldValue) (w : ℕ) → awb_in g ≡ Some w → IsNumber w × (g ≡ number w)
 awb_is g w h =
     let r = from_text awb_of g w h in
     let spelled = number_takes r.text w (by (length r.text == 12) r.text w r.read) in
@@ -121,7 +120,7 @@ awb_is g w h =
     by true text w h = ok_is (number_of text) w h
     by false text w h = cc h
 
-digits_are : (width : ℕ) (g : Given) (n : ℕ) → digits_in width g ≡ Some n → (n < 10 ^ width) × (g ≡ Text (padded width n))
+digits_are : (width : ℕ) (g : FieldValue) (n : ℕ) → digits_in width g ≡ Some n → (n < 10 ^ width) × (g ≡ Text (padded width n))
 digits_are width g n h =
     let r = from_text (digits_of width) g n h in
     let p = passed ((length r.text == width) && list_all is_digit r.text) (decimal_value r.text) n r.read in
@@ -130,13 +129,13 @@ digits_are width g n h =
     let again : padded width n ≡ r.text = ap (λ k. padded k n) (sym long) ∙ ap (padded (length r.text)) (sym p.1) ∙ padded-decimal_value r.text t.1 in
     (subst (λ k. n < 10 ^ k) long (subst (λ v. v < 10 ^ length r.text) p.1 (decimal_value_bound r.text t.1)), r.is_text ∙ ap Text (sym again))
 
-pub record IsRunGiven (prefix serial count : Given) (run : Run) : Type 0 where
+pub record IsRunValues (prefix serial count : FieldValue) (run : Run) : Type 0 where
   pub range : IsRun run
   pub prefix_is : prefix ≡ prefix_text run
   pub serial_is : serial ≡ serial_text run
   pub count_is : count ≡ Number run.count
 
-pub run_is : (a b c : Given) (run : Run) → run_in a b c ≡ Some run → IsRunGiven a b c run
+pub run_is : (a b c : FieldValue) (run : Run) → run_in a b c ≡ Some run → IsRunValues a b c run
 run_is a b c run h =
     let r = made3 (digits_in 3 a) (digits_in 7 b) (count_in c) (λ p s n. record { first = key_of p s; count = n }) run h in
     let p = digits_are 3 a r.a r.is_a in
@@ -144,24 +143,24 @@ run_is a b c run h =
     let n = count_is c r.c r.is_c in
     let low : r.a < 1000 = omega (arith, p.0) in
     let small : r.b < 10_000_000 = omega (arith, s.0) in
-    subst (IsRunGiven a b c) r.same (record {
+    subst (IsRunValues a b c) r.same (record {
       range = (key_in_range r.a r.b low small, n.0);
       prefix_is = p.1 ∙ ap (λ x. Text (padded 3 x)) (sym (prefix_of-key r.a r.b small));
       serial_is = s.1 ∙ ap (λ x. Text (padded 7 x)) (sym (serial_of-key r.a r.b small));
       count_is = n.1;
     })
 
-pub record IsFlightGiven (a b : Given) (f : FlightDate) : Type 0 where
+pub record IsFlightValues (a b : FieldValue) (f : FlightDate) : Type 0 where
   pub day_is : IsMomentDay f.day
   pub flight_is : a ≡ flight f
   pub date_is : b ≡ day f
 
-pub flight_date_is : (a b : Given) (f : FlightDate) → flight_date_in a b ≡ Some f → IsFlightGiven a b f
+pub flight_date_is : (a b : FieldValue) (f : FlightDate) → flight_date_in a b ≡ Some f → IsFlightValues a b f
 flight_date_is a b f h =
     let r = made2 (flight_in a) (day_in b) (λ f d. record { flight = f; day = d }) f h in
     let t = from_text day_of b r.b r.is_b in
     let d = day_is t.text r.b t.read in
-    subst (IsFlightGiven a b) r.same (record { day_is = d.in_range; flight_is = flight_is a r.a r.is_a; date_is = t.is_text ∙ ap Text d.written })
+    subst (IsFlightValues a b) r.same (record { day_is = d.in_range; flight_is = flight_is a r.a r.is_a; date_is = t.is_text ∙ ap Text d.written })
 
 -- ---- what a field holds is read again
 

@@ -17,9 +17,6 @@ use Rattle.imp_fields.proofs.WrittenLaws.{all_weaker, decimal_digits}
 use Rattle.agent_stock.specs.Code.{is_agent_code}
 use Rattle.desk_commands.specs.Day.{day_line}
 use Rattle.desk_commands.specs.Lines.{is_end}
-use Rattle.desk_commands.specs.Verb.{word}
-use Rattle.desk_commands.specs.declared.verb.Verb.{Verb}
-use Rattle.desk_commands.specs.declared.verb.Verb.TheVariants as verb
 
 abbrev pub free : List ℕ → Bool
 free text = list_all (λ b. not (is_end b)) text
@@ -69,20 +66,3 @@ free_flight f h = free_tested is_letter_or_digit refl (flight_text f) (flight_co
 
 pub free_decimal : (n : ℕ) → n < 4_294_967_296 → free (decimal n) ≡ true
 free_decimal n small = let wide : n < 2 ^ 64 = omega (arith, small) in free_tested is_digit refl (decimal n) (decimal_digits n wide)
-
-pub free_word : (v : Verb) → free (word v) ≡ true
-free_word verb.TakeIn = refl
-free_word verb.Issue = refl
-free_word verb.Return = refl
-free_word verb.Void = refl
-free_word verb.Book = refl
-free_word verb.Receive = refl
-free_word verb.Manifest = refl
-free_word verb.Offload = refl
-free_word verb.Depart = refl
-free_word verb.CheckIn = refl
-free_word verb.Notify = refl
-free_word verb.Deliver = refl
-free_word verb.Missing = refl
-free_word verb.Found = refl
-free_word verb.Confirm = refl

@@ -1,8 +1,8 @@
-mod Again
 pub mod Ascii
 mod BodyLaws
 mod Cuts
 mod Days
+mod EachVerb
 mod Examples
 mod Fields
 mod Fit

@@ -19,16 +19,15 @@ use Rattle.imp_fields.specs.Flight.{Designator, IsDesignator, flight_of, flight_
 use Rattle.imp_fields.specs.Steps.{◌>>=◌, where_true}
 use Rattle.imp_fields.proofs.FieldLaws.{flight_again}
 use Rattle.imp_fields.proofs.SameFlight.{bytes_eq-refl, bytes_eq-true}
-use Rattle.desk_commands.specs.declared.field.Kind.{Kind}
-use Rattle.desk_commands.specs.declared.field.Kind.TheVariants as kind
-use Rattle.desk_commands.specs.declared.given.Given.{Given}
-use Rattle.desk_commands.specs.declared.given.Given.TheVariants.{Text, Number, Flight, Absent}
-use Rattle.desk_commands.specs.Given.{written}
-use Rattle.desk_commands.specs.Lines.{written_flight_of, given_number, given_flight, given_flight_if_any, given_text_if_any, line_says}
-use Rattle.desk_commands.specs.Number.{is_number, number_of}
+use Rattle.desk_commands.specs.declared.verb.Kind.{Kind}
+use Rattle.desk_commands.specs.declared.verb.Kind.TheVariants as kind
+use Rattle.desk_commands.specs.declared.field_value.FieldValue.{FieldValue}
+use Rattle.desk_commands.specs.declared.field_value.FieldValue.TheVariants.{Text, Number, Flight, Absent}
+use Rattle.desk_commands.specs.FieldValue.{line_of}
+use Rattle.desk_commands.specs.Lines.{is_number, number_of, written_flight_of, number_value, flight_value, flight_value_if_any, text_value_if_any, line_says}
 use Rattle.desk_commands.proofs.Fit.{Fits}
 use Rattle.desk_commands.proofs.Free.{free, free_decimal, free_flight}
-use Rattle.desk_commands.proofs.Made.{IsGiven}
+use Rattle.desk_commands.proofs.Made.{IsTyped}
 use Rattle.desk_commands.proofs.Steps.{some_is, passes, passed, go_on, bound, made1, made3}
 
 -- decimal digits, and the number that they write
@@ -147,18 +146,18 @@ flight_made text f h =
 
 -- ---- each kind of line
 
-if_any : (line : List ℕ) (g : Given) → given_flight line ≡ Some g → given_flight_if_any line ≡ Some g
-if_any [] g h = let bad : ◌≡◌ {A = Option Given} None (Some g) = h in cc bad
+if_any : (line : List ℕ) (g : FieldValue) → flight_value line ≡ Some g → flight_value_if_any line ≡ Some g
+if_any [] g h = let bad : ◌≡◌ {A = Option FieldValue} None (Some g) = h in cc bad
 if_any (b ∷ line) g h = h
 
-text_if_any : (line : List ℕ) → 0 < length line → given_text_if_any line ≡ Some (Text line)
+text_if_any : (line : List ℕ) → 0 < length line → text_value_if_any line ≡ Some (Text line)
 text_if_any [] h = absurd (omega (arith, h))
 text_if_any (b ∷ line) h = refl
 
-flight_line_again : (f : Designator) → IsDesignator f → given_flight (flight_text f) ≡ Some (Flight f)
+flight_line_again : (f : Designator) → IsDesignator f → flight_value (flight_text f) ≡ Some (Flight f)
 flight_line_again f h = ap (λ (o : Option Designator). o >>= λ x. Some (Flight x)) (written_flight_again f h)
 
-pub line_again : (k : Kind) (g : Given) → Fits k g → line_says k (written g) ≡ Some g
+pub line_again : (k : Kind) (g : FieldValue) → Fits k g → line_says k (line_of g) ≡ Some g
 line_again kind.Text (Text t) h = refl
 line_again kind.Text (Number n) h = absurd h
 line_again kind.Text (Flight f) h = absurd h
@@ -180,7 +179,7 @@ line_again kind.TextIfAny (Number n) h = absurd h
 line_again kind.TextIfAny (Flight f) h = absurd h
 line_again kind.TextIfAny Absent h = refl
 
-pub line_free : (k : Kind) (g : Given) → Fits k g → free (written g) ≡ true
+pub line_free : (k : Kind) (g : FieldValue) → Fits k g → free (line_of g) ≡ true
 line_free kind.Text (Text t) h = h
 line_free kind.Text (Number n) h = absurd h
 line_free kind.Text (Flight f) h = absurd h
@@ -202,38 +201,38 @@ line_free kind.TextIfAny (Number n) h = absurd h
 line_free kind.TextIfAny (Flight f) h = absurd h
 line_free kind.TextIfAny Absent h = refl
 
-pub record IsLine (line : List ℕ) (g : Given) : Type 0 where
-  pub is_line : written g ≡ line
-  pub range : IsGiven g
+pub record IsLine (line : List ℕ) (g : FieldValue) : Type 0 where
+  pub is_line : line_of g ≡ line
+  pub range : IsTyped g
 
-text_line : (line : List ℕ) (g : Given) → ◌≡◌ {A = Option Given} (Some (Text line)) (Some g) → IsLine line g
+text_line : (line : List ℕ) (g : FieldValue) → ◌≡◌ {A = Option FieldValue} (Some (Text line)) (Some g) → IsLine line g
 text_line line g h = subst (IsLine line) (some_is (Text line) g h) (record { is_line = refl; range = tt })
 
-absent_line : (g : Given) → ◌≡◌ {A = Option Given} (Some Absent) (Some g) → IsLine [] g
+absent_line : (g : FieldValue) → ◌≡◌ {A = Option FieldValue} (Some Absent) (Some g) → IsLine [] g
 absent_line g h = subst (IsLine []) (some_is Absent g h) (record { is_line = refl; range = tt })
 
-flight_line : (line : List ℕ) (g : Given) → given_flight line ≡ Some g → IsLine line g
+flight_line : (line : List ℕ) (g : FieldValue) → flight_value line ≡ Some g → IsLine line g
 flight_line line g h =
     let r = made1 (written_flight_of line) (λ f. Flight f) g h in
     let t = bound (flight_of line) (λ f. where_true (bytes_eq (flight_text f) line) f) r.a r.is_a in
     let p = passed (bytes_eq (flight_text t.x) line) t.x r.a t.goes in
     subst (IsLine line) (ap (λ f. Flight f) p.1 ∙ r.same) (record { is_line = bytes_eq-true (flight_text t.x) line p.0; range = flight_made line t.x t.is_x })
 
-number_line : (line : List ℕ) (g : Given) → given_number line ≡ Some g → IsLine line g
+number_line : (line : List ℕ) (g : FieldValue) → number_value line ≡ Some g → IsLine line g
 number_line line g h =
     let r = made1 (number_of line) (λ n. Number n) g h in
     let n = number_made line r.a r.is_a in
     subst (IsLine line) r.same (record { is_line = n.is_line; range = n.small })
 
-flight_line_if_any : (line : List ℕ) (g : Given) → given_flight_if_any line ≡ Some g → IsLine line g
+flight_line_if_any : (line : List ℕ) (g : FieldValue) → flight_value_if_any line ≡ Some g → IsLine line g
 flight_line_if_any [] g h = absent_line g h
 flight_line_if_any (b ∷ line) g h = flight_line (b ∷ line) g h
 
-text_line_if_any : (line : List ℕ) (g : Given) → given_text_if_any line ≡ Some g → IsLine line g
+text_line_if_any : (line : List ℕ) (g : FieldValue) → text_value_if_any line ≡ Some g → IsLine line g
 text_line_if_any [] g h = absent_line g h
 text_line_if_any (b ∷ line) g h = text_line (b ∷ line) g h
 
-pub line_made : (k : Kind) (line : List ℕ) (g : Given) → line_says k line ≡ Some g → IsLine line g
+pub line_made : (k : Kind) (line : List ℕ) (g : FieldValue) → line_says k line ≡ Some g → IsLine line g
 line_made kind.Text line g h = text_line line g h
 line_made kind.Number line g h = number_line line g h
 line_made kind.Flight line g h = flight_line line g h

@@ -7,23 +7,20 @@ use Rattle.std.proofs.lemmas.List.Splits.{join_with_byte-slice_split, length-sli
 use Rattle.imp_fields.specs.Steps.{◌>>=◌, where_true}
 use Rattle.desk_commands.specs.declared.command.Command.{Command}
 use Rattle.desk_commands.specs.declared.verb.Verb.{Verb}
-use Rattle.desk_commands.specs.declared.field.Field.{Field}
-use Rattle.desk_commands.specs.declared.given.Given.{Given}
-use Rattle.desk_commands.specs.declared.given.Given.TheVariants.{Absent}
-use Rattle.desk_commands.specs.Command.{verb_of, values_of, command_text}
-use Rattle.desk_commands.specs.Field.{kind_of, row, places}
-use Rattle.desk_commands.specs.Given.{written}
-use Rattle.desk_commands.specs.Lines.{is_end, lines_of, lines_left, IsNext, spread, line_says, places_say, lines_say, lines_command, text_says}
-use Rattle.desk_commands.specs.Ranges.{IsCommand}
-use Rattle.desk_commands.specs.Reading.{command_of}
-use Rattle.desk_commands.specs.Verb.{word, verb_called}
-use Rattle.desk_commands.proofs.Again.{filled, made_again}
-use Rattle.desk_commands.proofs.Fit.{AreFit, fits, places_are, row_short, values_short}
-use Rattle.desk_commands.proofs.Free.{free, free_word}
+use Rattle.desk_commands.specs.declared.verb.Field.{Field}
+use Rattle.desk_commands.specs.declared.field_value.FieldValue.{FieldValue}
+use Rattle.desk_commands.specs.declared.field_value.FieldValue.TheVariants.{Absent}
+use Rattle.desk_commands.specs.Command.{verb_of, values_of, command_text, IsCommand, command_of}
+use Rattle.desk_commands.specs.Verb.{kind_of, word, verb_called, row, places}
+use Rattle.desk_commands.specs.FieldValue.{line_of}
+use Rattle.desk_commands.specs.Lines.{is_end, lines_of, lines_left, IsNext, places_of, line_says, places_say, lines_say, lines_command, text_says}
+use Rattle.desk_commands.proofs.EachVerb.{made_again, fits, made_of_list, called_again}
+use Rattle.desk_commands.proofs.Fit.{values_in_places, AreFit}
+use Rattle.desk_commands.proofs.Free.{free}
+use Rattle.desk_commands.proofs.Made.{AreTyped}
+use Rattle.desk_commands.proofs.Verbs.{places_are, row_short, values_short, free_word, called_is}
 use Rattle.desk_commands.proofs.LineLaws.{line_again, line_free, line_made}
-use Rattle.desk_commands.proofs.Made.{AllGiven, made_of_list}
 use Rattle.desk_commands.proofs.Steps.{some_is, passes, passed, go_on, again2, made2, bound}
-use Rattle.desk_commands.proofs.Verbs.{called_is, called_again}
 
 -- ---- the lines of lines that are joined
 
@@ -48,7 +45,7 @@ lines_joined line [] h k = one_line line h
 lines_joined line (next ∷ lines) h k =
     first_cut line (join_with_byte 10 (next ∷ lines)) h ∙ ap (λ (x : List (List ℕ)). line ∷ x) (lines_joined next lines k.0 k.1)
 
-values_free : (fs : List Field) (gs : List Given) → AreFit fs gs → AreFree (map written gs)
+values_free : (fs : List Field) (gs : List FieldValue) → AreFit fs gs → AreFree (map line_of gs)
 values_free [] [] h = tt
 values_free [] (g ∷ gs) h = absurd h
 values_free (f ∷ fs) [] h = absurd h
@@ -56,87 +53,87 @@ values_free (f ∷ fs) (g ∷ gs) h = (line_free (kind_of f) g h.0, values_free 
 
 -- ---- places and their lines
 
-says_again : (n : ℕ) (fs : List Field) (gs : List Given) → AreFit fs gs → places_say (spread n fs) (spread n (map written gs)) ≡ Some (filled n gs)
+says_again : (n : ℕ) (fs : List Field) (gs : List FieldValue) → AreFit fs gs → places_say (places_of n fs) (places_of n (map line_of gs)) ≡ Some (values_in_places n gs)
 says_again zero fs gs h = refl
 says_again (suc n) [] [] h =
-    again2 (Some Absent) (places_say (spread n []) (spread n [])) (λ (g : Given) (gs : List Given). g ∷ gs) Absent (filled n []) refl (says_again n [] [] tt)
+    again2 (Some Absent) (places_say (places_of n []) (places_of n [])) (λ (g : FieldValue) (gs : List FieldValue). g ∷ gs) Absent (values_in_places n []) refl (says_again n [] [] tt)
 says_again (suc n) [] (g ∷ gs) h = absurd h
 says_again (suc n) (f ∷ fs) [] h = absurd h
 says_again (suc n) (f ∷ fs) (g ∷ gs) h =
-    again2 (line_says (kind_of f) (written g)) (places_say (spread n fs) (spread n (map written gs))) (λ (g : Given) (gs : List Given). g ∷ gs) g (filled n gs)
+    again2 (line_says (kind_of f) (line_of g)) (places_say (places_of n fs) (places_of n (map line_of gs))) (λ (g : FieldValue) (gs : List FieldValue). g ∷ gs) g (values_in_places n gs)
     (line_again (kind_of f) g h.0) (says_again n fs gs h.1)
 
-record AreLines (fs : List Field) (ls : List (List ℕ)) (six : List Given) : Type 0 where
-  pub given : AllGiven six
-  pub are_lines : map written (take (length fs) six) ≡ ls
+record AreLines (fs : List Field) (ls : List (List ℕ)) (six : List FieldValue) : Type 0 where
+  pub typed : AreTyped six
+  pub are_lines : map line_of (take (length fs) six) ≡ ls
 
-says_made : (n : ℕ) (fs : List Field) (ls : List (List ℕ)) (six : List Given) → length fs ≤ n → length ls ≤ n
-    → places_say (spread n fs) (spread n ls) ≡ Some six → AreLines fs ls six
-says_made zero [] [] six fit short h = subst (AreLines [] []) (some_is {A = List Given} [] six h) (record { given = tt; are_lines = refl })
+says_made : (n : ℕ) (fs : List Field) (ls : List (List ℕ)) (six : List FieldValue) → length fs ≤ n → length ls ≤ n
+    → places_say (places_of n fs) (places_of n ls) ≡ Some six → AreLines fs ls six
+says_made zero [] [] six fit short h = subst (AreLines [] []) (some_is {A = List FieldValue} [] six h) (record { typed = tt; are_lines = refl })
 says_made zero [] (l ∷ ls) six fit short h = absurd (omega (arith, short))
 says_made zero (f ∷ fs) ls six fit short h = absurd (omega (arith, fit))
 says_made (suc n) [] [] six fit short h =
-    let r = made2 (Some Absent) (places_say (spread n []) (spread n [])) (λ (g : Given) (gs : List Given). g ∷ gs) six h in
+    let r = made2 (Some Absent) (places_say (places_of n []) (places_of n [])) (λ (g : FieldValue) (gs : List FieldValue). g ∷ gs) six h in
     let more = says_made n [] [] r.b (omega arith) (omega arith) r.is_b in
-    let first = some_is {A = Given} Absent r.a r.is_a in
-    subst (AreLines [] []) (ap (λ (g : Given). g ∷ r.b) first ∙ r.same) (record { given = (tt, more.given); are_lines = refl })
+    let first = some_is {A = FieldValue} Absent r.a r.is_a in
+    subst (AreLines [] []) (ap (λ (g : FieldValue). g ∷ r.b) first ∙ r.same) (record { typed = (tt, more.typed); are_lines = refl })
 says_made (suc n) [] (l ∷ ls) six fit short h =
-    let r = made2 {A = Given} None (places_say (spread n []) (spread n ls)) (λ (g : Given) (gs : List Given). g ∷ gs) six h in
+    let r = made2 {A = FieldValue} None (places_say (places_of n []) (places_of n ls)) (λ (g : FieldValue) (gs : List FieldValue). g ∷ gs) six h in
     let bad = r.is_a in cc bad
 says_made (suc n) (f ∷ fs) [] six fit short h =
-    let r = made2 {A = Given} None (places_say (spread n fs) (spread n [])) (λ (g : Given) (gs : List Given). g ∷ gs) six h in
+    let r = made2 {A = FieldValue} None (places_say (places_of n fs) (places_of n [])) (λ (g : FieldValue) (gs : List FieldValue). g ∷ gs) six h in
     let bad = r.is_a in cc bad
 says_made (suc n) (f ∷ fs) (l ∷ ls) six fit short h =
-    let r = made2 (line_says (kind_of f) l) (places_say (spread n fs) (spread n ls)) (λ (g : Given) (gs : List Given). g ∷ gs) six h in
+    let r = made2 (line_says (kind_of f) l) (places_say (places_of n fs) (places_of n ls)) (λ (g : FieldValue) (gs : List FieldValue). g ∷ gs) six h in
     let more = says_made n fs ls r.b (omega (arith, fit)) (omega (arith, short)) r.is_b in
     let line = line_made (kind_of f) l r.a r.is_a in
-    subst (AreLines (f ∷ fs) (l ∷ ls)) r.same (record { given = (line.range, more.given); are_lines = λ i. line.is_line i ∷ more.are_lines i })
+    subst (AreLines (f ∷ fs) (l ∷ ls)) r.same (record { typed = (line.range, more.typed); are_lines = λ i. line.is_line i ∷ more.are_lines i })
 
 -- ---- whole texts
 
-length-lines : (gs : List Given) → length (map written gs) ≡ length gs
+length-lines : (gs : List FieldValue) → length (map line_of gs) ≡ length gs
 length-lines [] = refl
 length-lines (g ∷ gs) = ap suc (length-lines gs)
 
-lines_again : (c : Command) → IsCommand c → lines_command (word (verb_of c) ∷ map written (values_of c)) ≡ Some c
+lines_again : (c : Command) → IsCommand c → lines_command (word (verb_of c) ∷ map line_of (values_of c)) ≡ Some c
 lines_again c h =
     let v = verb_of c in
-    let ls = map written (values_of c) in
-    let short : length ls ≤ 6 = omega (arith, values_short c, length-lines (values_of c)) in
-    go_on (where_true (nat_le (length ls) 6) (spread 6 ls)) (lines_say (word v)) (spread 6 ls) (Some c) (passes (nat_le (length ls) 6) (spread 6 ls) (le-leb _ _ short))
-    (go_on (verb_called (word v)) (λ u. places_say (places u) (spread 6 ls) >>= command_of u) v (Some c) (called_again v)
-    (go_on (places_say (places v) (spread 6 ls)) (command_of v) (filled 6 (values_of c)) (Some c)
-    (ap (λ p. places_say p (spread 6 ls)) (places_are v) ∙ says_again 6 (row v) (values_of c) (fits c h)) (made_again c h)))
+    let ls = map line_of (values_of c) in
+    let short : length ls ≤ 6 = omega (arith, values_short c h, length-lines (values_of c)) in
+    go_on (where_true (nat_le (length ls) 6) (places_of 6 ls)) (lines_say (word v)) (places_of 6 ls) (Some c) (passes (nat_le (length ls) 6) (places_of 6 ls) (le-leb _ _ short))
+    (go_on (verb_called (word v)) (λ u. places_say (places u) (places_of 6 ls) >>= command_of u) v (Some c) (called_again v)
+    (go_on (places_say (places v) (places_of 6 ls)) (command_of v) (values_in_places 6 (values_of c)) (Some c)
+    (ap (λ p. places_say p (places_of 6 ls)) (places_are v) ∙ says_again 6 (row v) (values_of c) (fits c h)) (made_again c h)))
 
 pub text_again : (c : Command) → IsCommand c → text_says (command_text c) ≡ Some c
 text_again c h =
-    ap lines_command (lines_joined (word (verb_of c)) (map written (values_of c)) (free_word (verb_of c)) (values_free (row (verb_of c)) (values_of c) (fits c h)))
+    ap lines_command (lines_joined (word (verb_of c)) (map line_of (values_of c)) (free_word (verb_of c)) (values_free (row (verb_of c)) (values_of c) (fits c h)))
     ∙ lines_again c h
 
 -- the command has these lines
 abbrev HasLines : Command → List (List ℕ) → Type 0
-HasLines c lines = IsCommand c × (word (verb_of c) ∷ map written (values_of c) ≡ lines)
+HasLines c lines = IsCommand c × (word (verb_of c) ∷ map line_of (values_of c) ≡ lines)
 
-by_verb : (w : List ℕ) (ls : List (List ℕ)) (v : Verb) (six : List Given) (c : Command) → length ls ≤ 6 → verb_called w ≡ Some v
-    → places_say (places v) (spread 6 ls) ≡ Some six → command_of v six ≡ Some c → HasLines c (w ∷ ls)
+by_verb : (w : List ℕ) (ls : List (List ℕ)) (v : Verb) (six : List FieldValue) (c : Command) → length ls ≤ 6 → verb_called w ≡ Some v
+    → places_say (places v) (places_of 6 ls) ≡ Some six → command_of v six ≡ Some c → HasLines c (w ∷ ls)
 by_verb w ls v six c short called said h =
-    let s = says_made 6 (row v) ls six (row_short v) short (ap (λ q. places_say q (spread 6 ls)) (sym (places_are v)) ∙ said) in
-    let m = made_of_list v six c s.given h in
+    let s = says_made 6 (row v) ls six (row_short v) short (ap (λ q. places_say q (places_of 6 ls)) (sym (places_are v)) ∙ said) in
+    let m = made_of_list v six c s.typed h in
     let verb : word (verb_of c) ≡ w = ap word m.verb_is ∙ called_is w v called in
-    let values : map written (values_of c) ≡ ls = ap (map written) (sym m.front) ∙ s.are_lines in
+    let values : map line_of (values_of c) ≡ ls = ap (map line_of) (sym m.front) ∙ s.are_lines in
     (m.in_range, λ i. verb i ∷ values i)
 
-by_word : (w : List ℕ) (ls : List (List ℕ)) (c : Command) → length ls ≤ 6 → lines_say w (spread 6 ls) ≡ Some c → HasLines c (w ∷ ls)
+by_word : (w : List ℕ) (ls : List (List ℕ)) (c : Command) → length ls ≤ 6 → lines_say w (places_of 6 ls) ≡ Some c → HasLines c (w ∷ ls)
 by_word w ls c short h =
-    let v = bound (verb_called w) (λ u. places_say (places u) (spread 6 ls) >>= command_of u) c h in
-    let g = bound (places_say (places v.x) (spread 6 ls)) (command_of v.x) c v.goes in
+    let v = bound (verb_called w) (λ u. places_say (places u) (places_of 6 ls) >>= command_of u) c h in
+    let g = bound (places_say (places v.x) (places_of 6 ls)) (command_of v.x) c v.goes in
     by_verb w ls v.x g.x c short v.is_x g.is_x g.goes
 
 by_lines : (lines : List (List ℕ)) (c : Command) → lines_command lines ≡ Some c → HasLines c lines
 by_lines [] c h = cc h
 by_lines (w ∷ ls) c h =
-    let t = bound (where_true (nat_le (length ls) 6) (spread 6 ls)) (lines_say w) c h in
-    let p = passed (nat_le (length ls) 6) (spread 6 ls) t.x t.is_x in
+    let t = bound (where_true (nat_le (length ls) 6) (places_of 6 ls)) (lines_say w) c h in
+    let p = passed (nat_le (length ls) 6) (places_of 6 ls) t.x t.is_x in
     by_word w ls c (leb-true _ _ p.0) (ap (lines_say w) p.1 ∙ t.goes)
 
 pub text_made : (text : List ℕ) (c : Command) → text_says text ≡ Some c → IsCommand c × (command_text c ≡ text)
@@ -157,11 +154,11 @@ only_said r text c e h same = e ∙ ap text_says (sym same) ∙ text_again c h
 -- ---- seven lines that are taken one after the other
 
 next_one : (n : ℕ) (left line after : Option (List ℕ)) (lines : List (Option (List ℕ))) → IsNext left line after
-    → lines ≡ spread n (lines_left after) → line ∷ lines ≡ spread (suc n) (lines_left left)
+    → lines ≡ places_of n (lines_left after) → line ∷ lines ≡ places_of (suc n) (lines_left left)
 next_one n left None after lines e h =
-    let none : spread n (lines_left after) ≡ spread n [] = ap (λ x. spread n (lines_left x)) e.1 in
-    (λ i. None ∷ (h ∙ none) i) ∙ ap (λ x. spread (suc n) (lines_left x)) (sym e.0)
-next_one n left (Some line) after lines e h = (λ i. Some line ∷ h i) ∙ ap (spread (suc n)) (sym e)
+    let none : places_of n (lines_left after) ≡ places_of n [] = ap (λ x. places_of n (lines_left x)) e.1 in
+    (λ i. None ∷ (h ∙ none) i) ∙ ap (λ x. places_of (suc n) (lines_left x)) (sym e.0)
+next_one n left (Some line) after lines e h = (λ i. Some line ∷ h i) ∙ ap (places_of (suc n)) (sym e)
 
 few : (n : ℕ) (left line after : Option (List ℕ)) → IsNext left line after → length (lines_left after) ≤ n → length (lines_left left) ≤ suc n
 few n left None after e h = let none : length (lines_left left) ≡ 0 = ap (λ x. length (lines_left x)) e.0 in omega (arith, none)
@@ -183,14 +180,14 @@ six_taken text word r0 r1 r2 r3 r4 r5 r6 l0 l1 l2 l3 l4 l5 w n0 n1 n2 n3 n4 n5 e
     let none : length (lines_left r6) ≡ 0 = ap (λ x. length (lines_left x)) end in
     let short : length (lines_left r0) ≤ 6 =
     few 5 r0 l0 r1 n0 (few 4 r1 l1 r2 n1 (few 3 r2 l2 r3 n2 (few 2 r3 l3 r4 n3 (few 1 r4 l4 r5 n4 (few 0 r5 l5 r6 n5 (omega (arith, none))))))) in
-    let six : l0 ∷ l1 ∷ l2 ∷ l3 ∷ l4 ∷ l5 ∷ [] ≡ spread 6 (lines_left r0) =
+    let six : l0 ∷ l1 ∷ l2 ∷ l3 ∷ l4 ∷ l5 ∷ [] ≡ places_of 6 (lines_left r0) =
     next_one 5 r0 l0 r1 (l1 ∷ l2 ∷ l3 ∷ l4 ∷ l5 ∷ []) n0 (next_one 4 r1 l1 r2 (l2 ∷ l3 ∷ l4 ∷ l5 ∷ []) n1 (next_one 3 r2 l2 r3 (l3 ∷ l4 ∷ l5 ∷ []) n2
     (next_one 2 r3 l3 r4 (l4 ∷ l5 ∷ []) n3 (next_one 1 r4 l4 r5 (l5 ∷ []) n4 (next_one 0 r5 l5 r6 [] n5 refl))))) in
     ap (lines_say word) six
-    ∙ sym (ap lines_command w ∙ ap (λ (o : Option (List (Option (List ℕ)))). o >>= lines_say word) (passes (nat_le (length (lines_left r0)) 6) (spread 6 (lines_left r0)) (le-leb _ _ short)))
+    ∙ sym (ap lines_command w ∙ ap (λ (o : Option (List (Option (List ℕ)))). o >>= lines_say word) (passes (nat_le (length (lines_left r0)) 6) (places_of 6 (lines_left r0)) (le-leb _ _ short)))
 
 by_length : (word : List ℕ) (lines : List (List ℕ)) → (length lines ≤ 6 → ⊥) → lines_command (word ∷ lines) ≡ None
-by_length w lines long = ap (λ b. where_true b (spread 6 lines) >>= lines_say w) (not_leb (length lines) 6 long)
+by_length w lines long = ap (λ b. where_true b (places_of 6 lines) >>= lines_say w) (not_leb (length lines) 6 long)
   where
     not_leb : (n m : ℕ) → (n ≤ m → ⊥) → nat_le n m ≡ false
     not_leb n m above = by (nat_le n m) refl
@@ -206,7 +203,7 @@ too_many text word r0 r1 r2 r3 r4 r5 r6 l0 l1 l2 l3 l4 l5 more w n0 n1 n2 n3 n4 
     many 5 r0 l0 r1 n0 (many 4 r1 l1 r2 n1 (many 3 r2 l2 r3 n2 (many 2 r3 l3 r4 n3 (many 1 r4 l4 r5 n4 (many 0 r5 l5 r6 n5 (some_lines r6 more end)))))) in
     sym (ap lines_command w ∙ by_length word (lines_left r0) (λ short. omega (arith, long, short)))
 
-pub lines_read : (word : List ℕ) (lines : List (Option (List ℕ))) (v : Verb) (six : List Given) → Some v ≡ verb_called word → Some six ≡ places_say (places v) lines
+pub lines_read : (word : List ℕ) (lines : List (Option (List ℕ))) (v : Verb) (six : List FieldValue) → Some v ≡ verb_called word → Some six ≡ places_say (places v) lines
     → command_of v six ≡ lines_say word lines
 lines_read word lines v six e f =
     sym (go_on (verb_called word) (λ u. places_say (places u) lines >>= command_of u) v (command_of v six) (sym e)

@@ -17,11 +17,13 @@ abbrev pub day_part : List ℕ → List ℕ
 day_part text = drop 8 text
 
 abbrev pub date_part : List ℕ → CalendarDay
-date_part text = record { day = decimal_value (day_part text); month = decimal_value (month_part text) }
+date_part text =
+    record { day = decimal_value (day_part text); month = decimal_value (month_part text) }
 
 abbrev pub has_digits : List ℕ → Bool
 has_digits text =
-    (length text == 10) && list_all is_digit (year_part text) && list_all is_digit (month_part text) && list_all is_digit (day_part text)
+    (length text == 10) && list_all is_digit (year_part text)
+    && list_all is_digit (month_part text) && list_all is_digit (day_part text)
 
 abbrev pub is_calendar_day : CalendarDay → Bool
 is_calendar_day d = nat_le 1 d.day && nat_le d.day 31 && nat_le 1 d.month && nat_le d.month 12

@@ -1,10 +1,6 @@
 pub mod Body
 pub mod Command
 pub mod Day
-pub mod Field
-pub mod Given
+pub mod FieldValue
 pub mod Lines
-pub mod Number
-pub mod Ranges
-pub mod Reading
 pub mod Verb

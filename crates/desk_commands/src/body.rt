@@ -3,15 +3,13 @@
 ghost use Rattle.std.specs.Prelude.{◌≡◌, Ok, IfOk, IfErr, count_by};
 ghost use Rattle.serde_json.specs.View.{view};
 ghost use Rattle.desk_commands.specs.Body.{IsBodyOf, member_says, field_says, fields_say, body_says};
-ghost use Rattle.desk_commands.specs.Given.{is_present};
+ghost use Rattle.desk_commands.specs.FieldValue.{is_present};
 ghost use Rattle.desk_commands.specs.declared.command.Command.{Command as AnyCommand};
 
-use crate::command::Command;
-use crate::field::{Field, Kind, places};
-use crate::given::Given;
-use crate::reading::command_of;
+use crate::command::{Command, command_of};
+use crate::field_value::FieldValue;
 use crate::text::Text;
-use crate::verb::Verb;
+use crate::verb::{Field, Kind, Verb, places};
 use imp_fields::Flight;
 use serde_json::Value;
 
@@ -19,9 +17,10 @@ use serde_json::Value;
 #[derive(Clone, Copy, Debug, PartialEq, Eq)]
 pub struct BadBody;
 
-/// The command of a verb that a body of JSON says: an object with the keys of the verb's fields and no other, each
-/// with a value in its range. Numbers are whole and written so; a flight may have zeros in front of its number; a flight
-/// and a date may be absent together where a piece is missing or found.
+/// The command of a verb that a body of JSON says: an object with the keys of the verb's fields and
+/// no other, each with a value in its range. Numbers are whole and written so; a flight may have
+/// zeros in front of its number; a flight and a date may be absent together where a piece is
+/// missing or found.
 ///
 /// # Errors
 ///
@@ -41,70 +40,70 @@ fn read(verb: Verb, body: &Value) -> Option<Command>
     ensures { result ≡ body_says verb (view body.now) }
 {
     let members = body.as_object()?.len();
-    let givens = givens(places(verb), body)?;
-    if members != present(&givens) {
+    let values = field_values(places(verb), body)?;
+    if members != present_count(&values) {
         return None;
     }
-    command_of(verb, &givens)
+    command_of(verb, &values)
 }
 
-fn is_present(given: &Given<'_>) -> bool
-    ensures { result ≡ is_present given.now }
+fn is_present(value: &FieldValue<'_>) -> bool
+    ensures { result ≡ is_present value.now }
 {
-    !matches!(given, Given::Absent)
+    !matches!(value, FieldValue::Absent)
 }
 
 /// How many fields there are.
-fn present(givens: &[Given<'_>; 6]) -> usize
-    ensures { result ≡ count_by is_present givens.now }
+fn present_count(values: &[FieldValue<'_>; 6]) -> usize
+    ensures { result ≡ count_by is_present values.now }
 {
-    givens.iter().filter(|given| is_present(given)).count()
+    values.iter().filter(|value| is_present(value)).count()
 }
 
 /// What a member of a body says.
-fn member(kind: Kind, value: &Value) -> Option<Given<'_>>
+fn member(kind: Kind, value: &Value) -> Option<FieldValue<'_>>
     ensures { result ≡ member_says kind (view value.now) }
 {
     match kind {
         Kind::Text | Kind::TextIfAny => {
             let text = value.as_str()?;
-            Some(Given::Text(Text::new(text.as_bytes())))
+            Some(FieldValue::Text(Text::new(text.as_bytes())))
         }
         Kind::Number => {
             let number = u32::try_from(value.as_u64()?).ok()?;
-            Some(Given::Number(number))
+            Some(FieldValue::Number(number))
         }
         Kind::Flight | Kind::FlightIfAny => {
             let flight = Flight::read(value.as_str()?.as_bytes())?;
-            Some(Given::Flight(flight))
+            Some(FieldValue::Flight(flight))
         }
     }
 }
 
 /// What a place's field says, where it has one.
-fn given(field: Option<Field>, body: &Value) -> Option<Given<'_>>
+fn field_value(field: Option<Field>, body: &Value) -> Option<FieldValue<'_>>
     ensures { result ≡ field_says field (view body.now) }
 {
     let Some(field) = field else {
-        return Some(Given::Absent);
+        return Some(FieldValue::Absent);
     };
     match body.get(field.name()) {
         Some(value) => member(field.kind(), value),
-        None => Some(Given::Absent),
+        None => Some(FieldValue::Absent),
     }
 }
 
-/// What six places say.
-fn givens(places: [Option<Field>; 6], body: &Value) -> Option<[Given<'_>; 6]>
+/// What the places say.
+fn field_values(places: [Option<Field>; 6], body: &Value) -> Option<[FieldValue<'_>; 6]>
     ensures { result ≡ fields_say places (view body.now) }
 {
     let [field_0, field_1, field_2, field_3, field_4, field_5] = places;
     Some([
-        given(field_0, body)?,
-        given(field_1, body)?,
-        given(field_2, body)?,
-        given(field_3, body)?,
-        given(field_4, body)?,
-        given(field_5, body)?,
+        field_value(field_0, body)?,
+        field_value(field_1, body)?,
+        field_value(field_2, body)?,
+        field_value(field_3, body)?,
+        field_value(field_4, body)?,
+        field_value(field_5, body)?,
     ])
 }

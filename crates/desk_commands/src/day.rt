@@ -72,7 +72,8 @@ fn day_in_year(date: DayMonth, year: u16) -> Option<u32>
 
 /// The day and the month that two digits each tell.
 fn day_month(day: u32, month: u32) -> Option<DayMonth>
-    ensures { result ≡ where_true (is_calendar_day (record { day = day; month = month })) (record { day = day; month = month }) }
+    ensures { result ≡ where_true (is_calendar_day (record { day = day; month = month }))
+        (record { day = day; month = month }) }
 {
     if 1 <= day && day <= 31 && 1 <= month && month <= 12 {
         Some(DayMonth {

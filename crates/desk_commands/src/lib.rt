@@ -4,20 +4,16 @@
 mod body;
 mod command;
 mod day;
-mod field;
-mod given;
-mod laws;
+mod field_value;
 mod lines;
-mod number;
 mod reading;
 mod text;
 mod texts;
 mod verb;
 
 pub use body::{BadBody, read_command};
-pub use command::Command;
+pub use command::{Command, command_range_law};
 pub use day::day_text;
-pub use laws::{command_range_law, command_text_law};
 pub use reading::read_command_text;
-pub use texts::command_text;
+pub use texts::{command_text, command_text_law};
 pub use verb::Verb;

@@ -2,12 +2,12 @@
 
 ghost use Rattle.std.specs.Prelude.{◌≡◌, ◌≤◌, ◌∷◌, [], length};
 ghost use Rattle.std.specs.List.{position_or_len};
-ghost use Rattle.desk_commands.specs.Lines.{IsNext, is_end, lines_left, lines_of, line_says, place_says, places_say, written_flight_of};
+ghost use Rattle.desk_commands.specs.Lines.{IsNext, is_end, lines_left, lines_of, line_says, place_says, places_say, written_flight_of, number_of};
 
-use crate::field::{Field, Kind};
-use crate::given::Given;
-use crate::number::read_number;
+use crate::field_value::FieldValue;
 use crate::text::Text;
+use crate::verb::{Field, Kind};
+use awb_number::decimal;
 use imp_fields::Flight;
 
 /// How many bytes stand before the first end of a line, or in all where there is none.
@@ -44,6 +44,18 @@ pub(crate) fn next_line<'a>(left: Option<Text<'a>>) -> (Option<Text<'a>>, Option
     }
 }
 
+/// The number that one to ten digits without leading zeros write.
+fn read_number(text: &[u8]) -> Option<u32>
+    ensures { result ≡ number_of text.now }
+{
+    if text.is_empty() || text.len() > 10 || (text.len() > 1 && text[0] == b'0') {
+        return None;
+    }
+    let (front, last) = text.split_at(text.len() - 1);
+    let (front, last) = (decimal(front)?, decimal(last)?);
+    u32::try_from(u64::from(front) * 10 + u64::from(last)).ok()
+}
+
 /// The flight that a line is, in its written form.
 fn written_flight(line: &[u8]) -> Option<Flight>
     ensures { result ≡ written_flight_of line.now }
@@ -58,37 +70,37 @@ fn written_flight(line: &[u8]) -> Option<Flight>
     }
 }
 
-fn given<'a>(kind: Kind, line: &'a [u8]) -> Option<Given<'a>>
+fn line_value<'a>(kind: Kind, line: &'a [u8]) -> Option<FieldValue<'a>>
     ensures { result ≡ line_says kind line.now }
 {
     match kind {
-        Kind::Text => Some(Given::Text(Text::new(line))),
+        Kind::Text => Some(FieldValue::Text(Text::new(line))),
         Kind::Number => match read_number(line) {
-            Some(number) => Some(Given::Number(number)),
+            Some(number) => Some(FieldValue::Number(number)),
             None => None,
         },
-        Kind::FlightIfAny | Kind::TextIfAny if line.is_empty() => Some(Given::Absent),
-        Kind::TextIfAny => Some(Given::Text(Text::new(line))),
+        Kind::FlightIfAny | Kind::TextIfAny if line.is_empty() => Some(FieldValue::Absent),
+        Kind::TextIfAny => Some(FieldValue::Text(Text::new(line))),
         Kind::Flight | Kind::FlightIfAny => match written_flight(line) {
-            Some(flight) => Some(Given::Flight(flight)),
+            Some(flight) => Some(FieldValue::Flight(flight)),
             None => None,
         },
     }
 }
 
 /// What a place's field says. It has a line exactly where it has a field.
-fn place<'a>(field: Option<Field>, line: Option<Text<'a>>) -> Option<Given<'a>>
+fn place<'a>(field: Option<Field>, line: Option<Text<'a>>) -> Option<FieldValue<'a>>
     ensures { result ≡ place_says field line.entry }
 {
     match (field, line) {
-        (None, None) => Some(Given::Absent),
-        (Some(field), Some(line)) => given(field.kind(), line.as_bytes()),
+        (None, None) => Some(FieldValue::Absent),
+        (Some(field), Some(line)) => line_value(field.kind(), line.as_bytes()),
         _ => None,
     }
 }
 
-/// What six places say.
-pub(crate) fn givens<'a>(
+/// What the places say.
+pub(crate) fn field_values<'a>(
     places: [Option<Field>; 6],
     line_0: Option<Text<'a>>,
     line_1: Option<Text<'a>>,
@@ -96,8 +108,9 @@ pub(crate) fn givens<'a>(
     line_3: Option<Text<'a>>,
     line_4: Option<Text<'a>>,
     line_5: Option<Text<'a>>,
-) -> Option<[Given<'a>; 6]>
-    ensures { result ≡ places_say places (line_0.entry ∷ line_1.entry ∷ line_2.entry ∷ line_3.entry ∷ line_4.entry ∷ line_5.entry ∷ []) }
+) -> Option<[FieldValue<'a>; 6]>
+    ensures { result ≡ places_say places
+        (line_0.entry ∷ line_1.entry ∷ line_2.entry ∷ line_3.entry ∷ line_4.entry ∷ line_5.entry ∷ []) }
 {
     let [field_0, field_1, field_2, field_3, field_4, field_5] = places;
     Some([

@@ -1,8 +1,9 @@
 //! Commands as texts.
 
 ghost use Rattle.std.specs.Prelude.{◌≡◌, ◌∷◌, [], IfOk, string_bytes};
-ghost use Rattle.desk_commands.specs.Command.{command_text, order_text, desk_text, fields_text, prefix_text, serial_text, flight as flight_field, day as day_field, flight_if_any, day_if_any};
-ghost use Rattle.desk_commands.specs.declared.given.Given.TheVariants as Given;
+ghost use Rattle.desk_commands.specs.Command.{IsCommand, Writes, command_text, order_text, desk_text, fields_text, prefix_text, serial_text, flight as flight_field, day as day_field, flight_if_any, day_if_any};
+ghost use Rattle.desk_commands.specs.declared.command.Command.{Command as AnyCommand};
+ghost use Rattle.desk_commands.specs.declared.field_value.FieldValue.TheVariants as FieldValue;
 
 use crate::command::Command;
 use crate::day::day_text;
@@ -12,8 +13,9 @@ use imp_fields::{Airport, Goods, Name, Pieces, Tenths};
 use shipment_machine::{DeskCommand, FlightDate, PieceCount};
 use std::alloc::{AllocError, Global};
 
-/// A command as a text: its verb and its fields, one a line, numbers without leading zeros, flights in their written
-/// form, days as `2026-01-12`, and empty lines for a flight and a day that aren't named.
+/// A command as a text: its verb and its fields, one a line, numbers without leading zeros, flights
+/// in their written form, days as `2026-01-12`, and empty lines for a flight and a day that aren't
+/// named.
 pub fn command_text(alloc: Global, command: &Command) -> Result<String, AllocError>
     ensures { IfOk result (λ text. string_bytes text ≡ command_text command.now) }
 {
@@ -23,8 +25,13 @@ pub fn command_text(alloc: Global, command: &Command) -> Result<String, AllocErr
     }
 }
 
+/// Commands with one text are one command: a key is known by its command's text alone.
+pub fn command_text_law()
+    ensures { (c d : AnyCommand) → IsCommand c → IsCommand d → command_text c ≡ command_text d → c ≡ d }
+{}
+
 fn order_text(alloc: Global, order: &Order) -> Result<String, AllocError>
-    ensures { IfOk result (λ text. string_bytes text ≡ order_text order.now) }
+    ensures { Writes result (order_text order.now) }
 {
     match order {
         Order::TakeIn(run) => take_in_text(alloc, run),
@@ -35,7 +42,7 @@ fn order_text(alloc: Global, order: &Order) -> Result<String, AllocError>
 }
 
 fn desk_text(alloc: Global, command: &DeskCommand) -> Result<String, AllocError>
-    ensures { IfOk result (λ text. string_bytes text ≡ desk_text command.now) }
+    ensures { Writes result (desk_text command.now) }
 {
     match command {
         DeskCommand::Book {
@@ -100,7 +107,7 @@ fn goods_str(goods: &Goods) -> &str
 
 /// A flight in its written form and its day, one a line.
 fn flight_lines(alloc: Global, flight: &FlightDate) -> Result<String, AllocError>
-    ensures { IfOk result (λ text. string_bytes text ≡ fields_text (flight_field flight.now ∷ day_field flight.now ∷ [])) }
+    ensures { Writes result (fields_text (flight_field flight.now ∷ day_field flight.now ∷ [])) }
 {
     let mut bytes = [0; 7];
     let len = flight.flight.write(&mut bytes);
@@ -112,7 +119,7 @@ fn flight_lines(alloc: Global, flight: &FlightDate) -> Result<String, AllocError
 
 /// The same, or two empty lines where no flight is named.
 fn lines_if_any(alloc: Global, flight: &Option<FlightDate>) -> Result<String, AllocError>
-    ensures { IfOk result (λ text. string_bytes text ≡ fields_text (flight_if_any flight.now ∷ day_if_any flight.now ∷ [])) }
+    ensures { Writes result (fields_text (flight_if_any flight.now ∷ day_if_any flight.now ∷ [])) }
 {
     match flight {
         Some(flight) => flight_lines(alloc, flight),
@@ -122,7 +129,8 @@ fn lines_if_any(alloc: Global, flight: &Option<FlightDate>) -> Result<String, Al
 
 /// The first number of a run and how many there are, one a line.
 fn run_lines(alloc: Global, run: &Run) -> Result<String, AllocError>
-    ensures { IfOk result (λ text. string_bytes text ≡ fields_text (prefix_text run.now ∷ serial_text run.now ∷ Given.Number run.now.count ∷ [])) }
+    ensures { Writes result (fields_text
+        (prefix_text run.now ∷ serial_text run.now ∷ FieldValue.Number run.now.count ∷ [])) }
 {
     let number = run.first.write();
     let prefix = ascii_text(&number[..3]);
@@ -132,28 +140,28 @@ fn run_lines(alloc: Global, run: &Run) -> Result<String, AllocError>
 }
 
 fn take_in_text(alloc: Global, run: &Run) -> Result<String, AllocError>
-    ensures { IfOk result (λ text. string_bytes text ≡ order_text (Order.TakeIn run.now)) }
+    ensures { Writes result (order_text (Order.TakeIn run.now)) }
 {
     let run = run_lines(alloc, run)?;
     format!(in alloc; "take-in\n{run}")
 }
 
 fn issue_text(alloc: Global, run: &Run, agent: &AgentCode) -> Result<String, AllocError>
-    ensures { IfOk result (λ text. string_bytes text ≡ order_text (Order.Issue run.now agent.now)) }
+    ensures { Writes result (order_text (Order.Issue run.now agent.now)) }
 {
     let run = run_lines(alloc, run)?;
     format!(in alloc; "issue\n{run}\n{agent}")
 }
 
 fn return_text(alloc: Global, run: &Run, agent: &AgentCode) -> Result<String, AllocError>
-    ensures { IfOk result (λ text. string_bytes text ≡ order_text (Order.GiveBack run.now agent.now)) }
+    ensures { Writes result (order_text (Order.GiveBack run.now agent.now)) }
 {
     let run = run_lines(alloc, run)?;
     format!(in alloc; "return\n{run}\n{agent}")
 }
 
 fn void_text(alloc: Global, run: &Run) -> Result<String, AllocError>
-    ensures { IfOk result (λ text. string_bytes text ≡ order_text (Order.Void run.now)) }
+    ensures { Writes result (order_text (Order.Void run.now)) }
 {
     let run = run_lines(alloc, run)?;
     format!(in alloc; "void\n{run}")
@@ -168,7 +176,8 @@ fn book_text(
     tenths: Tenths,
     goods: &Goods,
 ) -> Result<String, AllocError>
-    ensures { IfOk result (λ text. string_bytes text ≡ desk_text (DeskCommand.Book awb.now origin.now destination.now pieces tenths goods.now)) }
+    ensures { Writes result (desk_text
+        (DeskCommand.Book awb.now origin.now destination.now pieces tenths goods.now)) }
 {
     let (origin, destination) = (origin.letters(), destination.letters());
     let (origin, destination) = (ascii_text(&origin), ascii_text(&destination));
@@ -184,7 +193,7 @@ fn receive_text(
     tenths: Tenths,
     name: &Name,
 ) -> Result<String, AllocError>
-    ensures { IfOk result (λ text. string_bytes text ≡ desk_text (DeskCommand.Receive awb.now pieces tenths name.now)) }
+    ensures { Writes result (desk_text (DeskCommand.Receive awb.now pieces tenths name.now)) }
 {
     let (pieces, tenths) = (pieces.number(), tenths.number());
     let name = name_str(name);
@@ -198,7 +207,7 @@ fn manifest_text(
     unload: &Airport,
     pieces: Pieces,
 ) -> Result<String, AllocError>
-    ensures { IfOk result (λ text. string_bytes text ≡ desk_text (DeskCommand.Manifest awb.now flight.now unload.now pieces)) }
+    ensures { Writes result (desk_text (DeskCommand.Manifest awb.now flight.now unload.now pieces)) }
 {
     let flight = flight_lines(alloc, flight)?;
     let unload = unload.letters();
@@ -213,7 +222,7 @@ fn offload_text(
     flight: &FlightDate,
     pieces: Pieces,
 ) -> Result<String, AllocError>
-    ensures { IfOk result (λ text. string_bytes text ≡ desk_text (DeskCommand.Offload awb.now flight.now pieces)) }
+    ensures { Writes result (desk_text (DeskCommand.Offload awb.now flight.now pieces)) }
 {
     let flight = flight_lines(alloc, flight)?;
     let pieces = pieces.number();
@@ -221,7 +230,7 @@ fn offload_text(
 }
 
 fn depart_text(alloc: Global, flight: &FlightDate) -> Result<String, AllocError>
-    ensures { IfOk result (λ text. string_bytes text ≡ desk_text (DeskCommand.Depart flight.now)) }
+    ensures { Writes result (desk_text (DeskCommand.Depart flight.now)) }
 {
     let flight = flight_lines(alloc, flight)?;
     format!(in alloc; "depart\n{flight}")
@@ -233,7 +242,7 @@ fn check_in_text(
     flight: &FlightDate,
     counted: PieceCount,
 ) -> Result<String, AllocError>
-    ensures { IfOk result (λ text. string_bytes text ≡ desk_text (DeskCommand.CheckIn awb.now flight.now counted)) }
+    ensures { Writes result (desk_text (DeskCommand.CheckIn awb.now flight.now counted)) }
 {
     let flight = flight_lines(alloc, flight)?;
     let counted = counted.number();
@@ -241,14 +250,14 @@ fn check_in_text(
 }
 
 fn notify_text(alloc: Global, awb: &Awb, name: &Name) -> Result<String, AllocError>
-    ensures { IfOk result (λ text. string_bytes text ≡ desk_text (DeskCommand.Notify awb.now name.now)) }
+    ensures { Writes result (desk_text (DeskCommand.Notify awb.now name.now)) }
 {
     let name = name_str(name);
     format!(in alloc; "notify\n{awb}\n{name}")
 }
 
 fn deliver_text(alloc: Global, awb: &Awb, pieces: Pieces, name: &Name) -> Result<String, AllocError>
-    ensures { IfOk result (λ text. string_bytes text ≡ desk_text (DeskCommand.Deliver awb.now pieces name.now)) }
+    ensures { Writes result (desk_text (DeskCommand.Deliver awb.now pieces name.now)) }
 {
     let pieces = pieces.number();
     let name = name_str(name);
@@ -261,7 +270,7 @@ fn missing_text(
     pieces: Pieces,
     flight: &Option<FlightDate>,
 ) -> Result<String, AllocError>
-    ensures { IfOk result (λ text. string_bytes text ≡ desk_text (DeskCommand.Missing awb.now pieces flight.now)) }
+    ensures { Writes result (desk_text (DeskCommand.Missing awb.now pieces flight.now)) }
 {
     let pieces = pieces.number();
     let flight = lines_if_any(alloc, flight)?;
@@ -275,7 +284,7 @@ fn found_text(
     tenths: Tenths,
     flight: &Option<FlightDate>,
 ) -> Result<String, AllocError>
-    ensures { IfOk result (λ text. string_bytes text ≡ desk_text (DeskCommand.Found awb.now pieces tenths flight.now)) }
+    ensures { Writes result (desk_text (DeskCommand.Found awb.now pieces tenths flight.now)) }
 {
     let (pieces, tenths) = (pieces.number(), tenths.number());
     let flight = lines_if_any(alloc, flight)?;
@@ -283,7 +292,7 @@ fn found_text(
 }
 
 fn confirm_text(alloc: Global, upto: u32) -> Result<String, AllocError>
-    ensures { IfOk result (λ text. string_bytes text ≡ desk_text (DeskCommand.Confirm upto)) }
+    ensures { Writes result (desk_text (DeskCommand.Confirm upto)) }
 {
     format!(in alloc; "confirm\n{upto}")
 }

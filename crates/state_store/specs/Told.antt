@@ -6,8 +6,7 @@ use Rattle.shipment_machine.specs.declared.flight.FlightDate.{FlightDate}
 use Rattle.shipment_machine.specs.declared.moves.Move.{Move}
 use Rattle.shipment_machine.specs.Book.{built, waybills_on}
 use Rattle.shipment_machine.specs.Cargo.{Cargo}
-use Rattle.desk_commands.specs.Command.{command_text}
-use Rattle.desk_commands.specs.Ranges.{IsCommand}
+use Rattle.desk_commands.specs.Command.{IsCommand, command_text}
 use Rattle.desk_commands.specs.declared.command.Command.{Command}
 use Rattle.station_core.specs.Step.{State, Kept, keeping, keeping_text, sent}
 use Rattle.state_store.specs.declared.store.KeptReply.{KeptReply}

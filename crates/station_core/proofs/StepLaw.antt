@@ -31,7 +31,7 @@ use Rattle.shipment_machine.proofs.KeepsAll.{keeps_lawful}
 use Rattle.telegrams.specs.NoticeText.{notice_text}
 use Rattle.telegrams.specs.declared.telegram.Content.{Content}
 use Rattle.telegrams.specs.declared.telegram.Content.TheVariants as content
-use Rattle.desk_commands.specs.Ranges.{IsDeskCommand}
+use Rattle.desk_commands.specs.Command.{IsDeskCommand}
 use Rattle.desk_commands.specs.declared.command.Command.TheVariants as command
 use Rattle.station_core.specs.declared.answer.Answer.{Answer}
 use Rattle.station_core.specs.declared.input.Input.{Input}

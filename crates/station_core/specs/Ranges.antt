@@ -12,7 +12,7 @@ use Rattle.shipment_machine.specs.declared.command.CargoLine.{CargoLine}
 use Rattle.shipment_machine.specs.declared.command.InboundLine.{InboundLine}
 use Rattle.telegrams.specs.declared.telegram.Content.{Content}
 use Rattle.telegrams.specs.declared.telegram.Content.TheVariants.{Fwb, Ffm, Fsu}
-use Rattle.desk_commands.specs.Ranges.{IsCommand}
+use Rattle.desk_commands.specs.Command.{IsCommand}
 use Rattle.station_core.specs.Key.{is_key}
 use Rattle.station_core.specs.declared.input.Input.{Input}
 use Rattle.station_core.specs.declared.input.Input.TheVariants.{Keyed, Wire}

@@ -1,7 +1,8 @@
 use Rattle.std.proofs.Common.{◌≡◌, ℕ, List, Option, Some, None, IfSome, sym, ap, ◌∙◌}
 use Rattle.desk_commands.specs.declared.verb.Verb.{Verb}
 use Rattle.desk_commands.specs.Verb.{word, verb_called}
-use Rattle.desk_commands.proofs.Verbs.{called_is, called_again}
+use Rattle.desk_commands.proofs.EachVerb.{called_again}
+use Rattle.desk_commands.proofs.Verbs.{called_is}
 use Rattle.desk_commands.proofs.verb.Verb.read.Goals as goal
 
 read_is : (r : Option Verb) (text : List ℕ) → r ≡ verb_called text → IfSome r (λ v. word v ≡ text)
@@ -9,7 +10,7 @@ read_is None text e = tt
 read_is (Some v) text e = called_is text v (sym e)
 
 pub returns-clause-some : goal.returns-clause-some
-returns-clause-some c = read_is c.called.result c.args.text.now c.called.ensures
+returns-clause-some c = read_is c.of_word.result c.args.text.now c.of_word.ensures
 
 pub returns-clause-only : goal.returns-clause-only
-returns-clause-only c verb h = c.called.ensures ∙ ap verb_called (sym h) ∙ called_again verb
+returns-clause-only c verb h = c.of_word.ensures ∙ ap verb_called (sym h) ∙ called_again verb

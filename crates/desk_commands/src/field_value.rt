@@ -3,7 +3,7 @@
 ghost use Rattle.std.specs.Prelude.{◌≡◌, ◌≤◌, ◌<◌, ◌^◌, IfSome, option_map};
 ghost use Rattle.std.specs.Result.{result_ok};
 ghost use Rattle.awb_number.specs.Number.{number_of};
-ghost use Rattle.desk_commands.specs.Reading.{text_in, number_in, digits_of, digits_in, awb_of, awb_in, airport_in, pieces_in, tenths_in, name_in, goods_in, agent_in, counted_in, count_in, flight_in, day_in, flight_date_in, flight_if_any_in, run_in};
+ghost use Rattle.desk_commands.specs.FieldValue.{text_in, number_in, digits_of, digits_in, awb_of, awb_in, airport_in, pieces_in, tenths_in, name_in, goods_in, agent_in, counted_in, count_in, flight_in, day_in, flight_date_in, flight_if_any_in, run_in};
 
 use crate::day::read_day;
 use crate::text::Text;
@@ -14,7 +14,7 @@ use shipment_machine::{FlightDate, PieceCount};
 
 /// What a field holds.
 #[derive(Drop)]
-pub(crate) enum Given<'a> {
+pub(crate) enum FieldValue<'a> {
     Text(Text<'a>),
     Number(u32),
     Flight(Flight),
@@ -52,12 +52,12 @@ fn read_awb(text: &[u8]) -> Option<Awb>
     read_twelve(&bytes)
 }
 
-impl Given<'_> {
+impl FieldValue<'_> {
     fn text(&self) -> Option<&[u8]>
         ensures { option_map (λ t. t.now) result ≡ text_in self.now }
     {
         match self {
-            Given::Text(text) => Some(text.as_bytes()),
+            FieldValue::Text(text) => Some(text.as_bytes()),
             _ => None,
         }
     }
@@ -75,7 +75,7 @@ impl Given<'_> {
         ensures { result ≡ number_in self.now }
     {
         match self {
-            Given::Number(number) => Some(*number),
+            FieldValue::Number(number) => Some(*number),
             _ => None,
         }
     }
@@ -85,7 +85,7 @@ impl Given<'_> {
         ensures { result ≡ flight_in self.now }
     {
         match self {
-            Given::Flight(flight) => Some(*flight),
+            FieldValue::Flight(flight) => Some(*flight),
             _ => None,
         }
     }
@@ -153,7 +153,11 @@ impl Given<'_> {
 }
 
 /// The run of a prefix of three digits, a serial of seven, and a count.
-pub(crate) fn run(prefix: &Given<'_>, serial: &Given<'_>, count: &Given<'_>) -> Option<Run>
+pub(crate) fn run(
+    prefix: &FieldValue<'_>,
+    serial: &FieldValue<'_>,
+    count: &FieldValue<'_>,
+) -> Option<Run>
     ensures { result ≡ run_in prefix.now serial.now count.now }
 {
     let prefix = prefix.digits(3)?;
@@ -164,7 +168,7 @@ pub(crate) fn run(prefix: &Given<'_>, serial: &Given<'_>, count: &Given<'_>) -> 
 }
 
 /// A flight on a day.
-pub(crate) fn flight_date(flight: &Given<'_>, day: &Given<'_>) -> Option<FlightDate>
+pub(crate) fn flight_date(flight: &FieldValue<'_>, day: &FieldValue<'_>) -> Option<FlightDate>
     ensures { result ≡ flight_date_in flight.now day.now }
 {
     let flight = flight.flight()?;
@@ -173,11 +177,14 @@ pub(crate) fn flight_date(flight: &Given<'_>, day: &Given<'_>) -> Option<FlightD
 }
 
 /// A flight on a day, or neither.
-pub(crate) fn flight_if_any(flight: &Given<'_>, day: &Given<'_>) -> Option<Option<FlightDate>>
+pub(crate) fn flight_if_any(
+    flight: &FieldValue<'_>,
+    day: &FieldValue<'_>,
+) -> Option<Option<FlightDate>>
     ensures { result ≡ flight_if_any_in flight.now day.now }
 {
     match (flight, day) {
-        (Given::Absent, Given::Absent) => Some(None),
+        (FieldValue::Absent, FieldValue::Absent) => Some(None),
         _ => match flight_date(flight, day) {
             Some(named) => Some(Some(named)),
             None => None,
