@@ -23,10 +23,15 @@ impl MemoryFile {
         ensures empty { bytes_of result ≡ [] }
         ensures fresh { IsFresh result }
     {
-        MemoryFile {
-            bytes: Vec::new(alloc),
-            faults: 0,
-        }
+        MemoryFile::holding(Vec::new(alloc))
+    }
+
+    /// A file that has these bytes.
+    pub(crate) fn holding(bytes: Vec<u8>) -> MemoryFile
+        ensures bytes { bytes_of result ≡ bytes.items }
+        ensures unharmed { result.faults ≡ 0 }
+    {
+        MemoryFile { bytes, faults: 0 }
     }
 }
 
@@ -127,6 +132,9 @@ fn overwrite(file: &mut Vec<u8>, at: usize, bytes: &[u8]) -> Result<(), AllocErr
     ensures written { OnOk result (Holds file.new.items at bytes.now) }
     ensures others { Torn at (length bytes.now) file.old.items file.new.items }
 {
+    if at == file.len() {
+        return file.extend_from_slice(bytes);
+    }
     let end = at.checked_add(bytes.len()).ok_or(AllocError)?;
     if end > file.len() {
         resize(file, end)?;

@@ -2,6 +2,7 @@
 //! nothing.
 #![tactic(auto)]
 
+mod blank;
 mod file;
 mod opening;
 

@@ -1,13 +1,13 @@
 //! A database over files in memory.
-ghost use Rattle.std.specs.Prelude.{◌≡◌, [], IfOk};
+ghost use Rattle.std.specs.Prelude.{◌≡◌, ◌↔◌, [], IfOk, IsTrue};
 ghost use Rattle.sqlite.specs.Files.{file_state, IsOpened};
 ghost use Rattle.sqlite.specs.Held.{IsNew};
 ghost use Rattle.sqlite.specs.State.{HasCleanDisk};
-ghost use Rattle.memory_files.specs.Bytes.{bytes_of};
 
+use crate::blank::blank_database;
 use crate::file::MemoryFile;
-use sqlite::{Connection, Error, FileStore, Files, Options};
-use std::alloc::Global;
+use sqlite::{Connection, Error, ErrorCode, FileStore, Files, Options};
+use std::alloc::{AllocError, Global};
 
 /// The pages of a database in memory, and their log.
 pub type MemoryPages = FileStore<MemoryFile>;
@@ -15,14 +15,31 @@ pub type MemoryPages = FileStore<MemoryFile>;
 /// What the salts of the log are made from. Nobody else writes the log, so it need not be a secret.
 const SEED: u64 = 1;
 
-/// Two files in memory that are empty.
-fn new_files(alloc: Global) -> Files<MemoryFile>
-    ensures { bytes_of result.db ≡ [] }
-{
-    Files {
+/// The files of a database with no table.
+fn blank_files(alloc: Global) -> Result<Files<MemoryFile>, AllocError> {
+    Ok(Files {
         log: MemoryFile::new(alloc),
-        db: MemoryFile::new(alloc),
+        db: MemoryFile::holding(blank_database(alloc)?),
+    })
+}
+
+/// A connection to the files of a database with no table.
+fn open_blank(alloc: Global) -> Result<Connection<MemoryPages>, Error>
+    ensures opened { IfOk result IsOpened }
+    ensures fresh { IfOk result IsNew }
+{
+    match Connection::open_files(alloc, blank_files(alloc)?, Options::new(SEED)) {
+        Ok(conn) => Ok(conn),
+        Err((error, _files)) => Err(error),
     }
+}
+
+/// Whether a connection has no table, index or view.
+fn is_vacant(conn: &Connection<MemoryPages>) -> bool
+    ensures { IsTrue result ↔ ((file_state conn.now).now.schema ≡ record { tables = []; indexes = []; views = [] }) }
+{
+    let schema = conn.schema();
+    schema.tables.is_empty() && schema.indexes.is_empty() && schema.views.is_empty()
 }
 
 /// A connection to a database in memory that has no table. It fails only where memory runs out.
@@ -31,10 +48,12 @@ pub fn open_pages(alloc: Global) -> Result<Connection<MemoryPages>, Error>
     ensures vacant { IfOk result (λ c. (file_state c).now.schema ≡ record { tables = []; indexes = []; views = [] }) }
     ensures fresh { IfOk result IsNew }
 {
-    match Connection::open_files(alloc, new_files(alloc), Options::new(SEED)) {
-        Ok(conn) => Ok(conn),
-        Err((error, _files)) => Err(error),
+    let conn = open_blank(alloc)?;
+    // No proof says what the library makes of the first page.
+    if !is_vacant(&conn) {
+        return Err(Error::SqliteFailure(ErrorCode::DatabaseCorrupt));
     }
+    Ok(conn)
 }
 
 /// The law that files in memory return what was written: what is claimed where the disk is clean holds of any connection over them.
