@@ -1,13 +1,15 @@
 -- The stock in the tables of a store, and what a change of it leaves.
-use Rattle.std.specs.Prelude.{◌≡◌, ◌==◌, ℕ, true, if◌then◌else◌, is_some, Some, List}
+use Rattle.std.specs.Prelude.{◌≡◌, ◌==◌, ◌≤◌, ◌+◌, ◌++◌, ℕ, true, if◌then◌else◌, is_some, Some, List}
 use Rattle.std.specs.List.{AllByRecursion}
 use Rattle.std.specs.FinMap.{FinMap, get}
 use Rattle.agent_stock.specs.Stock.{Holders}
 use Rattle.agent_stock.specs.declared.stock.Holder.TheVariants.{Used}
+use Rattle.agent_stock.specs.declared.stock.Run.{Run}
 use Rattle.agent_stock.specs.declared.runs.StockRun.{StockRun}
 use Rattle.row_schema.specs.Store.{View, Displays, inside}
 use Rattle.row_schema.specs.Tables.{Tables, Stock, stock_cmp}
 use Rattle.row_values.specs.Stock.{holders_in, AreStockRows}
+use Rattle.run_rows.specs.Rows.{AreAround, end_of}
 use Rattle.stock_runs.specs.Runs.{key_of}
 use Rattle.stock_runs.specs.Writes.{begins}
 
@@ -34,3 +36,22 @@ pub record Restocked (v : View) (before t : Tables) (holders : Holders) : Type 0
 -- the rows whose keys some of the old ones have are still there, under these keys
 abbrev pub AreThere : List StockRun → List StockRun → FinMap stock_cmp Stock → Type 0
 AreThere near new stock = AllByRecursion (λ row. begins row.first near ≡ true → is_some (get stock (key_of row.first)) ≡ true) new
+
+-- rows that end before a run were taken off in front
+pub record BeginsAhead (run : Run) (near rows : List StockRun) : Type 0 where
+  pub ahead : List StockRun
+  pub parted : near ≡ ahead ++ rows
+  pub ends : AllByRecursion (λ row. end_of row ≤ run.first) ahead
+
+-- rows that begin behind a run were taken off at the end
+pub record EndsBehind (run : Run) (near rows : List StockRun) : Type 0 where
+  pub after : List StockRun
+  pub parted : near ≡ rows ++ after
+  pub begins : AllByRecursion (λ row. run.first + run.count ≤ row.first) after
+
+-- rows that only stand beside a run were taken off at both ends
+pub record IsCut (run : Run) (near rows : List StockRun) : Type 0 where
+  pub ahead : List StockRun
+  pub after : List StockRun
+  pub parted : near ≡ ahead ++ (rows ++ after)
+  pub around : AreAround run ahead after

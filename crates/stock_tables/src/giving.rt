@@ -9,7 +9,7 @@ ghost use Rattle.run_rows.specs.Rows.{rows_near};
 ghost use Rattle.stock_runs.specs.Runs.{run_in};
 ghost use Rattle.stock_tables.specs.Stocked.{Stocked, Restocked, using_up};
 
-use crate::near::near_of;
+use crate::near::{near_of, without_neighbours};
 use crate::writing::{clear, put_all};
 use agent_stock::{Holder, Run, StockRun};
 use awb_number::Awb;
@@ -32,6 +32,7 @@ fn give<S: TableStore>(
         → Restocked (S.view store.new) before t (assigned (holders_in t.stock) run.now to.now)) }
     ensures survives { Survives (S.view store.old) (S.view store.new) }
 {
+    let near = without_neighbours(near, run, to);
     let Some(new) = join_rows(near, run, to) else {
         return Err(StoreFault);
     };

@@ -2,15 +2,15 @@
 ghost use Rattle.std.specs.Prelude.{◌≡◌, ◌++◌, map, option_map, IfSome, IfOk};
 ghost use Rattle.std.specs.FinMap.{entries};
 ghost use Rattle.row_schema.specs.Store.{Survives};
-ghost use Rattle.run_rows.specs.Rows.{rows_near};
+ghost use Rattle.run_rows.specs.Rows.{rows_near, end_of};
 ghost use Rattle.station_rows.specs.Clauses.{TellsOf, ShowsStill, WasOpen};
 ghost use Rattle.station_rows.specs.Meant.{stock_meant};
 ghost use Rattle.stock_runs.specs.Reads.{reaching};
 ghost use Rattle.stock_runs.specs.Runs.{run_in};
-ghost use Rattle.stock_tables.specs.Stocked.{Stocked};
+ghost use Rattle.stock_tables.specs.Stocked.{Stocked, IsCut, EndsBehind, BeginsAhead};
 
 use crate::row::run_of;
-use agent_stock::{Run, StockRun};
+use agent_stock::{Holder, Run, StockRun};
 use station_rows::{StockRow, StoreFault, TableStore};
 use std::alloc::Global;
 use std::slice;
@@ -74,4 +74,40 @@ pub(crate) fn near_of<S: TableStore>(
         Some(near) => Ok(near),
         None => Err(StoreFault),
     }
+}
+
+/// The number behind a row.
+fn end_key(row: &StockRun) -> u64
+    ensures { result ≡ end_of row.now }
+{
+    row.first.key() + u64::from(row.count)
+}
+
+/// Rows without the first, where it ends before a run and has another holder than the run gets.
+fn without_first<'a>(near: &'a [StockRun], run: &Run, to: &Holder) -> &'a [StockRun]
+    ensures { BeginsAhead run.now near.now result.now }
+{
+    let first = run.first.key();
+    match near.split_first() {
+        Some((row, others)) if end_key(row) <= first && row.holder != *to => others,
+        _ => near,
+    }
+}
+
+/// Rows without the last, where it begins behind a run and has another holder than the run gets.
+fn without_last<'a>(near: &'a [StockRun], run: &Run, to: &Holder) -> &'a [StockRun]
+    ensures { EndsBehind run.now near.now result.now }
+{
+    let end = run.first.key() + u64::from(run.count.number());
+    match near.split_last() {
+        Some((row, others)) if end <= row.first.key() && row.holder != *to => others,
+        _ => near,
+    }
+}
+
+/// The rows that a run touches without those beside it that stay as they are: they have another holder than the run gets.
+pub(crate) fn without_neighbours<'a>(near: &'a [StockRun], run: &Run, to: &Holder) -> &'a [StockRun]
+    ensures { IsCut run.now near.now result.now }
+{
+    without_last(without_first(near, run, to), run, to)
 }
