@@ -16,7 +16,7 @@ use std::process::ExitCode;
 use std::{fs, io};
 
 /// The files of cases, in the order in which they are gone through.
-const FILES: [&str; 2] = ["found", "stops"];
+const FILES: [&str; 3] = ["found", "stops", "departures"];
 
 /// What answers the cases of a file.
 #[derive(Drop)]
