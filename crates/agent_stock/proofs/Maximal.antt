@@ -1,4 +1,4 @@
--- What a begun run and the rising numbers behind it make are the maximal runs.
+-- What a begun run and the ascending numbers behind it make are the maximal runs.
 use Rattle.std.proofs.Common.{◌≡◌, ◌≢◌, ℕ, ◌+◌, ◌-◌, ◌<◌, ◌≤◌, ◌⊎◌, inl, inr, true, Some, None, List, [], ◌∷◌, ◌++◌, length, get_or, drop, append_assoc, refl, sym, ap, ◌∙◌, subst, arith}
 use Rattle.std.specs.Prelude.{IsTrue, IsSome, is_some, ◌==◌}
 use Rattle.std.specs.List.{AllByRecursion, list_any}

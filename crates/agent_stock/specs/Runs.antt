@@ -20,7 +20,7 @@ AreApart [] = Unit {0}
 AreApart (row ∷ []) = Unit {0}
 AreApart (row ∷ next ∷ rows) = (row.first + row.count ≤ next.first) × AreApart (next ∷ rows)
 
--- the maximal runs of the stock, rising, and all of them
+-- the maximal runs of the stock, ascending, and all of them
 pub record AreStockRuns (holders : Holders) (rows : List StockRun) : Type 0 where
   pub maximal : AllByRecursion (IsMaximalRun holders) rows
   pub rising : AreApart rows

@@ -49,7 +49,7 @@ impl PlainRows {
         })
     }
 
-    /// The numbers in stock, rising.
+    /// The numbers in stock, ascending.
     fn in_stock(&self, alloc: Global) -> Result<Vec<Held>, AllocError>
         ensures rising { IfOk result (λ numbers. AreRising numbers.items) }
         ensures holders { IfOk result (λ numbers. holders_among numbers.items ≡ holders_of self.now) }
@@ -65,7 +65,7 @@ impl PlainRows {
         Ok(numbers)
     }
 
-    /// The maximal runs of the stock, rising. Fails where memory is short, and else never.
+    /// The maximal runs of the stock, ascending. It fails only where memory runs out.
     pub fn runs(&self, alloc: Global) -> Result<Vec<StockRun>, AllocError>
         ensures { IfOk result (λ rows. AreStockRuns (holders_of self.now) rows.items) }
     {
@@ -97,7 +97,11 @@ impl StockRows for PlainRows {
 
     ghost nothing_done = { λ a i. a };
 
+    ghost stays_ready_beside = { λ a b beside ready. tt };
+
     ghost goes_on = { λ a b c same beside. tt };
+
+    ghost beside_goes_on = { λ a b c first second. tt };
 
     ghost nothing_to_commit = { λ a. tt };
 

@@ -60,7 +60,11 @@ pub trait StockRows {
 
     ghost nothing_done: { (a : Self) → as_before a a };
 
+    ghost stays_ready_beside: { (a b : Self) → beside a b → is_ready a → is_ready b };
+
     ghost goes_on: { (a b c : Self) → as_before a b → beside b c → beside a c };
+
+    ghost beside_goes_on: { (a b c : Self) → beside a b → beside b c → beside a c };
 
     ghost nothing_to_commit: { (a : Self) → commits_nothing a a };
 

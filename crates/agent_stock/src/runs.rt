@@ -61,7 +61,7 @@ fn runs_from(alloc: Global, first: &Held, following: &[Held]) -> Result<Vec<Stoc
 }
 
 /// The maximal runs of numbers that rise: as many as follow one another in a prefix and have one
-/// holder. Nothing is said of the runs of other numbers. Fails where memory is short, and else never.
+/// holder. Nothing is said of the runs of other numbers. It fails only where memory runs out.
 pub fn runs_of(alloc: Global, numbers: &[Held]) -> Result<Vec<StockRun>, AllocError>
     ensures { AreRising numbers.now → IfOk result (λ rows. AreStockRuns (holders_among numbers.now) rows.items) }
 {

@@ -41,7 +41,7 @@ fn unescaped(alloc: Global, text: &str) -> Option<Vec<u8>> {
     Some(bytes)
 }
 
-/// How often the next piece stands: `12*` tells it, and nothing tells once.
+/// How often the next piece stands: `12*` says twelve times, and nothing says once.
 fn times(word: &str) -> Option<u32> {
     if word.is_empty() {
         return Some(1);

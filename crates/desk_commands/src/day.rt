@@ -1,28 +1,13 @@
-//! Days of commands, as `2026-01-12`, by the calendar of jiff.
+//! Days of commands, as `2026-01-12`.
 
-ghost use Rattle.std.specs.Prelude.{◌≡◌, ◌+◌, ◌%◌, ◌≤◌, ◌++◌, ◌∷◌, [], pos, option_map, IfSome};
+ghost use Rattle.std.specs.Prelude.{◌≡◌, ◌+◌, ◌%◌, ◌≤◌, ◌++◌, ◌∷◌, [], option_map, IfSome};
 ghost use Rattle.std.specs.Str.{IsAscii};
 ghost use Rattle.awb_number.specs.Digits.{padded, decimal_value};
 ghost use Rattle.imp_fields.specs.Steps.{where_true};
-ghost use Rattle.jiff_core.specs.Calendar.{days_from_civil};
-ghost use Rattle.imp_fields.specs.Date.{IsMomentDay, day_in_year};
 ghost use Rattle.desk_commands.specs.Day.{is_calendar_day, day_line, date_in, year_part, if_written, day_of};
 
 use awb_number::decimal;
-use imp_fields::{DayMonth, LocalDay};
-use jiff::civil::Date;
-use jiff_core::civil;
-
-/// The date of a day.
-fn date_of(day: u32) -> civil::Date
-    requires { IsMomentDay day }
-    ensures { days_from_civil result.year result.month result.day ≡ pos day }
-{
-    match civil::Date::from_unix_epoch_day(day as i64) {
-        Ok(date) => date,
-        Err(_) => unreachable!(),
-    }
-}
+use imp_fields::{DayMonth, LocalDay, civil_date, day_in_year};
 
 /// The last digit of a number.
 fn digit(n: u16) -> u8
@@ -55,22 +40,11 @@ pub fn day_text(day: LocalDay) -> [u8; 10]
     ensures value { result ≡ day_line day }
     ensures ascii { IsAscii result }
 {
-    let date = date_of(day.number());
+    let date = civil_date(day.number());
     date_text(date.year.unsigned_abs(), date.month, date.day)
 }
 
-/// The day of a date in a year, where the calendar has that date.
-fn day_in_year(date: DayMonth, year: u16) -> Option<u32>
-    requires { year ≤ 9999 }
-    ensures { result ≡ day_in_year date year }
-{
-    match Date::new(year as i16, date.month as i8, date.day as i8) {
-        Ok(found) => Some(found.to_plain().to_unix_epoch_day().unsigned_abs()),
-        Err(_) => None,
-    }
-}
-
-/// The day and the month that two digits each tell.
+/// The day and the month, two digits each.
 fn day_month(day: u32, month: u32) -> Option<DayMonth>
     ensures { result ≡ where_true (is_calendar_day (record { day = day; month = month }))
         (record { day = day; month = month }) }
@@ -85,7 +59,7 @@ fn day_month(day: u32, month: u32) -> Option<DayMonth>
     }
 }
 
-/// The date that ten bytes such as `2026-01-12` tell, with its year.
+/// The date that ten bytes such as `2026-01-12` write, with its year.
 fn read_date(text: &[u8]) -> Option<(DayMonth, u16)>
     ensures date { result ≡ option_map (λ date. (date, decimal_value (year_part text.now))) (date_in text.now) }
     ensures year { IfSome result (λ r. r.1 ≤ 9999) }
@@ -112,7 +86,7 @@ fn if_written(day: u32, text: &[u8]) -> Option<LocalDay>
     }
 }
 
-/// The day that ten bytes such as `2026-01-12` tell, where it is a day of a moment.
+/// The day that ten bytes such as `2026-01-12` write, where it is a day of a moment.
 #[tactic(auto, unfolding(crate::specs::Day::day_of))]
 pub(crate) fn read_day(text: &[u8]) -> Option<LocalDay>
     ensures { result ≡ day_of text.now }

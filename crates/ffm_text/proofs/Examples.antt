@@ -67,7 +67,7 @@ line = codes "020-12345675FRAJFK/P4K40.0T10/CARGO"
 before_the_first_point : ffm_fault (codes "FFM/8" ∷ codes "1/LH400/12JAN/FRA" ∷ line ∷ codes "LAST" ∷ []) ≡ Some (fault_at 3 why.Order)
 before_the_first_point = refl
 
--- a faulty line is told before a missing one
+-- a faulty line is reported before a missing one
 order_before_ending : ffm_fault (codes "FFM/8" ∷ codes "1/LH400/12JAN/FRA" ∷ line ∷ []) ≡ Some (fault_at 3 why.Order)
 order_before_ending = refl
 
@@ -198,7 +198,7 @@ fault_of_lines (Err fault) = Some fault
 abbrev fault_of : List ℕ → Option TextFault
 fault_of bytes = fault_of_lines (normal_lines bytes)
 
--- what is told of the first n bytes: 1 no kind, 2 another fault, 0 none
+-- what is reported of the first n bytes: 1 no kind, 2 another fault, 0 none
 abbrev told_of : Option TextFault → ℕ
 told_of None = 0
 told_of (Some fault) = told_by fault.why
@@ -210,7 +210,7 @@ told_of (Some fault) = told_by fault.why
 abbrev expected : ℕ → ℕ
 expected n = if nat_lt n 4 then 1 else (if nat_le n 71 then 2 else 0)
 
--- each beginning of the bytes is told so, from the first n bytes down
+-- each beginning of the bytes is reported so, from the first n bytes down
 abbrev each_beginning : ℕ → Bool
 each_beginning zero = told_of (fault_of (take 0 (typed received))) == expected 0
 each_beginning (suc n) = (told_of (fault_of (take (suc n) (typed received))) == expected (suc n)) && each_beginning n

@@ -7,7 +7,7 @@ use Rattle.std.proofs.lemmas.List.{length-map}
 use Rattle.std.proofs.lemmas.Option.{slice_get-map}
 use Rattle.imp_fields.specs.declared.token.Token.{Token}
 use Rattle.ffm_text.specs.Ffm.{is_last_line, has_last_line}
-use Rattle.ffm_text.specs.Seen.{texts_of}
+use Rattle.ffm_text.specs.Scan.{texts_of}
 
 next_of : {X : Type 0} (x : X) (xs : List X) (n : ℕ) → slice_get (x ∷ xs) (n + 1) ≡ slice_get xs n
 next_of x xs n = rw add-one refl
@@ -25,7 +25,7 @@ last_token lines line e =
     let place : length (texts_of lines) - 1 ≡ length lines - 1 = ap (λ n. n - 1) (length-map lines text) in
     last_at (texts_of lines) line.text.now (ap (slice_get (texts_of lines)) place ∙ slice_get-map text lines (length lines - 1) ∙ ap (option_map text) e)
 
--- whether a line ends a manifest, as two comparisons tell it
+-- whether a line ends a manifest, by two comparisons
 pub ends_so : (line last : List ℕ) (same : Bool) → last ≡ codes "LAST" → same ≡ bytes_eq line last → same ≡ true → same ≡ is_last_line line
 ends_so line last same e is h = h ∙ sym (or_left _ _ (ap (bytes_eq line) (sym e) ∙ sym is ∙ h))
 

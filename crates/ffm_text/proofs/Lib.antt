@@ -2,7 +2,7 @@ pub mod LastLine
 pub mod Examples
 pub mod Laws
 pub mod Appended
-pub mod SeenLaws
+pub mod ScanLaws
 pub mod ToldLaws
 pub mod WrittenLaws
 pub mod SentAgain

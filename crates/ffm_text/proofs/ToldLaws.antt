@@ -1,4 +1,4 @@
--- Which faults of a manifest's lines are told.
+-- Which faults of a manifest's lines are reported.
 use Rattle.std.proofs.Common.{◌≡◌, ℕ, suc, ◌+◌, ◌-◌, ◌<◌, ◌≤◌, Bool, true, false, cond, List, [], ◌∷◌, ◌++◌, length, take, drop, get_or, add-one, Option, Some, None, Result, Ok, Err, refl, sym, ap, ◌∙◌, subst, append_assoc, arith}
 use Rattle.std.specs.Prelude.{option_map, option_and_then, slice_range, codes}
 use Rattle.imp_fields.specs.Amount.{count_of}
@@ -24,7 +24,7 @@ use Rattle.std.proofs.Math.Seq.{drop-cons}
 use Rattle.imp_fields.specs.Steps.{or_else}
 use Rattle.imp_fields.specs.Message.{is_head, err_of, fault_in}
 use Rattle.imp_fields.specs.declared.token.Token.{Token}
-use Rattle.ffm_text.specs.Seen.{texts_of}
+use Rattle.ffm_text.specs.Scan.{texts_of}
 
 -- a fault of the text, and not of the memory
 abbrev pub IsOfText : Why → Type 0
@@ -48,7 +48,7 @@ told_at fault line why.Flight h e = e
 told_at fault line why.Order h e = e
 told_at fault line why.Memory h e = absurd h
 
--- what is told of some of the lines is told of them all
+-- what is reported of some of the lines is reported of them all
 told_by : (a b : Option TextFault) → ((f : TextFault) → a ≡ Some f → b ≡ Some f) → (line : ℕ) (w : Why) → IsFaultBy w line a → IsFaultBy w line b
 told_by a b more line why.Size h = more _ h
 told_by a b more line why.Lines h = more _ h
@@ -101,7 +101,7 @@ ordered_tells (Err v) point w h e = h w (let same : v ≡ w = cc in ap (λ u. Er
 ordered_tells (Ok s) None w h e = let same : why.Order ≡ w = cc in subst IsOfText same tt
 ordered_tells (Ok s) (Some p) w h e = absurd cc
 
--- a line of cargo that is told
+-- a line of cargo that is reported
 pub cargo_told : (above : List (List ℕ)) (line : List ℕ) (point : Option (List ℕ)) (number : ℕ) (w : Why) (told : TextFault) → point ≡ last_point above → is_cargo_line line ≡ true
     → ordered_fault (consignment_of line) point ≡ Some w → told ≡ fault_at number w → IsFaultOf (option_map (fault_at number) (cargo_fault above line)) told
 cargo_told above line point number w told at is e same =
@@ -126,7 +126,7 @@ flight_tells line =
     (λ (date : CalendarDay). steps_tell _ _ (need_tells (option_and_then airport_of (field line 3)) why.Flight tt)
     (λ (loaded : List ℕ). done_tells (record { sequence = sequence; flight = flight; date = date; loaded = loaded }))))))
 
--- a flight line that is told
+-- a flight line that is reported
 pub flight_told : (line : List ℕ) (number : ℕ) (w : Why) (fault : Option TextFault) (told : TextFault) → flight_line_of line ≡ Err w → told ≡ fault_at number w
     → fault ≡ Some (fault_at number w) → IsFaultOf fault told
 flight_told line number w fault told e same is = subst (IsFaultOf fault) (sym same) (told_at fault number w (flight_tells line w e) is)
@@ -162,7 +162,7 @@ first_cargo_fault seen line rest cargo n h place f e =
     ap (first_fault 3) (cargo_faults-append [] seen (line ∷ rest)) ∙ fault_behind 3 (cargo_faults [] seen) (cargo_fault seen line ∷ behind) none
     ∙ ap (λ k. first_fault k (cargo_fault seen line ∷ behind)) number ∙ fault_here n (cargo_fault seen line) behind f e
 
--- the fault of a line, told while the lines above it have none, is the first of them all
+-- the fault of a line, reported while the lines above it have none, is the first of them all
 pub told_first : (seen : List (List ℕ)) (line : List ℕ) (rest lines : List (List ℕ)) (cargo : List Unloaded) (n : ℕ) (told : TextFault) → IsCargo [] seen cargo → n ≡ 3 + length seen
     → lines ≡ seen ++ line ∷ rest → IsFaultOf (option_map (fault_at n) (cargo_fault seen line)) told → IsFaultOf (first_fault 3 (cargo_faults [] lines)) told
 told_first seen line rest lines cargo n told h place whole is =
@@ -198,7 +198,7 @@ flight_line_told (t ∷ u ∷ rest) items d w told same long head e is =
     ap (λ a. made a (err_of (flight_line_of u.text.now))) (unless_true-holds _ why.Head head) ∙ ap (λ r. made None (err_of r)) e in
     subst (λ ls. IsFaultOf (ffm_fault (texts_of ls)) told) same (flight_told u.text.now 2 w (ffm_fault lines) told e is fault)
 
--- where no line has a fault, the missing of the last line is told
+-- where no line has a fault, the missing of the last line is reported
 pub ending_told : (tokens items : List Token) (d : Token) (part : FlightLine) (cargo : List Unloaded) (told : TextFault) → tokens ≡ items → 2 ≤ length tokens
     → is_head (codes "FFM") (get_or tokens 0 d).text.now ≡ true → flight_line_of (get_or tokens 1 d).text.now ≡ Ok part
     → IsCargo [] (texts_of (slice_range tokens 2 (length tokens))) cargo → has_last_line (texts_of (slice_range tokens 2 (length tokens))) ≡ false

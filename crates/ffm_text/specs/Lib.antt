@@ -1,3 +1,3 @@
 pub mod Ffm
-pub mod Seen
+pub mod Scan
 pub mod Written

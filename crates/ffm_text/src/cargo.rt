@@ -4,19 +4,12 @@ ghost use Rattle.std.specs.Prelude.{◌≡◌, ◌∷◌, ◌++◌, ◌≤◌, �
 ghost use Rattle.imp_fields.specs.Consignment.{consignment_of, shipment_of, HasSpans};
 ghost use Rattle.imp_fields.specs.NormalText.{fault_at, first_fault, IsFaultOf};
 ghost use Rattle.ffm_text.specs.Ffm.{is_cargo_line, ordered_fault, cargo_fault, cargo_faults};
-ghost use Rattle.ffm_text.specs.Seen.{IsSeen, AreCargo, texts_of};
+ghost use Rattle.ffm_text.specs.Scan.{IsScan, AreCargo, texts_of};
 
 use crate::FfmLine;
 use crate::point::unloading_point;
-use imp_fields::{Airport, TextFault, Token, Why, read_consignment};
+use imp_fields::{Airport, TextFault, Token, Why, fault_at, read_consignment};
 use std::alloc::{AllocError, Global};
-
-/// A fault of a line.
-pub(crate) fn fault(line: u32, why: Why) -> TextFault
-    ensures { result ≡ fault_at line why }
-{
-    TextFault { line, why }
-}
 
 /// Whether a line begins with three digits and a hyphen, so that it has to be a consignment line.
 fn is_cargo_line(line: &[u8]) -> bool
@@ -53,19 +46,19 @@ fn cargo_line<'a>(point: Option<Airport>, line: &'a [u8]) -> Result<FfmLine<'a>,
 
 /// What is known of a manifest once some of the lines behind its flight line were seen.
 #[derive(Drop)]
-pub(crate) struct Seen<'a> {
+pub(crate) struct ManifestScan<'a> {
     /// The last point of unloading.
     point: Option<Airport>,
     /// The consignment lines.
     cargo: Vec<FfmLine<'a>>,
 }
 
-impl<'a> Seen<'a> {
+impl<'a> ManifestScan<'a> {
     /// No line was seen. There is room for so many.
-    fn new(alloc: Global, room: usize) -> Result<Seen<'a>, AllocError>
-        ensures { IfOk result (IsSeen []) }
+    fn new(alloc: Global, room: usize) -> Result<ManifestScan<'a>, AllocError>
+        ensures { IfOk result (IsScan []) }
     {
-        Ok(Seen {
+        Ok(ManifestScan {
             point: None,
             cargo: Vec::with_capacity(alloc, room)?,
         })
@@ -73,27 +66,27 @@ impl<'a> Seen<'a> {
 
     /// Takes a line that has to be a consignment line, and no other.
     fn take(&mut self, number: u32, line: &'a [u8]) -> Result<(), TextFault>
-        ensures cargo { (above : List (List ℕ)) → IsSeen above self.old → OnOk result (AreCargo (above ++ line.now ∷ []) self.new.cargo.items) }
+        ensures cargo { (above : List (List ℕ)) → IsScan above self.old → OnOk result (AreCargo (above ++ line.now ∷ []) self.new.cargo.items) }
         ensures point { OnOk result (self.new.point ≡ self.old.point) }
-        ensures fault { (above : List (List ℕ)) → IsSeen above self.old → IfErr result (IsFaultOf (option_map (fault_at number) (cargo_fault above line.now))) }
+        ensures fault { (above : List (List ℕ)) → IsScan above self.old → IfErr result (IsFaultOf (option_map (fault_at number) (cargo_fault above line.now))) }
     {
         if !is_cargo_line(line) {
             return Ok(());
         }
         let cargo = match cargo_line(self.point, line) {
             Ok(cargo) => cargo,
-            Err(why) => return Err(fault(number, why)),
+            Err(why) => return Err(fault_at(number, why)),
         };
         match self.cargo.push(cargo) {
             Ok(()) => Ok(()),
-            Err(_) => Err(fault(0, Why::Memory)),
+            Err(_) => Err(fault_at(0, Why::Memory)),
         }
     }
 
     /// One more line was seen.
     fn see(&mut self, number: u32, line: &'a [u8]) -> Result<(), TextFault>
-        ensures seen { (above : List (List ℕ)) → IsSeen above self.old → OnOk result (IsSeen (above ++ line.now ∷ []) self.new) }
-        ensures fault { (above : List (List ℕ)) → IsSeen above self.old → IfErr result (IsFaultOf (option_map (fault_at number) (cargo_fault above line.now))) }
+        ensures seen { (above : List (List ℕ)) → IsScan above self.old → OnOk result (IsScan (above ++ line.now ∷ []) self.new) }
+        ensures fault { (above : List (List ℕ)) → IsScan above self.old → IfErr result (IsFaultOf (option_map (fault_at number) (cargo_fault above line.now))) }
     {
         self.take(number, line)?;
         if let Some(point) = unloading_point(line) {
@@ -113,8 +106,8 @@ pub(crate) fn cargo<'a>(alloc: Global, lines: &[Token<'a>]) -> Result<Vec<FfmLin
     ensures read { IfOk result (λ cargo. AreCargo (texts_of lines.now) cargo.items) }
     ensures fault { IfErr result (IsFaultOf (first_fault 3 (cargo_faults [] (texts_of lines.now)))) }
 {
-    let Ok(mut seen) = Seen::new(alloc, lines.len()) else {
-        return Err(fault(0, Why::Memory));
+    let Ok(mut seen) = ManifestScan::new(alloc, lines.len()) else {
+        return Err(fault_at(0, Why::Memory));
     };
     let mut number = 2;
     for line in lines {

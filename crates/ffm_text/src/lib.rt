@@ -37,7 +37,7 @@ pub struct Ffm<'a> {
     pub cargo: Vec<FfmLine<'a>>,
 }
 
-/// A waybill's load as a manifest that is sent tells it.
+/// A waybill's load as a manifest that is sent states it.
 #[derive(Clone, Copy, Debug)]
 pub struct Load {
     pub awb: Awb,

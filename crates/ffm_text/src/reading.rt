@@ -3,12 +3,12 @@
 ghost use Rattle.std.specs.Prelude.{◌≡◌, IfOk, IfErr};
 ghost use Rattle.imp_fields.specs.NormalText.{line_texts, IsFaultOf};
 ghost use Rattle.ffm_text.specs.Ffm.{IsFfm, ffm_fault, manifest_of, HasFfmSpans, has_last_line};
-ghost use Rattle.ffm_text.specs.Seen.{texts_of};
+ghost use Rattle.ffm_text.specs.Scan.{texts_of};
 
 use crate::Ffm;
-use crate::cargo::{cargo, fault};
+use crate::cargo::cargo;
 use crate::flight_line::flight_line;
-use imp_fields::{Lines, TextFault, Token, Why, is_head};
+use imp_fields::{Lines, TextFault, Token, Why, fault_at, is_head};
 use std::alloc::Global;
 
 /// Whether the last of some lines is `LAST` or `CONT`.
@@ -36,17 +36,17 @@ pub fn read<'a>(alloc: Global, lines: &Lines<'a>) -> Result<Ffm<'a>, TextFault>
 {
     let tokens = lines.lines.as_slice();
     if tokens.is_empty() {
-        return Err(fault(0, Why::Ending));
+        return Err(fault_at(0, Why::Ending));
     }
     if !is_head(b"FFM", tokens[0].text) {
-        return Err(fault(1, Why::Head));
+        return Err(fault_at(1, Why::Head));
     }
     if tokens.len() < 2 {
-        return Err(fault(1, Why::Ending));
+        return Err(fault_at(1, Why::Ending));
     }
     let part = match flight_line(tokens[1].text) {
         Ok(part) => part,
-        Err(why) => return Err(fault(2, why)),
+        Err(why) => return Err(fault_at(2, why)),
     };
     let below = &tokens[2..];
     let cargo = match cargo(alloc, below) {
@@ -54,7 +54,7 @@ pub fn read<'a>(alloc: Global, lines: &Lines<'a>) -> Result<Ffm<'a>, TextFault>
         Err(fault) => return Err(fault),
     };
     if !has_last_line(below) {
-        return Err(fault(tokens.len() as u32, Why::Ending));
+        return Err(fault_at(tokens.len() as u32, Why::Ending));
     }
     Ok(Ffm {
         sequence: part.sequence,

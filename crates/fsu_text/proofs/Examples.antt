@@ -14,13 +14,13 @@ use Rattle.imp_fields.specs.declared.amount.ShipmentCode.TheVariants.{Total, Par
 use Rattle.imp_fields.specs.declared.amount.Quantity.{Quantity}
 use Rattle.fsu_text.specs.declared.status.Handling.TheVariants.{ReceivedFromShipper, Notified, Delivered}
 use Rattle.fsu_text.specs.declared.status.Carriage.TheVariants.{Manifested, Departed}
-use Rattle.imp_fields.specs.declared.consigned.Discrepancy.TheVariants.{Offloaded, Missing, Found}
+use Rattle.imp_fields.specs.declared.discrepancy.Discrepancy.TheVariants.{Offloaded, Missing, Found}
 use Rattle.fsu_text.specs.Status.{Day, Handled, ReceivedFromFlight, Carried, Differs, status_of}
-use Rattle.imp_fields.specs.declared.consigned.Consigned.{Consigned}
+use Rattle.imp_fields.specs.declared.waybill_summary.WaybillSummary.{WaybillSummary}
 use Rattle.fsu_text.specs.declared.sent.SentStatus.{SentStatus}
 use Rattle.fsu_text.specs.declared.sent.SentStatus.TheVariants as sent
 use Rattle.fsu_text.specs.declared.sent.SentCarriage.TheVariants as leaving
-use Rattle.fsu_text.specs.declared.sent.Update.{Update}
+use Rattle.fsu_text.specs.declared.sent.SentUpdate.{SentUpdate}
 use Rattle.fsu_text.specs.Fsu.{IsFsu, fsu_fault, fsu_lines, sent_status_text, sent_status_reading, update_written}
 
 abbrev quantity : ShipmentCode → ℕ → Option ℕ → Quantity
@@ -130,7 +130,7 @@ empty_line = refl
 
 -- ---- what is sent
 
-abbrev declared : Consigned
+abbrev declared : WaybillSummary
 declared = record {
   awb = key_of 20 1234567;
   origin = codes "FRA";
@@ -139,13 +139,13 @@ declared = record {
   tenths = 1000;
 }
 
-abbrev update : SentStatus → List ℕ → ℕ → ℕ → Update
+abbrev update : SentStatus → List ℕ → ℕ → ℕ → SentUpdate
 update status here pieces tenths = record { «of» = declared; status = status; here = here; pieces = pieces; tenths = tenths }
 
-abbrev status_line : Update → List ℕ
+abbrev status_line : SentUpdate → List ℕ
 status_line u = sent_status_text u.status u
 
-abbrev receipt : Update
+abbrev receipt : SentUpdate
 receipt = update (sent.Handled ReceivedFromShipper (at 630) (codes "ACME")) (codes "FRA") 10 1000
 
 receipt_lines : fsu_lines receipt ≡ received

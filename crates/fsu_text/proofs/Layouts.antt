@@ -1,4 +1,4 @@
--- A status line's code tells its layout.
+-- A status line's code decides its layout.
 use Rattle.std.proofs.Common.{◌≡◌, ℕ, Bool, true, false, List, [], ◌∷◌, Option, Some, None, refl, sym, ap, ◌∙◌, subst}
 use Rattle.std.specs.Prelude.{codes}
 use Rattle.std.specs.Str.{bytes_eq}
@@ -121,7 +121,7 @@ carried_alone carriage.Booked parts = by_carried (codes "BKD") parts refl refl r
 carried_alone carriage.Manifested parts = by_carried (codes "MAN") parts refl refl refl
 carried_alone carriage.Departed parts = by_carried (codes "DEP") parts refl refl refl
 
--- ---- what a line tells, by its code
+-- ---- what a line says, by its code
 
 pub tells_handled : (line code rest : List ℕ) (event : Handling) → fields line ≡ code ∷ fields rest → handling_of code ≡ Some event
     → status_of line ≡ handled_of (code ∷ fields rest)

@@ -1,4 +1,4 @@
--- What the lines of a message tell, once they were read one by one.
+-- What the lines of a message say, once they were read one by one.
 use Rattle.std.proofs.Common.{◌≡◌, ℕ, ◌≤◌, Bool, true, false, cond, List, [], ◌∷◌, length, map, get_or, drop, Option, Some, None, Result, Ok, Err, refl, ap, ◌∙◌, subst, arith}
 use Rattle.std.specs.Prelude.{◌&&◌, codes, nat_le, take}
 use Rattle.std.specs.List.{list_all}
@@ -27,7 +27,7 @@ texts tokens = map (λ t. t.text.now) tokens
 
 -- ---- faults
 
--- a consignment line has never want of memory for its fault
+-- a consignment line's fault is never that memory ran out
 never_memory_by : (line : List ℕ) (shape : Bool) (number : Result ℕ AwbFault) (quantity : Option Quantity)
     → cond shape (consignment_by line number quantity) (Err why.Consignment) ≡ Err why.Memory → ⊥
 never_memory_by line false number quantity e = cc

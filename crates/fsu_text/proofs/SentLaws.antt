@@ -19,8 +19,8 @@ use Rattle.imp_fields.specs.declared.amount.Quantity.{Quantity}
 use Rattle.imp_fields.proofs.WrittenLaws.{all_weaker, quantity_again}
 use Rattle.imp_fields.proofs.ConsignmentLaws.{unread_is_no_slash, quantity_unread}
 use Rattle.imp_fields.proofs.FieldLaws.{IsCode, airport_code, date_code, flight_code, flight_again, date_again, minute_again, optional_time_again}
-use Rattle.imp_fields.specs.declared.consigned.Discrepancy.{Discrepancy}
-use Rattle.imp_fields.specs.declared.consigned.Discrepancy.TheVariants as discrepancy
+use Rattle.imp_fields.specs.declared.discrepancy.Discrepancy.{Discrepancy}
+use Rattle.imp_fields.specs.declared.discrepancy.Discrepancy.TheVariants as discrepancy
 use Rattle.fsu_text.specs.declared.status.Handling.{Handling}
 use Rattle.fsu_text.specs.declared.status.Handling.TheVariants as handling
 use Rattle.fsu_text.specs.declared.status.Carriage.{Carriage}
@@ -29,7 +29,7 @@ use Rattle.fsu_text.specs.declared.sent.SentCarriage.{SentCarriage}
 use Rattle.fsu_text.specs.declared.sent.SentCarriage.TheVariants as leaving
 use Rattle.fsu_text.specs.declared.sent.SentStatus.{SentStatus}
 use Rattle.fsu_text.specs.declared.sent.SentStatus.TheVariants as sent
-use Rattle.fsu_text.specs.declared.sent.Update.{Update}
+use Rattle.fsu_text.specs.declared.sent.SentUpdate.{SentUpdate}
 use Rattle.fsu_text.specs.Status.{Reading, Day, Handled, ReceivedFromFlight, Carried, Differs, handling_code, discrepancy_code, handling_of, carriage_of, discrepancy_of, day_of, name_of, handled_by, handled_of, received_by, received_of, route_of, carried_by, carried_of, differs_by, differs_of, status_of, name_tail}
 use Rattle.fsu_text.specs.Sent.{IsSent, IsUpdate}
 use Rattle.fsu_text.specs.Fsu.{amount_of, sent_status_text, written_quantity, sent_status_reading}
@@ -178,13 +178,13 @@ differs_from flight date here what amount f day d q e1 e2 e3 e4 e5 =
 
 -- ---- what is sent
 
-amount_again : (u : Update) → IsUpdate u → quantity_of (amount_of u) ≡ Some (written_quantity u)
+amount_again : (u : SentUpdate) → IsUpdate u → quantity_of (amount_of u) ≡ Some (written_quantity u)
 amount_again u h = quantity_again (written_code u.pieces u.of.pieces) u.pieces u.tenths None (h.pieces, h.tenths, tt)
 
-pub amount_unread : (u : Update) → IsUpdate u → list_all is_unread (amount_of u) ≡ true
+pub amount_unread : (u : SentUpdate) → IsUpdate u → list_all is_unread (amount_of u) ≡ true
 amount_unread u h = quantity_unread (written_code u.pieces u.of.pieces) u.pieces u.tenths None (h.pieces, h.tenths, tt)
 
-amount_clean : (u : Update) → IsUpdate u → HasNoSlash (amount_of u)
+amount_clean : (u : SentUpdate) → IsUpdate u → HasNoSlash (amount_of u)
 amount_clean u h = unread_clean (amount_of u) (amount_unread u h)
 
 pub time_code : (minute : ℕ) → list_all is_letter_or_digit (time_text minute) ≡ true
@@ -238,7 +238,7 @@ status_by parts = or_else (handled_of parts) (or_else (received_of parts) (or_el
 status_is : (line : List ℕ) (parts : List (List ℕ)) → fields line ≡ parts → status_of line ≡ status_by parts
 status_is line parts e = ap status_by e
 
-handled_again : (u : Update) (what : Handling) (t : When) (name : List ℕ) → IsUpdate u → IsSent (sent.Handled what t name)
+handled_again : (u : SentUpdate) (what : Handling) (t : When) (name : List ℕ) → IsUpdate u → IsSent (sent.Handled what t name)
     → status_of (sent_status_text (sent.Handled what t name) u) ≡ Some (sent_status_reading (sent.Handled what t name) u)
 handled_again u what t name h s =
     let code = handling_code what in
@@ -257,7 +257,7 @@ handled_again u what t name h s =
     ∙ handled_from code when u.here amount name what t (written_quantity u) (handling_again what) (when_again t s.0 s.1) (airport_again u.here h.here) (amount_again u h) (name_again name s.2) in
     status_is (sent_status_text (sent.Handled what t name) u) parts cut ∙ ap (λ o. or_else o (or_else (received_of parts) (or_else (carried_of parts) (differs_of parts)))) read
 
-received_again : (u : Update) (f : Designator) (t : When) → IsUpdate u → IsSent (sent.ReceivedFromFlight f t)
+received_again : (u : SentUpdate) (f : Designator) (t : When) → IsUpdate u → IsSent (sent.ReceivedFromFlight f t)
     → status_of (sent_status_text (sent.ReceivedFromFlight f t) u) ≡ Some (sent_status_reading (sent.ReceivedFromFlight f t) u)
 received_again u f t h s =
     let flight = flight_text f in
@@ -271,7 +271,7 @@ received_again u f t h s =
     ∙ ap (λ o. or_else o (or_else (carried_of parts) (differs_of parts)))
     (received_from flight when u.here amount f t (written_quantity u) (flight_again f s.0) (when_again t s.1 s.2) (airport_again u.here h.here) (amount_again u h))
 
-carried_again : (u : Update) (what : SentCarriage) (f : Designator) (d : CalendarDay) (to : List ℕ) → IsUpdate u → IsSent (sent.Carried what f d to)
+carried_again : (u : SentUpdate) (what : SentCarriage) (f : Designator) (d : CalendarDay) (to : List ℕ) → IsUpdate u → IsSent (sent.Carried what f d to)
     → status_of (sent_status_text (sent.Carried what f d to) u) ≡ Some (sent_status_reading (sent.Carried what f d to) u)
 carried_again u what f d to h s = by what
   where
@@ -296,7 +296,7 @@ carried_again u what f d to h s = by what
         status_is (sent_status_text (sent.Carried leaving.Departed f d to) u) (codes "DEP" ∷ flight_text f ∷ date_text d ∷ (u.here ++ to) ∷ amount_of u ∷ []) (whole (codes "DEP") refl)
         ∙ ap (λ o. or_else o (differs_of (codes "DEP" ∷ flight_text f ∷ date_text d ∷ (u.here ++ to) ∷ amount_of u ∷ []))) (read (codes "DEP") carriage.Departed refl)
 
-differs_again : (u : Update) (what : Discrepancy) (f : Designator) (t : When) → IsUpdate u → IsSent (sent.Differs what f t)
+differs_again : (u : SentUpdate) (what : Discrepancy) (f : Designator) (t : When) → IsUpdate u → IsSent (sent.Differs what f t)
     → status_of (sent_status_text (sent.Differs what f t) u) ≡ Some (sent_status_reading (sent.Differs what f t) u)
 differs_again u what f t h s =
     let flight = flight_text f in
@@ -311,7 +311,7 @@ differs_again u what f t h s =
     ∙ differs_from flight when u.here code amount f (timed t) what (written_quantity u) (flight_again f s.0) (date_and_time t s.1 s.2) (airport_again u.here h.here)
     (discrepancy_again what) (amount_again u h)
 
-pub status_again : (u : Update) (status : SentStatus) → IsUpdate u → IsSent status → status_of (sent_status_text status u) ≡ Some (sent_status_reading status u)
+pub status_again : (u : SentUpdate) (status : SentStatus) → IsUpdate u → IsSent status → status_of (sent_status_text status u) ≡ Some (sent_status_reading status u)
 status_again u (sent.Handled what t name) h s = handled_again u what t name h s
 status_again u (sent.ReceivedFromFlight f t) h s = received_again u f t h s
 status_again u (sent.Carried what f d to) h s = carried_again u what f d to h s

@@ -19,8 +19,8 @@ use Rattle.imp_fields.specs.NormalText.{normal_lines}
 use Rattle.imp_fields.specs.Message.{sent_text}
 use Rattle.imp_fields.specs.declared.amount.ShipmentCode.{ShipmentCode}
 use Rattle.imp_fields.specs.declared.amount.ShipmentCode.TheVariants.{Total}
-use Rattle.imp_fields.specs.declared.consigned.Discrepancy.{Discrepancy}
-use Rattle.imp_fields.specs.declared.consigned.Discrepancy.TheVariants as discrepancy
+use Rattle.imp_fields.specs.declared.discrepancy.Discrepancy.{Discrepancy}
+use Rattle.imp_fields.specs.declared.discrepancy.Discrepancy.TheVariants as discrepancy
 use Rattle.imp_fields.proofs.WrittenLaws.{all_weaker}
 use Rattle.imp_fields.proofs.PutLaws.{length_decimal_short, length_decimal_five}
 use Rattle.imp_fields.proofs.ConsignmentLaws.{quantity_unread, consignment_again}
@@ -32,7 +32,7 @@ use Rattle.fsu_text.specs.declared.sent.SentCarriage.{SentCarriage}
 use Rattle.fsu_text.specs.declared.sent.SentCarriage.TheVariants as leaving
 use Rattle.fsu_text.specs.declared.sent.SentStatus.{SentStatus}
 use Rattle.fsu_text.specs.declared.sent.SentStatus.TheVariants as sent
-use Rattle.fsu_text.specs.declared.sent.Update.{Update}
+use Rattle.fsu_text.specs.declared.sent.SentUpdate.{SentUpdate}
 use Rattle.fsu_text.specs.Status.{handling_code, carriage_code, discrepancy_code, name_tail}
 use Rattle.fsu_text.specs.Fsu.{IsFsu, declared_cargo, told_as, amount_of, sent_status_text, fsu_lines, update_written}
 use Rattle.fsu_text.specs.Sent.{IsSent, IsUpdate}
@@ -155,7 +155,7 @@ is_plain_line n line le part ends = let short = part.short in plain_line line en
 head_plain : IsPlain (codes "FSU/12")
 head_plain = plain_line (codes "FSU/12") (omega arith) (omega arith) refl refl
 
-consignment_plain : (u : Update) → IsUpdate u → IsPlain (consignment_text (declared_cargo u.of))
+consignment_plain : (u : SentUpdate) → IsUpdate u → IsPlain (consignment_text (declared_cargo u.of))
 consignment_plain u h =
     let q = quantity_text Total u.of.pieces u.of.tenths None in
     let number = number_text u.of.awb in
@@ -191,7 +191,7 @@ discrepancy_part discrepancy.Found = record { printable = refl; short = omega ar
 field_part : (m n : ℕ) (a b : List ℕ) → IsPart m a → IsPart n b → IsPart (m + (1 + n)) (a ++ (47 ∷ b))
 field_part m n a b ha hb = joined m (1 + n) a (47 ∷ b) ha (slashed_part n b hb)
 
-status_plain : (u : Update) (status : SentStatus) → IsUpdate u → IsSent status → IsPlain (sent_status_text status u)
+status_plain : (u : SentUpdate) (status : SentStatus) → IsUpdate u → IsSent status → IsPlain (sent_status_text status u)
 status_plain u status h s = by status s
   where
     amount : IsPart 13 (amount_of u)
@@ -255,7 +255,7 @@ sent_length : (line : List ℕ) (lines : List (List ℕ)) → IsPlain line → l
 sent_length line lines h =
     let short = h.short in omega (arith, short, length-append (line ++ (13 ∷ 10 ∷ [])) (sent_text lines), length-append line (13 ∷ 10 ∷ []))
 
-pub lines_normal : (u : Update) → IsUpdate u → normal_lines (sent_text (fsu_lines u)) ≡ Ok (fsu_lines u)
+pub lines_normal : (u : SentUpdate) → IsUpdate u → normal_lines (sent_text (fsu_lines u)) ≡ Ok (fsu_lines u)
 lines_normal u h =
     let second = consignment_text (declared_cargo u.of) in
     let third = sent_status_text u.status u in
@@ -264,5 +264,5 @@ lines_normal u h =
     sent_normal (codes "FSU/12") (second ∷ third ∷ []) (head_plain, (second_plain, (third_plain, tt))) refl (omega arith)
     (omega (arith, sent_length (codes "FSU/12") (second ∷ third ∷ []) head_plain, sent_length second (third ∷ []) second_plain, sent_length third [] third_plain))
 
-pub lines_read : (u : Update) → IsUpdate u → IsFsu (fsu_lines u) (update_written u)
+pub lines_read : (u : SentUpdate) → IsUpdate u → IsFsu (fsu_lines u) (update_written u)
 lines_read u h = (refl, consignment_again (declared_cargo u.of) (h.declared.awb, h.declared.origin, h.declared.destination, (h.declared.pieces, h.declared.tenths, tt)), refl)

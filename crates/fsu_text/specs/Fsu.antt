@@ -13,14 +13,14 @@ use Rattle.imp_fields.specs.declared.fault.Why.TheVariants as why
 use Rattle.imp_fields.specs.declared.fault.TextFault.{TextFault}
 use Rattle.imp_fields.specs.declared.amount.ShipmentCode.TheVariants.{Total}
 use Rattle.imp_fields.specs.declared.amount.Quantity.{Quantity}
-use Rattle.imp_fields.specs.declared.consigned.Consigned.{Consigned}
+use Rattle.imp_fields.specs.declared.waybill_summary.WaybillSummary.{WaybillSummary}
 use Rattle.fsu_text.specs.declared.sent.SentStatus.{SentStatus}
 use Rattle.fsu_text.specs.declared.sent.SentStatus.TheVariants as sent
 use Rattle.fsu_text.specs.declared.sent.SentCarriage.{SentCarriage}
 use Rattle.fsu_text.specs.declared.sent.SentCarriage.TheVariants as leaving
 use Rattle.fsu_text.specs.declared.status.Carriage.{Carriage}
 use Rattle.fsu_text.specs.declared.status.Carriage.TheVariants as carriage
-use Rattle.fsu_text.specs.declared.sent.Update.{Update}
+use Rattle.fsu_text.specs.declared.sent.SentUpdate.{SentUpdate}
 use Rattle.fsu_text.specs.declared.status.Status.{Status}
 use Rattle.fsu_text.specs.declared.status.Status.TheVariants as status
 use Rattle.fsu_text.specs.declared.status.StatusLine.{StatusLine}
@@ -66,7 +66,7 @@ abbrev pub IsRead : StatusLine → Type 0
 IsRead l = option_map reading_of l.status ≡ status_of l.text.text.now
 
 -- the consignment line that is sent: all that is declared, without goods
-abbrev pub declared_cargo : Consigned → WrittenLine
+abbrev pub declared_cargo : WaybillSummary → WrittenLine
 declared_cargo d = record {
   awb = d.awb;
   origin = d.origin;
@@ -79,7 +79,7 @@ declared_cargo d = record {
 }
 
 -- the quantity of the update: T where the pieces are all that were declared, else P
-abbrev pub amount_of : Update → List ℕ
+abbrev pub amount_of : SentUpdate → List ℕ
 amount_of u = amount_text u.pieces u.tenths u.of.pieces
 
 abbrev pub slashed : List (List ℕ) → List ℕ
@@ -91,7 +91,7 @@ told_as leaving.Manifested = carriage.Manifested
 told_as leaving.Departed = carriage.Departed
 
 -- the status line that is sent
-abbrev pub sent_status_text : SentStatus → Update → List ℕ
+abbrev pub sent_status_text : SentStatus → SentUpdate → List ℕ
 sent_status_text (sent.Handled what at name) u =
     slashed (handling_code what ∷ when_text at ∷ u.here ∷ amount_of u ∷ []) ++ name_tail name
 sent_status_text (sent.ReceivedFromFlight flight at) u = slashed (codes "RCF" ∷ flight_text flight ∷ when_text at ∷ u.here ∷ amount_of u ∷ [])
@@ -101,14 +101,14 @@ sent_status_text (sent.Differs what flight at) u =
     slashed (codes "DIS" ∷ flight_text flight ∷ when_text at ∷ u.here ∷ discrepancy_code what ∷ amount_of u ∷ [])
 
 -- the lines that are sent
-abbrev pub fsu_lines : Update → List (List ℕ)
+abbrev pub fsu_lines : SentUpdate → List (List ℕ)
 fsu_lines u = codes "FSU/12" ∷ consignment_text (declared_cargo u.of) ∷ sent_status_text u.status u ∷ []
 
 -- and what they say
-abbrev pub written_quantity : Update → Quantity
+abbrev pub written_quantity : SentUpdate → Quantity
 written_quantity u = record { code = written_code u.pieces u.of.pieces; pieces = u.pieces; weight = Some u.tenths; total = None }
 
-abbrev pub sent_status_reading : SentStatus → Update → Reading
+abbrev pub sent_status_reading : SentStatus → SentUpdate → Reading
 sent_status_reading (sent.Handled what at name) u = Handled what at u.here (written_quantity u) name
 sent_status_reading (sent.ReceivedFromFlight flight at) u = ReceivedFromFlight flight at u.here (written_quantity u)
 sent_status_reading (sent.Carried what flight date to) u =
@@ -116,7 +116,7 @@ sent_status_reading (sent.Carried what flight date to) u =
 sent_status_reading (sent.Differs what flight at) u =
     Differs flight (record { date = at.date; minute = Some at.minute }) u.here what (written_quantity u)
 
-abbrev pub update_written : Update → StatusUpdate
+abbrev pub update_written : SentUpdate → StatusUpdate
 update_written u = record { shipment = shipment_written (declared_cargo u.of); trail = sent_status_text u.status u ∷ [] }
 
 -- each line of the trail was read where its layout is known

@@ -6,10 +6,10 @@ use Rattle.imp_fields.specs.Amount.{IsPieces, IsBookTenths}
 use Rattle.imp_fields.specs.Date.{IsCalendarDay}
 use Rattle.imp_fields.specs.Flight.{IsDesignator}
 use Rattle.imp_fields.specs.Name.{is_name}
-use Rattle.imp_fields.specs.declared.consigned.Consigned.{Consigned}
+use Rattle.imp_fields.specs.declared.waybill_summary.WaybillSummary.{WaybillSummary}
 use Rattle.fsu_text.specs.declared.sent.SentStatus.{SentStatus}
 use Rattle.fsu_text.specs.declared.sent.SentStatus.TheVariants as sent
-use Rattle.fsu_text.specs.declared.sent.Update.{Update}
+use Rattle.fsu_text.specs.declared.sent.SentUpdate.{SentUpdate}
 
 -- each field of the status is one of its type's values
 abbrev pub IsSent : SentStatus → Type 0
@@ -19,7 +19,7 @@ IsSent (sent.Carried what flight date to) = IsDesignator flight × IsCalendarDay
 IsSent (sent.Differs what flight at) = IsDesignator flight × IsCalendarDay at.date × (at.minute < 1440)
 
 -- and so is each field of what is declared
-pub record IsDeclared (d : Consigned) : Type 0 where
+pub record IsDeclared (d : WaybillSummary) : Type 0 where
   pub awb : IsNumber d.awb
   pub origin : IsTrue (is_airport d.origin)
   pub destination : IsTrue (is_airport d.destination)
@@ -27,7 +27,7 @@ pub record IsDeclared (d : Consigned) : Type 0 where
   pub tenths : IsBookTenths d.tenths
 
 -- and each field of the update
-pub record IsUpdate (u : Update) : Type 0 where
+pub record IsUpdate (u : SentUpdate) : Type 0 where
   pub declared : IsDeclared u.of
   pub status : IsSent u.status
   pub here : IsTrue (is_airport u.here)

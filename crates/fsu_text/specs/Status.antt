@@ -14,8 +14,8 @@ use Rattle.fsu_text.specs.declared.status.Handling.{Handling}
 use Rattle.fsu_text.specs.declared.status.Handling.TheVariants.{ReceivedFromShipper, Notified, Delivered}
 use Rattle.fsu_text.specs.declared.status.Carriage.{Carriage}
 use Rattle.fsu_text.specs.declared.status.Carriage.TheVariants.{Booked, Manifested, Departed}
-use Rattle.imp_fields.specs.declared.consigned.Discrepancy.{Discrepancy}
-use Rattle.imp_fields.specs.declared.consigned.Discrepancy.TheVariants.{Offloaded, Missing, Found}
+use Rattle.imp_fields.specs.declared.discrepancy.Discrepancy.{Discrepancy}
+use Rattle.imp_fields.specs.declared.discrepancy.Discrepancy.TheVariants.{Offloaded, Missing, Found}
 
 -- a date, perhaps with a time
 pub record Day : Type 0 where

@@ -12,7 +12,7 @@ mod writing;
 
 pub use message::Fsu;
 pub use reading::read;
-pub use sent::{SentCarriage, SentStatus, Update};
+pub use sent::{SentCarriage, SentStatus, SentUpdate};
 pub use status::{Carriage, FlightDay, Handling, Status, StatusLine};
 pub use writing::write_fsu;
 

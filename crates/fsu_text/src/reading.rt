@@ -3,7 +3,7 @@
 
 ghost use Rattle.std.specs.Prelude.{◌≡◌, ℕ, List, [], ◌∷◌, ◌++◌, All, OnOk, IfOk, IfErr, Some, map, option_map, codes};
 ghost use Rattle.imp_fields.specs.Characters.{fields};
-ghost use Rattle.imp_fields.specs.NormalText.{line_texts, IsFaultOf, fault_at};
+ghost use Rattle.imp_fields.specs.NormalText.{line_texts, IsFaultOf};
 ghost use Rattle.fsu_text.specs.Status.{day_of, handling_of, carriage_of, discrepancy_of, handled_by, handled_of, received_by, received_of, route_of, carried_by, carried_of, differs_by, differs_of, status_of};
 ghost use Rattle.fsu_text.specs.Fsu.{IsFsu, fsu_fault, reading_of, update_of, HasFsuSpans, IsRead, AreRead};
 
@@ -11,7 +11,7 @@ use crate::message::Fsu;
 use crate::status::{Carriage, FlightDay, Handling, Status, StatusLine};
 use imp_fields::{
     Airport, DayMonth, DayTime, Discrepancy, Flight, Lines, Name, TextFault, Token, Why,
-    cut_at_slash, first_field, is_head, read_consignment, read_quantity,
+    cut_at_slash, fault_at, first_field, is_head, read_consignment, read_quantity,
 };
 use std::alloc::{AllocError, Global};
 use std::slice;
@@ -216,7 +216,7 @@ fn differs(text: &[u8]) -> Option<Status>
     }
 }
 
-/// What a line tells, where it is of one of these layouts: its code says of which.
+/// What a line says, where it is of one of these layouts: its code says of which.
 fn status(line: &[u8]) -> Option<Status>
     ensures { option_map reading_of result ≡ status_of line.now }
 {
@@ -268,13 +268,6 @@ fn trail<'a>(alloc: Global, lines: &[Token<'a>]) -> Result<Vec<StatusLine<'a>>, 
     Ok(trail)
 }
 
-/// A fault of a line.
-fn fault(line: u32, why: Why) -> TextFault
-    ensures { result ≡ fault_at line why }
-{
-    TextFault { line, why }
-}
-
 /// The message that lines are.
 ///
 /// # Errors
@@ -289,24 +282,24 @@ pub fn read<'a>(alloc: Global, lines: &Lines<'a>) -> Result<Fsu<'a>, TextFault>
 {
     let lines = lines.lines.as_slice();
     if lines.is_empty() {
-        return Err(fault(0, Why::Ending));
+        return Err(fault_at(0, Why::Ending));
     }
     if !is_head(b"FSU", lines[0].text) {
-        return Err(fault(1, Why::Head));
+        return Err(fault_at(1, Why::Head));
     }
     if lines.len() < 2 {
-        return Err(fault(1, Why::Ending));
+        return Err(fault_at(1, Why::Ending));
     }
     let consignment = match read_consignment(lines[1].text) {
         Ok(consignment) => consignment,
-        Err(why) => return Err(fault(2, why)),
+        Err(why) => return Err(fault_at(2, why)),
     };
     if lines.len() < 3 {
-        return Err(fault(2, Why::Ending));
+        return Err(fault_at(2, Why::Ending));
     }
     let (_, behind) = lines.split_at(2);
     match trail(alloc, behind) {
         Ok(trail) => Ok(Fsu { consignment, trail }),
-        Err(_) => Err(fault(0, Why::Memory)),
+        Err(_) => Err(fault_at(0, Why::Memory)),
     }
 }

@@ -4,10 +4,10 @@ ghost use Rattle.fsu_text.specs.Sent.{IsSent, IsDeclared, IsUpdate};
 
 use crate::status::Handling;
 use imp_fields::{
-    Airport, BookTenths, Consigned, DayMonth, DayTime, Discrepancy, Flight, Name, Pieces,
+    Airport, BookTenths, DayMonth, DayTime, Discrepancy, Flight, Name, Pieces, WaybillSummary,
 };
 
-/// What is told of goods and a flight that leaves here.
+/// What is reported of goods and a flight that leaves here.
 #[derive(Clone, Copy, Debug, PartialEq, Eq)]
 pub enum SentCarriage {
     /// MAN, manifested.
@@ -45,10 +45,10 @@ pub enum SentStatus {
     },
 }
 
-/// What is sent of a waybill: the status, the airport that sends it, and the pieces and the weight that it tells of.
+/// What is sent of a waybill: the status, the airport that sends it, and the pieces and the weight that it is about.
 #[derive(Clone, Copy, Debug)]
-pub struct Update {
-    pub of: Consigned,
+pub struct SentUpdate {
+    pub of: WaybillSummary,
     pub status: SentStatus,
     pub here: Airport,
     pub pieces: Pieces,
@@ -57,7 +57,7 @@ pub struct Update {
 
 // What the types of an update keep, for the proof of what is read again. The functions do nothing else.
 
-fn declared_known(of: &Consigned)
+fn declared_known(of: &WaybillSummary)
     ensures { IsDeclared of.now }
 {
     let _origin = of.origin.letters();
@@ -97,7 +97,7 @@ fn status_known(status: &SentStatus)
     }
 }
 
-pub(crate) fn update_known(update: &Update)
+pub(crate) fn update_known(update: &SentUpdate)
     ensures { IsUpdate update.now }
 {
     declared_known(&update.of);

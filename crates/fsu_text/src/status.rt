@@ -1,4 +1,4 @@
-//! What the lines of a status update tell.
+//! What the lines of a status update say.
 
 ghost use Rattle.std.specs.Prelude.{◌<◌, IfSome};
 ghost use Rattle.fsu_text.specs.Status.{Day};

@@ -1,4 +1,4 @@
-//! The writer of status update messages. Each helper answers the place behind what it wrote.
+//! The writer of status update messages. Each helper returns the place behind what it wrote.
 
 ghost use Rattle.std.specs.Prelude.{◌≡◌, ◌≤◌, ◌+◌, ◌++◌, ◌∷◌, [], length, take, None, Ok, Some, OnOk, OnErr};
 ghost use Rattle.imp_fields.specs.Date.{date_text, when_text};
@@ -11,11 +11,11 @@ ghost use Rattle.fsu_text.specs.Status.{status_of, handling_code, carriage_code,
 ghost use Rattle.fsu_text.specs.Fsu.{IsFsu, fsu_lines, declared_cargo, amount_of, told_as, sent_status_text, sent_status_reading, update_written};
 ghost use Rattle.fsu_text.specs.declared.sent.SentStatus.TheVariants as sent;
 
-use crate::sent::{SentCarriage, SentStatus, Update, update_known};
+use crate::sent::{SentCarriage, SentStatus, SentUpdate, update_known};
 use crate::status::Handling;
 use imp_fields::{
-    Airport, BookTenths, Consigned, DayMonth, DayTime, Discrepancy, Flight, Name, Pieces,
-    ShipmentCode, put_quantity,
+    Airport, BookTenths, DayMonth, DayTime, Discrepancy, Flight, Name, Pieces, ShipmentCode,
+    WaybillSummary, put_quantity,
 };
 use std::alloc::AllocError;
 
@@ -78,8 +78,8 @@ fn code(pieces: Pieces, declared: Pieces) -> ShipmentCode
     }
 }
 
-/// Writes a slash and the quantity that an update tells.
-fn put_update(out: &mut [u8], at: usize, update: &Update) -> usize
+/// Writes a slash and the quantity of an update.
+fn put_update(out: &mut [u8], at: usize, update: &SentUpdate) -> usize
     requires { at + 19 ≤ length out.old }
     ensures bound { result ≤ at + 19 }
     ensures text { take result out.new ≡ take at out.old ++ (47 ∷ amount_of update.now) }
@@ -89,7 +89,7 @@ fn put_update(out: &mut [u8], at: usize, update: &Update) -> usize
 }
 
 /// Writes the consignment line: all that is declared, without goods.
-fn put_consignment(out: &mut [u8], at: usize, of: &Consigned) -> usize
+fn put_consignment(out: &mut [u8], at: usize, of: &WaybillSummary) -> usize
     requires { at + 37 ≤ length out.old }
     ensures bound { result ≤ at + 37 }
     ensures text { take result out.new ≡ take at out.old ++ consignment_text (declared_cargo of.now) }
@@ -154,7 +154,7 @@ fn put_handled(
     event: Handling,
     when: &DayTime,
     name: &Name,
-    update: &Update,
+    update: &SentUpdate,
 ) -> usize
     requires { at + 72 ≤ length out.old }
     ensures bound { result ≤ at + 72 }
@@ -173,7 +173,7 @@ fn put_received(
     at: usize,
     flight: &Flight,
     when: &DayTime,
-    update: &Update,
+    update: &SentUpdate,
 ) -> usize
     requires { at + 44 ≤ length out.old }
     ensures bound { result ≤ at + 44 }
@@ -194,7 +194,7 @@ fn put_carried(
     flight: &Flight,
     date: &DayMonth,
     to: &Airport,
-    update: &Update,
+    update: &SentUpdate,
 ) -> usize
     requires { at + 43 ≤ length out.old }
     ensures bound { result ≤ at + 43 }
@@ -215,7 +215,7 @@ fn put_differs(
     discrepancy: Discrepancy,
     flight: &Flight,
     when: &DayTime,
-    update: &Update,
+    update: &SentUpdate,
 ) -> usize
     requires { at + 49 ≤ length out.old }
     ensures bound { result ≤ at + 49 }
@@ -230,7 +230,7 @@ fn put_differs(
 }
 
 /// Writes the status line.
-fn put_status(out: &mut [u8], at: usize, update: &Update) -> usize
+fn put_status(out: &mut [u8], at: usize, update: &SentUpdate) -> usize
     requires { at + 72 ≤ length out.old }
     ensures bound { result ≤ at + 72 }
     ensures text { take result out.new ≡ take at out.old ++ sent_status_text update.now.status update.now }
@@ -259,7 +259,7 @@ fn put_status(out: &mut [u8], at: usize, update: &Update) -> usize
 }
 
 /// Writes the three lines, each ended by a carriage return and a newline.
-fn put_lines(out: &mut [u8; 128], update: &Update) -> usize
+fn put_lines(out: &mut [u8; 128], update: &SentUpdate) -> usize
     ensures bound { result ≤ 128 }
     ensures text { take result out.new ≡ sent_text (fsu_lines update.now) }
 {
@@ -275,7 +275,7 @@ fn put_lines(out: &mut [u8; 128], update: &Update) -> usize
 ///
 /// # Errors
 /// Where the buffer cannot grow; then it is as it was.
-pub fn write_fsu(out: &mut Vec<u8>, update: &Update) -> Result<(), AllocError>
+pub fn write_fsu(out: &mut Vec<u8>, update: &SentUpdate) -> Result<(), AllocError>
     ensures ok { OnOk result (out.new.items ≡ out.old.items ++ sent_text (fsu_lines update.now)) }
     ensures err { OnErr result (out.new.items ≡ out.old.items) }
 

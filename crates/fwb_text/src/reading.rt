@@ -2,20 +2,13 @@
 
 ghost use Rattle.std.specs.Prelude.{◌≡◌, ℕ, List, Some, Ok, Err, IfOk, IfErr, IsTrue, is_some};
 ghost use Rattle.imp_fields.specs.Consignment.{consignment_of, shipment_of, HasSpans};
-ghost use Rattle.imp_fields.specs.NormalText.{line_texts, fault_at};
+ghost use Rattle.imp_fields.specs.NormalText.{line_texts};
 ghost use Rattle.fwb_text.specs.Fwb.{IsFwb, weighed_fault, fwb_fault, fwb_shipment, HasFwbSpans};
 
 use crate::Fwb;
-use imp_fields::{Consignment, Lines, TextFault, Why, is_head, read_consignment};
+use imp_fields::{Consignment, Lines, TextFault, Why, fault_at, is_head, read_consignment};
 
-/// A fault of a line.
-fn fault(line: u32, why: Why) -> TextFault
-    ensures { result ≡ fault_at line why }
-{
-    TextFault { line, why }
-}
-
-/// A consignment line that tells a weight.
+/// A consignment line that gives a weight.
 fn weighed<'a>(line: &'a [u8]) -> Result<Consignment<'a>, Why>
     ensures read { IfOk result (λ c. (consignment_of line.now ≡ Ok (shipment_of c)) × IsTrue (is_some c.quantity.weight)) }
     ensures fault { IfErr result (λ why. weighed_fault (consignment_of line.now) ≡ Some why) }
@@ -37,7 +30,7 @@ fn weighed<'a>(line: &'a [u8]) -> Result<Consignment<'a>, Why>
 ///
 /// # Errors
 /// The first line that is faulty: `Head` where the first isn't `FWB/` and one to three digits; for the second line those
-/// of a consignment line, and then `Weight` where it tells none. `Ending`, at the last line, where there is no second.
+/// of a consignment line, and then `Weight` where it gives none. `Ending`, at the last line, where there is no second.
 pub fn read<'a>(lines: &Lines<'a>) -> Result<Fwb<'a>, TextFault>
     ensures read { IfOk result (λ m. IsFwb (line_texts lines.now) (fwb_shipment m)) }
     ensures fault { IfErr result (λ told. fwb_fault (line_texts lines.now) ≡ Some told) }
@@ -45,16 +38,16 @@ pub fn read<'a>(lines: &Lines<'a>) -> Result<Fwb<'a>, TextFault>
 {
     let lines = lines.lines.as_slice();
     if lines.is_empty() {
-        return Err(fault(0, Why::Ending));
+        return Err(fault_at(0, Why::Ending));
     }
     if !is_head(b"FWB", lines[0].text) {
-        return Err(fault(1, Why::Head));
+        return Err(fault_at(1, Why::Head));
     }
     if lines.len() < 2 {
-        return Err(fault(1, Why::Ending));
+        return Err(fault_at(1, Why::Ending));
     }
     match weighed(lines[1].text) {
         Ok(consignment) => Ok(Fwb { consignment }),
-        Err(why) => Err(fault(2, why)),
+        Err(why) => Err(fault_at(2, why)),
     }
 }

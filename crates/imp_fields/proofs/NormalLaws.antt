@@ -170,7 +170,7 @@ few_lines source s h le few =
 bad_line : (source : List ℕ) (s : Scan) (fault : TextFault) → IsWhole source s → length source ≤ 65_536 → s.filled ≤ 1000 → s.fault ≡ Some fault → normal_lines source ≡ Err fault
 bad_line source s fault h le few e = few_lines source s h le few ∙ ap (λ f. unless_fault f (from_message_line (lines_of source))) e
 
--- a line's fault is never want of memory, so what is told is the fault
+-- a line's fault is never that memory ran out, so what is reported is the fault
 fault_kinds : (line : List ℕ) (other : Why) → line_fault line ≡ Some other → (other ≡ why.Byte) ⊎ (other ≡ why.Long)
 fault_kinds line other e =
     elim (cases_cond (not (list_all is_printable line)) (Some why.Byte) (cond (nat_lt 255 (length line)) (Some why.Long) None) (Some other) (sym e)) [

@@ -40,7 +40,7 @@ kept_before b xs y le lt =
 kept_full : {X : Type 0} (b : ℕ) (xs : List X) (y : X) → 1000 ≤ length xs → drop b (take 1000 (xs ++ y ∷ [])) ≡ drop b (take 1000 xs)
 kept_full b xs y le = ap (drop b) (take-full 1000 xs y le)
 
--- the message line is not told by what follows
+-- the message line is not decided by what follows
 position_kept : (lines : List (List ℕ)) (line : List ℕ) (k : ℕ) → position is_message_line (take 11 lines) ≡ Some k → position is_message_line (take 11 (lines ++ line ∷ [])) ≡ Some k
 position_kept lines line k e =
     elim (cases_lt (length lines) 11) [

@@ -1,4 +1,4 @@
--- The weights that a message can tell are in range.
+-- The weights that a message can write are in range.
 use Rattle.std.proofs.Common.{ℕ, ◌+◌, ◌*◌, ◌/◌, ◌^◌, ◌<◌, ◌≤◌, arith}
 use Rattle.std.proofs.Math.Nat.{pow-le-pow_right, one-le-pow, div-lt_iff_lt-mul}
 use Rattle.imp_fields.specs.Amount.{IsTenths, rounded_tenths}

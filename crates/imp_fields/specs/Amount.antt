@@ -7,7 +7,7 @@ use Rattle.imp_fields.specs.Characters.{is_point}
 use Rattle.imp_fields.specs.declared.amount.WeightUnit.{WeightUnit}
 use Rattle.imp_fields.specs.declared.amount.WeightUnit.TheVariants.{Kilograms, Pounds}
 
--- a message tells 1 to 9999 pieces
+-- a message gives 1 to 9999 pieces
 abbrev pub IsPieces : ℕ → Type 0
 IsPieces n = (1 ≤ n) × (n ≤ 9999)
 
@@ -15,7 +15,7 @@ IsPieces n = (1 ≤ n) × (n ≤ 9999)
 abbrev pub IsPartNumber : ℕ → Type 0
 IsPartNumber n = (1 ≤ n) × (n ≤ 9999)
 
--- a message tells at most 9,999,999 kilograms
+-- a message gives at most 9,999,999 kilograms
 abbrev pub IsTenths : ℕ → Type 0
 IsTenths n = n ≤ 99_999_990
 

@@ -7,7 +7,7 @@ abbrev pub ◌>>=◌ : {A B : Type 0} → Result A Why → (A → Result B Why) 
 (Ok x) >>= next = next x
 (Err why) >>= next = Err why
 
--- the field, or what is told where it cannot be read
+-- the field, or what is reported where it cannot be read
 abbrev pub need : {A : Type 0} → Option A → Why → Result A Why
 need (Some x) why = Ok x
 need None why = Err why

@@ -91,7 +91,7 @@ normal_text lines = join_with_byte 10 lines
 abbrev pub line_texts : Lines → List (List ℕ)
 line_texts l = map (λ t. t.text.now) l.lines.items
 
--- the fault that a reader tells is that of the lines, or memory was wanting
+-- the fault that a reader reports is that of the lines, or memory ran out
 abbrev pub IsFaultBy : Why → ℕ → Option TextFault → Type 0
 IsFaultBy why.Memory line fault = line ≡ 0
 IsFaultBy other line fault = fault ≡ Some (fault_at line other)
@@ -103,12 +103,12 @@ abbrev pub fault_of : {A : Type 0} → Result A TextFault → Option TextFault
 fault_of (Ok x) = None
 fault_of (Err fault) = Some fault
 
--- what a reader answered, seen by view, is the reading, or memory was wanting
+-- what a reader returned, seen by view, is the reading, or memory ran out
 abbrev pub Gives : {X Y : Type 0} → (X → Y) → Result X TextFault → Result Y TextFault → Type 0
 Gives view (Ok x) reading = reading ≡ Ok (view x)
 Gives view (Err told) reading = IsFaultOf (fault_of reading) told
 
--- the kind that the first line tells
+-- the kind that the first line names
 abbrev pub first_kind : List (List ℕ) → Option MessageKind
 first_kind [] = None
 first_kind (line ∷ lines) = kind_of line

@@ -132,7 +132,7 @@ impl Tenths {
     }
 }
 
-/// A weight of the books in tenths of a kilogram, 0 to 999,999: what a written message can tell.
+/// A weight of the books in tenths of a kilogram, 0 to 999,999: what a written message has room for.
 #[derive(Clone, Copy, Debug, PartialEq, Eq, PartialOrd, Ord)]
 pub struct BookTenths {
     number: u32,
@@ -170,7 +170,7 @@ impl BookTenths {
     }
 }
 
-/// What part of a consignment a quantity tells of, by the letter of Cargo-IMP messages.
+/// What part of a consignment a quantity is about, by the letter of Cargo-IMP messages.
 #[derive(Clone, Copy, Debug, PartialEq, Eq)]
 pub enum ShipmentCode {
     /// T, the whole consignment.
@@ -200,9 +200,9 @@ pub struct Quantity {
     pub code: ShipmentCode,
     /// The pieces of this quantity.
     pub pieces: Pieces,
-    /// Their weight in tenths of a kilogram, where one is told.
+    /// Their weight in tenths of a kilogram, where one is given.
     pub weight: Option<Tenths>,
-    /// The pieces of the whole consignment, where they are told.
+    /// The pieces of the whole consignment, where they are given.
     pub total: Option<Pieces>,
 }
 

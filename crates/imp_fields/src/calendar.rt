@@ -11,8 +11,8 @@ use crate::local_day::LocalDay;
 use jiff::civil::Date;
 use jiff_core::civil;
 
-/// The date of a day.
-fn date_of(day: u32) -> civil::Date
+/// The civil date of a day of a moment.
+pub fn civil_date(day: u32) -> civil::Date
     requires { IsMomentDay day }
     ensures { days_from_civil result.year result.month result.day ≡ pos day }
 {
@@ -27,7 +27,7 @@ fn day_month(day: u32) -> DayMonth
     requires { IsMomentDay day }
     ensures { result ≡ date_on day }
 {
-    let date = date_of(day);
+    let date = civil_date(day);
     DayMonth {
         day: date.day,
         month: date.month,
@@ -41,12 +41,12 @@ fn year_of(day: u32) -> u16
     ensures low { 1970 ≤ result }
     ensures high { result ≤ 2170 }
 {
-    let date = date_of(day);
+    let date = civil_date(day);
     date.year.unsigned_abs()
 }
 
-/// The day of a date in a year, where the calendar has that date.
-fn day_in_year(date: DayMonth, year: u16) -> Option<u32>
+/// The day of a date in a year, where the calendar has that date. Days count from 1970-01-01.
+pub fn day_in_year(date: DayMonth, year: u16) -> Option<u32>
     requires { year ≤ 9999 }
     ensures { result ≡ day_in_year date year }
 {
@@ -112,7 +112,7 @@ impl DayMonth {
 }
 
 impl DayTime {
-    /// A moment as messages tell it: the date without its year, and the minute.
+    /// A moment as messages write it: the date without its year, and the minute.
     pub fn at(moment: Moment) -> DayTime
         ensures { result ≡ when_at moment }
     {

@@ -57,7 +57,7 @@ fn month(name: &[u8]) -> Option<u8>
     Some(place as u8 + 1)
 }
 
-/// The minute of the day that four digits tell, 0000 to 2359.
+/// The minute of the day that four digits write, 0000 to 2359.
 fn minute(text: &[u8]) -> Option<u16>
     ensures value { result ≡ minute_of text.now }
     ensures bound { IfSome result (λ minute. minute < 1440) }
@@ -88,7 +88,7 @@ fn digit(n: u16) -> u8
 }
 
 impl DayMonth {
-    /// The date as messages tell it: `12JAN`.
+    /// The date as messages write it: `12JAN`.
     pub fn write(&self) -> [u8; 5]
         ensures text { result ≡ date_text self.now }
         ensures in_range { IsCalendarDay self.now }
@@ -98,7 +98,7 @@ impl DayMonth {
         [digit(day / 10), digit(day), first, second, third]
     }
 
-    /// The date that a text such as `12JAN` tells: a day from 01 to 31 and a month, whether or not the calendar
+    /// The date that a text such as `12JAN` writes: a day from 01 to 31 and a month, whether or not the calendar
     /// has that day.
     pub fn read(text: &[u8]) -> Option<DayMonth>
         ensures { result ≡ date_of text.now }
@@ -131,7 +131,7 @@ impl Model for DayTime {
 }
 
 impl DayTime {
-    /// The date and the time as messages tell them: `12JAN1030`.
+    /// The date and the time as messages write them: `12JAN1030`.
     pub fn write(&self) -> [u8; 9]
         ensures text { result ≡ when_text self.now }
         ensures date { IsCalendarDay self.now.date }
@@ -148,7 +148,7 @@ impl DayTime {
         ]
     }
 
-    /// The date and the time that a text such as `12JAN1030` tells: a date, and a time from 0000 to 2359.
+    /// The date and the time that a text such as `12JAN1030` writes: a date, and a time from 0000 to 2359.
     pub fn read(text: &[u8]) -> Option<DayTime>
         ensures { result ≡ date_time_of text.now }
     {

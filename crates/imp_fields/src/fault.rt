@@ -1,3 +1,7 @@
+//! Faults of texts.
+ghost use Rattle.std.specs.Prelude.{◌≡◌};
+ghost use Rattle.imp_fields.specs.NormalText.{fault_at};
+
 /// Why a telegram cannot be read.
 #[derive(Clone, Copy, Debug, PartialEq, Eq)]
 pub enum Why {
@@ -21,7 +25,7 @@ pub enum Why {
     Number,
     /// The quantity of a consignment line cannot be read.
     Quantity,
-    /// The consignment line of an FWB tells no weight.
+    /// The consignment line of an FWB gives no weight.
     Weight,
     /// The date of a flight line cannot be read.
     Date,
@@ -38,4 +42,11 @@ pub enum Why {
 pub struct TextFault {
     pub line: u32,
     pub why: Why,
+}
+
+/// The fault of a line, counted from 1; of the whole text, where the line is 0.
+pub fn fault_at(line: u32, why: Why) -> TextFault
+    ensures { result ≡ fault_at line why }
+{
+    TextFault { line, why }
 }

@@ -4,9 +4,9 @@
 mod airport;
 mod amount;
 mod calendar;
-mod consigned;
 mod consignment;
 mod date;
+mod discrepancy;
 mod fault;
 mod field;
 mod flight;
@@ -19,16 +19,17 @@ mod put;
 mod quantity;
 mod run;
 mod token;
+mod waybill_summary;
 
 pub use airport::Airport;
 pub use amount::{
     BookTenths, PartNumber, Pieces, Quantity, ShipmentCode, Tenths, WeightUnit, book_weight, share,
 };
-pub use calendar::resolve;
-pub use consigned::{Consigned, Discrepancy};
+pub use calendar::{civil_date, day_in_year, resolve};
 pub use consignment::read_consignment;
 pub use date::{DayMonth, DayTime, Moment};
-pub use fault::{TextFault, Why};
+pub use discrepancy::Discrepancy;
+pub use fault::{TextFault, Why, fault_at};
 pub use field::{cut_at_slash, first_field};
 pub use flight::Flight;
 pub use laws::{flight_law, quantity_law, resolve_law, share_law};
@@ -38,3 +39,4 @@ pub use name::{Goods, Name};
 pub use normal::{is_head, normal_text};
 pub use quantity::{put_quantity, read_quantity, weight_of};
 pub use token::Token;
+pub use waybill_summary::WaybillSummary;

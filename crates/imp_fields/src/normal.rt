@@ -6,9 +6,9 @@ ghost use Rattle.imp_fields.specs.Characters.{is_printable};
 ghost use Rattle.imp_fields.specs.Steps.{or_else};
 ghost use Rattle.imp_fields.specs.Token.{IsSlice, AreSlices};
 ghost use Rattle.imp_fields.specs.Message.{is_head};
-ghost use Rattle.imp_fields.specs.NormalText.{line_without_end, line_fault, kind_of, fault_at, first_fault, first_kind, normal_lines, line_texts, Gives, BeginLines};
+ghost use Rattle.imp_fields.specs.NormalText.{line_without_end, line_fault, kind_of, first_fault, first_kind, normal_lines, line_texts, Gives, BeginLines};
 
-use crate::fault::{TextFault, Why};
+use crate::fault::{TextFault, Why, fault_at};
 use crate::line::{Lines, MessageKind};
 use crate::run;
 use crate::token::Token;
@@ -113,7 +113,7 @@ struct Scan<'a> {
     filled: usize,
     /// The first fault of a line.
     fault: Option<TextFault>,
-    /// The kind that the message line tells, once it was seen.
+    /// The kind that the message line names, once it was seen.
     kind: Option<MessageKind>,
     /// How many lines stand before the message line.
     before: usize,
@@ -179,13 +179,6 @@ impl<'a> Scan<'a> {
     }
 }
 
-/// A fault of the whole text.
-fn of_text(why: Why) -> TextFault
-    ensures { result ≡ fault_at 0 why }
-{
-    TextFault { line: 0, why }
-}
-
 /// The lines of a telegram from its message line on.
 ///
 /// A line ends before a newline or at the end of the text, less one carriage return and then the blanks there; empty
@@ -203,19 +196,19 @@ pub fn normal_text<'a>(alloc: Global, bytes: &'a [u8]) -> Result<Lines<'a>, Text
     ensures kind { IfOk result (λ l. first_kind (line_texts l) ≡ Some l.kind) }
 {
     if bytes.len() > MOST_BYTES {
-        return Err(of_text(Why::Size));
+        return Err(fault_at(0, Why::Size));
     }
     let Ok(scan) = Scan::of(alloc, bytes) else {
-        return Err(of_text(Why::Memory));
+        return Err(fault_at(0, Why::Memory));
     };
     if scan.filled > MOST_LINES {
-        return Err(of_text(Why::Lines));
+        return Err(fault_at(0, Why::Lines));
     }
     if let Some(fault) = scan.fault {
         return Err(fault);
     }
     let Some(kind) = scan.kind else {
-        return Err(of_text(Why::Kind));
+        return Err(fault_at(0, Why::Kind));
     };
     let mut lines = scan.lines;
     lines.truncate(scan.filled - scan.before);

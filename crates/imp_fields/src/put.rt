@@ -1,4 +1,4 @@
-//! Text written into a buffer, piece by piece. Each call answers the place behind what it wrote.
+//! Text written into a buffer, piece by piece. Each call returns the place behind what it wrote.
 
 ghost use Rattle.std.specs.Prelude.{◌≡◌, ◌+◌, ◌≤◌, ◌<◌, ◌++◌, ◌∷◌, [], length, take, decimal};
 

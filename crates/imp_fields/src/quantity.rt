@@ -83,7 +83,7 @@ fn rounded_tenths(numerator: u64, denominator: u64) -> Option<Tenths>
     Tenths::new(tenths as u32)
 }
 
-/// The weight that a number tells in a unit. A pound is 0.45359237 kilograms, and the product is rounded once.
+/// The weight that a number means in a unit. A pound is 0.45359237 kilograms, and the product is rounded once.
 #[tactic(auto, using(crate::proofs::WeightLaws::kilograms_in_range, crate::proofs::WeightLaws::pounds_in_range))]
 fn tenths(unit: WeightUnit, numeral: &[u8]) -> Option<Tenths>
     ensures { result ≡ where_true (is_weight_numeral numeral.now) (tenths_of unit numeral.now) }
@@ -96,7 +96,7 @@ fn tenths(unit: WeightUnit, numeral: &[u8]) -> Option<Tenths>
     }
 }
 
-/// The unit that a letter tells.
+/// The unit that a letter stands for.
 fn unit(letter: u8) -> Option<WeightUnit>
     ensures { result ≡ unit_of letter }
 {
@@ -107,7 +107,7 @@ fn unit(letter: u8) -> Option<WeightUnit>
     }
 }
 
-/// The code that a letter tells.
+/// The code that a letter stands for.
 fn code(letter: u8) -> Option<ShipmentCode>
     ensures { result ≡ code_of letter }
 {
@@ -157,7 +157,7 @@ fn total_at_end(left: &[u8]) -> Option<Pieces>
     }
 }
 
-/// The tenths of a kilogram that a weight field such as `K0.25` or `L100` tells, a half rounded up. A pound is
+/// The tenths of a kilogram that a weight field such as `K0.25` or `L100` means, a half rounded up. A pound is
 /// 0.45359237 kilograms, and the exact product is rounded once.
 pub fn weight_of(field: &[u8]) -> Option<Tenths>
     ensures { result ≡ weight_of field.now }
@@ -166,7 +166,7 @@ pub fn weight_of(field: &[u8]) -> Option<Tenths>
     tenths(unit(*letter)?, numeral)
 }
 
-/// The quantity that a text such as `T10K100MC0.5` tells: a code, one to four digits of value at least 1, perhaps
+/// The quantity that a text such as `T10K100MC0.5` means: a code, one to four digits of value at least 1, perhaps
 /// a weight, and letters, digits and points, which are unread but for a total at their end.
 pub fn read_quantity(text: &[u8]) -> Option<Quantity>
     ensures { result ≡ quantity_of text.now }

@@ -4,11 +4,9 @@ ghost use Rattle.agent_stock.specs.Runs.{AreStockRuns};
 ghost use Rattle.run_rows.specs.Rows.{AreRuns, Follows, both_as_one, holders_by};
 
 use crate::holders::is_same;
+use crate::joining::SERIALS;
 use agent_stock::StockRun;
 use std::alloc::{AllocError, Global};
-
-/// The number of serials that a prefix has.
-const SERIALS: u64 = 10_000_000;
 
 /// Two rows as one, where the second follows the first. `None` also where they have more numbers than a prefix has.
 fn joint(row: &StockRun, next: &StockRun) -> Option<StockRun>
@@ -59,7 +57,7 @@ fn runs_from(
 }
 
 /// The maximal runs of rows that are in ascending order, apart and within their prefixes: neighbours of one holder are
-/// told as one run. Nothing is said of the runs of other rows. Fails where memory is short, and else never.
+/// given as one run. Nothing is said of the runs of other rows. It fails only where memory runs out.
 pub fn maximal_runs(alloc: Global, rows: &[StockRun]) -> Result<Vec<StockRun>, AllocError>
     ensures { AreRuns rows.now → IfOk result (λ runs. AreStockRuns (holders_by rows.now) runs.items) }
 {

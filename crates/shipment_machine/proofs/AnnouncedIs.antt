@@ -1,4 +1,4 @@
--- The lines of a manifest, told from their rows, are those of the state.
+-- The lines of a manifest, found from their rows, are those of the state.
 use Rattle.std.proofs.Common.{◌≡◌, ℕ, Bool, true, false, ◌&&◌, ◌==◌, Option, Some, None, Result, List, [], ◌∷◌, map, refl, sym, ap, subst, ◌∙◌, arith}
 use Rattle.std.specs.Prelude.{is_none}
 use Rattle.std.specs.Bool.{if◌then◌else◌}
@@ -112,6 +112,6 @@ follows_is s0 s earlier flight (c ∷ cs) follows =
     (follows_on s0 s earlier flight c (is_none (s.declared c.awb)) (s.holders c.awb) (s.expected flight c.awb) follows
     (λ q e new. subst (λ k. is_none (s.declared k) ≡ false) (sym (same_number q c.awb e)) new)))
 
--- what the rows of the lines tell is what the state tells
+-- what the rows of the lines say is what the state says
 pub announced_is : (s : Cargo) (flight : FlightDate) (cs : List CargoLine) → announced_changes no_earlier flight cs (map (line_view_of s flight) cs) ≡ lines_changes s flight cs
 announced_is s flight cs = follows_is s s no_earlier flight cs (λ q. (refl, refl, refl))

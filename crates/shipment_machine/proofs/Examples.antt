@@ -16,7 +16,7 @@ use Rattle.shipment_machine.specs.declared.notice.Notice.{Notice}
 use Rattle.shipment_machine.specs.declared.notice.Notice.TheVariants as notice
 use Rattle.shipment_machine.specs.declared.notice.Event.{Event}
 use Rattle.shipment_machine.specs.declared.notice.Event.TheVariants as event
-use Rattle.imp_fields.specs.declared.consigned.Discrepancy.TheVariants as discrepancy
+use Rattle.imp_fields.specs.declared.discrepancy.Discrepancy.TheVariants as discrepancy
 use Rattle.shipment_machine.specs.declared.command.InboundLine.{InboundLine}
 use Rattle.shipment_machine.specs.declared.command.ShipmentCommand.{ShipmentCommand}
 use Rattle.shipment_machine.specs.declared.command.ShipmentCommand.TheVariants as order
@@ -76,7 +76,7 @@ steps_of (Err _) = []
 abbrev pub moves : Cargo → ShipmentCommand → LocalMinute → List (Place × Place × Amount)
 moves s command at = steps_of (effect s command at)
 
--- what a notice tells: the event, and of how much
+-- what a notice says: the event, and of how much
 abbrev told_by : Notice → List (Event × Amount)
 told_by (notice.Status here consigned event pieces tenths) = (event, amount pieces tenths) ∷ []
 told_by (notice.Manifest here flight unload lines) = []
@@ -334,7 +334,7 @@ example_too_heavy : reply there (manifest 1 (line jfk 1 999999 (Some 2) ∷ []))
 unfolding days_of_years days_of_months day_count days_from_civil
 example_too_heavy = refl
 
--- Taken and found together stay within 9,999 pieces; without a flight nothing is told.
+-- Taken and found together stay within 9,999 pieces; without a flight nothing is sent.
 
 example_found_too_many : reply received (order.Desk (desk.Found w1 9990 1 None)) noon ≡ refused_waybill 217 w1
 example_found_too_many = refl

@@ -28,7 +28,7 @@ use Rattle.shipment_machine.proofs.PlainMoves.{sound_of, within_of, built_after,
 pub Rising-waybills_on : (book : List Move) (k : FlightDate) → Rising (waybills_on book k)
 Rising-waybills_on book k = Rising-filter _ _ (Rising-waybills_of book)
 
--- a rising list whose numbers are all in another is no longer
+-- an ascending list whose numbers are all in another is no longer
 pub shorter : (ys xs : List ℕ) → Rising xs → Rising ys → ((r : ℕ) → is_in r xs ≡ true → is_in r ys ≡ true) → length xs ≤ length ys
 shorter ys [] rx ry sub = omega arith
 shorter [] (x ∷ xs) rx ry sub = absurd (true≢false (sym (sub x (yes_here x (is_in x xs)))))

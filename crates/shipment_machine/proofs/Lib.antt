@@ -5,6 +5,7 @@ pub mod ByNumber
 pub mod BalanceLaws
 pub mod Keeps
 pub mod Rising
+pub mod Placing
 pub mod OnFlight
 pub mod FlightKeys
 pub mod Places

@@ -1,4 +1,4 @@
--- Lists of rising numbers, and the waybills on a flight.
+-- Lists of ascending numbers, and the waybills on a flight.
 use Rattle.std.proofs.Common.{◌≡◌, ◌≢◌, ℕ, ◌<◌, Bool, true, false, ◌&&◌, ◌||◌, ◌==◌, nat_lt, List, [], ◌∷◌, refl, sym, ap, subst, ◌∙◌, arith, true≢false}
 use Rattle.std.specs.Bool.{if◌then◌else◌}
 use Rattle.std.specs.List.{AllByRecursion, filter}
@@ -102,7 +102,7 @@ rest_alike x r a b c d na nb = elim (x == r) as (λ t. (x == r) ≡ t → (t || 
   | false ↦ λ _ e _. e
 ] refl
 
--- two rising lists with the same numbers are one
+-- two ascending lists with the same numbers are one
 pub same_rising : (xs ys : List ℕ) → Rising xs → Rising ys → ((r : ℕ) → is_in r xs ≡ is_in r ys) → xs ≡ ys
 same_rising [] [] p q e = refl
 same_rising [] (y ∷ ys) p q e = absurd (true≢false (sym (yes_here y (is_in y ys)) ∙ sym (e y)))

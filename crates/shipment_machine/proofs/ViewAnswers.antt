@@ -1,4 +1,4 @@
--- A view of a lawful state fits its command, and tells the effect.
+-- A view of a lawful state fits its command, and decides the effect.
 use Rattle.std.proofs.Common.{◌≡◌, ℕ, Bool, true, false, not, Option, Some, None, Result, Ok, Err, List, [], map, length, refl, sym, ap, ◌∙◌, true≢false}
 use Rattle.std.specs.Prelude.{is_some, IfOk, IfErr}
 use Rattle.std.specs.Bool.{if◌then◌else◌}

@@ -28,7 +28,7 @@ pub record IsHeld (a : Amount) : Type 0 where
   pub tenths : a.tenths ≤ 999999
   pub tenth_a_piece : a.pieces ≤ a.tenths
 
--- a count tells at most 9999 pieces
+-- a count is at most 9999 pieces
 abbrev pub IsCount : ℕ → Type 0
 IsCount n = n ≤ 9999
 

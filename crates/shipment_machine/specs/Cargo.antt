@@ -13,7 +13,7 @@ use Rattle.shipment_machine.specs.declared.moves.Part.{Part}
 use Rattle.shipment_machine.specs.declared.plans.Change.{Change}
 use Rattle.shipment_machine.specs.declared.plans.Change.TheVariants.{Declare, UseUp, NoteFlight, Expect, NotePart, Trail, Confirm}
 
--- A map is the function that answers what is kept under a key. A waybill goes by its number.
+-- A map is the function from a key to what is kept under it. A waybill goes by its number.
 pub record Cargo : Type 0 where
   -- the station's airport
   pub here : List ℕ

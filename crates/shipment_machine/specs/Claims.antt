@@ -1,10 +1,10 @@
 -- What is to be declared.
 use Rattle.std.specs.Prelude.{false}
 use Rattle.shipment_machine.specs.declared.moves.Declared.{Declared}
-use Rattle.shipment_machine.specs.declared.acceptance.Claim.{Claim}
+use Rattle.shipment_machine.specs.declared.acceptance.ProposedDeclaration.{ProposedDeclaration}
 
 -- the declaration that a claim is for
-abbrev pub claimed : Claim → Declared
+abbrev pub claimed : ProposedDeclaration → Declared
 claimed c =
     record {
       origin = c.origin;

@@ -19,9 +19,9 @@ use Rattle.shipment_machine.specs.declared.moves.Declared.{Declared}
 use Rattle.shipment_machine.specs.declared.moves.Outbound.{Outbound}
 use Rattle.shipment_machine.specs.declared.moves.Expected.{Expected}
 use Rattle.shipment_machine.specs.declared.moves.Part.{Part}
-use Rattle.imp_fields.specs.declared.consigned.Consigned.{Consigned}
-use Rattle.imp_fields.specs.declared.consigned.Discrepancy.{Discrepancy}
-use Rattle.imp_fields.specs.declared.consigned.Discrepancy.TheVariants as discrepancy
+use Rattle.imp_fields.specs.declared.waybill_summary.WaybillSummary.{WaybillSummary}
+use Rattle.imp_fields.specs.declared.discrepancy.Discrepancy.{Discrepancy}
+use Rattle.imp_fields.specs.declared.discrepancy.Discrepancy.TheVariants as discrepancy
 use Rattle.shipment_machine.specs.declared.notice.Event.{Event}
 use Rattle.shipment_machine.specs.declared.notice.Event.TheVariants as event
 use Rattle.shipment_machine.specs.declared.notice.ManifestLine.{ManifestLine}
@@ -226,7 +226,7 @@ move_of w from to a flight at =
     } ∷ []
 
 -- a waybill as a message names it
-abbrev pub consigned : ℕ → Declared → Consigned
+abbrev pub consigned : ℕ → Declared → WaybillSummary
 consigned w d =
     record {
       awb = w;
@@ -420,7 +420,7 @@ checking_in here view expected w flight counted at =
           ∷ []) counted;
     }
 
--- Notify: the consignee is told of all that is free.
+-- Notify: the consignee is notified of all that is free.
 abbrev pub notifying : List ℕ → WaybillView → ℕ → List ℕ → LocalMinute → Rule
 notifying here view w name at =
     let d = declared_as view.declared in

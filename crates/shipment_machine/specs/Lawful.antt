@@ -32,7 +32,7 @@ abbrev pub IsNoted : Cargo → Place → Type 0
 IsNoted s (Built flight) = IsSome (s.flights flight)
 IsNoted s _ = ⊤
 
--- a move from a built place, or to one, is told with its flight
+-- a move from a built place, or to one, names its flight
 abbrev pub NamesFlight : Place → Option FlightDate → Type 0
 NamesFlight (Built flight) named = named ≡ Some flight
 NamesFlight _ named = ⊤

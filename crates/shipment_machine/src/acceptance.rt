@@ -22,7 +22,7 @@ use std::alloc::AllocError;
 
 /// What is to be declared of a waybill, perhaps past what can be.
 #[derive(Clone, Copy, Debug)]
-pub(crate) struct Claim {
+pub(crate) struct ProposedDeclaration {
     pub(crate) origin: Airport,
     pub(crate) destination: Airport,
     pub(crate) pieces: u32,
@@ -59,7 +59,7 @@ pub(crate) fn add_declaration<'a>(
 }
 
 /// What is declared, unless it is past what can be.
-pub(crate) fn declared_as(claim: &Claim) -> Option<Declared>
+pub(crate) fn declared_as(claim: &ProposedDeclaration) -> Option<Declared>
     requires { 1 ≤ claim.now.pieces }
     ensures { result ≡ (if fits (amount claim.now.pieces claim.now.tenths)
         then Some (claimed claim.now) else None) }
@@ -79,7 +79,7 @@ pub(crate) fn declared_as(claim: &Claim) -> Option<Declared>
 
 /// What a consignment line of a telegram declares: its total, where it exceeds its own pieces, at
 /// the same weight a piece.
-pub(crate) fn claim_of(line: &CargoLine) -> Claim
+pub(crate) fn claim_of(line: &CargoLine) -> ProposedDeclaration
     ensures value { claimed result ≡ declared_by line.now }
     ensures own { 1 ≤ line.now.pieces }
     ensures some { 1 ≤ result.pieces }
@@ -90,7 +90,7 @@ pub(crate) fn claim_of(line: &CargoLine) -> Claim
         None => own,
         Some(total) => own.max(total.number()),
     };
-    Claim {
+    ProposedDeclaration {
         origin: line.origin,
         destination: line.destination,
         pieces,
@@ -106,12 +106,12 @@ pub(crate) fn booked(
     pieces: Pieces,
     tenths: Tenths,
     goods: Goods,
-) -> Claim
+) -> ProposedDeclaration
     ensures value { claimed result ≡ booked origin destination pieces tenths goods }
     ensures some { 1 ≤ result.pieces }
     ensures own { 1 ≤ pieces }
 {
-    Claim {
+    ProposedDeclaration {
         origin,
         destination,
         pieces: pieces.number(),
@@ -125,7 +125,7 @@ pub(crate) fn book<'a>(
     on: &PlanContext,
     view: &DeclarationView,
     awb: Awb,
-    claim: &Claim,
+    claim: &ProposedDeclaration,
 ) -> Result<Plan<'a>, PlanFault>
     requires { 1 ≤ claim.now.pieces }
     ensures { IsAnswer result (decided (declaring view.now awb (claimed claim.now))) }

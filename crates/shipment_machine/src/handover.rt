@@ -1,4 +1,4 @@
-//! What the consignee is told and given.
+//! Notifying the consignee, and delivery to it.
 ghost use Rattle.std.specs.Prelude.{◌≡◌};
 ghost use Rattle.shipment_machine.specs.Amount.{IsHeld};
 ghost use Rattle.shipment_machine.specs.Effect.{decided, notifying, delivering};

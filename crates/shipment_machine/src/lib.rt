@@ -20,6 +20,7 @@ mod planning;
 mod plans;
 mod trail;
 mod view;
+mod waybills;
 
 pub use amount::Amount;
 pub use command::{
@@ -36,3 +37,4 @@ pub use view::{
     DeclarationView, FlightLoad, FlightView, LineView, LineViews, Loads, Rows, RowsKey, View,
     WaybillView,
 };
+pub use waybills::waybills_of;

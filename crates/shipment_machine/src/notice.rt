@@ -1,7 +1,7 @@
 ghost use Rattle.std.specs.Prelude.{◌≡◌, ◌≤◌, ◌↔◌, length, IsSome, IfSome};
 
 use crate::flight::FlightDate;
-use imp_fields::{Airport, BookTenths, Consigned, Discrepancy, Goods, Moment, Name, Pieces};
+use imp_fields::{Airport, BookTenths, Discrepancy, Goods, Moment, Name, Pieces, WaybillSummary};
 use std::marker::Model;
 
 /// What happened to some pieces.
@@ -48,7 +48,7 @@ pub enum Event {
 /// A waybill of a flight manifest, with what of it is on the flight.
 #[derive(Clone, Copy, Debug)]
 pub struct ManifestLine {
-    pub consigned: Consigned,
+    pub consigned: WaybillSummary,
     pub pieces: Pieces,
     pub tenths: BookTenths,
     pub goods: Goods,
@@ -99,7 +99,7 @@ pub enum Notice {
     /// What happened here to some pieces of a waybill.
     Status {
         here: Airport,
-        consigned: Consigned,
+        consigned: WaybillSummary,
         event: Event,
         pieces: Pieces,
         tenths: BookTenths,

@@ -12,7 +12,7 @@ use crate::moves::{Balances, Declared, Move, Place};
 use crate::notice::{Event, Notice};
 use crate::plans::{Detail, Plan, PlanFault, Refusal};
 use awb_number::Awb;
-use imp_fields::{Airport, BookTenths, Consigned, Moment, Pieces};
+use imp_fields::{Airport, BookTenths, Moment, Pieces, WaybillSummary};
 use std::alloc::{AllocError, Global};
 
 /// What each command is planned with: the memory, the station and the moment.
@@ -110,10 +110,10 @@ pub(crate) fn tenths_of(number: u32) -> BookTenths
 }
 
 /// A waybill as messages name it.
-pub(crate) fn consigned_as(awb: Awb, declared: &Declared) -> Consigned
+pub(crate) fn consigned_as(awb: Awb, declared: &Declared) -> WaybillSummary
     ensures { result ≡ consigned awb declared.now }
 {
-    Consigned {
+    WaybillSummary {
         awb,
         origin: declared.origin,
         destination: declared.destination,

@@ -75,7 +75,7 @@ pub struct Plan<'a> {
     pub notices: Vec<Notice>,
     /// The rows to write, in order.
     pub changes: Vec<Change<'a>>,
-    /// What the reply tells.
+    /// What the reply says.
     pub count: u32,
 }
 

@@ -1,4 +1,4 @@
--- What the readers tell in the worked rows, computed.
+-- What the readers hand out in the worked rows, computed.
 use Rattle.std.proofs.Common.{◌≡◌, ℕ, Option, Some, None, List, [], ◌∷◌, length, refl}
 use Rattle.std.specs.Prelude.{codes, map}
 use Rattle.std.specs.Fmt.{digits}
@@ -33,7 +33,7 @@ example_pending : map length_of (pending_messages (after left (desk (codes "c1")
 unfolding digits day_line
 example_pending = refl
 
--- what is told of the waybill after the flight left
+-- what is said of the waybill after the flight left
 abbrev amounts : Option Waybill → List Amount
 amounts None = []
 amounts (Some w) = w.taken ∷ w.found ∷ w.store ∷ w.departed ∷ w.delivered ∷ w.missing ∷ []
@@ -46,6 +46,6 @@ example_no_waybill : waybill_of left.cargo 201234568 ≡ None
 unfolding digits day_line
 example_no_waybill = refl
 
--- a fresh station has nothing to tell
+-- a fresh station has nothing to hand out
 example_nothing : irregular_rows (opening fra).cargo ≡ []
 example_nothing = refl

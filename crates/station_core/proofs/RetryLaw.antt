@@ -33,7 +33,7 @@ pub record Commits (s : State) (i : Input) (o : Option Answer) (after : Stepped)
   pub cargo : Cargo
   pub is : after ≡ stepped (accepted count) (kept_with i count (record s { cargo = cargo }))
 
--- any other input changes nothing, and is told a reply only where that was kept
+-- any other input changes nothing, and gets a reply only where that was kept
 pub record Rests (s : State) (o : Option Answer) (after : Stepped) : Type 0 where
   pub no_commit : (is_none o && is_done after.answer) ≡ false
   pub same : after.state ≡ s
@@ -199,7 +199,7 @@ commit_once (cut_after i m ∷ es) s true told =
     ]
 commit_once (reopened ∷ es) s up told = commit_once es s true told
 
--- What is told.
+-- What is returned.
 
 abbrev IsKeptOrStands : State → List (Input × LocalMinute) → Input → Reply → Type 0
 IsKeptOrStands s is j r = (repeated s j ≡ Some (Done r)) ⊎ StandsIn is (answers_of s is) j r

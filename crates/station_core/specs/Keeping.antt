@@ -11,7 +11,7 @@ use Rattle.station_core.specs.declared.input.Input.{Input}
 use Rattle.station_core.specs.Readers.{HandedOut}
 use Rattle.station_core.specs.Step.{State, step, after_all}
 
--- Whether it answers Reopen from then on: after Store, and then only.
+-- Whether it returns Reopen from then on: after Store, and then only.
 abbrev pub Breaks : Result Reply ActFault → Bool → Type 0
 Breaks (Ok reply) broken = broken ≡ false
 Breaks (Err (fault.Refused refusal)) broken = broken ≡ false
@@ -51,7 +51,7 @@ IsMemoryOrStore fault.Memory = Unit {0}
 IsMemoryOrStore fault.Store = Unit {0}
 IsMemoryOrStore _ = ⊥
 
--- whether it answers Reopen after a fault, or after a list of inputs: where a Store ended them, and then only
+-- whether it returns Reopen after a fault, or after a list of inputs: where a Store ended them, and then only
 abbrev pub IsBrokenAfter : ActFault → Bool → Type 0
 IsBrokenAfter fault.Store broken = broken ≡ true
 IsBrokenAfter _ broken = broken ≡ false
@@ -78,7 +78,7 @@ IsAfterAnswered s inputs answered ended found =
     (found ≡ Some (after_all s (take answered inputs)))
     ⊎ ((ended ≡ Some fault.Store) × (answered < length inputs) × (found ≡ Some (after_all s (take (answered + 1) inputs))))
 
--- A reader changes nothing: what is kept stays, a reopening finds what it found before, and no other call answers otherwise.
+-- A reader changes nothing: what is kept stays, a reopening finds what it found before, and no other call returns anything else.
 pub record OnlyReads {K : Type 0} (keeps : K → State → Type 0) (is_sound : K → Type 0) (is_broken : K → Bool) (may_find : K → Option State → Type 0) (old new : K) : Type 0 where
   pub breaks : is_broken new ≡ is_broken old
   pub sound : is_sound new → is_sound old
@@ -94,5 +94,5 @@ pub record HandsOut {K S Row : Type 0} (keeps : K → State → Type 0) (is_soun
   pub reads : OnlyReads keeps is_sound is_broken may_find old new
   pub rows : (s : State) → keeps old s → is_sound new → OnOk result ((rows : List Row) × AreRows s.cargo rows × HandedOut takes rows from to)
   pub beginning : (s : State) → keeps old s → is_sound new → OnErr result ((rows : List Row) → AreRows s.cargo rows → (n : ℕ) × HandedOut takes (take n rows) from to)
-  -- whatever it answers, the sink took some rows, one after another
+  -- whatever it returns, the sink took some rows, one after another
   pub took : (rows : List Row) × HandedOut takes rows from to

@@ -1,4 +1,4 @@
--- What the readers of a station tell of its cargo.
+-- What the readers of a station hand out of its cargo.
 use Rattle.std.specs.Prelude.{◌≡◌, ℕ, ◌+◌, Bool, ◌||◌, nat_lt, if◌then◌else◌, Option, List, [], ◌∷◌, map, drop}
 use Rattle.std.specs.List.{flat_map}
 use Rattle.std.specs.Option.{option_map}

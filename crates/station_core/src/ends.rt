@@ -1,4 +1,4 @@
-//! Readers and writers whose contracts tell what they have done.
+//! Readers and writers whose contracts say what they have done.
 ghost use Rattle.std.specs.Prelude.{◌≡◌, ℕ, ◌<◌, length, OnOk, IfErr};
 ghost use Rattle.std.specs.Io.KnownBytes.{ReadConsumes, WriteAppends};
 ghost use Rattle.station_core.specs.Counted.{given_of, inner_of};

@@ -18,13 +18,13 @@ pub trait Keeper {
     ghost use Rattle.station_core.specs.Keeping.{Breaks, Acts, Leaves, IsReadersFault, OnlyReads, HandsOut};
     ghost use Rattle.station_core.specs.Readers.{waybill_of, irregular_rows, book_rows, pending_messages, trail_rows};
 
-    /// It keeps this state: what it answers is answered by it.
+    /// It keeps this state: what it returns is by it.
     ghost keeps: { Self → State → Type 0 };
 
     /// The premise of what the calls say: the disk has returned what was written, and kept what it confirmed.
     ghost is_sound: { Self → Type 0 };
 
-    /// It answers `Reopen`.
+    /// It returns `Reopen`.
     ghost is_broken: { Self → Bool };
 
     /// What a reopening after a crash at this moment may find: a state, or what means none.

@@ -6,7 +6,7 @@ pub trait Sink<Row> {
     /// What a row makes of it, and whether it wants to go on.
     ghost takes: { Self → Row → Bool → Self → Type 0 };
 
-    /// Takes a row, and answers whether to go on.
+    /// Takes a row, and returns whether to go on.
     fn take(&mut self, row: Row) -> bool
         ensures { takes self.old row result self.new };
 }

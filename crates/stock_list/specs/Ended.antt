@@ -10,7 +10,7 @@ use Rattle.stock_list.specs.declared.answer.RunFault.{RunFault}
 use Rattle.stock_list.specs.declared.answer.RunFault.TheVariants as fault
 use Rattle.stock_list.specs.Lines.{Row, row_line, row_good, row_after, lines_from, rows_good, rows_after, stock_rows}
 
--- a keeper that answers Reopen has had a store that failed
+-- a keeper that returns Reopen has had a store that failed
 abbrev pub run_fault : ActFault → RunFault
 run_fault act.Memory = fault.Memory
 run_fault _ = fault.Store

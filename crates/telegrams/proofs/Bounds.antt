@@ -86,7 +86,7 @@ normal_within bytes =
     (position is_message_line (take 11 (lines_of bytes))) (lines_of bytes)
     (λ few told e. omega (arith, first_fault_line 1 (map line_fault (lines_of bytes)) told e, length-map (lines_of bytes) line_fault, ltb-false _ _ few))
 
--- ---- of what a reader tells
+-- ---- of what a reader returns
 
 told_by_within : (w : Why) (line most : ℕ) (due : Option TextFault) → IsWithin due most → IsFaultBy w line due → line ≤ most
 told_by_within why.Size line most due h e = h _ e

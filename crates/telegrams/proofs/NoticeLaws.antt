@@ -4,7 +4,7 @@ use Rattle.imp_fields.specs.Date.{CalendarDay, date_on}
 use Rattle.imp_fields.specs.Flight.{Designator}
 use Rattle.imp_fields.specs.Message.{sent_text}
 use Rattle.imp_fields.specs.NormalText.{normal_lines}
-use Rattle.imp_fields.specs.declared.consigned.Consigned.{Consigned}
+use Rattle.imp_fields.specs.declared.waybill_summary.WaybillSummary.{WaybillSummary}
 use Rattle.ffm_text.specs.Ffm.{ffm_lines}
 use Rattle.ffm_text.specs.Written.{AreWritten}
 use Rattle.ffm_text.specs.declared.Load.{Load}
@@ -12,7 +12,7 @@ use Rattle.ffm_text.proofs.WrittenLaws as ffm
 use Rattle.ffm_text.proofs.SentAgain.{sent_again}
 use Rattle.fsu_text.specs.Fsu.{fsu_lines}
 use Rattle.fsu_text.specs.declared.sent.SentStatus.{SentStatus}
-use Rattle.fsu_text.specs.declared.sent.Update.{Update}
+use Rattle.fsu_text.specs.declared.sent.SentUpdate.{SentUpdate}
 use Rattle.shipment_machine.specs.declared.flight.FlightDate.{FlightDate}
 use Rattle.shipment_machine.specs.declared.notice.Event.{Event}
 use Rattle.shipment_machine.specs.declared.notice.ManifestLine.{ManifestLine}
@@ -41,13 +41,13 @@ manifest_told flight here unload date told loads sent old new empty day same wri
 
 -- ---- status messages
 
-abbrev update_by : List ℕ → Consigned → SentStatus → ℕ → ℕ → Update
+abbrev update_by : List ℕ → WaybillSummary → SentStatus → ℕ → ℕ → SentUpdate
 update_by here consigned status pieces tenths = record { «of» = consigned; status = status; here = here; pieces = pieces; tenths = tenths }
 
 abbrev IsNormalNotice : Notice → Type 0
 IsNormalNotice n = normal_lines (notice_text n) ≡ Ok (notice_lines n)
 
-pub status_normal : (n : Notice) (here : List ℕ) (consigned : Consigned) (what : Event) (pieces tenths : ℕ) (status : SentStatus)
+pub status_normal : (n : Notice) (here : List ℕ) (consigned : WaybillSummary) (what : Event) (pieces tenths : ℕ) (status : SentStatus)
     → n ≡ notice.Status here consigned what pieces tenths → status ≡ status_of_event what
     → normal_lines (sent_text (fsu_lines (update_by here consigned status pieces tenths))) ≡ Ok (fsu_lines (update_by here consigned status pieces tenths))
     → normal_lines (notice_text n) ≡ Ok (notice_lines n)
@@ -55,7 +55,7 @@ status_normal n here consigned what pieces tenths status is told h =
     subst IsNormalNotice (sym is)
     (subst (λ (s : SentStatus). normal_lines (sent_text (fsu_lines (update_by here consigned s pieces tenths))) ≡ Ok (fsu_lines (update_by here consigned s pieces tenths))) told h)
 
-pub status_again : (n : Notice) (here : List ℕ) (consigned : Consigned) (what : Event) (pieces tenths : ℕ) (status : SentStatus)
+pub status_again : (n : Notice) (here : List ℕ) (consigned : WaybillSummary) (what : Event) (pieces tenths : ℕ) (status : SentStatus)
     → n ≡ notice.Status here consigned what pieces tenths → status ≡ status_of_event what
     → IsUpdateAgain (update_by here consigned status pieces tenths) → IsReadAgain n
 status_again n here consigned what pieces tenths status is told h =

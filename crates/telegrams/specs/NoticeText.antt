@@ -3,7 +3,7 @@ use Rattle.std.specs.Prelude.{◌≡◌, ℕ, List, map, Some, Ok}
 use Rattle.imp_fields.specs.Date.{date_on, when_at}
 use Rattle.imp_fields.specs.Message.{sent_text}
 use Rattle.imp_fields.specs.NormalText.{normal_lines}
-use Rattle.imp_fields.specs.declared.consigned.Consigned.{Consigned}
+use Rattle.imp_fields.specs.declared.waybill_summary.WaybillSummary.{WaybillSummary}
 use Rattle.ffm_text.specs.Ffm.{IsFfm, ffm_lines, manifest_written}
 use Rattle.ffm_text.specs.declared.Load.{Load}
 use Rattle.fsu_text.specs.Fsu.{IsFsu, fsu_lines, update_written, sent_status_text, sent_status_reading}
@@ -12,7 +12,7 @@ use Rattle.fsu_text.specs.declared.status.Handling.TheVariants as handling
 use Rattle.fsu_text.specs.declared.sent.SentCarriage.TheVariants as leaving
 use Rattle.fsu_text.specs.declared.sent.SentStatus.{SentStatus}
 use Rattle.fsu_text.specs.declared.sent.SentStatus.TheVariants as sent
-use Rattle.fsu_text.specs.declared.sent.Update.{Update}
+use Rattle.fsu_text.specs.declared.sent.SentUpdate.{SentUpdate}
 use Rattle.shipment_machine.specs.declared.flight.FlightDate.{FlightDate}
 use Rattle.shipment_machine.specs.declared.notice.Event.{Event}
 use Rattle.shipment_machine.specs.declared.notice.Event.TheVariants as event
@@ -31,7 +31,7 @@ status_of_event (event.Delivered name at) = sent.Handled handling.Delivered (whe
 status_of_event (event.Differs flight at what) = sent.Differs what flight.flight (when_at at)
 
 -- the status message that a notice is
-abbrev pub sent_update : List ℕ → Consigned → Event → ℕ → ℕ → Update
+abbrev pub sent_update : List ℕ → WaybillSummary → Event → ℕ → ℕ → SentUpdate
 sent_update here consigned what pieces tenths = record {
   «of» = consigned;
   status = status_of_event what;
@@ -66,7 +66,7 @@ abbrev pub notice_text : Notice → List ℕ
 notice_text n = sent_text (notice_lines n)
 
 -- a status message is read as the update that was written, and its status line as the status
-abbrev pub IsUpdateAgain : Update → Type 0
+abbrev pub IsUpdateAgain : SentUpdate → Type 0
 IsUpdateAgain u =
     IsFsu (fsu_lines u) (update_written u) × (status_of (sent_status_text u.status u) ≡ Some (sent_status_reading u.status u))
 

@@ -10,7 +10,7 @@ ghost use Rattle.telegrams.specs.NoticeText.{status_of_event, sent_update, sent_
 
 use crate::known::manifest_known;
 use ffm_text::{Load, write_ffm};
-use fsu_text::{Handling, SentCarriage, SentStatus, Update, write_fsu};
+use fsu_text::{Handling, SentCarriage, SentStatus, SentUpdate, write_fsu};
 use imp_fields::{Airport, DayMonth, DayTime, Moment, Name};
 use shipment_machine::{Event, FlightDate, ManifestLine, ManifestLines, Notice};
 use std::alloc::{AllocError, Global};
@@ -93,7 +93,7 @@ fn loads_of(alloc: Global, lines: &[ManifestLine]) -> Result<Vec<Load>, AllocErr
 }
 
 /// The text of a status message.
-fn status_text(alloc: Global, update: &Update) -> Result<Vec<u8>, AllocError>
+fn status_text(alloc: Global, update: &SentUpdate) -> Result<Vec<u8>, AllocError>
     ensures text { IfOk result (λ text. text.items ≡ sent_text (fsu_lines update.now)) }
     ensures normal { normal_lines (sent_text (fsu_lines update.now)) ≡ Ok (fsu_lines update.now) }
     ensures read_again { IsUpdateAgain update.now }
@@ -127,7 +127,7 @@ fn manifest_text(
 }
 
 /// The text of a notice, an FSU with one status line or an FFM of one part; each line ends with a carriage return and a
-/// newline. A quantity has the code T where its pieces equal the declared total, else P. MAN, DEP and the manifest tell the
+/// newline. A quantity has the code T where its pieces equal the declared total, else P. MAN, DEP and the manifest have the
 /// flight's date without its year; every other status gives the moment. The lines are normal, and are read as the values
 /// that were written.
 ///
@@ -148,7 +148,7 @@ pub fn notice_text(alloc: Global, notice: &Notice) -> Result<Vec<u8>, AllocError
             pieces,
             tenths,
         } => {
-            let update = Update {
+            let update = SentUpdate {
                 of: *consigned,
                 status: status_of(event),
                 here: *here,

@@ -9,10 +9,10 @@ use Rattle.desk_commands.proofs.day.day_text.Goals as goal
 
 pub returns-clause-value : goal.returns-clause-value
 returns-clause-value c =
-    let d = c.date_of-date.result in
+    let d = c.civil_date-date.result in
     let day = c.number.result in
-    let year = c.unsigned_abs.ensures.value ∙ year_kept day d.year (year_is day d.year d.month d.day c.number.ensures.in_range (civil d) c.date_of-date.ensures) in
-    let date = date_is day d.year d.month d.day c.number.ensures.in_range (civil d) c.date_of-date.ensures in
+    let year = c.unsigned_abs.ensures.value ∙ year_kept day d.year (year_is day d.year d.month d.day c.number.ensures.in_range (civil d) c.civil_date-date.ensures) in
+    let date = date_is day d.year d.month d.day c.number.ensures.in_range (civil d) c.civil_date-date.ensures in
     c.date_text.ensures ∙ day_written day c.unsigned_abs.result (record { day = d.day; month = d.month }) year date ∙ ap day_line c.number.ensures.value
 
 pub returns-clause-ascii : goal.returns-clause-ascii

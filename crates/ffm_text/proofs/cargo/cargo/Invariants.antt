@@ -1,7 +1,7 @@
 use Rattle.std.proofs.Common.{◌≡◌, ◌+◌, ◌≤◌, length, take}
-use Rattle.ffm_text.specs.Seen.{IsSeen, texts_of}
+use Rattle.ffm_text.specs.Scan.{IsScan, texts_of}
 use Rattle.ffm_text.proofs.cargo.cargo.Given as goal
 
 abbrev pub invariant-loop-line : goal.invariant-loop-line
 invariant-loop-line l =
-    IsSeen (texts_of (take l.line-index l.lines)) l.seen × (l.number ≡ l.line-index + 2) × (length l.lines ≤ 1000)
+    IsScan (texts_of (take l.line-index l.lines)) l.seen × (l.number ≡ l.line-index + 2) × (length l.lines ≤ 1000)

@@ -1,5 +1,5 @@
 use Rattle.std.proofs.Common.{sym, ◌∙◌}
-use Rattle.ffm_text.proofs.SeenLaws.{no_point}
+use Rattle.ffm_text.proofs.ScanLaws.{no_point}
 use Rattle.ffm_text.proofs.point.unloading_point.Goals as goal
 
 pub returns-then-not-may_follow_point : goal.returns-then-not-may_follow_point

@@ -6,7 +6,7 @@ use Rattle.fsu_text.proofs.reading.read.Goals as goal
 
 pub returns-in-Err-clause-fault : goal.returns-in-Err-clause-fault
 returns-in-Err-clause-fault c =
-    subst (IsFaultOf (fsu_fault (line_texts c.args.lines.now))) (sym c.fault-in-Err.ensures)
+    subst (IsFaultOf (fsu_fault (line_texts c.args.lines.now))) (sym c.fault_at-in-Err.ensures)
     (second_told c.args.lines.now.lines.items c.as_slice-lines.result.now _ c.in-Err.why c.as_slice-lines.ensures.value c.if-lines-lt2.false (sym c.is_head.ensures ∙ c.if-not-is_head.false)
     (sym c.in-Err.ensures.exact))
 

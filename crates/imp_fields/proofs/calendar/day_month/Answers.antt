@@ -4,5 +4,5 @@ use Rattle.imp_fields.proofs.calendar.day_month.Goals as goal
 
 pub returns : goal.returns
 returns c =
-    let d = c.date_of-date.result in
-    date_is c.args.day d.year d.month d.day c.requires (civil d) c.date_of-date.ensures
+    let d = c.civil_date-date.result in
+    date_is c.args.day d.year d.month d.day c.requires (civil d) c.civil_date-date.ensures

@@ -5,8 +5,8 @@ use Rattle.imp_fields.proofs.calendar.year_of.Goals as goal
 
 pub returns-clause-year : goal.returns-clause-year
 returns-clause-year c =
-    let d = c.date_of-date.result in
-    c.unsigned_abs.ensures.value ∙ year_kept c.args.day d.year (year_is c.args.day d.year d.month d.day c.requires (civil d) c.date_of-date.ensures)
+    let d = c.civil_date-date.result in
+    c.unsigned_abs.ensures.value ∙ year_kept c.args.day d.year (year_is c.args.day d.year d.month d.day c.requires (civil d) c.civil_date-date.ensures)
 
 pub returns-clause-low : goal.returns-clause-low
 returns-clause-low c =

@@ -7,8 +7,8 @@ returns-in-Some-clause-lines c =
 
 pub returns-in_default-kind-clause-lines : goal.returns-in_default-kind-clause-lines
 returns-in_default-kind-clause-lines c =
-    unknown_kind c.args.bytes.now c.in-Ok.scan c.of_text-in_default-kind.result c.in-Ok.ensures c.if-bytes-gt-MOST_BYTES.false c.if-scan-gt-MOST_LINES.false c.in_default-fault.is c.in_default-kind.is
-    c.of_text-in_default-kind.ensures
+    unknown_kind c.args.bytes.now c.in-Ok.scan c.fault_at-in_default-kind.result c.in-Ok.ensures c.if-bytes-gt-MOST_BYTES.false c.if-scan-gt-MOST_LINES.false c.in_default-fault.is c.in_default-kind.is
+    c.fault_at-in_default-kind.ensures
 
 pub overflow_sub-scan : goal.overflow_sub-scan
 overflow_sub-scan c =

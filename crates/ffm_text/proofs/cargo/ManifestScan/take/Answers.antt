@@ -1,8 +1,8 @@
 use Rattle.std.proofs.Common.{◌++◌, ◌∷◌, [], sym, ◌∙◌, subst}
-use Rattle.ffm_text.specs.Seen.{AreCargo}
-use Rattle.ffm_text.proofs.SeenLaws.{take_cargo, pass_line}
+use Rattle.ffm_text.specs.Scan.{AreCargo}
+use Rattle.ffm_text.proofs.ScanLaws.{take_cargo, pass_line}
 use Rattle.ffm_text.proofs.ToldLaws.{cargo_told}
-use Rattle.ffm_text.proofs.cargo.Seen.take.Goals as goal
+use Rattle.ffm_text.proofs.cargo.ManifestScan.take.Goals as goal
 
 pub returns-then-not-is_cargo_line-clause-cargo : goal.returns-then-not-is_cargo_line-clause-cargo
 returns-then-not-is_cargo_line-clause-cargo c =
@@ -10,8 +10,8 @@ returns-then-not-is_cargo_line-clause-cargo c =
 
 pub returns-in-Err-clause-fault : goal.returns-in-Err-clause-fault
 returns-in-Err-clause-fault c =
-    λ above h. cargo_told above c.args.line.now c.args.self.now.point c.args.number c.in-Err.why c.fault.result h.point
-    (sym c.is_cargo_line.ensures ∙ c.if-not-is_cargo_line.false) c.in-Err.ensures.fault c.fault.ensures
+    λ above h. cargo_told above c.args.line.now c.args.self.now.point c.args.number c.in-Err.why c.fault_at.result h.point
+    (sym c.is_cargo_line.ensures ∙ c.if-not-is_cargo_line.false) c.in-Err.ensures.fault c.fault_at.ensures
 
 pub returns-in-Ok-push-clause-cargo : goal.returns-in-Ok-push-clause-cargo
 returns-in-Ok-push-clause-cargo c =

@@ -5,21 +5,10 @@ use awb_number::Awb;
 /// A waybill as written messages name it: its number and route, and the pieces and the weight declared
 /// in all. The goods are not among them.
 #[derive(Clone, Copy, Debug)]
-pub struct Consigned {
+pub struct WaybillSummary {
     pub awb: Awb,
     pub origin: Airport,
     pub destination: Airport,
     pub pieces: Pieces,
     pub tenths: BookTenths,
-}
-
-/// What a count of goods showed.
-#[derive(Clone, Copy, Debug, PartialEq, Eq)]
-pub enum Discrepancy {
-    /// OFLD, taken off the flight.
-    Offloaded,
-    /// MSCA, missing.
-    Missing,
-    /// FDCA, found.
-    Found,
 }

@@ -8,7 +8,7 @@ use Rattle.std.proofs.lemmas.List.Elements.{filter-append, filter_map-append}
 use Rattle.imp_fields.specs.Consignment.{consignment_of, HasSpans}
 use Rattle.ffm_text.specs.Ffm.{Unloaded, may_follow_point, unloading_point, last_point, is_cargo_line, IsCargo, unloaded_of}
 use Rattle.ffm_text.specs.declared.FfmLine.{FfmLine}
-use Rattle.ffm_text.specs.Seen.{AreCargo}
+use Rattle.ffm_text.specs.Scan.{AreCargo}
 use Rattle.ffm_text.proofs.Laws.{match_true, match_false}
 
 -- ---- what the lines are

@@ -1,6 +1,6 @@
 use Rattle.std.proofs.Common.{sym, ◌∙◌}
-use Rattle.ffm_text.proofs.SeenLaws.{new_point, same_point}
-use Rattle.ffm_text.proofs.cargo.Seen.see.Goals as goal
+use Rattle.ffm_text.proofs.ScanLaws.{new_point, same_point}
+use Rattle.ffm_text.proofs.cargo.ManifestScan.see.Goals as goal
 
 pub returns-in-Some-clause-seen : goal.returns-in-Some-clause-seen
 returns-in-Some-clause-seen c =

@@ -5,7 +5,7 @@ use Rattle.imp_fields.specs.Consignment.{HasSpans}
 use Rattle.imp_fields.specs.declared.token.Token.{Token}
 use Rattle.ffm_text.specs.Ffm.{last_point, is_cargo_line, IsCargo, unloaded_of}
 use Rattle.ffm_text.specs.declared.FfmLine.{FfmLine}
-use Rattle.ffm_text.specs.declared.cargo.Seen.{Seen}
+use Rattle.ffm_text.specs.declared.cargo.ManifestScan.{ManifestScan}
 
 -- the lines of tokens
 abbrev pub texts_of : List Token → List (List ℕ)
@@ -17,6 +17,6 @@ pub record AreCargo (lines : List (List ℕ)) (cargo : List FfmLine) : Type 0 wh
   pub spans : AllZip HasSpans (filter is_cargo_line lines) (map (λ l. l.consignment) cargo)
 
 -- these lines were seen
-pub record IsSeen (lines : List (List ℕ)) (s : Seen) : Type 0 where
+pub record IsScan (lines : List (List ℕ)) (s : ManifestScan) : Type 0 where
   pub point : s.point ≡ last_point lines
   pub cargo : AreCargo lines s.cargo.items
