@@ -9,7 +9,7 @@ use Rattle.station_core.specs.declared.answer.ActFault.{ActFault}
 use Rattle.station_core.specs.declared.answer.ActFault.TheVariants as fault
 use Rattle.station_core.specs.Step.{State}
 
--- want of memory is a reader's fault
+-- that memory ran out is a reader's fault
 pub readers_fault : {A : Type 0} (r : Result A ActFault) → IfErr r (λ e. e ≡ fault.Memory) → IfErr r IsReadersFault
 readers_fault (Ok a) is = tt
 readers_fault (Err e) is = subst IsReadersFault (sym is) tt
@@ -24,7 +24,7 @@ unchanged keeps is_sound is_broken may_find old new same = record {
   leaves = λ sound found finds. subst (λ k. may_find k found) same finds;
 }
 
--- What a reader tells that hands out rows of a station that is never broken, and leaves it as before.
+-- What a reader returns that hands out rows of a station that is never broken, and leaves it as before.
 module _ {S Row : Type 0} (takes : S → Row → Bool → S → Type 0) (AreRows : Cargo → List Row → Type 0) where
   abbrev pub All : State → S → S → Type 0
   All s from to = (rows : List Row) × AreRows s.cargo rows × HandedOut takes rows from to

@@ -1,5 +1,15 @@
 mod Acting
+mod Carried
+mod FrontRows
 mod Handed
 mod Keeping
+mod Known
 mod Lookups
+mod Meant
+mod Numbers
+mod Onto
 mod Ordering
+mod Steady
+mod StillOk
+mod Walks
+mod Within

@@ -1,4 +1,9 @@
+pub mod Aboard
+pub mod Bounds
 pub mod Doing
 pub mod Kept
+pub mod Lists
+pub mod Next
 pub mod Props
+pub mod Spots
 pub mod State

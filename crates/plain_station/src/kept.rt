@@ -3,11 +3,10 @@ ghost use Rattle.std.specs.Prelude.{◌≡◌};
 ghost use Rattle.std.specs.Option.{option_copied, option_map};
 ghost use Rattle.std.specs.List.{find};
 ghost use Rattle.std.specs.Str.{bytes_eq};
-ghost use Rattle.station_core.specs.Step.{repeated_key, key_answer};
-ghost use Rattle.plain_station.specs.Kept.{keeping_of, kept_under, kept_of};
+ghost use Rattle.station_core.specs.Step.{key_answer};
+ghost use Rattle.plain_station.specs.Kept.{kept_under, kept_of};
 
-use shipment_machine::{Detail, Refusal};
-use station_core::{Answer, Key, Reply};
+use station_core::{Answer, Key, repeated_key};
 
 /// What was accepted under a key.
 #[derive(Drop)]
@@ -32,26 +31,12 @@ fn reply_under<'a>(replies: &'a [KeptReply], key: &Key) -> Option<&'a KeptReply>
         .find(|kept| key.as_bytes() == kept.key.as_bytes())
 }
 
-/// What is answered to a key that is known.
-fn repeat(kept: &KeptReply, request: &str) -> Answer
-    ensures { result ≡ repeated_key (keeping_of kept.now) request.now }
-{
-    if kept.request.as_str() == request {
-        Answer::Done(Reply { count: kept.count })
-    } else {
-        Answer::Refused(Refusal {
-            number: 501,
-            detail: Detail::Nothing,
-        })
-    }
-}
-
 /// The answer to a request under a key that is known.
 pub(crate) fn answer_under(replies: &[KeptReply], key: &Key, request: &str) -> Option<Answer>
     ensures { result ≡ key_answer (kept_under replies.now key.now) request.now }
 {
     let kept = reply_under(replies, key)?;
-    Some(repeat(kept, request))
+    Some(repeated_key(kept.request.as_str(), kept.count, request))
 }
 
 /// The count of a telegram that is known.

@@ -8,8 +8,8 @@ ghost use Rattle.station_core.specs.Readers.{HandedOut, waybill_of, irregular_ro
 ghost use Rattle.station_core.specs.Step.{opening};
 ghost use Rattle.station_core.specs.declared.input.Input.TheVariants.{Keyed, Wire};
 
+use crate::cargo::PlainCargo;
 use crate::kept::{KeptReply, KeptText, answer_under, count_of};
-use crate::steady::SteadyCargo;
 use agent_stock::{Holder, StockRun};
 use awb_number::Awb;
 use desk_commands::{Command, command_text};
@@ -25,7 +25,7 @@ use telegrams::Telegram;
 #[derive(Drop)]
 pub struct PlainStation {
     alloc: Global,
-    cargo: SteadyCargo,
+    cargo: PlainCargo,
     // In the order in which they were accepted, each key and each text once.
     kept_keys: Vec<KeptReply>,
     kept_texts: Vec<KeptText>,
@@ -38,7 +38,7 @@ impl PlainStation {
     {
         PlainStation {
             alloc,
-            cargo: SteadyCargo::new(alloc, here),
+            cargo: PlainCargo::new(alloc, here),
             kept_keys: Vec::new(alloc),
             kept_texts: Vec::new(alloc),
         }
@@ -60,7 +60,7 @@ impl PlainStation {
         if self.kept_keys.try_reserve(1).is_err() {
             return Err(ActFault::Memory);
         }
-        let count = match self.cargo.do_command(self.alloc, command, at) {
+        let count = match self.cargo.do_command(command, at) {
             Ok(count) => count,
             Err(fault) => return Err(fault),
         };
@@ -87,7 +87,7 @@ impl PlainStation {
         if self.kept_texts.try_reserve(1).is_err() {
             return Err(ActFault::Memory);
         }
-        let count = match self.cargo.do_telegram(self.alloc, telegram, at) {
+        let count = match self.cargo.do_telegram(telegram, at) {
             Ok(count) => count,
             Err(fault) => return Err(fault),
         };
@@ -153,15 +153,15 @@ impl Keeper for PlainStation {
         }
     }
 
-    // It takes no memory, and always answers.
+    // It takes no memory, and always returns.
     fn holder(&mut self, number: &Awb) -> Result<Option<Holder>, ActFault>
         ensures answer { result ≡ Ok ((state_of self.old).cargo.holders number.now) }
         ensures as_before { self.new ≡ self.old }
     {
-        Ok(self.cargo.cargo.holder(number))
+        Ok(self.cargo.holder(number))
     }
 
-    // It takes no memory, and always answers.
+    // It takes no memory, and always returns.
     fn waybill(&mut self, number: &Awb) -> Result<Option<Waybill>, ActFault>
         ensures answer { result ≡ Ok (waybill_of (state_of self.old).cargo number.now) }
         ensures as_before { self.new ≡ self.old }

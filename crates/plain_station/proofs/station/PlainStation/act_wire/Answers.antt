@@ -1,7 +1,7 @@
 use Rattle.std.proofs.Common.{◌≡◌, ◌++◌, ◌∷◌, [], ap, ◌∙◌}
 use Rattle.station_core.specs.declared.input.Input.TheVariants.{Wire}
 use Rattle.station_core.specs.Step.{text_answer, acted}
-use Rattle.plain_cargo.specs.Plain.{cargo_of}
+use Rattle.plain_station.specs.Lists.{cargo_of}
 use Rattle.plain_station.specs.declared.kept.KeptText.{KeptText}
 use Rattle.plain_station.specs.Kept.{kept_under, kept_of}
 use Rattle.plain_station.specs.State.{state_of}
@@ -12,20 +12,20 @@ use Rattle.plain_station.proofs.station.PlainStation.act_wire.Goals as goal
 pub returns-in-Err-clause-acts : goal.returns-in-Err-clause-acts
 returns-in-Err-clause-acts c =
     let self = c.args.self.now in
-    acts_err (state_of self) (Wire c.args.telegram.now) c.args.at _ (cargo_of c.do_telegram.new.self.cargo) c.in-Err.fault
+    acts_err (state_of self) (Wire c.args.telegram.now) c.args.at _ (cargo_of c.do_telegram.new.self.lists) c.in-Err.fault
     (ap text_answer c.requires.new_text) c.in-Err.ensures
-    (λ i. record { cargo = cargo_of c.do_telegram.new.self.cargo; kept_keys = kept_under self.kept_keys.items; kept_texts = kept_of (c.try_reserve.ensures.items i) })
+    (λ i. record { cargo = cargo_of c.do_telegram.new.self.lists; kept_keys = kept_under self.kept_keys.items; kept_texts = kept_of (c.try_reserve.ensures.items i) })
 
 pub returns-in-Err-clause-works : goal.returns-in-Err-clause-works
 returns-in-Err-clause-works c =
-    works_err (acted (cargo_of c.args.self.now.cargo.cargo) (Wire c.args.telegram.now) c.args.at) (cargo_of c.args.self.now.cargo.cargo) (cargo_of c.do_telegram.new.self.cargo) c.in-Err.fault c.in-Err.ensures
+    works_err (acted (cargo_of c.args.self.now.cargo.lists) (Wire c.args.telegram.now) c.args.at) (cargo_of c.args.self.now.cargo.lists) (cargo_of c.do_telegram.new.self.lists) c.in-Err.fault c.in-Err.ensures
 
 pub returns-clause-acts : goal.returns-clause-acts
 returns-clause-acts c =
     let self = c.args.self.now in
     let one : KeptText = record { text = c.in-Ok.text; count = c.in-Ok-do_telegram.count } in
     let items : c.push.new.self.items ≡ self.kept_texts.items ++ one ∷ [] = c.in-Ok-push.ensures.items ∙ ap (λ l. l ++ one ∷ []) c.try_reserve.ensures.items in
-    acts_ok (state_of self) (Wire c.args.telegram.now) c.args.at _ (cargo_of c.do_telegram.new.self.cargo) c.in-Ok-do_telegram.count
+    acts_ok (state_of self) (Wire c.args.telegram.now) c.args.at _ (cargo_of c.do_telegram.new.self.lists) c.in-Ok-do_telegram.count
     (ap text_answer c.requires.new_text) c.in-Ok-do_telegram.ensures
-    (ap (λ l. record { cargo = cargo_of c.do_telegram.new.self.cargo; kept_keys = kept_under self.kept_keys.items; kept_texts = kept_of l }) items
-    ∙ texts_more (cargo_of c.do_telegram.new.self.cargo) (kept_under self.kept_keys.items) self.kept_texts.items one c.args.telegram.now.text c.requires.new_text (c.in-Ok.ensures.items_if_clones_equal (λ x y e. e) ∙ c.as_bytes.ensures.value ∙ c.text.ensures.value))
+    (ap (λ l. record { cargo = cargo_of c.do_telegram.new.self.lists; kept_keys = kept_under self.kept_keys.items; kept_texts = kept_of l }) items
+    ∙ texts_more (cargo_of c.do_telegram.new.self.lists) (kept_under self.kept_keys.items) self.kept_texts.items one c.args.telegram.now.text c.requires.new_text (c.in-Ok.ensures.items_if_clones_equal (λ x y e. e) ∙ c.as_bytes.ensures.value ∙ c.text.ensures.value))

@@ -1,9 +1,0 @@
-use Rattle.std.proofs.Common.{◌≡◌, [], ◌∷◌, take}
-use Rattle.std.specs.Bool.{if◌then◌else◌}
-use Rattle.std.specs.List.{flat_map}
-use Rattle.station_core.specs.Readers.{is_irregular, irregular_row}
-use Rattle.plain_cargo.specs.Plain.{cargo_of}
-use Rattle.plain_cargo.proofs.cargo.PlainCargo.irregular_rows.Given as goal
-
-abbrev pub invariant-loop-number : goal.invariant-loop-number
-invariant-loop-number l = l.rows.items ≡ flat_map (λ w. if is_irregular (cargo_of l.self) w then irregular_row (cargo_of l.self) w ∷ [] else []) (take l.number-index l.number-items)

@@ -1,8 +1,0 @@
-use Rattle.std.proofs.Common.{◌≡◌, take, map}
-use Rattle.shipment_machine.specs.Effect.{lines_for}
-use Rattle.shipment_machine.specs.Views.{line_view_of}
-use Rattle.plain_cargo.specs.Plain.{cargo_of}
-use Rattle.plain_cargo.proofs.cargo.PlainCargo.line_rows.Given as goal
-
-abbrev pub invariant-loop-line : goal.invariant-loop-line
-invariant-loop-line l = l.rows.items ≡ map (line_view_of (cargo_of l.self) l.flight) (lines_for l.self.here (take l.line-index l.lines))

@@ -1,7 +1,0 @@
-use Rattle.std.proofs.Common.{◌≡◌, take, map}
-use Rattle.plain_cargo.specs.Aboard.{aboard_of}
-use Rattle.plain_cargo.specs.Plain.{cargo_of}
-use Rattle.plain_cargo.proofs.cargo.PlainCargo.loads.Given as goal
-
-abbrev pub invariant-loop-number : goal.invariant-loop-number
-invariant-loop-number l = l.loads.items ≡ map (aboard_of (cargo_of l.self) l.flight) (take l.number-index l.number-items)

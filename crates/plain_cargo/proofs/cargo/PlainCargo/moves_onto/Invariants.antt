@@ -1,7 +1,0 @@
-use Rattle.std.proofs.Common.{◌≡◌, take}
-use Rattle.std.specs.List.{filter}
-use Rattle.plain_cargo.specs.Aboard.{is_onto}
-use Rattle.plain_cargo.proofs.cargo.PlainCargo.moves_onto.Given as goal
-
-abbrev pub invariant-loop-movement : goal.invariant-loop-movement
-invariant-loop-movement l = l.moves.items ≡ filter (is_onto l.flight) (take l.movement-index l.movement-items)

@@ -1,7 +1,0 @@
-use Rattle.std.proofs.Common.{◌≡◌, take}
-use Rattle.std.specs.List.{filter}
-use Rattle.plain_cargo.specs.Aboard.{is_built_on}
-use Rattle.plain_cargo.proofs.cargo.PlainCargo.numbers_on.Given as goal
-
-abbrev pub invariant-loop-number : goal.invariant-loop-number
-invariant-loop-number l = l.numbers.items ≡ filter (is_built_on l.self.book.items l.flight) (take l.number-index l.number-items)

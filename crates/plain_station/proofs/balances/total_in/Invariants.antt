@@ -1,0 +1,10 @@
+use Rattle.std.proofs.Common.{◌≡◌, ◌≤◌, ◌*◌, take}
+use Rattle.shipment_machine.specs.Book.{pieces_of, tenths_of, moved_in}
+use Rattle.plain_station.specs.Spots.{is_in}
+use Rattle.plain_station.proofs.balances.total_in.Given as goal
+
+abbrev pub invariant-loop-m : goal.invariant-loop-m
+invariant-loop-m l =
+    (l.total.pieces ≡ moved_in pieces_of (take l.m-index l.book) l.awb (is_in l.spot))
+    × (l.total.tenths ≡ moved_in tenths_of (take l.m-index l.book) l.awb (is_in l.spot))
+    × (l.total.pieces ≤ 9999 * l.m-index) × (l.total.tenths ≤ 999999 * l.m-index)

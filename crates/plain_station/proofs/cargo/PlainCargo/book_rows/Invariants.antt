@@ -1,0 +1,6 @@
+use Rattle.std.proofs.Common.{◌≡◌, take}
+use Rattle.station_core.specs.Readers.{numbered, book_row}
+use Rattle.plain_station.proofs.cargo.PlainCargo.book_rows.Given as goal
+
+abbrev pub invariant-loop-i : goal.invariant-loop-i
+invariant-loop-i l = l.rows.items ≡ numbered book_row 1 (take l.i l.self.lists.book.items)

@@ -1,0 +1,18 @@
+use Rattle.std.proofs.Common.{◌∙◌, sym, ap}
+use Rattle.std.specs.Option.{unwrap_or}
+use Rattle.shipment_machine.specs.declared.moves.Balances.{Balances}
+use Rattle.shipment_machine.specs.declared.moves.Declared.{Declared}
+use Rattle.shipment_machine.specs.Views.{undeclared}
+use Rattle.plain_station.proofs.cargo.PlainCargo.irregular_row.Goals as goal
+
+pub returns : goal.returns
+returns c =
+    let b = c.balances.ensures in
+    let known = ap (λ o. unwrap_or o undeclared) (sym c.unwrap-declared.ensures ∙ c.declared_of.ensures) in
+    λ i. record {
+      awb = c.args.number.now;
+      origin = ap (λ (d : Declared). d.origin) known i;
+      destination = ap (λ (d : Declared). d.destination) known i;
+      missing = ap (λ (b : Balances). b.missing) b i;
+      found = ap (λ (b : Balances). b.found) b i;
+    }

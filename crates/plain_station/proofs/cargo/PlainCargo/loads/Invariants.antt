@@ -1,0 +1,7 @@
+use Rattle.std.proofs.Common.{◌≡◌, take, map}
+use Rattle.plain_station.specs.Aboard.{aboard_of}
+use Rattle.plain_station.specs.Lists.{cargo_of}
+use Rattle.plain_station.proofs.cargo.PlainCargo.loads.Given as goal
+
+abbrev pub invariant-loop-number : goal.invariant-loop-number
+invariant-loop-number l = l.loads.items ≡ map (aboard_of (cargo_of l.self.lists) l.flight) (take l.number-index l.number-items)

@@ -1,0 +1,6 @@
+use Rattle.std.proofs.Common.{refl, sym, subst}
+use Rattle.plain_station.specs.Doing.{IsSteady}
+use Rattle.plain_station.proofs.cargo.PlainCargo.new.Goals as goal
+
+pub invariant_of-result : goal.invariant_of-result
+invariant_of-result c = record { steady = subst IsSteady (sym c.new.ensures) (record { lawful = c.opening_law.ensures c.args.here; room = refl }) }

@@ -1,0 +1,7 @@
+use Rattle.std.proofs.Common.{◌≡◌, take}
+use Rattle.std.specs.List.{filter}
+use Rattle.plain_station.specs.Aboard.{is_built_on}
+use Rattle.plain_station.proofs.cargo.PlainCargo.numbers_on.Given as goal
+
+abbrev pub invariant-loop-number : goal.invariant-loop-number
+invariant-loop-number l = l.numbers.items ≡ filter (is_built_on l.self.lists.book.items l.flight) (take l.number-index l.number-items)

@@ -1,0 +1,14 @@
+use Rattle.std.proofs.Common.{ℕ, List}
+use Rattle.shipment_machine.specs.Agreement.{StaysLawful, outcome_of}
+use Rattle.shipment_machine.specs.Effect.{carried_out}
+use Rattle.shipment_machine.specs.Lawful.{IsLawful}
+use Rattle.plain_station.specs.Lists.{cargo_of}
+use Rattle.station_core.specs.Step.{sent}
+use Rattle.station_core.proofs.StepLaw.{sent_lawful}
+use Rattle.plain_station.proofs.StillOk.{still_ok}
+use Rattle.plain_station.proofs.cargo.PlainCargo.plan.Goals as goal
+
+pub returns-clause-stays_lawful : goal.returns-clause-stays_lawful
+returns-clause-stays_lawful c = let s = cargo_of c.args.self.now.lists in
+    still_ok (StaysLawful s) (λ plan. (text : List ℕ) (messages : List (List ℕ)) → IsLawful (sent messages (carried_out text (outcome_of plan) s)))
+    c.plan.result (λ plan h text messages. sent_lawful messages (carried_out text (outcome_of plan) s) (h text)) (c.plan.ensures.stays_lawful s (c.args.self.now.steady.lawful, c.in_ok-view.ensures))

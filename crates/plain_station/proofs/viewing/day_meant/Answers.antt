@@ -1,0 +1,14 @@
+use Rattle.std.proofs.Common.{sym, ap, ◌∙◌}
+use Rattle.imp_fields.specs.Date.{resolved}
+use Rattle.plain_station.proofs.Meant.{meant, not_meant}
+use Rattle.plain_station.proofs.viewing.day_meant.Goals as goal
+
+pub returns-clause-some : goal.returns-clause-some
+returns-clause-some c =
+    meant (resolved c.args.date c.args.at.day) c.in_ok-number.number c.new.result
+    (sym (c.resolve.ensures ∙ ap (λ m. resolved c.args.date m.day) c.at.view_is) ∙ c.in_ok-number.was) c.new.ensures.in_range c.new.ensures.value
+
+pub returns-clause-none : goal.returns-clause-none
+returns-clause-none c =
+    not_meant (resolved c.args.date c.args.at.day) c.in_ok-number.number c.new.result
+    (sym (c.resolve.ensures ∙ ap (λ m. resolved c.args.date m.day) c.at.view_is) ∙ c.in_ok-number.was) c.new.ensures.in_range

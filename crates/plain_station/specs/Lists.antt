@@ -1,0 +1,56 @@
+-- The cargo that lists of rows in memory stand for.
+use Rattle.std.specs.Prelude.{ℕ, ◌&&◌, ◌==◌, Option, List, Vec, map}
+use Rattle.std.specs.Option.{option_map}
+use Rattle.std.specs.List.{find}
+use Rattle.agent_stock.specs.Plain.{holders_of}
+use Rattle.shipment_machine.specs.declared.flight.FlightDate.{FlightDate}
+use Rattle.shipment_machine.specs.declared.moves.Declared.{Declared}
+use Rattle.shipment_machine.specs.declared.moves.Outbound.{Outbound}
+use Rattle.shipment_machine.specs.declared.moves.Expected.{Expected}
+use Rattle.shipment_machine.specs.declared.moves.Part.{Part}
+use Rattle.shipment_machine.specs.Flights.{same_flight_date}
+use Rattle.shipment_machine.specs.Cargo.{Cargo, same_part}
+use Rattle.plain_station.specs.declared.rows.DeclaredRow.{DeclaredRow}
+use Rattle.plain_station.specs.declared.rows.FlightRow.{FlightRow}
+use Rattle.plain_station.specs.declared.rows.ExpectedRow.{ExpectedRow}
+use Rattle.plain_station.specs.declared.rows.PartRow.{PartRow}
+use Rattle.plain_station.specs.declared.rows.TrailRow.{TrailRow}
+use Rattle.plain_station.specs.declared.lists.CargoLists.{CargoLists}
+
+-- The first row of a key holds: rows are written in front of older ones.
+abbrev pub declared_in : List DeclaredRow → ℕ → Option Declared
+declared_in rows w = option_map (λ row. row.declared) (find (λ row. w == row.awb) rows)
+
+abbrev pub flights_in : List FlightRow → FlightDate → Option Outbound
+flights_in rows k = option_map (λ row. row.outbound) (find (λ row. same_flight_date k row.flight) rows)
+
+abbrev pub expected_in : List ExpectedRow → FlightDate → ℕ → Option Expected
+expected_in rows k w = option_map (λ row. row.expected) (find (λ row. same_flight_date k row.flight && (w == row.awb)) rows)
+
+abbrev pub parts_in : List PartRow → Part → Option (List ℕ)
+parts_in rows k = option_map (λ row. row.text.items) (find (λ row. same_part k row.part) rows)
+
+-- The trail, in order.
+abbrev pub trail_row : TrailRow → ℕ × List ℕ
+trail_row row = (row.awb, row.line.items)
+
+abbrev pub trail_in : List TrailRow → List (ℕ × List ℕ)
+trail_in rows = map trail_row rows
+
+-- The messages, in order.
+abbrev pub texts_in : {Z : Type 0} → List (Vec ℕ Z) → List (List ℕ)
+texts_in rows = map (λ text. text.items) rows
+
+abbrev pub cargo_of : CargoLists → Cargo
+cargo_of c = record {
+  here = c.here;
+  holders = holders_of c.stock;
+  declared = declared_in c.declared.items;
+  book = c.book.items;
+  flights = flights_in c.flights.items;
+  expected = expected_in c.expected.items;
+  parts = parts_in c.parts.items;
+  trail = trail_in c.trail.items;
+  outbox = texts_in c.outbox.items;
+  confirmed = c.confirmed;
+}

@@ -1,0 +1,21 @@
+-- The cargo where some rows are to be taken over.
+use Rattle.std.specs.Prelude.{◌++◌}
+use Rattle.agent_stock.specs.Plain.{holders_of}
+use Rattle.shipment_machine.specs.Cargo.{Cargo}
+use Rattle.plain_station.specs.declared.lists.CargoLists.{CargoLists}
+use Rattle.plain_station.specs.declared.writing.Next.{Next}
+use Rattle.plain_station.specs.Lists.{declared_in, flights_in, expected_in, parts_in, trail_in, texts_in}
+
+abbrev pub cargo_with : CargoLists → Next → Cargo
+cargo_with c next = record {
+  here = c.here;
+  holders = holders_of next.stock;
+  declared = declared_in next.declared.items;
+  book = c.book.items;
+  flights = flights_in next.flights.items;
+  expected = expected_in next.expected.items;
+  parts = parts_in (next.parts.items ++ c.parts.items);
+  trail = trail_in (c.trail.items ++ next.trail.items);
+  outbox = texts_in c.outbox.items;
+  confirmed = next.confirmed;
+}

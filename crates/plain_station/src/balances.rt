@@ -1,0 +1,153 @@
+//! What the movement book says of a waybill.
+ghost use Rattle.std.specs.Prelude.{◌≡◌, ◌≤◌, ◌-◌, length};
+ghost use Rattle.plain_station.specs.Bounds.{IsWithin};
+ghost use Rattle.plain_station.specs.Spots.{is_in};
+ghost use Rattle.shipment_machine.specs.Flights.{same_flight_date};
+ghost use Rattle.shipment_machine.specs.Book.{same_place, in_store, pieces_of, tenths_of, moved_in, moved_out, held, store, drawn, has_moves};
+
+use awb_number::Awb;
+use shipment_machine::{Amount, FlightDate, Move, Place};
+
+/// Whether two flights are one.
+pub(crate) fn is_flight(a: &FlightDate, b: &FlightDate) -> bool
+    ensures { result ≡ same_flight_date a.now b.now }
+{
+    a.flight.is_same(&b.flight) && a.day == b.day
+}
+
+/// Whether two places are one.
+fn is_place(a: &Place, b: &Place) -> bool
+    ensures { result ≡ same_place a.now b.now }
+{
+    match (a, b) {
+        (Place::Hand, Place::Hand) => true,
+        (Place::Surplus, Place::Surplus) => true,
+        (Place::Free, Place::Free) => true,
+        (Place::Built(one), Place::Built(other)) => is_flight(one, other),
+        (Place::Departed, Place::Departed) => true,
+        (Place::Delivered, Place::Delivered) => true,
+        (Place::Missing, Place::Missing) => true,
+        _ => false,
+    }
+}
+
+/// Whether a place is in the store.
+fn is_stored(place: &Place) -> bool
+    ensures { result ≡ in_store place.now }
+{
+    matches!(place, Place::Free | Place::Built(_))
+}
+
+/// Pieces and tenths, as a sum over the book has them.
+#[derive(Clone, Copy)]
+struct Total {
+    pieces: u64,
+    tenths: u64,
+}
+
+const NOTHING: Total = Total {
+    pieces: 0,
+    tenths: 0,
+};
+
+impl Total {
+    /// What is left after something is taken away.
+    fn less(&self, other: &Total) -> Amount
+        requires pieces { self.now.pieces - other.now.pieces ≤ 9999 }
+        requires tenths { self.now.tenths - other.now.tenths ≤ 999999 }
+        ensures { result ≡ record { pieces = self.now.pieces - other.now.pieces; tenths = self.now.tenths - other.now.tenths } }
+    {
+        Amount {
+            pieces: self.pieces.saturating_sub(other.pieces) as u32,
+            tenths: self.tenths.saturating_sub(other.tenths) as u32,
+        }
+    }
+}
+
+/// Where pieces are counted: a place, or the store with all that is free or built.
+#[derive(Clone, Copy)]
+enum Spot {
+    At(Place),
+    Store,
+}
+
+impl Spot {
+    /// Whether a place is of it.
+    fn has(&self, place: &Place) -> bool
+        ensures { result ≡ is_in self.now place.now }
+    {
+        match self {
+            Spot::At(at) => is_place(at, place),
+            Spot::Store => is_stored(place),
+        }
+    }
+}
+
+/// What moved there.
+fn total_in(book: &[Move], awb: &Awb, spot: &Spot) -> Total
+    requires { length book.now ≤ 4_294_967_295 }
+    ensures pieces { result.pieces ≡ moved_in pieces_of book.now awb.now (is_in spot.now) }
+    ensures tenths { result.tenths ≡ moved_in tenths_of book.now awb.now (is_in spot.now) }
+{
+    let mut total = NOTHING;
+    for m in book {
+        if m.awb == *awb && spot.has(&m.to) {
+            total.pieces += u64::from(m.pieces.number());
+            total.tenths += u64::from(m.tenths.number());
+        }
+    }
+    total
+}
+
+/// What moved from there.
+fn total_out(book: &[Move], awb: &Awb, spot: &Spot) -> Total
+    requires { length book.now ≤ 4_294_967_295 }
+    ensures pieces { result.pieces ≡ moved_out pieces_of book.now awb.now (is_in spot.now) }
+    ensures tenths { result.tenths ≡ moved_out tenths_of book.now awb.now (is_in spot.now) }
+{
+    let mut total = NOTHING;
+    for m in book {
+        if m.awb == *awb && spot.has(&m.from) {
+            total.pieces += u64::from(m.pieces.number());
+            total.tenths += u64::from(m.tenths.number());
+        }
+    }
+    total
+}
+
+/// What is at a place.
+pub(crate) fn held(book: &[Move], awb: &Awb, place: &Place) -> Amount
+    requires few { length book.now ≤ 4_294_967_295 }
+    requires within { IsWithin (held book.now awb.now (same_place place.now)) }
+    ensures { result ≡ held book.now awb.now (same_place place.now) }
+{
+    let spot = Spot::At(*place);
+    total_in(book, awb, &spot).less(&total_out(book, awb, &spot))
+}
+
+/// What is in the store.
+pub(crate) fn stored(book: &[Move], awb: &Awb) -> Amount
+    requires few { length book.now ≤ 4_294_967_295 }
+    requires within { IsWithin (store book.now awb.now) }
+    ensures { result ≡ store book.now awb.now }
+{
+    let spot = Spot::Store;
+    total_in(book, awb, &spot).less(&total_out(book, awb, &spot))
+}
+
+/// What came from a place.
+pub(crate) fn drawn(book: &[Move], awb: &Awb, place: &Place) -> Amount
+    requires few { length book.now ≤ 4_294_967_295 }
+    requires within { IsWithin (drawn book.now awb.now (same_place place.now)) }
+    ensures { result ≡ drawn book.now awb.now (same_place place.now) }
+{
+    let spot = Spot::At(*place);
+    total_out(book, awb, &spot).less(&total_in(book, awb, &spot))
+}
+
+/// Whether the book has a move of a waybill.
+pub(crate) fn is_moved(book: &[Move], awb: &Awb) -> bool
+    ensures { result ≡ has_moves book.now awb.now }
+{
+    book.iter().any(|m| m.awb == *awb)
+}

@@ -1,0 +1,85 @@
+ghost use Rattle.std.specs.Prelude.{◌≡◌};
+ghost use Rattle.std.specs.Option.{option_copied};
+ghost use Rattle.shipment_machine.specs.Cargo.{opening_cargo};
+ghost use Rattle.plain_station.specs.Lists.{cargo_of, declared_in, flights_in, expected_in, parts_in};
+
+use crate::balances::is_flight;
+use crate::rows::{DeclaredRow, ExpectedRow, FlightRow, PartRow, TrailRow};
+use agent_stock::PlainRows;
+use awb_number::Awb;
+use imp_fields::Airport;
+use shipment_machine::{Declared, Expected, FlightDate, Move, Outbound, Part};
+use std::alloc::Global;
+
+/// The rows of a cargo, in lists. A row that is written anew stands in front of the older one.
+#[derive(Drop)]
+pub(crate) struct CargoLists {
+    pub(crate) alloc: Global,
+    pub(crate) here: Airport,
+    pub(crate) stock: PlainRows,
+    pub(crate) declared: Vec<DeclaredRow>,
+    // In the order in which they were made, as the trail and the outbox.
+    pub(crate) book: Vec<Move>,
+    pub(crate) flights: Vec<FlightRow>,
+    pub(crate) expected: Vec<ExpectedRow>,
+    pub(crate) parts: Vec<PartRow>,
+    pub(crate) trail: Vec<TrailRow>,
+    pub(crate) outbox: Vec<Vec<u8>>,
+    pub(crate) confirmed: u32,
+}
+
+impl CargoLists {
+    /// The lists of a station at an airport, with no row in them.
+    pub(crate) fn new(alloc: Global, here: Airport) -> CargoLists
+        ensures { cargo_of result ≡ opening_cargo here }
+    {
+        CargoLists {
+            alloc,
+            here,
+            stock: PlainRows::new(alloc),
+            declared: Vec::new(alloc),
+            book: Vec::new(alloc),
+            flights: Vec::new(alloc),
+            expected: Vec::new(alloc),
+            parts: Vec::new(alloc),
+            trail: Vec::new(alloc),
+            outbox: Vec::new(alloc),
+            confirmed: 0,
+        }
+    }
+
+    /// What is declared of a waybill.
+    pub(crate) fn declared_of(&self, awb: &Awb) -> Option<Declared>
+        ensures { result ≡ declared_in self.now.declared.items awb.now }
+    {
+        let row = self.declared.iter().find(|row| *awb == row.awb)?;
+        Some(row.declared)
+    }
+
+    /// What is noted of an outbound flight.
+    pub(crate) fn outbound_of(&self, flight: &FlightDate) -> Option<Outbound>
+        ensures { result ≡ flights_in self.now.flights.items flight.now }
+    {
+        let row = self
+            .flights
+            .iter()
+            .find(|row| is_flight(flight, &row.flight))?;
+        Some(row.outbound)
+    }
+
+    /// What a flight brings of a waybill.
+    pub(crate) fn expected_of(&self, flight: &FlightDate, awb: &Awb) -> Option<Expected>
+        ensures { result ≡ expected_in self.now.expected.items flight.now awb.now }
+    {
+        let row = self.expected.iter().find(|row| row.is_of(flight, awb))?;
+        Some(row.expected)
+    }
+
+    /// The telegram of a part of a manifest that was taken.
+    pub(crate) fn text_of(&self, part: &Part) -> Option<&[u8]>
+        ensures { option_copied result ≡ parts_in self.now.parts.items part.now }
+    {
+        let row = self.parts.iter().find(|row| row.is_of(part))?;
+        Some(row.text.as_slice())
+    }
+}

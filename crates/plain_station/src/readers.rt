@@ -1,0 +1,221 @@
+//! The readers of the cargo.
+ghost use Rattle.std.specs.Prelude.{◌≡◌, List, ◌≤◌, ◌<◌, ℕ, ◌+◌, ◌++◌, [], ◌∷◌, if◌then◌else◌, length, get_or, take, IsSome, IfOk, OnOk, OnErr, IfErr};
+ghost use Rattle.agent_stock.specs.Runs.{AreStockRuns};
+ghost use Rattle.agent_stock.specs.declared.runs.StockRun.{StockRun};
+ghost use Rattle.station_core.specs.Readers.{HandedOut, told_of, waybill_of, is_irregular, irregular_row, irregular_rows, book_rows, message, pending_messages, trail_row, trail_rows};
+ghost use Rattle.plain_station.specs.Lists.{cargo_of, trail_row as kept_line, texts_in};
+
+use crate::balances::stored;
+use crate::cargo::PlainCargo;
+use crate::rows;
+use agent_stock::{Holder, StockRun};
+use awb_number::Awb;
+use shipment_machine::{Balances, Declared, waybills_of};
+use station_core::{
+    ActFault, BookRow, IrregularRow, Message, RowText, Sink, TrailRow, Waybill, hand_out,
+};
+use std::alloc::AllocError;
+
+impl PlainCargo {
+    /// Who holds a number.
+    pub(crate) fn holder(&self, number: &Awb) -> Option<Holder>
+        ensures { result ≡ (cargo_of self.now.lists).holders number.now }
+    {
+        self.lists.stock.get(number)
+    }
+
+    /// Hands out the stock as its maximal runs of one holder, ascending, until the sink takes no more. Out of memory, it
+    /// hands out none.
+    pub(crate) fn stock<S: Sink<StockRun>>(&self, sink: &mut S) -> Result<(), ActFault>
+        ensures rows { OnOk result ((rows : List StockRun) × AreStockRuns (cargo_of self.now.lists).holders rows × HandedOut S.takes rows sink.old sink.new) }
+        ensures beginning { OnErr result ((rows : List StockRun) → AreStockRuns (cargo_of self.now.lists).holders rows → (n : ℕ) × HandedOut S.takes (take n rows) sink.old sink.new) }
+        ensures memory { IfErr result (λ fault. fault ≡ ActFault.Memory) }
+        ensures none { OnErr result (sink.new ≡ sink.old) }
+    {
+        let Ok(runs) = self.lists.stock.runs(self.lists.alloc) else {
+            return Err(ActFault::Memory);
+        };
+        hand_out(sink, runs);
+        Ok(())
+    }
+
+    /// What is known of a waybill, where this is declared of it.
+    fn known(&self, number: &Awb, declared: &Declared) -> Waybill
+        ensures { result ≡ told_of (cargo_of self.now.lists) number.now declared.now }
+    {
+        let balances = self.balances(number);
+        Waybill {
+            declared: *declared,
+            taken: balances.taken,
+            found: balances.found,
+            store: stored(self.lists.book.as_slice(), number),
+            departed: balances.departed,
+            delivered: balances.delivered,
+            missing: balances.missing,
+        }
+    }
+
+    /// What is known of a waybill, if it was declared.
+    pub(crate) fn waybill(&self, number: &Awb) -> Option<Waybill>
+        ensures { result ≡ waybill_of (cargo_of self.now.lists) number.now }
+    {
+        let declared = self.lists.declared_of(number)?;
+        Some(self.known(number, &declared))
+    }
+
+    /// A waybill with its pieces missing and found.
+    fn irregular_row(&self, number: &Awb) -> IrregularRow
+        requires declared { IsSome ((cargo_of self.now.lists).declared number.now) }
+        ensures { result ≡ irregular_row (cargo_of self.now.lists) number.now }
+    {
+        let declared = self.lists.declared_of(number).unwrap();
+        let Balances { missing, found, .. } = self.balances(number);
+        IrregularRow {
+            awb: *number,
+            origin: declared.origin,
+            destination: declared.destination,
+            missing,
+            found,
+        }
+    }
+
+    /// Puts a waybill behind the others, if pieces are missing or were found.
+    fn put_irregular(&self, rows: &mut Vec<IrregularRow>, number: &Awb) -> Result<(), AllocError>
+        requires declared { IsSome ((cargo_of self.now.lists).declared number.now) }
+        ensures { OnOk result (rows.new.items ≡ rows.old.items ++ (if is_irregular (cargo_of self.now.lists) number.now then irregular_row (cargo_of self.now.lists) number.now ∷ [] else [])) }
+    {
+        let row = self.irregular_row(number);
+        if row.missing.pieces > 0 || row.found.pieces > 0 {
+            rows.push(row)?;
+        }
+        Ok(())
+    }
+
+    /// The waybills of which pieces are missing or were found, ascending.
+    fn irregular_rows(&self) -> Result<Vec<IrregularRow>, AllocError>
+        ensures { IfOk result (λ rows. rows.items ≡ irregular_rows (cargo_of self.now.lists)) }
+    {
+        let mut rows = Vec::new(self.lists.alloc);
+        for number in &waybills_of(self.lists.alloc, self.lists.book.as_slice())? {
+            self.put_irregular(&mut rows, number)?;
+        }
+        Ok(rows)
+    }
+
+    /// Hands out the waybills of which pieces are missing or were found, ascending, until the sink takes no more. Out of
+    /// memory, it hands out none.
+    pub(crate) fn irregular<S: Sink<IrregularRow>>(&self, sink: &mut S) -> Result<(), ActFault>
+        ensures rows { OnOk result (HandedOut S.takes (irregular_rows (cargo_of self.now.lists)) sink.old sink.new) }
+        ensures beginning { OnErr result ((n : ℕ) × HandedOut S.takes (take n (irregular_rows (cargo_of self.now.lists))) sink.old sink.new) }
+        ensures memory { IfErr result (λ fault. fault ≡ ActFault.Memory) }
+        ensures none { OnErr result (sink.new ≡ sink.old) }
+    {
+        let Ok(waybills) = self.irregular_rows() else {
+            return Err(ActFault::Memory);
+        };
+        hand_out(sink, waybills);
+        Ok(())
+    }
+}
+
+impl PlainCargo {
+    /// The movement book, numbered from 1.
+    fn book_rows(&self) -> Result<Vec<BookRow>, AllocError>
+        ensures { IfOk result (λ rows. rows.items ≡ book_rows (cargo_of self.now.lists)) }
+    {
+        let mut rows = Vec::new(self.lists.alloc);
+        for (i, movement) in self.lists.book.iter().enumerate() {
+            rows.push(BookRow {
+                number: i as u32 + 1,
+                movement: *movement,
+            })?;
+        }
+        Ok(rows)
+    }
+
+    /// Hands out the movement book, numbered from 1, until the sink takes no more. Out of memory, it hands out nothing.
+    pub(crate) fn book<S: Sink<BookRow>>(&self, sink: &mut S) -> Result<(), ActFault>
+        ensures rows { OnOk result (HandedOut S.takes (book_rows (cargo_of self.now.lists)) sink.old sink.new) }
+        ensures beginning { OnErr result ((n : ℕ) × HandedOut S.takes (take n (book_rows (cargo_of self.now.lists))) sink.old sink.new) }
+        ensures memory { IfErr result (λ fault. fault ≡ ActFault.Memory) }
+        ensures none { OnErr result (sink.new ≡ sink.old) }
+    {
+        let Ok(moves) = self.book_rows() else {
+            return Err(ActFault::Memory);
+        };
+        hand_out(sink, moves);
+        Ok(())
+    }
+
+    /// The message at a place of the outbox, numbered from 1.
+    fn message_at(&self, at: usize) -> Result<Message, AllocError>
+        requires within { at < length self.now.lists.outbox.items }
+        ensures { IfOk result (λ row. row ≡ message (at + 1) (get_or (texts_in self.now.lists.outbox.items) at [])) }
+    {
+        Ok(Message {
+            number: at as u32 + 1,
+            text: RowText::new(Vec::from_slice(self.lists.alloc, &self.lists.outbox[at])?),
+        })
+    }
+
+    /// The messages that weren't confirmed yet.
+    fn pending_rows(&self) -> Result<Vec<Message>, AllocError>
+        ensures { IfOk result (λ rows. rows.items ≡ pending_messages (cargo_of self.now.lists)) }
+    {
+        let mut rows = Vec::new(self.lists.alloc);
+        for at in self.lists.confirmed as usize..self.lists.outbox.len() {
+            rows.push(self.message_at(at)?)?;
+        }
+        Ok(rows)
+    }
+
+    /// Hands out the messages that weren't confirmed yet, with their places in the outbox from 1, until the sink takes no
+    /// more. Out of memory, it hands out none.
+    pub(crate) fn pending<S: Sink<Message>>(&self, sink: &mut S) -> Result<(), ActFault>
+        ensures rows { OnOk result (HandedOut S.takes (pending_messages (cargo_of self.now.lists)) sink.old sink.new) }
+        ensures beginning { OnErr result ((n : ℕ) × HandedOut S.takes (take n (pending_messages (cargo_of self.now.lists))) sink.old sink.new) }
+        ensures memory { IfErr result (λ fault. fault ≡ ActFault.Memory) }
+        ensures none { OnErr result (sink.new ≡ sink.old) }
+    {
+        let Ok(messages) = self.pending_rows() else {
+            return Err(ActFault::Memory);
+        };
+        hand_out(sink, messages);
+        Ok(())
+    }
+
+    /// A line of the trail.
+    fn line_of(&self, row: &rows::TrailRow) -> Result<TrailRow, AllocError>
+        ensures { IfOk result (λ line. line ≡ trail_row (kept_line row.now)) }
+    {
+        Ok(TrailRow {
+            awb: row.awb,
+            line: RowText::new(Vec::from_slice(self.lists.alloc, &row.line)?),
+        })
+    }
+
+    /// The trail.
+    fn trail_lines(&self) -> Result<Vec<TrailRow>, AllocError>
+        ensures { IfOk result (λ rows. rows.items ≡ trail_rows (cargo_of self.now.lists)) }
+    {
+        let mut rows = Vec::new(self.lists.alloc);
+        for row in &self.lists.trail {
+            rows.push(self.line_of(row)?)?;
+        }
+        Ok(rows)
+    }
+
+    /// Hands out the trail, in order, until the sink takes no more. Out of memory, it hands out nothing.
+    pub(crate) fn trail<S: Sink<TrailRow>>(&self, sink: &mut S) -> Result<(), ActFault>
+        ensures rows { OnOk result (HandedOut S.takes (trail_rows (cargo_of self.now.lists)) sink.old sink.new) }
+        ensures beginning { OnErr result ((n : ℕ) × HandedOut S.takes (take n (trail_rows (cargo_of self.now.lists))) sink.old sink.new) }
+        ensures memory { IfErr result (λ fault. fault ≡ ActFault.Memory) }
+        ensures none { OnErr result (sink.new ≡ sink.old) }
+    {
+        let Ok(lines) = self.trail_lines() else {
+            return Err(ActFault::Memory);
+        };
+        hand_out(sink, lines);
+        Ok(())
+    }
+}

@@ -1,0 +1,287 @@
+//! What a command is planned from.
+ghost use Rattle.std.specs.Prelude.{Some, None, true, false, [], IfSome, ◌≡◌, ◌≤◌, length, map, IfOk, IsSome};
+ghost use Rattle.std.specs.List.{filter};
+ghost use Rattle.shipment_machine.specs.declared.command.ShipmentCommand.TheVariants as order;
+ghost use Rattle.shipment_machine.specs.declared.view.Rows.TheVariants as rows;
+ghost use Rattle.imp_fields.specs.Date.{resolved};
+ghost use Rattle.shipment_machine.specs.Agreement.{rows_for, view_of};
+ghost use Rattle.shipment_machine.specs.Book.{built, waybills_on};
+ghost use Rattle.shipment_machine.specs.Effect.{lines_for, is_day};
+ghost use Rattle.shipment_machine.specs.Views.{declaration_view, waybill_view, loads_of, flight_view, line_view_of};
+ghost use Rattle.plain_station.specs.Aboard.{is_built_on, is_onto, aboard_of};
+ghost use Rattle.plain_station.specs.Lists.{cargo_of};
+
+use crate::balances::{held, is_flight, is_moved};
+use crate::cargo::PlainCargo;
+use awb_number::Awb;
+use imp_fields::{DayMonth, LocalDay, Moment, resolve};
+use shipment_machine::{
+    Amount, DeclarationView, DeskCommand, FlightDate, FlightLoad, FlightView, InboundLine,
+    InboundPart, LineView, LineViews, Loads, Move, Part, Place, Rows, ShipmentCommand, View,
+    WaybillView, waybills_of,
+};
+use std::alloc::AllocError;
+
+/// Whether a move goes onto a flight.
+fn is_onto(flight: &FlightDate, movement: &Move) -> bool
+    ensures { result ≡ is_onto flight.now movement.now }
+{
+    match movement.to {
+        Place::Built(other) => is_flight(flight, &other),
+        _ => false,
+    }
+}
+
+/// The day that a date means, where it is one of a Moment.
+fn day_meant(date: DayMonth, at: Moment) -> Option<LocalDay>
+    ensures some { IfSome result (λ day. (resolved date at.day ≡ Some day) × (is_day (resolved date at.day) ≡ true)) }
+    ensures none { result ≡ None → is_day (resolved date at.day) ≡ false }
+{
+    let number = resolve(date, at.day)?;
+    LocalDay::new(number)
+}
+
+impl PlainCargo {
+    /// The moves onto a flight, in their order.
+    fn moves_onto(&self, flight: &FlightDate) -> Result<Vec<Move>, AllocError>
+        ensures { IfOk result (λ moves. moves.items ≡ filter (is_onto flight.now) self.now.lists.book.items) }
+    {
+        let mut moves = Vec::new(self.lists.alloc);
+        for movement in &self.lists.book {
+            if is_onto(flight, movement) {
+                moves.push(*movement)?;
+            }
+        }
+        Ok(moves)
+    }
+
+    /// The waybills that are built on a flight, ascending: of those that were ever built on it, the ones of which something is there
+    /// yet.
+    fn numbers_on(&self, flight: &FlightDate) -> Result<Vec<Awb>, AllocError>
+        ensures { IfOk result (λ numbers. numbers.items ≡ waybills_on self.now.lists.book.items flight.now) }
+    {
+        let mut numbers = Vec::new(self.lists.alloc);
+        let onto = self.moves_onto(flight)?;
+        for number in &waybills_of(self.lists.alloc, onto.as_slice())? {
+            if self.is_on(number, flight) {
+                numbers.push(*number)?;
+            }
+        }
+        Ok(numbers)
+    }
+
+    /// What is built of a waybill on a flight.
+    fn load_on(&self, awb: &Awb, flight: &FlightDate) -> Amount
+        ensures { result ≡ built self.now.lists.book.items awb.now flight.now }
+    {
+        held(self.lists.book.as_slice(), awb, &Place::Built(*flight))
+    }
+
+    /// Whether a waybill is built on a flight.
+    fn is_on(&self, awb: &Awb, flight: &FlightDate) -> bool
+        ensures { result ≡ is_built_on self.now.lists.book.items flight.now awb.now }
+    {
+        self.load_on(awb, flight).pieces > 0
+    }
+
+    /// A flight, seen from a waybill that is to be built on it.
+    fn flight_view(&self, awb: &Awb, flight: &FlightDate) -> Result<FlightView, AllocError>
+        ensures { IfOk result (λ view. view ≡ flight_view (cargo_of self.now.lists) awb.now flight.now) }
+    {
+        let numbers = self.numbers_on(flight)?;
+        Ok(FlightView {
+            outbound: self.lists.outbound_of(flight),
+            waybills: numbers.len() as u16,
+            load: self.load_on(awb, flight),
+        })
+    }
+
+    /// A waybill that is built on a flight.
+    fn aboard(&self, awb: &Awb, flight: &FlightDate) -> FlightLoad
+        requires declared { IsSome ((cargo_of self.now.lists).declared awb.now) }
+        ensures { result ≡ aboard_of (cargo_of self.now.lists) flight.now awb.now }
+    {
+        FlightLoad {
+            awb: *awb,
+            declared: self.lists.declared_of(awb).unwrap(),
+            load: self.load_on(awb, flight),
+        }
+    }
+
+    /// What is built on a flight, ascending.
+    fn loads(&self, flight: &FlightDate) -> Result<Loads, AllocError>
+        ensures { IfOk result (λ loads. loads ≡ loads_of (cargo_of self.now.lists) flight.now) }
+    {
+        let mut loads = Vec::new(self.lists.alloc);
+        let numbers = self.numbers_on(flight)?;
+        for number in &numbers {
+            loads.push(self.aboard(number, flight))?;
+        }
+        Ok(Loads::new(loads).unwrap())
+    }
+
+    /// What is kept of each line of a manifest that is for here.
+    fn line_rows(&self, flight: &FlightDate, lines: &[InboundLine]) -> Result<LineViews, AllocError>
+        ensures { IfOk result (λ rows. rows ≡ map (line_view_of (cargo_of self.now.lists) flight.now) (lines_for self.now.lists.here lines.now)) }
+    {
+        let mut rows = Vec::new(self.lists.alloc);
+        for line in lines {
+            if line.unload == self.lists.here {
+                let awb = &line.cargo.awb;
+                rows.push(LineView {
+                    declared: self.lists.declared_of(awb),
+                    holder: self.lists.stock.get(awb),
+                    expected: self.lists.expected_of(flight, awb),
+                })?;
+            }
+        }
+        Ok(LineViews::new(rows))
+    }
+}
+
+impl PlainCargo {
+    /// What the declaration of a waybill is planned from.
+    fn declaration_rows(&self, awb: &Awb) -> Rows
+        ensures { result ≡ rows.Declaration (declaration_view (cargo_of self.now.lists) awb.now) }
+    {
+        Rows::Declaration {
+            waybill: DeclarationView {
+                declared: self.lists.declared_of(awb),
+                has_moves: is_moved(self.lists.book.as_slice(), awb),
+                holder: self.lists.stock.get(awb),
+            },
+        }
+    }
+
+    /// A waybill with its balances.
+    fn waybill_view(&self, awb: &Awb) -> WaybillView
+        ensures { result ≡ waybill_view (cargo_of self.now.lists) awb.now }
+    {
+        WaybillView {
+            declared: self.lists.declared_of(awb),
+            balances: self.balances(awb),
+        }
+    }
+
+    /// What a command on a waybill is planned from.
+    fn waybill_rows(&self, awb: &Awb) -> Rows
+        ensures { result ≡ rows.Waybill (waybill_view (cargo_of self.now.lists) awb.now) }
+    {
+        Rows::Waybill {
+            waybill: self.waybill_view(awb),
+        }
+    }
+
+    /// What the building of a waybill on a flight is planned from.
+    fn manifest_rows(&self, awb: &Awb, flight: &FlightDate) -> Result<Rows, AllocError>
+        ensures { IfOk result (λ made. made ≡ rows.Manifest (waybill_view (cargo_of self.now.lists) awb.now) (flight_view (cargo_of self.now.lists) awb.now flight.now)) }
+    {
+        Ok(Rows::Manifest {
+            waybill: self.waybill_view(awb),
+            flight: self.flight_view(awb, flight)?,
+        })
+    }
+
+    /// What taking a waybill off a flight is planned from.
+    fn offload_rows(&self, awb: &Awb, flight: &FlightDate) -> Rows
+        ensures { result ≡ rows.Offload ((cargo_of self.now.lists).declared awb.now) ((cargo_of self.now.lists).flights flight.now) (built self.now.lists.book.items awb.now flight.now) }
+    {
+        Rows::Offload {
+            declared: self.lists.declared_of(awb),
+            outbound: self.lists.outbound_of(flight),
+            load: self.load_on(awb, flight),
+        }
+    }
+
+    /// What the check-in of a waybill is planned from.
+    fn check_in_rows(&self, awb: &Awb, flight: &FlightDate) -> Rows
+        ensures { result ≡ rows.CheckIn (waybill_view (cargo_of self.now.lists) awb.now) ((cargo_of self.now.lists).expected flight.now awb.now) }
+    {
+        Rows::CheckIn {
+            waybill: self.waybill_view(awb),
+            expected: self.lists.expected_of(flight, awb),
+        }
+    }
+
+    /// What a status update is planned from.
+    fn status_rows(&self, awb: &Awb) -> Rows
+        ensures { result ≡ rows.Status ((cargo_of self.now.lists).declared awb.now) }
+    {
+        Rows::Status {
+            declared: self.lists.declared_of(awb),
+        }
+    }
+
+    /// What a part of a manifest is planned from whose date names no day.
+    fn no_lines(&self) -> Rows
+        ensures { result ≡ rows.Lines false [] }
+    {
+        Rows::Lines {
+            taken: false,
+            lines: LineViews::new(Vec::new(self.lists.alloc)),
+        }
+    }
+
+    /// What a part of a manifest is planned from: nothing where its date names no day.
+    fn part_rows(&self, part: &InboundPart<'_>, at: Moment) -> Result<Rows, AllocError>
+        ensures { IfOk result (λ made. made ≡ rows_for (cargo_of self.now.lists) (order.Ffm part.now) at) }
+    {
+        let Some(day) = day_meant(part.date, at) else {
+            return Ok(self.no_lines());
+        };
+        let flight = FlightDate {
+            flight: part.flight,
+            day,
+        };
+        let key = Part {
+            flight,
+            airport: part.loaded,
+            number: part.number,
+        };
+        Ok(Rows::Lines {
+            taken: self.lists.text_of(&key).is_some(),
+            lines: self.line_rows(&flight, part.lines.as_slice())?,
+        })
+    }
+
+    /// What a command of the desk is planned from.
+    fn desk_rows(&self, command: &DeskCommand, at: Moment) -> Result<Rows, AllocError>
+        ensures { IfOk result (λ made. made ≡ rows_for (cargo_of self.now.lists) (order.Desk command.now) at) }
+    {
+        match command {
+            DeskCommand::Depart { flight } => Ok(Rows::Departure {
+                outbound: self.lists.outbound_of(flight),
+                loads: self.loads(flight)?,
+            }),
+            DeskCommand::Confirm { .. } => Ok(Rows::Messages {
+                confirmed: self.lists.confirmed,
+                last: self.lists.outbox.len() as u32,
+            }),
+            DeskCommand::Manifest { awb, flight, .. } => self.manifest_rows(awb, flight),
+            DeskCommand::Offload { awb, flight, .. } => Ok(self.offload_rows(awb, flight)),
+            DeskCommand::CheckIn { awb, flight, .. } => Ok(self.check_in_rows(awb, flight)),
+            DeskCommand::Book { awb, .. } => Ok(self.declaration_rows(awb)),
+            DeskCommand::Receive { awb, .. } => Ok(self.waybill_rows(awb)),
+            DeskCommand::Notify { awb, .. } => Ok(self.waybill_rows(awb)),
+            DeskCommand::Deliver { awb, .. } => Ok(self.waybill_rows(awb)),
+            DeskCommand::Missing { awb, .. } => Ok(self.waybill_rows(awb)),
+            DeskCommand::Found { awb, .. } => Ok(self.waybill_rows(awb)),
+        }
+    }
+
+    /// What a command is planned from: all that the state has for it.
+    pub(crate) fn view(&self, command: &ShipmentCommand<'_>, at: Moment) -> Result<View, AllocError>
+        ensures { IfOk result (λ view. view ≡ view_of (cargo_of self.now.lists) command.now at) }
+    {
+        let rows = match command {
+            ShipmentCommand::Desk(desk) => self.desk_rows(desk.get(), at)?,
+            ShipmentCommand::Fwb(line) => self.declaration_rows(&line.get().awb),
+            ShipmentCommand::Ffm(part) => self.part_rows(part, at)?,
+            ShipmentCommand::Fsu(status) => self.status_rows(&status.awb),
+        };
+        Ok(View {
+            here: self.lists.here,
+            rows,
+        })
+    }
+}

@@ -1,0 +1,216 @@
+//! What an accepted command changes.
+ghost use Rattle.std.specs.Prelude.{◌≡◌, ◌==◌, ◌+◌, if◌then◌else◌, nat_le, ℕ, Some, Ok, [], ◌∷◌, ◌++◌, map, IfOk, OnOk, OnErr};
+ghost use Rattle.agent_stock.specs.Plain.{holders_of};
+ghost use Rattle.agent_stock.specs.declared.stock.Holder.TheVariants.{Used};
+ghost use Rattle.shipment_machine.specs.Cargo.{written, written_all};
+ghost use Rattle.plain_station.specs.Lists.{cargo_of, texts_in};
+ghost use Rattle.plain_station.specs.Next.{cargo_with};
+ghost use Rattle.plain_station.specs.Doing.{Does};
+ghost use Rattle.station_core.specs.Step.{cargo_acted, sent, has_room};
+ghost use Rattle.telegrams.specs.NoticeText.{notice_text};
+ghost use Rattle.shipment_machine.specs.Agreement.{outcome_of};
+ghost use Rattle.plain_station.specs.declared.lists.CargoLists.{CargoLists};
+
+use crate::lists::CargoLists;
+use crate::rows::{DeclaredRow, ExpectedRow, FlightRow, PartRow, TrailRow};
+use agent_stock::{Holder, PlainRows, Run, StockRows};
+use awb_number::Awb;
+use shipment_machine::{Change, Detail, Move, Notice, Plan, Refusal};
+use station_core::ActFault;
+use std::alloc::{AllocError, Global};
+use telegrams::notice_text;
+
+/// An agent's number is used up.
+fn use_up(stock: &mut PlainRows, awb: &Awb) -> Result<(), AllocError>
+    ensures { OnOk result ((q : ℕ) → holders_of stock.new q ≡ (if q == awb.now then Some Used else holders_of stock.old q)) }
+{
+    stock.assign(&Run::of_one(*awb), &Holder::Used)
+}
+
+/// The rows that a command changes, made beside those that are kept.
+#[derive(Drop)]
+pub(crate) struct Next {
+    alloc: Global,
+    stock: PlainRows,
+    declared: Vec<DeclaredRow>,
+    flights: Vec<FlightRow>,
+    expected: Vec<ExpectedRow>,
+    // Parts and lines that are new.
+    parts: Vec<PartRow>,
+    trail: Vec<TrailRow>,
+    confirmed: u32,
+}
+
+impl Next {
+    /// The rows as they are.
+    fn of(cargo: &CargoLists) -> Result<Next, AllocError>
+        ensures { IfOk result (λ next. cargo_with cargo.now next ≡ cargo_of cargo.now) }
+    {
+        Ok(Next {
+            alloc: cargo.alloc,
+            stock: cargo.stock.try_clone()?,
+            declared: Vec::from_slice(cargo.alloc, &cargo.declared)?,
+            flights: Vec::from_slice(cargo.alloc, &cargo.flights)?,
+            expected: Vec::from_slice(cargo.alloc, &cargo.expected)?,
+            parts: Vec::new(cargo.alloc),
+            trail: Vec::new(cargo.alloc),
+            confirmed: cargo.confirmed,
+        })
+    }
+
+    /// Writes a row, where the telegram in work has this text.
+    fn write(&mut self, text: &[u8], change: &Change<'_>) -> Result<(), AllocError>
+        ensures { (c : CargoLists) → OnOk result (cargo_with c self.new ≡ written text.now change.now (cargo_with c self.old)) }
+    {
+        match change {
+            Change::Declare { awb, declared } => {
+                let row = DeclaredRow {
+                    awb: *awb,
+                    declared: *declared,
+                };
+                self.declared.insert(0, row)?;
+            }
+            Change::UseUp { awb } => use_up(&mut self.stock, awb)?,
+            Change::NoteFlight { flight, outbound } => {
+                let row = FlightRow {
+                    flight: *flight,
+                    outbound: *outbound,
+                };
+                self.flights.insert(0, row)?;
+            }
+            Change::Expect {
+                flight,
+                awb,
+                expected,
+            } => {
+                let row = ExpectedRow {
+                    flight: *flight,
+                    awb: *awb,
+                    expected: *expected,
+                };
+                self.expected.insert(0, row)?;
+            }
+            Change::NotePart { part } => {
+                let row = PartRow {
+                    part: *part,
+                    text: Vec::from_slice(self.alloc, text)?,
+                };
+                self.parts.insert(0, row)?;
+            }
+            Change::Trail { awb, line } => {
+                let row = TrailRow {
+                    awb: *awb,
+                    line: Vec::from_slice(self.alloc, line.as_bytes())?,
+                };
+                self.trail.push(row)?;
+            }
+            Change::Confirm { upto } => self.confirmed = *upto,
+        }
+        Ok(())
+    }
+
+    /// The rows after some were written, in order.
+    fn after(cargo: &CargoLists, text: &[u8], changes: &[Change<'_>]) -> Result<Next, AllocError>
+        ensures { IfOk result (λ next. cargo_with cargo.now next ≡ written_all text.now changes.now (cargo_of cargo.now)) }
+    {
+        let mut next = Next::of(cargo)?;
+        for change in changes {
+            next.write(text, change)?;
+        }
+        Ok(next)
+    }
+}
+
+/// Appends the text of a message.
+fn put_text(alloc: Global, texts: &mut Vec<Vec<u8>>, notice: &Notice) -> Result<(), AllocError>
+    ensures { OnOk result (texts_in texts.new.items ≡ texts_in texts.old.items ++ notice_text notice.now ∷ []) }
+{
+    let text = notice_text(alloc, notice)?;
+    texts.push(text)?;
+    Ok(())
+}
+
+/// The texts of messages, in order.
+fn texts_of(alloc: Global, notices: &[Notice]) -> Result<Vec<Vec<u8>>, AllocError>
+    ensures { IfOk result (λ texts. texts_in texts.items ≡ map notice_text notices.now) }
+{
+    let mut texts = Vec::new(alloc);
+    for notice in notices {
+        put_text(alloc, &mut texts, notice)?;
+    }
+    Ok(texts)
+}
+
+/// Whether rows and some more are no more than can be numbered.
+fn can_be_numbered(rows: usize, more: usize) -> bool
+    ensures { result ≡ nat_le (rows + more) 4_294_967_295 }
+{
+    let most = u32::MAX as usize;
+    rows <= most && more <= most - rows
+}
+
+impl CargoLists {
+    /// Whether the moves, the trail and the messages can be numbered once rows are taken over.
+    fn has_room_for(&self, next: &Next, moves: &[Move], messages: &Vec<Vec<u8>>) -> bool
+        ensures { result ≡ has_room (sent (texts_in messages.now.items) (record (cargo_with self.now next.now) { book = self.now.book.items ++ moves.now })) }
+    {
+        can_be_numbered(self.book.len(), moves.len())
+            && can_be_numbered(self.trail.len(), next.trail.len())
+            && can_be_numbered(self.outbox.len(), messages.len())
+    }
+
+    /// Takes rows over, with moves and messages behind the others.
+    fn take_over(
+        &mut self,
+        mut next: Next,
+        moves: &[Move],
+        mut messages: Vec<Vec<u8>>,
+    ) -> Result<(), AllocError>
+        ensures ok { OnOk result (cargo_of self.new ≡ sent (texts_in messages.items) (record (cargo_with self.old next) { book = self.old.book.items ++ moves.now })) }
+        ensures err { OnErr result (cargo_of self.new ≡ cargo_of self.old) }
+    {
+        self.book.try_reserve(moves.len())?;
+        self.trail.try_reserve(next.trail.len())?;
+        self.outbox.try_reserve(messages.len())?;
+        next.parts.append(&mut self.parts)?;
+        let Ok(()) = self.book.extend_from_slice(moves) else {
+            unreachable!();
+        };
+        let Ok(()) = self.trail.append(&mut next.trail) else {
+            unreachable!();
+        };
+        let Ok(()) = self.outbox.append(&mut messages) else {
+            unreachable!();
+        };
+        self.stock = next.stock;
+        self.declared = next.declared;
+        self.flights = next.flights;
+        self.expected = next.expected;
+        self.parts = next.parts;
+        self.confirmed = next.confirmed;
+        Ok(())
+    }
+
+    /// Does what a plan says, where the telegram in work has this text: its rows are written, and its moves and its messages
+    /// stand behind the others. A fault changes nothing: it is refused where the rows couldn't all be numbered afterwards.
+    pub(crate) fn carry_out(&mut self, text: &[u8], plan: &Plan<'_>) -> Result<u32, ActFault>
+        ensures { Does (cargo_acted text.now (cargo_of self.old) (Ok (outcome_of plan.now))) (cargo_of self.old) result (cargo_of self.new) }
+    {
+        let Ok(messages) = texts_of(self.alloc, &plan.notices) else {
+            return Err(ActFault::Memory);
+        };
+        let Ok(next) = Next::after(self, text, &plan.changes) else {
+            return Err(ActFault::Memory);
+        };
+        if !self.has_room_for(&next, &plan.moves, &messages) {
+            return Err(ActFault::Refused(Refusal {
+                number: 402,
+                detail: Detail::Nothing,
+            }));
+        }
+        match self.take_over(next, &plan.moves, messages) {
+            Ok(()) => Ok(plan.count),
+            Err(_) => Err(ActFault::Memory),
+        }
+    }
+}
