@@ -120,7 +120,7 @@ module _ (flights : List FlightDate) (sums : BookSums) (book : List Move) (are :
   numbered = each_looked_up build_place_cmp build_places_total sums.builds.entries up IsNumbered
       (λ q v is. due_numbered q.awb (slice_get flights q.flight) (build_of v) (sym (are.builds q.flight q.awb) ∙ ap (option_map build_of) is))
 
-  -- what is told of a listed flight
+  -- what is said of a listed flight
   pub told_on : (i w : ℕ) (f : FlightDate) → slice_get flights i ≡ Some f → option_map meant (told i w) ≡ unless_nothing (running book w (Built f))
   told_on i w f is = meant_build (told i w) (unless_nothing (running book w (Built f))) (are.builds i (pos w) ∙ ap (build_due (running book) (pos w)) is)
 

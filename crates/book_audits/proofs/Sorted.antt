@@ -37,7 +37,7 @@ module _ {K V : Type 0} (R : K → K → Ordering) where
       subst (AllByRecursion P) (entries-from_sorted R es sorted)
       (each_entry R total P (from_sorted es) (λ q v is. h q v (lookup_is es q ∙ sym (get-from_sorted R es q sorted) ∙ is)))
 
-  -- a map that answers as sorted entries do has those entries
+  -- a map whose values are those of sorted entries has those entries
   pub entries_are : IsTotalOrder R → IsAntisymmetric R → (m : FinMap R V) (es : List (K × V)) → T (is_sorted R es) → ((q : K) → get m q ≡ find R q es) → entries m ≡ es
   entries_are total same m es sorted is =
       let one : m ≡ from_sorted es = same_map total same m (from_sorted es) (λ q. is q ∙ sym (get-from_sorted R es q sorted)) in

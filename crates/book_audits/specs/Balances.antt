@@ -1,4 +1,4 @@
--- Whether the balances of a station are lawful, and the tests of a book's sums that tell it.
+-- Whether the balances of a station are lawful, and the tests of a book's sums that decide it.
 use Rattle.std.specs.Prelude.{◌≡◌, ◌≤◌, ℕ, ℤ, pos, neg_ℤ, int_lt, int_le, ◌==◌, Bool, false, not, ◌&&◌, if◌then◌else◌, IsTrue, Option, Some, None, List, length, slice_get}
 use Rattle.std.specs.List.{filter}
 use Rattle.std.specs.BTreeMap.{get}

@@ -69,7 +69,7 @@ count_told sums (awb, place) = option_map count_of (get count_place_cmp sums.cou
 abbrev pub build_told : BookSums → ℕ → ℤ → Option Build
 build_told sums flight awb = option_map build_of (get build_place_cmp sums.builds (record { flight = flight; awb = awb }))
 
--- what there is to tell
+-- what there is to say
 abbrev pub build_due : Sums → ℤ → Option FlightDate → Option Build
 build_due s (pos w) (Some f) = option_map build_row (unless_nothing (s w (Built f)))
 build_due s _ _ = None

@@ -277,3 +277,16 @@ list_build_where = op2 (Compare Eq Binary) (col 1 1) (col 0 0) ∷ op2 (Compare 
 pub list_build_is : Asks station_schema list_build_text (one_table 20 list_build_where build_columns (by_column 3 ∷ [])) build_names
 unfolding understood everything
 list_build_is = (refl, (refl, refl), refl)
+
+abbrev pub list_pieces_text : List ℕ
+list_pieces_text = codes "SELECT pieces FROM build WHERE flight = ?1 AND day = ?2 ORDER BY awb"
+
+abbrev pub list_pieces_columns : List Term
+list_pieces_columns = col 1 4 ∷ []
+
+abbrev pub list_pieces_names : List (List ℕ)
+list_pieces_names = codes "pieces" ∷ []
+
+pub list_pieces_is : Asks station_schema list_pieces_text (one_table 20 list_build_where list_pieces_columns (by_column 3 ∷ [])) list_pieces_names
+unfolding understood everything
+list_pieces_is = (refl, (refl, refl), refl)

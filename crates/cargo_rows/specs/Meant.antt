@@ -122,3 +122,7 @@ without_build key tables = record tables { builds = remove tables.builds key }
 -- the row is of this flight and day
 abbrev pub is_on : List ℕ → ℤ → BuildKey × Build → Bool
 is_on flight day e = eq_by_cmp bytes_cmp e.0.0 flight && int_eq e.0.1.0 day
+
+-- the pieces of a row
+abbrev pub pieces_in : BuildKey × Build → ℤ
+pieces_in e = e.1.pieces

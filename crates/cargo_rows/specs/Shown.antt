@@ -1,5 +1,5 @@
 -- The rows that queries show, and back.
-use Rattle.std.specs.Prelude.{[], ◌∷◌}
+use Rattle.std.specs.Prelude.{ℤ, [], ◌∷◌}
 use Rattle.sqlite.specs.declared.types.Value.TheVariants.{Int, Text}
 use Rattle.sqlite.specs.Order.{Row, column}
 use Rattle.sqlite_typed.specs.Columns.{int_of, bytes_of}
@@ -55,3 +55,9 @@ count_read r = ((int_of (column r 0), int_of (column r 1)), record { pieces = in
 
 abbrev pub build_read : Row → BuildKey × Build
 build_read r = ((bytes_of (column r 0), (int_of (column r 1), int_of (column r 2))), record { pieces = int_of (column r 3); tenths = int_of (column r 4) })
+
+abbrev pub pieces_shown : ℤ → Row
+pieces_shown pieces = Int pieces ∷ []
+
+abbrev pub pieces_read : Row → ℤ
+pieces_read r = int_of (column r 0)

@@ -2,8 +2,8 @@ ghost use Rattle.std.specs.Prelude.{◌≡◌, map, filter, option_map, option_t
 ghost use Rattle.std.specs.FinMap.{entries, get};
 ghost use Rattle.row_schema.specs.Calls.{Alters, CommitsNothing, LeavesAll, Tells};
 ghost use Rattle.row_schema.specs.Tables.{build_row};
-ghost use Rattle.cargo_rows.specs.Shown.{build_read};
-ghost use Rattle.cargo_rows.specs.Meant.{build_meant, changing_build, is_on, with_build, without_build};
+ghost use Rattle.cargo_rows.specs.Shown.{build_read, pieces_read, pieces_shown};
+ghost use Rattle.cargo_rows.specs.Meant.{build_meant, changing_build, is_on, pieces_in, with_build, without_build};
 
 use sqlite::{Alter, Connection, Error, Row, params};
 use std::alloc::Global;
@@ -152,4 +152,52 @@ pub fn builds_on<S: Alter>(
 {
     let rows = shown_builds_on(conn, flight, day)?;
     read_builds(*rows.allocator(), &rows)
+}
+
+fn shown_pieces_on<S: Alter>(
+    conn: &mut Connection<S>,
+    flight: &str,
+    day: i64,
+) -> Result<Vec<Row>, Error>
+    ensures read { Tells S.Store conn.old conn.new result
+        (λ tables rows. rows.items
+        ≡ map pieces_shown (map pieces_in (filter (is_on flight.now day) (entries tables.builds)))) }
+    ensures survives { LeavesAll S.Store conn.old conn.new }
+{
+    conn.query_all(
+        "SELECT pieces FROM build WHERE flight = ?1 AND day = ?2 ORDER BY awb",
+        params![flight, &day],
+    )
+}
+
+fn read_pieces(row: &Row) -> Result<i64, Error>
+    ensures { IfOk result (λ pieces. pieces ≡ pieces_read row.now) }
+{
+    Ok(row.get(0)?)
+}
+
+fn read_all_pieces(alloc: Global, rows: &[Row]) -> Result<Vec<i64>, Error>
+    ensures { IfOk result (λ all. all.items ≡ map pieces_read rows.now) }
+{
+    let mut all = Vec::new(alloc);
+    for row in rows {
+        all.push(read_pieces(row)?)?;
+    }
+    Ok(all)
+}
+
+/// The pieces of what a flight of a day carries, by waybill: one column alone, where a row isn't needed whole. It fails
+/// where the database call fails or memory runs out.
+pub fn pieces_on<S: Alter>(
+    conn: &mut Connection<S>,
+    flight: &str,
+    day: i64,
+) -> Result<Vec<i64>, Error>
+    ensures read { Tells S.Store conn.old conn.new result
+        (λ tables all. all.items
+        ≡ map pieces_in (filter (is_on flight.now day) (entries tables.builds))) }
+    ensures survives { LeavesAll S.Store conn.old conn.new }
+{
+    let rows = shown_pieces_on(conn, flight, day)?;
+    read_all_pieces(*rows.allocator(), &rows)
 }

@@ -10,7 +10,9 @@ mod flights;
 mod moves;
 mod waybills;
 
-pub use builds::{BuildRow, build_row, builds_on, delete_build, insert_build, update_build};
+pub use builds::{
+    BuildRow, build_row, builds_on, delete_build, insert_build, pieces_on, update_build,
+};
 pub use counts::{CountRow, counts_of, delete_count, insert_count, update_count};
 pub use expected::{ExpectedRow, expected_row, insert_expected, update_expected};
 pub use flights::{FlightRow, flight_row, insert_flight, update_flight};

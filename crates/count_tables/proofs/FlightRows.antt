@@ -1,14 +1,16 @@
 -- The rows of a flight are its loads.
-use Rattle.std.proofs.Common.{◌≡◌, ℕ, ◌<◌, ◌-◌, ℤ, pos, ◌-ℤ◌, int_lt, nat_lt, ◌==◌, Bool, true, false, cond, ◌&&◌, ◌||◌, List, [], ◌∷◌, map, Some, None, option_map, refl, sym, ap, ap₂, subst, ◌∙◌, true≢false, arith, int_cmp, int_eq, Less}
+use Rattle.std.proofs.Common.{◌≡◌, ℕ, suc, ◌<◌, ◌-◌, ℤ, pos, negsuc, ◌-ℤ◌, int_lt, nat_lt, ◌==◌, Bool, true, false, cond, ◌&&◌, ◌||◌, List, [], ◌∷◌, length, map, Some, None, option_map, refl, sym, ap, ap₂, subst, ◌∙◌, true≢false, arith, int_cmp, int_eq, Less}
 use Rattle.std.specs.List.{filter, list_any, AllByRecursion}
 use Rattle.std.specs.Ordering.{eq_by_cmp, ordering_then}
 use Rattle.std.specs.Cmp.{tied_itself, int_cmp_total}
 use Rattle.std.specs.FinMap.{FinMap, entries, get, get-entries}
 use Rattle.std.specs.FinMap as map_of
 use Rattle.std.proofs.lemmas.Int.{ints}
+use Rattle.std.proofs.lemmas.List.{length-map}
 use Rattle.std.proofs.lemmas.Bool.Decides.{nat_tests}
 use Rattle.sqlite.specs.Tree.{IsAscending}
-use Rattle.sqlite_keyed.proofs.ListLemmas.{all_weaker}
+use Rattle.sqlite_keyed.proofs.ListLemmas.{all_both, all_weaker}
+use Rattle.sqlite_trees.proofs.ListLemmas.{map-map}
 use Rattle.sqlite_typed.specs.Tests.{bytes_cmp}
 use Rattle.imp_fields.specs.Flight.{IsDesignator, flight_text}
 use Rattle.shipment_machine.specs.Book.{pieces_of, moved_in, moved_out, same_place, built, waybills_on}
@@ -23,10 +25,11 @@ use Rattle.state_store.specs.declared.store.Load.{Load}
 use Rattle.row_laws.proofs.Keys.{texts_total, first_true, second_true}
 use Rattle.row_laws.proofs.Maps.{entries_rise, ascending_where, all_passed}
 use Rattle.row_schema.specs.Tables.{Build, BuildKey, build_cmp}
-use Rattle.cargo_rows.specs.Meant.{is_on}
+use Rattle.cargo_rows.specs.Meant.{is_on, pieces_in}
+use Rattle.row_values.specs.Numbers.{natural}
 use Rattle.row_values.specs.Counts.{Running, running, running_on, build_row, is_nothing, AreBuilds}
 use Rattle.count_tables.specs.Loaded.{load_said, row_said, is_loaded}
-use Rattle.count_tables.proofs.Tests.{same_bool, some_is, is_int, int_itself, both_true}
+use Rattle.count_tables.proofs.Tests.{same_bool, none_is, some_is, is_int, int_itself, both_true}
 use Rattle.count_tables.proofs.Storing.{row_is}
 use Rattle.count_tables.proofs.Written.{is_text, text_itself}
 use Rattle.count_tables.proofs.Keeping.{builds_total, builds_same}
@@ -46,10 +49,6 @@ filtered Q p (x ∷ xs) all = go (p x) refl (filtered Q p xs all.1)
 mapped : {X Y : Type 0} (Q : Y → Type 0) (g : X → Y) (xs : List X) → AllByRecursion (λ x. Q (g x)) xs → AllByRecursion Q (map g xs)
 mapped Q g [] all = tt
 mapped Q g (x ∷ xs) all = (all.0, mapped Q g xs all.1)
-
-unmapped : {X Y : Type 0} (Q : Y → Type 0) (g : X → Y) (xs : List X) → AllByRecursion Q (map g xs) → AllByRecursion (λ x. Q (g x)) xs
-unmapped Q g [] all = tt
-unmapped Q g (x ∷ xs) all = (all.0, unmapped Q g xs all.1)
 
 rises_filtered : {X : Type 0} (S : X → X → Type 0) (p : X → Bool) (xs : List X) → IsAscending S xs → IsAscending S (filter p xs)
 rises_filtered S p [] up = tt
@@ -149,6 +148,42 @@ said_rise text day builds =
     (above text day) (filter (is_on text day) (entries builds)) (all_passed (is_on text day) (entries builds))
     (rises_filtered (λ (a b : BuildKey × Build). build_cmp a.0 b.0 ≡ Less) (is_on text day) (entries builds) (entries_rise build_cmp builds_total builds))))
 
+-- ---- the numbers of rows
+
+abbrev number_in : ℤ × Running → ℕ
+number_in s = natural s.0
+
+abbrev IsNumber : ℤ × Running → Type 0
+IsNumber s = s.0 ≡ pos (natural s.0)
+
+numbers_rise : (xs : List (ℤ × Running)) → AllByRecursion IsNumber xs → IsAscending IsBelow xs → Rising (map number_in xs)
+numbers_rise [] all up = tt
+numbers_rise (s ∷ xs) all up = (
+  mapped (λ n. number_in s < n) number_in xs (all_both IsNumber (IsBelow s) (λ (t : ℤ × Running). number_in s < number_in t)
+      (λ t is below. less (number_in s) (number_in t) (sym (ap₂ int_cmp all.0 is) ∙ below)) xs all.1 up.0),
+  numbers_rise xs all.1 up.1,
+)
+  where
+    less : (a b : ℕ) → int_cmp (pos a) (pos b) ≡ Less → a < b
+    less a b h = grind (arith, ints)
+
+numbers_have : (w : ℕ) (xs : List (ℤ × Running)) → AllByRecursion IsNumber xs → is_in w (map number_in xs) ≡ list_any (is_number w) xs
+numbers_have w [] all = refl
+numbers_have w (s ∷ xs) all = ap₂ ◌||◌ (same (number_in s) w ∙ ap (λ z. int_eq z (pos w)) (sym all.0)) (numbers_have w xs all.1)
+  where
+    same : (a b : ℕ) → (a == b) ≡ int_eq (pos a) (pos b)
+    same a b = grind (arith, ints, nat_tests)
+
+-- as many amounts above 0 as rows with pieces
+as_many : (es : List (BuildKey × Build)) → length (filter (int_lt (pos 0)) (map pieces_in es)) ≡ length (filter is_loaded (map row_said es))
+as_many [] = refl
+as_many (e ∷ es) = go (int_lt (pos 0) e.1.pieces) (as_many es)
+  where
+    go : (b : Bool) → length (filter (int_lt (pos 0)) (map pieces_in es)) ≡ length (filter is_loaded (map row_said es))
+        → length (cond b (e.1.pieces ∷ filter (int_lt (pos 0)) (map pieces_in es)) (filter (int_lt (pos 0)) (map pieces_in es))) ≡ length (cond b (row_said e ∷ filter is_loaded (map row_said es)) (filter is_loaded (map row_said es)))
+    go true more = ap suc more
+    go false more = more
+
 positive : (x y : ℕ) → int_lt (pos 0) (pos x -ℤ pos y) ≡ nat_lt 0 (x - y)
 positive x y = grind (arith, ints, nat_tests)
 
@@ -187,25 +222,40 @@ module _ (builds : FinMap build_cmp Build) (book : List Move) (f : FlightDate) (
       (sym (get-entries builds (flight_text f.flight, (pos f.day, pos w))) ∙ at_flight builds book are w f designator
       ∙ ap (λ b. option_map build_row (cond b None (Some (running book w (Built f))))) (not_nothing (running book w (Built f)) some)))
 
+  -- ---- waybills
+
+  abbrev said : List (ℤ × Running)
+  said = filter is_loaded (rows_of f builds)
+
+  all_numbers : AllByRecursion IsNumber said
+  all_numbers =
+      filtered IsNumber is_loaded (rows_of f builds)
+      (all_weaker IsNumber (λ (s : ℤ × Running). is_loaded s ≡ true → IsNumber s) (λ s is loaded. is) (rows_of f builds)
+      (mapped IsNumber row_said (filter (is_on (flight_text f.flight) (pos f.day)) (entries builds))
+      (filtered (λ (e : BuildKey × Build). IsNumber (row_said e)) (is_on (flight_text f.flight) (pos f.day)) (entries builds)
+      (each_entry build_cmp builds_total (λ (e : BuildKey × Build). is_on (flight_text f.flight) (pos f.day) e ≡ true → IsNumber (row_said e)) builds one))))
+    where
+      one : (q : BuildKey) (v : Build) → get builds q ≡ Some v → is_on (flight_text f.flight) (pos f.day) (q, v) ≡ true → q.1.1 ≡ pos (natural q.1.1)
+      one q v has on = go q.1.1 refl
+        where
+          day : q.1.0 ≡ pos f.day
+          day = is_int q.1.0 (pos f.day) (second_true (eq_by_cmp bytes_cmp q.0 (flight_text f.flight)) (int_eq q.1.0 (pos f.day)) on)
+
+          go : (z : ℤ) → q.1.1 ≡ z → z ≡ pos (natural z)
+          go (pos n) at = refl
+          go (negsuc n) at = absurd (true≢false (sym (none_is v (sym (are (q.0, (pos f.day, negsuc n))) ∙ sym (λ i. get builds (q.0, (day i, at i))) ∙ has))))
+
+  numbers_are : map number_in said ≡ waybills_on book f
+  numbers_are = same_rising _ _
+      (numbers_rise said all_numbers (said_rise (flight_text f.flight) (pos f.day) builds))
+      (Rising-filter _ _ (Rising-waybills_of book))
+      (λ w. numbers_have w said all_numbers ∙ number_said w ∙ sym (is_in-waybills_on w book f))
+
+  -- as many as there are rows with pieces
+  pub number_is : length (filter (int_lt (pos 0)) (map pieces_in (filter (is_on (flight_text f.flight) (pos f.day)) (entries builds)))) ≡ length (waybills_on book f)
+  number_is = as_many (filter (is_on (flight_text f.flight) (pos f.day)) (entries builds)) ∙ sym (length-map said number_in) ∙ ap length numbers_are
+
   -- ---- loads
-
-  rising : (loads : List Load) → IsAscending IsBelow (map load_said loads) → Rising (map (λ (l : Load). l.awb) loads)
-  rising [] up = tt
-  rising (l ∷ loads) up = (
-    mapped (λ n. l.awb < n) (λ (k : Load). k.awb) loads (all_weaker (λ (k : Load). int_cmp (pos l.awb) (pos k.awb) ≡ Less) (λ (k : Load). l.awb < k.awb) (λ k h. less l.awb k.awb h) loads
-        (unmapped (λ (s : ℤ × Running). int_cmp (pos l.awb) s.0 ≡ Less) load_said loads up.0)),
-    rising loads up.1,
-  )
-    where
-      less : (a b : ℕ) → int_cmp (pos a) (pos b) ≡ Less → a < b
-      less a b h = grind (arith, ints)
-
-  members : (w : ℕ) (loads : List Load) → is_in w (map (λ (l : Load). l.awb) loads) ≡ list_any (is_number w) (map load_said loads)
-  members w [] = refl
-  members w (l ∷ loads) = ap₂ ◌||◌ (same l.awb w) (members w loads)
-    where
-      same : (a b : ℕ) → (a == b) ≡ int_eq (pos a) (pos b)
-      same a b = grind (arith, ints, nat_tests)
 
   amounts : (loads : List Load) → AllByRecursion (IsBuilt book f) (map load_said loads) → loads ≡ map (load_on book f) (map (λ (l : Load). l.awb) loads)
   amounts [] all = refl
@@ -214,13 +264,10 @@ module _ (builds : FinMap build_cmp Build) (book : List Move) (f : FlightDate) (
       let first : l ≡ load_on book f l.awb = λ i. record { awb = l.awb; amount = amount i } in
       ap₂ ◌∷◌ first (amounts loads all.1)
 
-  pub loads_are : (loads : List Load) → map load_said loads ≡ filter is_loaded (rows_of f builds) → loads ≡ loads_on book f
+  pub loads_are : (loads : List Load) → map load_said loads ≡ said → loads ≡ loads_on book f
   loads_are loads are_said =
       let all = filtered (IsBuilt book f) is_loaded (rows_of f builds)
       (all_weaker (IsBuilt book f) (λ (s : ℤ × Running). is_loaded s ≡ true → (w : ℕ) → s.0 ≡ pos w → s.1 ≡ running book w (Built f)) (λ s is loaded. is)
       (rows_of f builds) all_true) in
-      let same : map (λ (l : Load). l.awb) loads ≡ waybills_on book f = same_rising _ _
-      (rising loads (subst (IsAscending IsBelow) (sym are_said) (said_rise (flight_text f.flight) (pos f.day) builds)))
-      (Rising-filter _ _ (Rising-waybills_of book))
-      (λ w. members w loads ∙ ap (list_any (is_number w)) are_said ∙ number_said w ∙ sym (is_in-waybills_on w book f)) in
+      let same : map (λ (l : Load). l.awb) loads ≡ waybills_on book f = sym (map-map number_in load_said loads) ∙ ap (map number_in) are_said ∙ numbers_are in
       amounts loads (subst (AllByRecursion (IsBuilt book f)) (sym are_said) all) ∙ ap (map (load_on book f)) same

@@ -5,7 +5,6 @@ pub mod Written
 pub mod Moved
 pub mod Keeping
 pub mod Found
-pub mod Placing
 pub mod Amounts
 pub mod Stores
 pub mod Entries

@@ -1,4 +1,4 @@
--- What a map answers when a row is stored in it.
+-- The value of a map when a row is stored in it.
 use Rattle.std.proofs.Common.{◌≡◌, pos, Bool, true, false, cond, is_some, Option, Some, None, option_map, unwrap_or, refl, sym, ap, ap₂, ◌∙◌, Ordering}
 use Rattle.std.specs.Cmp.{IsTotalOrder}
 use Rattle.std.specs.Ordering.{eq_by_cmp, int_eq}
@@ -51,7 +51,7 @@ module _ {V : Type 0} (row : Running → V) (amount : V → Running) (again : (r
     get-stored m None false key v q is = get-insert total m key v q
     get-stored m (Some w) false key v q is = ap (λ o. get (unwrap_or (option_map (λ _. insert m key v) o) m) q) is ∙ get-insert total m key v q
 
-    -- a map that answered by one function answers by another, which differs at the key
+    -- a map that was one function is another, which differs at the key
     pub posted_as : (f g : K → Option V) (m : FinMap R V) (key : K) (by s : Running) → ((q : K) → get m q ≡ f q) → f key ≡ option_map row (unless_nothing s)
         → ((q : K) → g q ≡ cond (eq_by_cmp R q key) (option_map row (unless_nothing (plus s by))) (f q))
         → (q : K) → get (stored m (is_nothing (come_to amount (get m key) by)) (is_some (get m key)) key (row (come_to amount (get m key) by))) q ≡ g q

@@ -8,30 +8,15 @@ ghost use Rattle.row_schema.specs.Tables.{Count, count_cmp};
 ghost use Rattle.cargo_rows.specs.Meant.{count_meant, counts_for};
 ghost use Rattle.station_rows.specs.Clauses.{ShowsChange, ShowsStill, WasOpen};
 ghost use Rattle.row_values.specs.Counts.{AreCounts, count_row, running_in};
-ghost use Rattle.row_values.specs.Moves.{place_code};
 ghost use Rattle.count_tables.specs.Sums.{is_built};
 ghost use Rattle.count_tables.specs.Stored.{meant, storing_count, posting_count};
 
 use crate::fields::number_of;
 use crate::tally::{Tally, count_tally};
 use awb_number::Awb;
+use row_values::place_code;
 use shipment_machine::{Amount, Balances, Move, Place};
 use station_rows::{CountRow, StoreFault, TableStore};
-
-/// The number of a place in its column.
-pub(crate) fn code_of(place: &Place) -> i64
-    ensures { result ≡ pos (place_code place.now) }
-{
-    match place {
-        Place::Hand => 0,
-        Place::Surplus => 1,
-        Place::Free => 2,
-        Place::Built(_) => 3,
-        Place::Departed => 4,
-        Place::Delivered => 5,
-        Place::Missing => 6,
-    }
-}
 
 /// The first row of a place.
 fn first_at(rows: &[CountRow], place: i64) -> Option<&CountRow>
@@ -107,7 +92,7 @@ fn held(rows: &[CountRow], place: &Place) -> Result<Amount, StoreFault>
     ensures { (counts : FinMap count_cmp Count) (book : List Move) (w : ℕ) → map count_meant rows.now ≡ filter (counts_for (pos w)) (entries counts) → AreCounts counts book
         → is_built place.now ≡ false → IfOk result (λ amount. amount ≡ held book w (same_place place.now)) }
 {
-    let code = code_of(place);
+    let code = place_code(place);
     match at_place(rows, code) {
         Some(tally) => Ok(tally.amount()?),
         None => Ok(Amount {
@@ -122,7 +107,7 @@ fn drawn(rows: &[CountRow], place: &Place) -> Result<Amount, StoreFault>
     ensures { (counts : FinMap count_cmp Count) (book : List Move) (w : ℕ) → map count_meant rows.now ≡ filter (counts_for (pos w)) (entries counts) → AreCounts counts book
         → is_built place.now ≡ false → IfOk result (λ amount. amount ≡ drawn book w (same_place place.now)) }
 {
-    let code = code_of(place);
+    let code = place_code(place);
     match at_place(rows, code) {
         Some(tally) => Ok(tally.shortfall()?),
         None => Ok(Amount {

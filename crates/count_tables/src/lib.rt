@@ -7,10 +7,8 @@ mod fields;
 mod loading;
 mod posting;
 mod tally;
-mod waybills;
 
 pub use building::load;
 pub use counting::balances;
-pub use loading::aboard;
+pub use loading::{aboard, waybills_on};
 pub use posting::post_move;
-pub use waybills::waybills_in;

@@ -1,4 +1,5 @@
-ghost use Rattle.std.specs.Prelude.{◌≡◌, ◌∷◌, ◌++◌, [], pos, List, map, filter, IfOk, OnOk};
+ghost use Rattle.std.specs.Prelude.{◌≡◌, ◌∷◌, ◌++◌, [], pos, int_lt, length, List, map, filter, IfOk, OnOk};
+ghost use Rattle.shipment_machine.specs.Book.{waybills_on};
 ghost use Rattle.state_store.specs.Told.{loads_on};
 ghost use Rattle.row_schema.specs.Store.{Seen, Rests, Survives, IsShowing};
 ghost use Rattle.cargo_rows.specs.Meant.{build_meant};
@@ -87,4 +88,32 @@ pub fn aboard<S: TableStore>(
     let rows = store.builds_on(text.as_str(), day)?;
     let loads = loads_in(alloc, &rows)?;
     Ok(loads)
+}
+
+/// How many rows have pieces, by the pieces of each.
+fn count_loaded(pieces: &[i64]) -> usize
+    ensures { result ≡ length (filter (int_lt (pos 0)) pieces.now) }
+{
+    pieces.iter().filter(|count| 0 < **count).count()
+}
+
+/// How many waybills have something built on a flight, inside a transaction or outside. A departure reads each load, by
+/// `aboard`; where their number alone is needed, this reads less of each row. A fault: the database call failed, or memory
+/// ran out. A fault outside changes nothing while the store is open.
+pub fn waybills_on<S: TableStore>(
+    alloc: Global,
+    store: &mut S,
+    flight: &FlightDate,
+) -> Result<usize, StoreFault>
+    ensures value { (x : Seen) → IsShowing (S.view store.old) x → (S.view store.new).IsSound → (book : List Move) → AreBuilds x.now.builds book
+        → IfOk result (λ number. number ≡ length (waybills_on book flight.now)) }
+    ensures same { ShowsStill (S.view store.old) (S.view store.new) result }
+    ensures open { WasOpen (S.view store.old) (S.view store.new) result }
+    ensures rests { (S.view store.new).IsSound → Rests (S.view store.old) (S.view store.new) }
+    ensures survives { Survives (S.view store.old) (S.view store.new) }
+{
+    let text = written(alloc, &flight.flight)?;
+    let day = whole(flight.day.number());
+    let pieces = store.pieces_on(text.as_str(), day)?;
+    Ok(count_loaded(&pieces))
 }

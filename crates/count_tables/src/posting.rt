@@ -7,10 +7,11 @@ ghost use Rattle.count_tables.specs.Stored.{meant};
 ghost use Rattle.count_tables.specs.Posted.{Keeps, Posted};
 
 use crate::building::post_build;
-use crate::counting::{code_of, post_count};
+use crate::counting::post_count;
 use crate::fields::{number_of, whole, written};
 use crate::tally::Tally;
 use awb_number::Awb;
+use row_values::place_code;
 use shipment_machine::{Move, Place};
 use station_rows::{StoreFault, TableStore};
 use std::alloc::Global;
@@ -34,7 +35,7 @@ fn post<S: TableStore>(
         post_build(alloc, store, text.as_str(), day, number, by)?;
         Ok(())
     } else {
-        let code = code_of(place);
+        let code = place_code(place);
         post_count(store, number, code, by)?;
         Ok(())
     }

@@ -32,7 +32,7 @@ fn has_station(schema: &Schema) -> bool
     }
 }
 
-/// What a row says. An error is want of memory.
+/// What a row says. It fails only where memory runs out.
 fn judged_row(alloc: Global, row: &Row) -> Result<StationFound, Error>
     ensures { IfOk result (λ s. found_meant s ≡ found_in_row row.now) }
 {
@@ -61,7 +61,7 @@ fn judged_row(alloc: Global, row: &Row) -> Result<StationFound, Error>
     }
 }
 
-/// What all rows say. An error is want of memory.
+/// What all rows say. It fails only where memory runs out.
 fn judged_rows(alloc: Global, rows: &[Row]) -> Result<StationFound, Error>
     ensures { IfOk result (λ s. found_meant s ≡ found_in_rows rows.now) }
 {

@@ -60,7 +60,7 @@ impl Disk for MemoryFile {
         false
     }
 
-    // A file that tells no lie needs no secret.
+    // A file that always returns what was written needs no secret.
     fn key(&self) -> u64 {
         0
     }
@@ -106,7 +106,7 @@ impl Disk for MemoryFile {
     }
 }
 
-/// Counts a call that failed for memory, and tells it as an error of the file.
+/// Counts a call that failed for memory, and reports it as an error of the file.
 fn count(outcome: Result<(), AllocError>, faults: &mut u64) -> io::Result<()>
     ensures variant { is_ok result ≡ is_ok outcome }
     ensures kind { finds_no_room result ≡ false }

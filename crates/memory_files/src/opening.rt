@@ -42,7 +42,8 @@ fn is_vacant(conn: &Connection<MemoryPages>) -> bool
     schema.tables.is_empty() && schema.indexes.is_empty() && schema.views.is_empty()
 }
 
-/// A connection to a database in memory that has no table. It fails only where memory runs out.
+/// A connection to a database in memory that has no table. It fails where memory runs out. No proof rules out that the library reads
+/// the first page as one of a damaged database: then it fails with `DatabaseCorrupt`.
 pub fn open_pages(alloc: Global) -> Result<Connection<MemoryPages>, Error>
     ensures opened { IfOk result IsOpened }
     ensures vacant { IfOk result (λ c. (file_state c).now.schema ≡ record { tables = []; indexes = []; views = [] }) }

@@ -1,4 +1,4 @@
--- What a query for columns of one table answers, under any schema that has the table.
+-- What a query for columns of one table returns, under any schema that has the table.
 use Rattle.std.proofs.Common.{◌≡◌, inl, inr, ℕ, zero, suc, ◌+◌, List, [], ◌∷◌, map, length, take, Bool, true, false, None, Some, Option, Ok, Err, refl, sym, ap, ap₂, subst, subst₂, ◌∙◌, slice_get, arith, unwrap_or, ◌≤◌}
 use Rattle.std.specs.Prelude.{option_map, option_and_then, if◌then◌else◌, ◌==◌, flat_map}
 use Rattle.std.specs.List.{AllByRecursion}

@@ -34,7 +34,7 @@ pub lost : (trees : Trees) (names : List (List ℕ)) (o : Option Table) → is_w
 lost trees names None h raw e = absurd (cc)
 lost trees names (Some table) h raw e = lost_in trees table (places_by_name table names) h raw e
 
--- ---- as a call tells it
+-- ---- as a call returns it
 
 pub is_there : (schema now : Schema) (name : List ℕ) (names : List (List ℕ)) (told : Bool) → schema ≡ now → told ≡ is_whole schema name names → told ≡ true → is_whole now name names ≡ true
 is_there schema now name names told same is h = ap (λ s. is_whole s name names) (sym same) ∙ sym is ∙ h

@@ -45,7 +45,7 @@ found_at trees names (Some table) = found_in trees table (places_by_name table n
 abbrev pub found : Database → List ℕ → List (List ℕ) → Found
 found db name names = found_at db.trees names (table_by_name db.schema name)
 
--- so many columns, each rising in the order of SQLite's values
+-- so many columns, each ascending in the order of SQLite's values
 abbrev pub rising_keys : ℕ → List Key
 rising_keys zero = []
 rising_keys (suc n) = record { collation = Binary; descending = false } ∷ rising_keys n

@@ -19,7 +19,7 @@ AreShown [] (n ∷ names) = ⊥
 AreShown (s ∷ more) [] = ⊥
 AreShown (s ∷ more) (n ∷ names) = ((e : Expr) × (text : List ℕ) × (out-Shown s ≡ Shown-F.One e None text) × (out-Expr e ≡ Expr-F.Column None n)) × AreShown more names
 
--- the rows are ordered by these columns, rising
+-- the rows are ordered by these columns, ascending
 abbrev pub AreSorts : List Sort → List (List ℕ) → Type 0
 AreSorts [] [] = Unit {0}
 AreSorts [] (n ∷ names) = ⊥

@@ -1,4 +1,4 @@
--- A table of any database as entries in the order of their keys, and what a call tells of one.
+-- A table of any database as entries in the order of their keys, and what a call returns of one.
 use Rattle.std.specs.Prelude.{◌≡◌, ◌≢◌, ℕ, ◌+◌, List, slice_index_or, true, map, Bool, false, is_some, IsTrue, Option, Some, None, Vec, Result}
 use Rattle.std.specs.Ordering.{is_lt}
 use Rattle.std.specs.List.{AllByRecursion}
@@ -51,7 +51,7 @@ pub record AreRowsOf {E : Type 0} (to_row : E → Row) (Are : List E → Type 0)
 abbrev pub Agrees : {E : Type 0} → ℕ → (E → Row) → (E → E → Ordering) → Type 0
 Agrees {E} n to_row cmp = (a b : E) → key_order n (to_row a) (to_row b) ≡ cmp a b
 
--- ---- what a call tells
+-- ---- what a call returns
 
 -- the rows of the table in the order of their first columns; nothing where the table or a column is missing
 abbrev pub ShowsWhole : Found → ℕ → Option (Vec Row Global) → Type 0
@@ -63,7 +63,7 @@ abbrev pub TellsTable : {X E : Type 0} → (X → E) → (List E → Type 0) →
 TellsTable {X} {E} meant Holds None = (entries : List E) → ¬ Holds entries
 TellsTable {X} {E} meant Holds (Some rows) = Holds (map meant rows.items)
 
--- a call that reads a table: the entries that it tells are those that the database holds, and nothing is changed
+-- a call that reads a table: the entries that it returns are those that the database holds, and nothing is changed
 abbrev pub FindsTable : {S X E : Type 0} → Ghosts S → Held S → Held S → Result (Option (Vec X Global)) Error → (X → E) → (Database → List E → Type 0) → Type 0
 FindsTable g old new result meant Holds =
     HasCleanDisk (state g new) → IsTrue (state g old).is_open → Reads (state g old) (state g new) result (TellsTable meant (Holds (state g old).now))

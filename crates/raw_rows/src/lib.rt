@@ -1,5 +1,5 @@
 //! Tables of any database, whatever its schema: each is found by the names of the table and of its columns, read
-//! by one query, and told as typed rows in the order of their keys, or told to be none.
+//! by one query, and given as typed rows in the order of their keys, or found to be none.
 #![tactic(auto)]
 
 mod query;

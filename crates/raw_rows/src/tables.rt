@@ -34,7 +34,7 @@ pub trait KeyedTable {
     /// Its texts are texts.
     ghost IsLawful: { Entry → Type 0 };
 
-    /// The row that the values are, if they are one. An error is want of memory.
+    /// The row that the values are, if they are one. It fails only where memory runs out.
     fn typed(alloc: Global, row: &Row) -> Result<Option<Self::Row>, Error>
         ensures some { IfOk result (λ o. IfSome o (λ r. row.now ≡ to_row (meant r))) }
         ensures lawful { IfOk result (λ o. IfSome o (λ r. IsLawful (meant r))) }
@@ -47,7 +47,7 @@ pub trait KeyedTable {
     ghost back: { (e : Entry) → from_row (to_row e) ≡ e };
 }
 
-/// The typed rows that the rows are, if each is one. An error is want of memory.
+/// The typed rows that the rows are, if each is one. It fails only where memory runs out.
 fn typed_rows<T: KeyedTable>(alloc: Global, rows: &[Row]) -> Result<Option<Vec<T::Row>>, Error>
     ensures some { IfOk result (λ o. IfSome o (λ all. rows.now ≡ map T.to_row (map T.meant all.items))) }
     ensures lawful { IfOk result (λ o. IfSome o (λ all. AllByRecursion T.IsLawful (map T.meant all.items))) }
@@ -78,7 +78,7 @@ fn rises<T: KeyedTable>(rows: &[T::Row]) -> bool
     true
 }
 
-/// The typed rows that the rows are, if each is one and the keys rise. An error is want of memory.
+/// The typed rows that the rows are, if each is one and the keys ascend. It fails only where memory runs out.
 fn ordered_rows<T: KeyedTable>(
     alloc: Global,
     rows: &[Row],

@@ -18,7 +18,7 @@ pub fn number(row: &Row, at: usize) -> Option<i64>
     }
 }
 
-/// The text in a column, if it is one and is UTF-8. An error is want of memory.
+/// The text in a column, if it is one and is UTF-8. It fails only where memory runs out.
 pub fn words(alloc: Global, row: &Row, at: usize) -> Result<Option<String>, Error>
     ensures some { IfOk result (λ o. IfSome o (λ s. column row.now at ≡ Text (string_bytes s))) }
     ensures text { IfOk result (λ o. IfSome o (λ s. is_utf8 (string_bytes s) ≡ true)) }

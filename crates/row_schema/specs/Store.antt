@@ -44,7 +44,7 @@ pub record IsAtRest (v : View) : Type 0 where
   pub same : v.now ≡ v.committed
 
 module _ (old new : View) where
-  -- whatever a call answers: no fault is forgotten, and a crash leaves what it left before
+  -- whatever a call returns: no fault is forgotten, and a crash leaves what it left before
   pub record Survives : Type 0 where
     pub sound : new.IsSound → old.IsSound
     pub crash : new.IsSound → (t : Tables) → new.may_leave t → old.may_leave t
@@ -66,7 +66,7 @@ module _ (old new : View) where
   abbrev pub IsUnchanged : Type 0
   IsUnchanged = Shows old.now old.committed old.in_transaction
 
-  -- a read outside a transaction, whatever it answers, unless it shut the store
+  -- a read outside a transaction, whatever it returns, unless it shut the store
   pub record Rests : Type 0 where
     pub was_open : new.is_open ≡ true → old.is_open ≡ true
     pub same : IsAtRest old → new.is_open ≡ true → IsUnchanged

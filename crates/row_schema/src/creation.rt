@@ -179,7 +179,7 @@ fn create_book<S: Alter>(conn: &mut Connection<S>) -> Result<(), Error>
     Ok(())
 }
 
-/// Makes what manifests and status messages tell, in a transaction.
+/// Makes the tables of what manifests and status messages say, in a transaction.
 fn create_notices<S: Alter>(conn: &mut Connection<S>) -> Result<(), Error>
     ensures made { HasCleanDisk (state S.Store conn.new) → IsMade moves_indexed (state S.Store conn.old) → Makes (state S.Store conn.old) (state S.Store conn.new) result trail_made }
     ensures survives { Survives (state S.Store conn.old) (state S.Store conn.new) (λ _. ¬ IsMade moves_indexed (state S.Store conn.old)) }

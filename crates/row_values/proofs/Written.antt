@@ -1,4 +1,4 @@
--- The same writes, told of the rows and the keys that were made of the values.
+-- The same writes, stated of the rows and the keys that were made of the values.
 use Rattle.std.proofs.Common.{◌≡◌, ℕ, ◌+◌, ℤ, pos, true, Some, List, [], ◌∷◌, length, sym, ap, subst, ◌∙◌, IsTrue}
 use Rattle.std.specs.Str.{is_utf8}
 use Rattle.shipment_machine.specs.Cargo.{written}

@@ -108,8 +108,8 @@ pub fn book_rows_by(alloc: Global, rows: &[MoveRow]) -> Result<Vec<BookRow>, Sto
     Ok(book)
 }
 
-/// The code of a place.
-fn place_code(place: &Place) -> i64
+/// The code of a place, as the columns of `moves` and `counts` have it: 0 to 6.
+pub fn place_code(place: &Place) -> i64
     ensures { result ≡ pos (place_code place.now) }
 {
     match place {

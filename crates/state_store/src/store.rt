@@ -49,14 +49,14 @@ pub struct Sizes {
 
 /// The state of a station in a store, by what short calls read of it and do to it.
 ///
-/// A call's clauses hand on what the store showed: whatever it showed before, it shows this now. Where a call answers a
+/// A call's clauses hand on what the store showed: whatever it showed before, it shows this now. Where a call returns a
 /// fault inside a transaction nothing is said of what the store shows; a reader's fault outside changes nothing.
 pub trait StateStore {
-    ghost use Rattle.std.specs.Prelude.{◌≡◌, ◌∷◌, [], true, List, ℕ, Option, Some, None, OnOk, IfOk, IfErr, is_some};
+    ghost use Rattle.std.specs.Prelude.{◌≡◌, ◌∷◌, [], true, length, List, ℕ, Option, Some, None, OnOk, IfOk, IfErr, is_some};
     ghost use Rattle.std.specs.Option.{option_map};
     ghost use Rattle.agent_stock.specs.Runs.{AreStockRuns};
     ghost use Rattle.agent_stock.specs.Stock.{order_refusal};
-    ghost use Rattle.shipment_machine.specs.Book.{balances_of, built, has_moves as is_moved, waybills_of};
+    ghost use Rattle.shipment_machine.specs.Book.{balances_of, built, has_moves as is_moved, waybills_of, waybills_on};
     ghost use Rattle.shipment_machine.specs.Cargo.{written};
     ghost use Rattle.station_core.specs.Readers.{book_rows, pending_messages, trail_rows};
     ghost use Rattle.station_core.specs.Step.{State, has_room};
@@ -142,6 +142,14 @@ pub trait StateStore {
     fn aboard(&mut self, flight: &FlightDate) -> Result<Vec<Load>, StoreFault>
         ensures value { (x : Seen) → shows self.old x → is_sound self.new
             → IfOk result (λ loads. loads.items ≡ loads_on x.now.cargo.book flight.now) }
+        ensures same { (x : Seen) → shows self.old x → OnOk result (shows self.new x) }
+        ensures survives { Survives is_sound may_find self.old self.new };
+
+    /// How many waybills have something built on a flight: a departure reads each load, by `aboard`, and the building of a
+    /// waybill needs their number alone.
+    fn waybills_on(&mut self, flight: &FlightDate) -> Result<usize, StoreFault>
+        ensures value { (x : Seen) → shows self.old x → is_sound self.new
+            → IfOk result (λ number. number ≡ length (waybills_on x.now.cargo.book flight.now)) }
         ensures same { (x : Seen) → shows self.old x → OnOk result (shows self.new x) }
         ensures survives { Survives is_sound may_find self.old self.new };
 

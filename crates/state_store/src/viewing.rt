@@ -80,11 +80,11 @@ fn flight_view<S: StateStore>(
     ensures survives { Survives S.is_sound S.may_find store.old store.new }
 {
     let outbound = store.outbound(flight)?;
-    let loads = store.aboard(flight)?;
+    let waybills = store.waybills_on(flight)?;
     let load = store.load(awb, flight)?;
     Ok(FlightView {
         outbound,
-        waybills: few(loads.len())?,
+        waybills: few(waybills)?,
         load,
     })
 }

@@ -9,10 +9,10 @@ pub enum AttachFault {
     NoStation,
     /// The station's file is of this version, which is not 1.
     Version(i64),
-    /// A table, an index or a view has the name of one of a station's. The store is as it was. `create` alone answers it.
+    /// A table, an index or a view has the name of one of a station's. The store is as it was. `create` alone returns it.
     Occupied,
     /// The store failed, or the connection was shut or inside a transaction. The store is as it was, or `create` made a station.
     Store,
-    /// Out of memory. The store is as it was. `attach` alone answers it.
+    /// Out of memory. The store is as it was. `attach` alone returns it.
     Memory,
 }

@@ -249,7 +249,7 @@ module _ (e : StockKey × Stock) (lawful : is_stock_row e ≡ true) where
       ∙ (λ i. int_nat (natural e.0.0) g i && up (natural e.0.1) i)
       ∙ below_numbers (natural e.0.0) (natural e.0.1) g s b low_within is
 
--- ---- what the reads tell
+-- ---- what the reads say
 
 module _ (es : List (StockKey × Stock)) (lawful : list_all is_stock_row es ≡ true) where
   pub between_read : (run : Run) → map run_in (filter (is_between (pos (prefix_of run.first)) (pos (serial_of run.first)) (pos (serial_of run.first + run.count))) es) ≡ filter (is_from run) (map run_in es)

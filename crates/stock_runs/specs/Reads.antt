@@ -1,4 +1,4 @@
--- What the last row below a number tells.
+-- What the last row below a number says.
 use Rattle.std.specs.Prelude.{ℕ, ◌+◌, Bool, ◌&&◌, nat_eq, nat_le, nat_lt, if◌then◌else◌, Option, Some, None, List, [], ◌∷◌, filter}
 use Rattle.std.specs.List.{last_or}
 use Rattle.awb_number.specs.Number.{prefix_of}

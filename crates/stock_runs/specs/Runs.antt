@@ -48,7 +48,7 @@ row_in run = record {
 abbrev pub entry_of : StockRun → StockKey × Stock
 entry_of run = (key_of run.first, row_in run)
 
--- it begins with a number, and its row tells its holder
+-- it begins with a number, and its row says its holder
 pub record IsWritable (run : StockRun) : Type 0 where
   pub number : IsNumber run.first
   pub holder : holder_by (row_in run) ≡ Some run.holder

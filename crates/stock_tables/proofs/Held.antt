@@ -1,4 +1,4 @@
--- What the reads of the stock's rows tell of its numbers.
+-- What the reads of the stock's rows say of its numbers.
 use Rattle.std.proofs.Common.{◌≡◌, ℕ, ℤ, pos, ◌+◌, ◌+ℤ◌, List, ◌++◌, Option, Some, None, map, filter, option_map, refl, sym, ap, ap₂, ◌∙◌}
 use Rattle.std.specs.Option.{option_and_then}
 use Rattle.std.specs.FinMap.{FinMap, entries}

@@ -69,7 +69,7 @@ module _ (run : Run) (is : is_run run ≡ true) (t : Tables) (stocked : Stocked 
   all_stand : AreRuns (before_run ++ (near ++ behind_run))
   all_stand = subst AreRuns parted_is order
 
-  -- the rows that the run touches tell who has its numbers
+  -- the rows that the run touches say who has its numbers
   pub near_stand : StandFrom 0 near
   near_stand =
       let behind = stand_split 0 before_run (near ++ behind_run) all_stand.stand in

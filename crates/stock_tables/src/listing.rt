@@ -15,7 +15,7 @@ use run_rows::maximal_runs;
 use station_rows::{StockRow, StoreFault, TableStore};
 use std::alloc::Global;
 
-/// The maximal runs of rows. A fault: a row is out of range, or memory is short.
+/// The maximal runs of rows. A fault: a row is out of range, or memory runs out.
 fn runs_of(alloc: Global, rows: &[StockRow]) -> Result<Vec<StockRun>, StoreFault>
     ensures { AreRuns (map run_in (map stock_meant rows.now))
         → IfOk result (λ runs. AreStockRuns (holders_by (map run_in (map stock_meant rows.now))) runs.items) }
@@ -29,8 +29,8 @@ fn runs_of(alloc: Global, rows: &[StockRow]) -> Result<Vec<StockRun>, StoreFault
     }
 }
 
-/// The stock, as its maximal runs of one holder, rising. Inside a transaction or outside. A fault: the database call
-/// failed, an earlier one did, a row stands for no number or names no holder, or memory is short; outside a transaction
+/// The stock, as its maximal runs of one holder, ascending. Inside a transaction or outside. A fault: the database call
+/// failed, an earlier one did, a row stands for no number or names no holder, or memory runs out; outside a transaction
 /// it changes nothing.
 #[tactic(auto, using(crate::proofs::Showing::still_shows))]
 pub fn runs<S: TableStore>(alloc: Global, store: &mut S) -> Result<Vec<StockRun>, StoreFault>

@@ -15,7 +15,7 @@ use station_rows::{StockRow, StoreFault, TableStore};
 use std::alloc::Global;
 use std::slice;
 
-/// Rows as runs, behind others. `None`: a row is out of range, or memory is short.
+/// Rows as runs, behind others. `None`: a row is out of range, or memory runs out.
 pub(crate) fn with_rows(
     alloc: Global,
     ahead: &[StockRun],
@@ -32,7 +32,7 @@ pub(crate) fn with_rows(
     Some(all)
 }
 
-/// The row before a run, where it reaches the run. A fault: it is out of range, or memory is short.
+/// The row before a run, where it reaches the run. A fault: it is out of range, or memory runs out.
 fn reaching_run(
     alloc: Global,
     run: &Run,

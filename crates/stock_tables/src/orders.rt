@@ -80,7 +80,7 @@ fn change<S: TableStore>(
 }
 
 /// Does an order in a transaction that it begins, and leaves that open. Where the order is refused none is begun, and
-/// nothing changes. `Rows`: a database call failed, a transaction was open already, or memory is short.
+/// nothing changes. `Rows`: a database call failed, a transaction was open already, or memory runs out.
 pub fn carry_out_order<S: TableStore>(
     alloc: Global,
     store: &mut S,

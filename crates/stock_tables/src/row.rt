@@ -69,7 +69,7 @@ pub(crate) fn run_of(row: &StockRow) -> Option<StockRun>
     })
 }
 
-/// A run as a row. A fault: it has no numbers, or memory is short.
+/// A run as a row. A fault: it has no numbers, or memory runs out.
 pub(crate) fn row_of(alloc: Global, run: &StockRun) -> Result<StockRow, StoreFault>
     ensures row { IfOk result (λ row. stock_meant row ≡ entry_of run.now) }
     ensures writable { OnOk result (IsWritable run.now) }

@@ -7,7 +7,7 @@ ghost use Rattle.shipment_machine.specs.Cargo.{Cargo as AnyCargo};
 ghost use Rattle.shipment_machine.specs.Effect.{effect};
 ghost use Rattle.shipment_machine.specs.Lawful.{IsLawful};
 ghost use Rattle.telegrams.specs.NoticeText.{notice_text};
-ghost use Rattle.station_core.specs.Step.{State, IsLawfulState, acted, stock_acted, cargo_acted, shipment_of, repeated};
+ghost use Rattle.station_core.specs.Step.{State, IsLawfulState, acted, stock_acted, cargo_acted, repeated};
 ghost use Rattle.stored_station.specs.Serving.{request_of, IsEffect, IfPlanned, IsPlanned, IsAfter, Serves};
 ghost use Rattle.state_store.specs.Store.{Seen, at_rest, Survives};
 ghost use Rattle.stored_station.specs.Written.{texts_in};
@@ -18,14 +18,11 @@ use crate::room::has_room;
 use agent_stock::{Order, StockFault};
 use desk_commands::Command;
 use imp_fields::Moment;
-use shipment_machine::{
-    CargoRef, DeskRef, Detail, InboundLines, InboundPart, InboundStatus, Notice, Plan, PlanFault,
-    Refusal, ShipmentCommand, TrailLines, plan,
-};
+use shipment_machine::{DeskRef, Detail, Notice, Plan, PlanFault, Refusal, ShipmentCommand, plan};
 use state_store::{StateStore, StoreFault, view};
-use station_core::{Answer, Input, Reply, count_of_order, refusal_of_order};
+use station_core::{Answer, Input, Reply, count_of_order, refusal_of_order, shipment_of};
 use std::alloc::{AllocError, Global};
-use telegrams::{Content, PartContent, StatusContent, notice_text};
+use telegrams::notice_text;
 
 /// Appends the text of a message.
 fn put_text(alloc: Global, texts: &mut Vec<Vec<u8>>, notice: &Notice) -> Result<(), AllocError>
@@ -161,41 +158,6 @@ fn do_order<S: StateStore>(
             keep_and_commit(store, input, request, count)?;
             Ok(Answer::Done(Reply { count }))
         }
-    }
-}
-
-/// A part of a manifest, as it is planned.
-fn inbound_part(part: &PartContent) -> InboundPart<'_>
-    ensures { result
-        ≡ record { number = part.now.sequence; flight = part.now.flight; date = part.now.date; loaded = part.now.loaded; lines = part.now.lines } }
-{
-    InboundPart {
-        number: part.sequence,
-        flight: part.flight,
-        date: part.date,
-        loaded: part.loaded,
-        lines: InboundLines::new(part.lines.as_slice()).unwrap(),
-    }
-}
-
-/// A status message, as it is planned.
-fn inbound_status<'a>(status: &'a StatusContent<'a>) -> InboundStatus<'a>
-    ensures { result ≡ record { awb = status.now.awb; lines = status.now.lines } }
-{
-    InboundStatus {
-        awb: status.awb,
-        lines: TrailLines::new(status.lines.as_slice()),
-    }
-}
-
-/// What a telegram says, as it is planned.
-fn shipment_of<'a>(content: &'a Content<'a>) -> ShipmentCommand<'a>
-    ensures { result ≡ shipment_of content.now }
-{
-    match content {
-        Content::Fwb(line) => ShipmentCommand::Fwb(CargoRef::new(line)),
-        Content::Ffm(part) => ShipmentCommand::Ffm(inbound_part(part)),
-        Content::Fsu(status) => ShipmentCommand::Fsu(inbound_status(status)),
     }
 }
 

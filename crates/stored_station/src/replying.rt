@@ -1,15 +1,14 @@
 //! Known inputs, and what is kept of new ones.
 ghost use Rattle.std.specs.Prelude.{◌≡◌, string_bytes, OnOk, IfOk};
-ghost use Rattle.station_core.specs.Step.{State, repeated, repeated_key, key_answer, text_answer, kept_with};
+ghost use Rattle.station_core.specs.Step.{State, repeated, key_answer, text_answer, kept_with};
 ghost use Rattle.std.specs.Option.{option_map};
 ghost use Rattle.stored_station.specs.Serving.{request_of};
 ghost use Rattle.state_store.specs.Store.{Seen, inside, Survives};
 ghost use Rattle.state_store.specs.Told.{kept_of};
 
 use desk_commands::{command_range_law, command_text};
-use shipment_machine::{Detail, Refusal};
 use state_store::{KeptReply, StateStore, StoreFault};
-use station_core::{Answer, Input, Reply};
+use station_core::{Answer, Input, Reply, repeated_key};
 use std::alloc::{AllocError, Global};
 
 /// The text by which an input is compared with one that was kept under its key.
@@ -22,27 +21,13 @@ pub(crate) fn request_of(alloc: Global, input: &Input<'_>) -> Result<String, All
     }
 }
 
-/// The answer to a key that is known.
-fn repeat(kept: &KeptReply, request: &str) -> Answer
-    ensures { result ≡ repeated_key (kept_of kept.now) request.now }
-{
-    if kept.request.as_str() == request {
-        Answer::Done(Reply { count: kept.count })
-    } else {
-        Answer::Refused(Refusal {
-            number: 501,
-            detail: Detail::Nothing,
-        })
-    }
-}
-
 /// The answer to a request under a key, if the key is known.
 fn answer_under(kept: &Option<KeptReply>, request: &str) -> Option<Answer>
     ensures { result ≡ key_answer (option_map kept_of kept.now) request.now }
 {
     match kept {
         None => None,
-        Some(kept) => Some(repeat(kept, request)),
+        Some(kept) => Some(repeated_key(kept.request.as_str(), kept.count, request)),
     }
 }
 

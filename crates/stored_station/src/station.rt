@@ -21,13 +21,13 @@ use std::alloc::Global;
 /// A station over a store of its state. It takes every input.
 ///
 /// An input is one transaction, or none where it is refused or known. After `Store` the station
-/// answers `Reopen`: the store then holds the state before the input or the one after it. A reader's
+/// returns `Reopen`: the store then holds the state before the input or the one after it. A reader's
 /// `Store` changes nothing.
 #[derive(Drop)]
 pub struct StoredStation<S: StateStore> {
     alloc: Global,
     store: S,
-    // Since a call of the store failed, it answers `Reopen`.
+    // Since a call of the store failed, it returns `Reopen`.
     broken: bool,
 }
 

@@ -180,6 +180,6 @@ module _ (old new : View) (here : List ℕ) (sizes : Sizes) (confirmed : ℕ) wh
       let up = k.holds.inside refl in
       done (λ _. record { is_open = up; now_is = refl; committed_is = refl; mode = (k.holds.stands up).mode }) sound)
 
-  -- what a read of an open store told
+  -- what a read of an open store returned
   pub told : (P : Tables → Type 0) (x : Seen) → Shows old here sizes confirmed x → row.Survives old new → (IsShowing old (seen_in old) → new.IsSound → P old.now) → (new.IsSound → old.is_open ≡ true) → new.IsSound → P old.now × Means old.now (Some x.now)
   told P x was survives tells up sound = (tells (λ _. displays old (up sound)) sound, ((was (survives.sound sound)).holds.stands (up sound)).now)

@@ -12,7 +12,7 @@ use Rattle.agent_stock.specs.declared.runs.StockRun.{StockRun}
 use Rattle.agent_stock.specs.declared.stock.Holder.{Holder}
 use Rattle.stock_tables.specs.Stocked.{Stocked}
 use Rattle.row_values.specs.Stock.{holders_in}
-use Rattle.shipment_machine.specs.Book.{has_moves, balances_of, built, waybills_of}
+use Rattle.shipment_machine.specs.Book.{has_moves, balances_of, built, waybills_of, waybills_on}
 use Rattle.shipment_machine.specs.declared.amount.Amount.{Amount}
 use Rattle.shipment_machine.specs.declared.moves.Balances.{Balances}
 use Rattle.row_values.specs.Counts.{AreCounts, AreBuilds}
@@ -146,6 +146,11 @@ module _ (old new : View) (here : List ℕ) (sizes : Sizes) (confirmed : ℕ) (x
     loads_are f loads tells =
         let r = told old new here sizes confirmed (λ t. (book : List Move) → AreBuilds t.builds book → loads ≡ loads_on book f) x was survives tells up sound in
         r.0 (book_in old.now.moves) r.1.0.builds ∙ ap (λ book. loads_on book f) (book_told old.now x.now r.1)
+
+    pub waybills_are : (f : FlightDate) (number : ℕ) → (IsShowing old (seen_in old) → new.IsSound → (book : List Move) → AreBuilds old.now.builds book → number ≡ length (waybills_on book f)) → number ≡ length (waybills_on x.now.cargo.book f)
+    waybills_are f number tells =
+        let r = told old new here sizes confirmed (λ t. (book : List Move) → AreBuilds t.builds book → number ≡ length (waybills_on book f)) x was survives tells up sound in
+        r.0 (book_in old.now.moves) r.1.0.builds ∙ ap (λ book. length (waybills_on book f)) (book_told old.now x.now r.1)
 
   module _ (same : new.IsSound → IsUnchanged old new) (sound : new.IsSound) where
     pub none_kept : (key : List ℕ) → (new.IsSound → None ≡ get old.now.kept key) → None ≡ x.now.kept_keys key

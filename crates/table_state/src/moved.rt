@@ -6,9 +6,8 @@ ghost use Rattle.row_values.specs.Moves.{move_by};
 
 use awb_number::Awb;
 use cargo_rows::MoveRow;
-use count_tables::waybills_in;
 use row_values::move_by;
-use shipment_machine::{FlightDate, Move, Place};
+use shipment_machine::{FlightDate, Move, Place, waybills_of};
 use state_store::StoreFault;
 use std::alloc::Global;
 
@@ -42,8 +41,5 @@ pub(crate) fn waybills_moved(alloc: Global, rows: &[MoveRow]) -> Result<Vec<Awb>
     ensures { IfOk result (λ all. all.items ≡ waybills_of (map (λ row. move_by (move_meant row)) rows.now)) }
 {
     let moves = moves_in(alloc, rows)?;
-    match waybills_in(alloc, &moves) {
-        Ok(all) => Ok(all),
-        Err(_) => Err(StoreFault),
-    }
+    Ok(waybills_of(alloc, moves.as_slice())?)
 }

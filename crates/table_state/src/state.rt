@@ -199,6 +199,14 @@ impl<S: TableStore> StateStore for TableState<S> {
     }
 
     #[tactic(auto, using(crate::proofs::Lifting::rests_on, crate::proofs::Lifting::survives_so))]
+    fn waybills_on(&mut self, flight: &FlightDate) -> Result<usize, StoreFault> {
+        match count_tables::waybills_on(self.alloc, &mut self.store, flight) {
+            Err(_) => Err(StoreFault),
+            Ok(number) => Ok(number),
+        }
+    }
+
+    #[tactic(auto, using(crate::proofs::Lifting::rests_on, crate::proofs::Lifting::survives_so))]
     fn outbound(&mut self, flight: &FlightDate) -> Result<Option<Outbound>, StoreFault> {
         let Ok(text) = flight_text(self.alloc, &flight.flight) else {
             return Err(StoreFault);

@@ -6,7 +6,7 @@ ghost use Rattle.text_rows.specs.Meant.{trail_meant, with_trail_line};
 use sqlite::{Alter, Connection, Error, Row, params};
 use std::alloc::Global;
 
-/// A row of `trail`: a line that a status message told of a waybill.
+/// A row of `trail`: what a line of a status message says of a waybill.
 #[derive(Debug, Drop)]
 pub struct TrailRow {
     /// Its number, from 1. It is the key.

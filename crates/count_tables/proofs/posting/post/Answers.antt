@@ -22,8 +22,8 @@ pub returns-in_ok-post_count-clause-done : goal.returns-in_ok-post_count-clause-
 returns-in_ok-post_count-clause-done g c before now sums k =
     let view = g.S.TableStore.view in
     let number_fits : FitsSigned w64 c.number_of-number.result = search rules in
-    let code_fits : FitsSigned w64 c.code_of-code.result = search rules in
+    let code_fits : FitsSigned w64 c.place_code-code.result = search rules in
     keeps_count (view c.args.store.now) (view c.post_count.new.store) before now sums c.args.awb.now c.args.place.now (meant c.args.by)
-    (to_z w64 (of_z w64 c.number_of-number.result)) (to_z w64 (of_z w64 c.code_of-code.result))
-    (plain_by c.args.place.now c.in_default.not-Built) (to_z-of_z number_fits ∙ c.number_of-number.ensures) (to_z-of_z code_fits ∙ c.code_of-code.ensures) k
+    (to_z w64 (of_z w64 c.number_of-number.result)) (to_z w64 (of_z w64 c.place_code-code.result))
+    (plain_by c.args.place.now c.in_default.not-Built) (to_z-of_z number_fits ∙ c.number_of-number.ensures) (to_z-of_z code_fits ∙ c.place_code-code.ensures) k
     (c.in_ok-post_count.ensures.done before (record now { counts = k.counts; builds = k.builds }) k.shows)

@@ -1,9 +1,0 @@
-use Rattle.std.proofs.Common.{◌≡◌, ◌≤◌, length, drop}
-use Rattle.shipment_machine.specs.Book.{waybills_of}
-use Rattle.count_tables.proofs.waybills.waybills_in.Given as goal
-
-abbrev pub invariant-loop-left : goal.invariant-loop-left
-invariant-loop-left l = (l.left ≤ length l.book) × (l.numbers.items ≡ waybills_of (drop l.left l.book))
-
-abbrev pub decreases-loop-left : goal.decreases-loop-left
-decreases-loop-left l = l.left
