@@ -78,7 +78,7 @@ fn run_opened<S: Alter, I: ByteIn + Read, W: ByteOut, E: ByteOut>(
     }
 }
 
-/// Runs a line over a connection, at a moment: every command but `serve`. It answers the exit status, and gives the connection back.
+/// Runs a line over a connection, at a moment: every command but `serve`. It returns the exit status and the connection.
 ///
 /// A fault is reported on `errors`: status 3, or 4 where the connection has no station for the line.
 pub fn run_line<S: Alter, I: ByteIn + Read, W: ByteOut, E: ByteOut>(

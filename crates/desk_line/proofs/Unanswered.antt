@@ -24,7 +24,7 @@ still_kept s i at (act.Refused refusal) keeps answers is = cc
 still_kept s i at act.Store keeps answers is = cc
 still_kept s i at act.Reopen keeps answers is = cc
 
--- it stops the command, whatever the fault is told as
+-- it stops the command, whatever the fault is reported as
 pub not_acted : (s : State) (i : Input) (at : LocalMinute) (e : ActFault) (told : RunFault) (before : List ℕ) (keeps : State → Type 0) (may_find : Option State → Type 0)
     → told ≡ run_fault e → Answers s i at (Err e) keeps → ((found : Option State) → may_find found → MayLeave s i at (Err e) found)
     → IsStopped s (asked.Input i) at told before before keeps may_find

@@ -55,7 +55,7 @@ fn cause_fault(cause: ReportCause) -> RunFault
     }
 }
 
-/// What a run answers where a report has ended.
+/// What a run returns where a report has ended.
 fn run_ended(ended: Result<(), ReportFault>) -> Result<(), RunFault>
     ensures { result ≡ run_ended ended }
 {

@@ -66,7 +66,7 @@ pub record HasToldReport {K : Type 0} (IsText : State → List ℕ → Type 0) (
   -- of each text that is the report, it went out, or a beginning of it
   pub each : (s : State) → keeps old s → is_sound new → (text : List ℕ) → IsText s text → HasReported text sent_old sent_new ended
 
--- the same, where the run answers whether all was accepted: a report refuses nothing
+-- the same, where the run returns whether all was accepted: a report refuses nothing
 pub record HasReportedGood {K : Type 0} (IsText : State → List ℕ → Type 0) (keeps : K → State → Type 0) (is_sound : K → Type 0) (is_broken : K → Bool)
     (may_find : K → Option State → Type 0) (old new : K) (sent_old sent_new : Given) (result : Result Bool RunFault) : Type 0 where
   pub ended : Result (Unit {0}) RunFault
@@ -82,7 +82,7 @@ pub record HasIdled {K : Type 0} (old new : K) (sent_old sent_new : Given) (resu
 abbrev pub IsPending : State → List ℕ → Type 0
 IsPending s text = text ≡ pending_report s.cargo
 
--- What a run of each command leaves of its keeper, its reader and its writer, and what it answers. The service doesn't run here.
+-- What a run of each command leaves of its keeper, its reader and its writer, and what it returns. The service doesn't run here.
 abbrev pub HasDone : {K : Type 0} → LineCommand → List ℕ → (K → State → Type 0) → (K → Type 0) → (K → Bool) → (K → Option State → Type 0) → LocalMinute → K → K
     → Option (List ℕ) → Given → Given → Given → Given → Result Bool RunFault → Type 0
 HasDone command.Init here keeps is_sound is_broken may_find at old new left read_old read_new sent_old sent_new r = HasToldMade here old new sent_old sent_new r

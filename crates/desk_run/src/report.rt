@@ -1,4 +1,4 @@
-//! The commands that tell what a station keeps.
+//! The commands that report what a station keeps.
 ghost use Rattle.std.specs.Prelude.{◌≡◌, false, OnOk};
 ghost use Rattle.desk_run.specs.Done.{good_of, HasReportedGood, HasToldReport, IsPending};
 ghost use Rattle.desk_line.specs.Report.{IsReport};

@@ -74,7 +74,7 @@ fn changing<'a>(alloc: Global, top: Command<'a>) -> Result<Command<'a>, AllocErr
         .subcommand(act)
 }
 
-/// The commands that tell of a station, and the one that serves.
+/// The commands that report on a station, and the one that serves.
 fn telling<'a>(alloc: Global, top: Command<'a>) -> Result<Command<'a>, AllocError> {
     let outbox = command(alloc, "outbox", help::OUTBOX, help::OUTBOX_EXAMPLES);
     let report = command(alloc, "report", help::REPORT, help::REPORT_EXAMPLES).arg(word(

@@ -1,4 +1,4 @@
--- What is told once the station was asked.
+-- What is sent once the station was asked.
 use Rattle.std.proofs.Common.{◌≡◌, sym, ap, subst, refl, inl, inr, ⊎_elim, Bool, Option, Err}
 use Rattle.imp_fields.specs.Date.{LocalMinute}
 use Rattle.shipment_machine.specs.declared.plans.Refusal.{Refusal}

@@ -1,4 +1,4 @@
--- What is told for a request, once it went out, is its answer.
+-- What is sent for a request, once it went out, is its answer.
 use Rattle.std.proofs.Common.{◌≡◌, ◌∙◌, ap, sym, subst, refl, inl, inr, ⊎_elim, ℕ, Bool, Option, None, Result, Ok, Err, List, [], ◌∷◌, ◌++◌, length, take, drop, string_bytes}
 use Rattle.std.specs.Prelude.{IfOk}
 use Rattle.imp_fields.specs.Date.{LocalMinute}
@@ -107,7 +107,7 @@ module _ (s : State) (at : LocalMinute) (bytes : List ℕ) (old new : Given) (br
       → BeginsAs503 (added old new) → IsUnchangedOrBroken (added before now) s at now_broken still finds
   unavailable_is t r before now come is h begins = subst (λ (b : List ℕ). IsUnchangedOrBroken b s at now_broken still finds) (sym come) (gave_up t r is h begins)
 
--- whether it is told to open the station again
+-- whether it is asked to open the station again
 pub reopen_told : (t : Told) (s : State) (old new : Given) (r : Result Served ServeFault) → HasWritten t s old new r → IfOk r (λ v. v.reopen ≡ tells_reopen t)
 reopen_told (told.Accepted count) s old new (Ok v) (is, e) = ap (λ (v : Served). v.reopen) is
 reopen_told (told.Json status text) s old new (Ok v) (is, e) = ap (λ (v : Served). v.reopen) is
@@ -119,7 +119,7 @@ pub ok_more : {A E : Type 0} (r : Result A E) (P Q : A → Type 0) → ((x : A) 
 ok_more (Ok x) P Q more p = more x p
 ok_more (Err e) P Q more p = tt
 
--- what was asked for a request is told for its bytes
+-- what was asked for a request is sent for its bytes
 module _ (bytes : List ℕ) (s : State) (at : LocalMinute) where
   accepted_is : (reply : Reply) (next : State) (count : ℕ) → reply ≡ json_reply 200 None (ok_data count) → Replied s reply next 200 (ok_answer count) next
   accepted_is reply next count is =

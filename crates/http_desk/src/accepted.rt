@@ -16,7 +16,7 @@ const FRONT: &str = "HTTP/1.1 200 OK\r\nContent-Type: application/json\r\nConten
 /// What stands between the body's length and the body.
 const BEHIND: &str = "\r\nConnection: close\r\n\r\n";
 
-/// Writes bytes at a place, and answers the place behind them.
+/// Writes bytes at a place, and returns the place behind them.
 fn put(out: &mut [u8], at: usize, bytes: &[u8]) -> usize
     requires { at + length bytes.now ≤ length out.old }
     ensures place { result ≡ at + length bytes.now }
@@ -27,7 +27,7 @@ fn put(out: &mut [u8], at: usize, bytes: &[u8]) -> usize
     end
 }
 
-/// Writes a number without leading zeros at a place, and answers the place behind it.
+/// Writes a number without leading zeros at a place, and returns the place behind it.
 #[tactic(auto, using(std::proofs::lemmas::Fmt::decimal_digit))]
 fn put_decimal(out: &mut [u8], at: usize, number: u32) -> usize
     requires { at + length (decimal number) ≤ length out.old }
@@ -42,7 +42,7 @@ fn put_decimal(out: &mut [u8], at: usize, number: u32) -> usize
     put(out, at, &last)
 }
 
-/// Writes the body to the front of a buffer, and answers how many bytes it has.
+/// Writes the body to the front of a buffer, and returns how many bytes it has.
 fn put_body(out: &mut [u8; BODY_ROOM], count: u32) -> usize
     ensures bound { result ≤ 33 }
     ensures text { take result out.new ≡ compact_text (ok_data count) }
@@ -52,7 +52,7 @@ fn put_body(out: &mut [u8; BODY_ROOM], count: u32) -> usize
     put(out, at, b",\"reply\":\"ok\"}")
 }
 
-/// Writes the answer to an accepted input of that count to the front of a buffer, and answers how many bytes it has.
+/// Writes the answer to an accepted input of that count to the front of a buffer, and returns how many bytes it has.
 pub(crate) fn put_accepted(out: &mut [u8; ROOM], count: u32) -> usize
     ensures bound { result ≤ 128 }
     ensures text { take result out.new ≡ ok_answer count }

@@ -60,7 +60,7 @@ fn put_text(bytes: &mut Vec<u8>, line: u32, rest: &str, end: End) -> Result<(), 
     }
 }
 
-/// Appends the bytes that digits tell, so many times.
+/// Appends the bytes that digits write, so many times.
 fn put_digits(
     alloc: Global,
     bytes: &mut Vec<u8>,

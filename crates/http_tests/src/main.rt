@@ -1,4 +1,5 @@
 //! Requests at the desk of a station over HTTP, as scripts. Each answer is compared byte for byte with the one that the script says.
+//! The word `service` has the service on a port of this machine played, and its answers printed.
 //!
 //! A script is plain text. Its statements, one a line:
 //!
@@ -9,7 +10,7 @@
 //!   by nothing.
 //!
 //! `| TEXT` sends a text with CR and LF behind it, `|/ TEXT` with LF alone, and `|+ TEXT` with nothing. `|x DIGITS` sends the bytes
-//! that their digits tell. A number behind the sign, as in `|64 A: 1` or `|+300 x`, sends it so many times. `> TEXT` sends bytes in the
+//! that their digits write. A number behind the sign, as in `|64 A: 1` or `|+300 x`, sends it so many times. `> TEXT` sends bytes in the
 //! same way that stand behind the request: it is answered without them. `= TEXT` is part of the answer in the same way. Empty lines
 //! and those that begin with `#` are for the reader.
 //!
@@ -33,6 +34,7 @@ mod log;
 mod play;
 mod reading;
 mod script;
+mod service;
 
 use log::Log;
 use script::ScriptFault;
@@ -67,23 +69,37 @@ fn run(alloc: Global, name: &str, text: &str) -> Result<(u8, String), AllocError
     Ok((0, text))
 }
 
-/// Status 0: all went as the scripts say; 1: an answer differed; 2: a script can't be read or played, or none was named.
+/// Plays the script of a file, and prints what came of it. The exit status for it.
+fn play_file(rt: &HostRuntime, name: &str) -> Result<u8, io::Error> {
+    let Ok(script) = fs::read_to_string(rt, name) else {
+        println!(rt; "{name}: can't be read")?;
+        return Ok(2);
+    };
+    let (status, text) = run(rt.alloc(), name, script.as_str())?;
+    print!(rt; "{text}")?;
+    Ok(status)
+}
+
+/// Plays what a word names: the service, or a script. The exit status for it.
+fn play_word(rt: &HostRuntime, word: &str) -> Result<u8, io::Error> {
+    if word == "service" {
+        service::play_service(rt)?;
+        return Ok(0);
+    }
+    play_file(rt, word)
+}
+
+/// Status 0: all went as the scripts say; 1: an answer differed, or the service couldn't be played; 2: a script can't be read or
+/// played, or no word was given.
 fn main(rt: HostRuntime) -> Result<ExitCode, io::Error> {
     let words: Vec<String> = env::args(&rt)?.collect(rt.alloc())?;
     let mut status = 0;
     if words.len() < 2 {
-        eprintln!(rt; "usage: http_tests SCRIPT..")?;
+        eprintln!(rt; "usage: http_tests SCRIPT.. [service]")?;
         status = 2;
     }
-    for name in words.iter().skip(1) {
-        let Ok(script) = fs::read_to_string(&rt, name.as_str()) else {
-            println!(rt; "{name}: can't be read")?;
-            status = 2;
-            continue;
-        };
-        let (own, text) = run(rt.alloc(), name.as_str(), script.as_str())?;
-        print!(rt; "{text}")?;
-        status = own.max(status);
+    for word in words.iter().skip(1) {
+        status = play_word(&rt, word.as_str())?.max(status);
     }
     Ok(ExitCode::from(status))
 }

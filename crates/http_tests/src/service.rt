@@ -2,8 +2,6 @@
 //!
 //! A case is printed by its name, with the lines of each answer behind `|`, and how the service ended. The connections of a case
 //! wait in the listener's queue until they are served.
-#![tactic(auto)]
-
 mod clock;
 mod failing;
 
@@ -163,10 +161,11 @@ fn play_all(rt: &HostRuntime, here: Airport) -> io::Result<()> {
     )
 }
 
-fn main(rt: HostRuntime) -> io::Result<()> {
+/// All cases.
+pub fn play_service(rt: &HostRuntime) -> io::Result<()> {
     let Some(here) = Airport::read(b"FRA") else {
         return Err(io::Error::from(ErrorKind::InvalidInput));
     };
-    play_all(&rt, here)?;
-    play_failing(&rt, here)
+    play_all(rt, here)?;
+    play_failing(rt, here)
 }
