@@ -1,14 +1,12 @@
 //! Cargo on a station that has many moves already.
 use crate::report::{Done, counted, give_up, report};
 use crate::stock::{key_of, noon};
-use crate::stores::{StoreKind, over_pages, over_tables};
+use crate::stores::{PageStation, new_station};
 use awb_number::Awb;
 use desk_commands::Command;
 use imp_fields::{Airport, Flight, Goods, LocalDay, Name, Pieces, Tenths};
 use shipment_machine::{DeskCommand, FlightDate};
-use sqlite::Alter;
 use station_core::{Input, Keeper};
-use station_tables::Station;
 use std::alloc::Global;
 use std::io;
 use std::time::Instant;
@@ -28,9 +26,9 @@ const FIRST_INBOUND: u32 = 2_000_000;
 
 /// A station in Frankfurt, and what the commands name.
 #[derive(Drop)]
-pub struct Bench<S: Alter + Drop> {
+pub struct Bench {
     alloc: Global,
-    station: Station<S>,
+    station: PageStation,
     frankfurt: Airport,
     new_york: Airport,
     ten: Pieces,
@@ -39,9 +37,9 @@ pub struct Bench<S: Alter + Drop> {
     name: Name,
 }
 
-impl<S: Alter + Drop> Bench<S> {
+impl Bench {
     /// Over a new station.
-    pub fn over(alloc: Global, station: Station<S>) -> Option<Bench<S>> {
+    pub fn over(alloc: Global, station: PageStation) -> Option<Bench> {
         Some(Bench {
             alloc,
             station,
@@ -158,7 +156,7 @@ impl<S: Alter + Drop> Bench<S> {
     }
 
     /// The station as it is now.
-    pub fn into_station(self) -> Station<S> {
+    pub fn into_station(self) -> PageStation {
         self.station
     }
 
@@ -219,7 +217,7 @@ fn manifest(alloc: Global) -> Option<String> {
 }
 
 /// Reads and takes a manifest of 500 lines.
-fn take_manifest<S: Alter + Drop>(bench: &mut Bench<S>, text: &str) -> Option<Done> {
+fn take_manifest(bench: &mut Bench, text: &str) -> Option<Done> {
     let Ok(telegram) = read_telegram(bench.alloc, text.as_bytes()) else {
         return None;
     };
@@ -228,7 +226,7 @@ fn take_manifest<S: Alter + Drop>(bench: &mut Bench<S>, text: &str) -> Option<Do
 }
 
 /// How often work was done, or `None` where it wasn't.
-fn run<S: Alter + Drop>(bench: &mut Bench<S>, work: Work, text: &str) -> Option<Done> {
+fn run(bench: &mut Bench, work: Work, text: &str) -> Option<Done> {
     match work {
         Work::Depart => {
             bench.depart(FIRST_MEASURED)?;
@@ -248,25 +246,18 @@ fn run<S: Alter + Drop>(bench: &mut Bench<S>, work: Work, text: &str) -> Option<
 }
 
 /// A station with so many moves, and waybills on which work can be measured.
-fn filled<S: Alter + Drop>(
-    alloc: Global,
-    station: Option<Station<S>>,
-    moves: u32,
-) -> Option<Bench<S>> {
-    let mut bench = Bench::over(alloc, station?)?;
+fn filled(alloc: Global, moves: u32) -> Option<Bench> {
+    let mut bench = Bench::over(alloc, new_station(alloc)?)?;
     bench.fill(moves / 4)?;
     bench.prepare()?;
     Some(bench)
 }
 
 /// Measures each kind of work on a station to which so many moves come first.
-fn measure_on<S: Alter + Drop>(
-    rt: &HostRuntime,
-    station: Option<Station<S>>,
-    moves: u32,
-) -> Result<(), io::Error> {
+pub fn measure(rt: &HostRuntime, moves: u32) -> Result<(), io::Error> {
     let alloc = rt.alloc();
-    let Some(mut bench) = filled(alloc, station, moves) else {
+    println!(rt; "over pages with {moves} moves:")?;
+    let Some(mut bench) = filled(alloc, moves) else {
         return give_up(rt, "a station");
     };
     let Some(text) = manifest(alloc) else {
@@ -278,15 +269,4 @@ fn measure_on<S: Alter + Drop>(
         report(rt, what, done, start.elapsed(rt)?)?;
     }
     Ok(())
-}
-
-/// Measures each kind of work on a station over a store, with so many moves.
-pub fn measure(rt: &HostRuntime, store: StoreKind, moves: u32) -> Result<(), io::Error> {
-    let alloc = rt.alloc();
-    let name = store.name();
-    println!(rt; "over {name} with {moves} moves:")?;
-    match store {
-        StoreKind::Tables => measure_on(rt, over_tables(alloc), moves),
-        StoreKind::Pages => measure_on(rt, over_pages(alloc), moves),
-    }
 }

@@ -1,9 +1,9 @@
 //! How fast the desk is: a table with a line for each kind of work. The messages that are read lie in `data/`.
 //!
 //! - `run`: each kind of work;
-//! - `stock STORE`: orders on the stock of a station over `tables` or over `pages`, both in memory;
-//! - `cargo STORE MOVES`: cargo on a station over `tables` or over `pages`, both in memory, that has so many moves already;
-//! - `opening STORE MOVES`: how long a station with so many moves takes that is opened over what it left.
+//! - `stock`: orders on the stock of a station over pages in memory;
+//! - `cargo MOVES`: cargo on such a station that has so many moves already;
+//! - `opening MOVES`: how long such a station with so many moves takes that is opened over what it left.
 #![tactic(auto)]
 
 mod cargo;
@@ -16,13 +16,11 @@ mod stock;
 mod stores;
 
 use report::{Done, give_up, report};
-use sqlite::Alter;
-use station_tables::Station;
 use std::alloc::Global;
 use std::process::ExitCode;
 use std::time::Instant;
 use std::{env, fs, io};
-use stores::{StoreKind, over_pages, over_tables};
+use stores::new_station;
 
 /// What is done again and again, perhaps with a message.
 #[derive(Clone, Copy)]
@@ -37,7 +35,7 @@ enum Work {
 }
 
 /// Kinds of orders, and what each is called.
-const ORDERS: [(stock::Work, &str); 6] = [
+const ORDERS: [(stock::Work, &str); 7] = [
     (stock::Work::Days, "order: take-in 10, issue 3, return 3"),
     (stock::Work::Repeats, "order that is repeated"),
     (stock::Work::Runs, "take-in 10,000"),
@@ -47,13 +45,11 @@ const ORDERS: [(stock::Work, &str); 6] = [
         stock::Work::Among(1_000),
         "one of 1,000 runs issued or returned",
     ),
+    (
+        stock::Work::Among(100_000),
+        "one of 100,000 runs issued or returned",
+    ),
 ];
-
-/// The same among many runs, over pages.
-const AMONG_MANY: (stock::Work, &str) = (
-    stock::Work::Among(100_000),
-    "one of 100,000 runs issued or returned",
-);
 
 /// What is done with a message, the message's file, and what this is called.
 const READ: [(Work, &str, &str); 4] = [
@@ -78,9 +74,6 @@ const OTHERS: [(Work, &str); 4] = [
 /// How many moves the stations have on which cargo is measured, and those that are opened again.
 const MOVES: [u32; 4] = [1_000, 10_000, 40_000, 100_000];
 
-/// The most moves to which a station over tables comes: each one that takes something off costs in proportion to its table.
-const MOST_OVER_TABLES: u32 = 40_000;
-
 /// Does the work, and returns how often; nothing where it couldn't be done.
 fn done(alloc: Global, work: Work, text: &[u8]) -> Option<Done> {
     match work {
@@ -101,14 +94,9 @@ fn measure(rt: &HostRuntime, what: &str, work: Work, text: &[u8]) -> Result<(), 
 }
 
 /// Measures orders on a new station.
-fn measure_orders<S: Alter + Drop>(
-    rt: &HostRuntime,
-    station: Option<Station<S>>,
-    what: &str,
-    work: stock::Work,
-) -> Result<(), io::Error> {
+fn measure_orders(rt: &HostRuntime, what: &str, work: stock::Work) -> Result<(), io::Error> {
     let alloc = rt.alloc();
-    let Some(mut station) = station else {
+    let Some(mut station) = new_station(alloc) else {
         return give_up(rt, what);
     };
     if stock::prepare(alloc, &mut station, work).is_none() {
@@ -119,31 +107,13 @@ fn measure_orders<S: Alter + Drop>(
     report(rt, what, done, start.elapsed(rt)?)
 }
 
-/// Measures orders on a new station over a store.
-fn measure_orders_over(
-    rt: &HostRuntime,
-    store: StoreKind,
-    what: &str,
-    work: stock::Work,
-) -> Result<(), io::Error> {
-    match store {
-        StoreKind::Tables => measure_orders(rt, over_tables(rt.alloc()), what, work),
-        StoreKind::Pages => measure_orders(rt, over_pages(rt.alloc()), what, work),
-    }
-}
-
-/// Measures orders of each kind over a store.
-fn measure_stock(rt: &HostRuntime, store: StoreKind) -> Result<(), io::Error> {
-    let name = store.name();
-    println!(rt; "over {name}:")?;
+/// Measures orders of each kind.
+fn measure_stock(rt: &HostRuntime) -> Result<(), io::Error> {
+    println!(rt; "over pages:")?;
     for (work, what) in ORDERS {
-        measure_orders_over(rt, store, what, work)?;
+        measure_orders(rt, what, work)?;
     }
-    let (work, what) = AMONG_MANY;
-    match store {
-        StoreKind::Tables => Ok(()),
-        StoreKind::Pages => measure_orders_over(rt, store, what, work),
-    }
+    Ok(())
 }
 
 /// Measures a session of many kinds of inputs on a station in memory alone.
@@ -159,18 +129,14 @@ fn measure_session(rt: &HostRuntime, what: &str) -> Result<(), io::Error> {
 
 /// Measures what stations with so many moves do.
 fn measure_station(rt: &HostRuntime, moves: u32) -> Result<(), io::Error> {
-    if moves <= MOST_OVER_TABLES {
-        cargo::measure(rt, StoreKind::Tables, moves)?;
-    }
-    cargo::measure(rt, StoreKind::Pages, moves)?;
-    opening::measure(rt, StoreKind::Pages, moves)
+    cargo::measure(rt, moves)?;
+    opening::measure(rt, moves)
 }
 
 /// Measures each kind of work, one after another.
 fn measure_all(rt: &HostRuntime) -> Result<(), io::Error> {
     println!(rt; "  a second    ns each     MB/s  work")?;
-    measure_stock(rt, StoreKind::Tables)?;
-    measure_stock(rt, StoreKind::Pages)?;
+    measure_stock(rt)?;
     measure_session(rt, "input of 10,000 on a plain station")?;
     for (work, file, what) in READ {
         let text = fs::read_to_string(rt, file)?;
@@ -190,20 +156,19 @@ fn measure_all(rt: &HostRuntime) -> Result<(), io::Error> {
 enum Asked {
     All,
     /// Orders on a station.
-    Stock(StoreKind),
+    Stock,
     /// Cargo on a station with so many moves.
-    Cargo(StoreKind, u32),
+    Cargo(u32),
     /// A station with so many moves is opened.
-    Opening(StoreKind, u32),
+    Opening(u32),
 }
 
-/// What is asked for of a store and a number of moves.
-fn asked_of(verb: &str, store: &str, moves: &str) -> Option<Asked> {
-    let store = StoreKind::read(store)?;
+/// What is asked for of a number of moves.
+fn asked_of(verb: &str, moves: &str) -> Option<Asked> {
     let moves = moves.parse::<u32>().ok()?;
     match verb {
-        "cargo" => Some(Asked::Cargo(store, moves)),
-        "opening" => Some(Asked::Opening(store, moves)),
+        "cargo" => Some(Asked::Cargo(moves)),
+        "opening" => Some(Asked::Opening(moves)),
         _ => None,
     }
 }
@@ -212,10 +177,8 @@ fn asked_of(verb: &str, store: &str, moves: &str) -> Option<Asked> {
 fn read_words(words: &[String]) -> Option<Asked> {
     match words {
         [_program, verb] if verb.as_str() == "run" => Some(Asked::All),
-        [_program, verb, store] if verb.as_str() == "stock" => {
-            Some(Asked::Stock(StoreKind::read(store.as_str())?))
-        }
-        [_program, verb, store, moves] => asked_of(verb.as_str(), store.as_str(), moves.as_str()),
+        [_program, verb] if verb.as_str() == "stock" => Some(Asked::Stock),
+        [_program, verb, moves] => asked_of(verb.as_str(), moves.as_str()),
         _ => None,
     }
 }
@@ -225,13 +188,11 @@ fn main(rt: HostRuntime) -> Result<ExitCode, io::Error> {
     let words: Vec<String> = env::args(&rt)?.collect(rt.alloc())?;
     match read_words(words.as_slice()) {
         Some(Asked::All) => measure_all(&rt)?,
-        Some(Asked::Stock(store)) => measure_stock(&rt, store)?,
-        Some(Asked::Cargo(store, moves)) => cargo::measure(&rt, store, moves)?,
-        Some(Asked::Opening(store, moves)) => opening::measure(&rt, store, moves)?,
+        Some(Asked::Stock) => measure_stock(&rt)?,
+        Some(Asked::Cargo(moves)) => cargo::measure(&rt, moves)?,
+        Some(Asked::Opening(moves)) => opening::measure(&rt, moves)?,
         None => {
-            eprintln!(rt;
-                "usage: desk_bench run | stock STORE | cargo STORE MOVES | opening STORE MOVES"
-            )?;
+            eprintln!(rt; "usage: desk_bench run | stock | cargo MOVES | opening MOVES")?;
             return Ok(ExitCode::from(2));
         }
     }

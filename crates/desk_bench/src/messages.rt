@@ -2,10 +2,10 @@
 use crate::report::{Done, moved};
 use awb_number::Awb;
 use ffm_text::{Load, write_ffm};
-use fsu_text::{Handling, SentStatus, Update, write_fsu};
+use fsu_text::{Handling, SentStatus, SentUpdate, write_fsu};
 use imp_fields::{
-    Airport, BookTenths, Consigned, DayMonth, DayTime, Flight, Goods, MessageKind, Name, Pieces,
-    normal_text, read_consignment,
+    Airport, BookTenths, DayMonth, DayTime, Flight, Goods, MessageKind, Name, Pieces,
+    WaybillSummary, normal_text, read_consignment,
 };
 use std::alloc::Global;
 use std::slice;
@@ -108,8 +108,8 @@ pub fn write_manifests(alloc: Global) -> Option<Done> {
 }
 
 /// Ten pieces of a waybill.
-fn consigned(leg: &Leg) -> Option<Consigned> {
-    Some(Consigned {
+fn consigned(leg: &Leg) -> Option<WaybillSummary> {
+    Some(WaybillSummary {
         awb: Awb::new(20, 1234567)?,
         origin: leg.here,
         destination: leg.unload,
@@ -119,7 +119,7 @@ fn consigned(leg: &Leg) -> Option<Consigned> {
 }
 
 /// Writes a status update; whether there was memory for it.
-fn is_update_written(out: &mut Vec<u8>, update: &Update) -> bool {
+fn is_update_written(out: &mut Vec<u8>, update: &SentUpdate) -> bool {
     write_fsu(out, update).is_ok()
 }
 
@@ -127,7 +127,7 @@ fn is_update_written(out: &mut Vec<u8>, update: &Update) -> bool {
 pub fn write_updates(alloc: Global) -> Option<Done> {
     let leg = lh400()?;
     let of = consigned(&leg)?;
-    let update = Update {
+    let update = SentUpdate {
         of,
         status: SentStatus::Handled {
             event: Handling::ReceivedFromShipper,

@@ -2,10 +2,10 @@
 use crate::cargo::Bench;
 use crate::report::{counted, give_up, report};
 use crate::stock::take_in;
-use crate::stores::{StoreKind, opened, over_pages, over_tables};
-use memory_files::MemoryFile;
-use sqlite::{Alter, Connection, Files, MemStore};
-use station_tables::{Station, attach};
+use crate::stores::{PageStation, new_station, opened};
+use memory_files::{MemoryFile, MemoryPages};
+use sqlite::{Connection, Files};
+use station_tables::attach;
 use std::alloc::Global;
 use std::io;
 use std::time::Instant;
@@ -19,12 +19,9 @@ const TAKEN_IN: u32 = 1_000;
 /// The first serial that is taken in. Those of the waybills are lower.
 const FIRST_STOCKED: u32 = 4_000_000;
 
-/// The station with so many moves, and with as many numbers in its stock.
-fn filled<S: Alter + Drop>(
-    alloc: Global,
-    mut station: Station<S>,
-    moves: u32,
-) -> Option<Station<S>> {
+/// A station with so many moves, and with as many numbers in its stock.
+fn filled(alloc: Global, moves: u32) -> Option<PageStation> {
+    let mut station = new_station(alloc)?;
     for n in 0..moves / TAKEN_IN {
         let serial = FIRST_STOCKED.saturating_add(n.saturating_mul(TAKEN_IN));
         take_in(alloc, &mut station, n, serial, TAKEN_IN)?;
@@ -36,15 +33,9 @@ fn filled<S: Alter + Drop>(
     Some(bench.into_station())
 }
 
-/// What a station with so many moves left of its tables.
-fn left_tables(alloc: Global, moves: u32) -> Option<Connection<MemStore>> {
-    let station = filled(alloc, over_tables(alloc)?, moves)?;
-    Some(station.release())
-}
-
 /// The files that a station with so many moves left.
 fn left_files(alloc: Global, moves: u32) -> Option<Files<MemoryFile>> {
-    let station = filled(alloc, over_pages(alloc)?, moves)?;
+    let station = filled(alloc, moves)?;
     match station.release().close_files() {
         Ok(files) => Some(files),
         Err((_, store)) => Some(store.close()),
@@ -52,7 +43,7 @@ fn left_files(alloc: Global, moves: u32) -> Option<Files<MemoryFile>> {
 }
 
 /// Measures how long a station takes to go on over a store.
-fn measure_attach<S: Alter + Drop>(rt: &HostRuntime, conn: Connection<S>) -> Result<(), io::Error> {
+fn measure_attach(rt: &HostRuntime, conn: Connection<MemoryPages>) -> Result<(), io::Error> {
     let start = Instant::now(rt)?;
     let station = attach(rt.alloc(), conn);
     let spent = start.elapsed(rt)?;
@@ -63,17 +54,10 @@ fn measure_attach<S: Alter + Drop>(rt: &HostRuntime, conn: Connection<S>) -> Res
     report(rt, "station attached", done, spent)
 }
 
-/// Measures how long a store of tables takes.
-fn measure_tables(rt: &HostRuntime, moves: u32) -> Result<(), io::Error> {
-    match left_tables(rt.alloc(), moves) {
-        Some(conn) => measure_attach(rt, conn),
-        None => give_up(rt, "a station"),
-    }
-}
-
-/// Measures how long files take, which are opened first.
-fn measure_files(rt: &HostRuntime, moves: u32) -> Result<(), io::Error> {
+/// Measures how long the files of a station with so many moves take to open, and the station in them.
+pub fn measure(rt: &HostRuntime, moves: u32) -> Result<(), io::Error> {
     let alloc = rt.alloc();
+    println!(rt; "over pages with {moves} moves and {moves} numbers:")?;
     let Some(files) = left_files(alloc, moves) else {
         return give_up(rt, "a station");
     };
@@ -86,15 +70,5 @@ fn measure_files(rt: &HostRuntime, moves: u32) -> Result<(), io::Error> {
             measure_attach(rt, conn)
         }
         None => give_up(rt, "files opened"),
-    }
-}
-
-/// Measures how long a station with so many moves takes.
-pub fn measure(rt: &HostRuntime, store: StoreKind, moves: u32) -> Result<(), io::Error> {
-    let name = store.name();
-    println!(rt; "over {name} with {moves} moves and {moves} numbers:")?;
-    match store {
-        StoreKind::Tables => measure_tables(rt, moves),
-        StoreKind::Pages => measure_files(rt, moves),
     }
 }

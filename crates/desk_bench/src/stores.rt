@@ -1,51 +1,12 @@
-//! The stores over which a station is measured.
+//! The store over which a station is measured: the pages of a file and its log, in memory.
 use imp_fields::Airport;
 use memory_files::{MemoryFile, MemoryPages, open_pages};
-use sqlite::{Alter, Connection, Files, MemStore, Options};
-use station_rows::open_memory;
+use sqlite::{Connection, Files, Options};
 use station_tables::{Station, create};
 use std::alloc::Global;
 
-/// A store in memory.
-#[derive(Clone, Copy, Debug, PartialEq, Eq)]
-pub enum StoreKind {
-    /// The kit's store of tables.
-    Tables,
-    /// A file's pages and its log.
-    Pages,
-}
-
-impl StoreKind {
-    /// What it is called.
-    pub fn name(self) -> &'static str {
-        match self {
-            StoreKind::Tables => "tables",
-            StoreKind::Pages => "pages",
-        }
-    }
-
-    /// The store that a word names.
-    pub fn read(word: &str) -> Option<StoreKind> {
-        match word {
-            "tables" => Some(StoreKind::Tables),
-            "pages" => Some(StoreKind::Pages),
-            _ => None,
-        }
-    }
-}
-
-/// A new station in Frankfurt over a store.
-fn station_over<S: Alter + Drop>(alloc: Global, conn: Connection<S>) -> Option<Station<S>> {
-    match create(alloc, conn, Airport::read(b"FRA")?) {
-        Ok(station) => Some(station),
-        Err(_) => None,
-    }
-}
-
-/// A new station over tables in memory.
-pub fn over_tables(alloc: Global) -> Option<Station<MemStore>> {
-    station_over(alloc, open_memory(alloc).ok()?)
-}
+/// A station over pages in memory.
+pub type PageStation = Station<MemoryPages>;
 
 /// A store of the pages that files in memory hold.
 pub fn opened(alloc: Global, files: Files<MemoryFile>) -> Option<Connection<MemoryPages>> {
@@ -55,7 +16,10 @@ pub fn opened(alloc: Global, files: Files<MemoryFile>) -> Option<Connection<Memo
     }
 }
 
-/// A new station over pages in memory.
-pub fn over_pages(alloc: Global) -> Option<Station<MemoryPages>> {
-    station_over(alloc, open_pages(alloc).ok()?)
+/// A new station in Frankfurt.
+pub fn new_station(alloc: Global) -> Option<PageStation> {
+    match create(alloc, open_pages(alloc).ok()?, Airport::read(b"FRA")?) {
+        Ok(station) => Some(station),
+        Err(_) => None,
+    }
 }

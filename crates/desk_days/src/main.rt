@@ -15,7 +15,7 @@
 //! - `request`: a request over HTTP, from the `|` lines below, each ended by CR and LF. What stands behind its body isn't read.
 //!
 //! A line `| TEXT` belongs to the statement above it. `take` sends such lines ended by CR and LF, `take lf` and `beginnings` by LF,
-//! and `take hex` sends the bytes that their digits tell. `|998 TEXT` stands for 998 such lines. A line `= TEXT` is what must be printed,
+//! and `take hex` sends the bytes that their digits write. `|998 TEXT` stands for 998 such lines. A line `= TEXT` is what must be printed,
 //! one for each line, where a CR at the end of a printed line doesn't count. Empty lines and those that begin with `#` are for the reader.
 //!
 //! One of the keepers has its tables opened again before each statement, and in a long day before each tenth.

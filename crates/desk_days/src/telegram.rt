@@ -11,7 +11,7 @@ fn put_line(bytes: &mut Vec<u8>, line: &Repeated<'_>, end: &[u8]) -> Result<(), 
     Ok(())
 }
 
-/// Appends the bytes that digits tell, so many times.
+/// Appends the bytes that digits write, so many times.
 fn put_digits(alloc: Global, bytes: &mut Vec<u8>, line: &Repeated<'_>) -> Result<(), DayFault> {
     let Ok(told) = hex::decode(alloc, line.text) else {
         return Err(DayFault::Bad {

@@ -1,7 +1,7 @@
 //! A departure of twenty waybills that is stopped at each call of a file: what is found afterwards is the station before it or
 //! after it.
 use crate::disks::{FusedDisk, crashed, files, found, opened};
-use crate::stops::is_done;
+use crate::stops::accepts;
 use awb_number::Awb;
 use case_words::say;
 use imp_fields::Airport;
@@ -58,7 +58,7 @@ fn build_up(alloc: Global, station: &mut impl Keeper, serial: u32) -> Option<()>
     ];
     for (at, text) in steps.iter().enumerate() {
         let key = format!(in alloc; "{serial}-{at}").ok()?;
-        if !is_done(station, key.as_str(), text.as_str()) {
+        if !accepts(station, key.as_str(), text.as_str()) {
             return None;
         }
     }
@@ -135,7 +135,7 @@ fn depart(alloc: Global, files: Files<FusedDisk>) -> Option<(Attempt, Files<Fuse
         }
         Err(_) => return None,
     };
-    let is_departed = is_done(&mut station, "d1", "depart\nLH400\n2026-01-12");
+    let is_departed = accepts(&mut station, "d1", "depart\nLH400\n2026-01-12");
     Some(closed(station, is_departed))
 }
 

@@ -118,6 +118,13 @@ impl<S: StateStore> StateStore for Fused<S> {
         self.store.aboard(flight)
     }
 
+    fn waybills_on(&mut self, flight: &FlightDate) -> Result<usize, StoreFault> {
+        if !self.is_served() {
+            return Err(StoreFault);
+        }
+        self.store.waybills_on(flight)
+    }
+
     fn outbound(&mut self, flight: &FlightDate) -> Result<Option<Outbound>, StoreFault> {
         if !self.is_served() {
             return Err(StoreFault);

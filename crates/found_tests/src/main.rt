@@ -1,16 +1,16 @@
 //! Databases that are opened as a station's: found ones, right and damaged, and those of stations that were stopped.
 #![tactic(auto)]
 
+mod databases;
 mod departure;
 mod disks;
 mod faults;
-mod found;
 mod fused;
 mod listing;
 mod stops;
 
 use case_files::{Answers, go_through};
-use found::FoundAnswers;
+use databases::FoundAnswers;
 use std::alloc::Global;
 use std::process::ExitCode;
 use std::{fs, io};

@@ -3,11 +3,10 @@ use crate::departure;
 use crate::disks::{FusedDisk, crashed, files, found, found_over, opened};
 use crate::fused::Fused;
 use awb_number::Awb;
-use case_words::say;
-use desk_commands::read_command_text;
-use imp_fields::{Airport, Moment};
+use case_words::{is_done, keyed, noon, say};
+use imp_fields::Airport;
 use sqlite::Files;
-use station_core::{ActFault, Input, Keeper, Key};
+use station_core::{ActFault, Keeper};
 use station_rows::open_memory;
 use station_tables::create;
 use std::alloc::Global;
@@ -29,21 +28,17 @@ const NO_STATION: &str = "602, 0 tables and indexes";
 const STEPS: usize = 6;
 
 /// Whether a command is accepted at noon of 12 January 2026.
-pub fn is_done(station: &mut impl Keeper, key: &str, text: &str) -> bool {
-    let (Some(key), Some(command), Some(noon)) = (
-        Key::read(key.as_bytes()),
-        read_command_text(text.as_bytes()),
-        Moment::new(20465, 720),
-    ) else {
+pub fn accepts(station: &mut impl Keeper, key: &str, command: &str) -> bool {
+    let (Some(input), Some(noon)) = (keyed(key, command), noon()) else {
         return false;
     };
-    station.act(&Input::Keyed(key, command), noon).is_ok()
+    is_done(station, &input, noon)
 }
 
 /// How many of the day's first commands were accepted, one after another.
 fn act_on_day(station: &mut impl Keeper, wanted: usize) -> usize {
     for (done, (key, text)) in DAY.iter().take(wanted).enumerate() {
-        if !is_done(station, key, text) {
+        if !accepts(station, key, text) {
             return done;
         }
     }

@@ -1,8 +1,7 @@
 //! Calls: their words, their input, and what comes of them.
 use crate::desk::Desk;
-use crate::ends::{Narrow, Torn};
-use crate::said::{say, shown};
 use crate::words::{fault_said, words_of};
+use case_words::{Narrow, Torn, say, shown};
 use desk_call::run_line;
 use desk_run::Feed;
 use desk_words::{Line, parse_words};

@@ -1,5 +1,5 @@
 //! The zone's rule, and the moment that its clock shows.
-use crate::said::{say, shown};
+use case_words::{say, shown};
 use desk_clock::{Zone, moment_of};
 use imp_fields::Moment;
 use jiff::Timestamp;

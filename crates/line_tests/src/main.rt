@@ -6,8 +6,6 @@
 mod calls;
 mod clock;
 mod desk;
-mod ends;
-mod said;
 mod words;
 
 use case_files::{Answers, go_through};
@@ -17,7 +15,7 @@ use std::process::ExitCode;
 use std::{fs, io};
 
 /// The files of cases, in the order in which they are gone through.
-const FILES: [&str; 4] = ["words", "clock", "calls", "stops"];
+const FILES: [&str; 4] = ["words", "clock", "calls", "cut-calls"];
 
 /// What answers the cases of a file.
 #[derive(Drop)]
@@ -32,7 +30,7 @@ impl Answers for FileAnswers {
         match self.file {
             "words" => words::answer(self.alloc, asked, text),
             "clock" => clock::answer(self.alloc, asked, text),
-            "calls" | "stops" => calls::answer(self.alloc, &mut self.desk, asked, text),
+            "calls" | "cut-calls" => calls::answer(self.alloc, &mut self.desk, asked, text),
             _ => None,
         }
     }

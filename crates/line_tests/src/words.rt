@@ -1,5 +1,5 @@
 //! The words of a call, and what they are read as.
-use crate::said::{say, say_two, shown};
+use case_words::{say, shown};
 use desk_line::ReportName;
 use desk_words::{Line, LineCommand, WordsFault, parse_words};
 use imp_fields::Airport;
@@ -54,6 +54,11 @@ fn line_said(alloc: Global, line: &Line<'_>) -> Option<String> {
     let station = airport_said(alloc, line.station)?;
     let (db, zone) = (line.db.unwrap_or("-"), line.zone);
     format!(in alloc; "{db} {station} {zone} {command}").ok()
+}
+
+/// Two words.
+fn say_two(alloc: Global, first: &str, second: &str) -> Option<String> {
+    format!(in alloc; "{first} {second}").ok()
 }
 
 fn airport_said(alloc: Global, airport: Option<Airport>) -> Option<String> {

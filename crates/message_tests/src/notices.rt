@@ -2,7 +2,7 @@
 use crate::said::{next_number, next_small_number, words};
 use awb_number::Awb;
 use imp_fields::{
-    Airport, BookTenths, Consigned, Discrepancy, Flight, Goods, LocalDay, Moment, Name, Pieces,
+    Airport, BookTenths, Discrepancy, Flight, Goods, LocalDay, Moment, Name, Pieces, WaybillSummary,
 };
 use shipment_machine::{Event, FlightDate, ManifestLine, ManifestLines, Notice};
 use std::alloc::Global;
@@ -31,8 +31,8 @@ pub fn answer(alloc: Global, asked: &str, text: &[u8]) -> Option<String> {
     String::from_utf8(notice_text(alloc, &notice).ok()?).ok()
 }
 
-fn consigned() -> Option<Consigned> {
-    Some(Consigned {
+fn consigned() -> Option<WaybillSummary> {
+    Some(WaybillSummary {
         awb: Awb::read(b"020-12345675").ok()?,
         origin: Airport::read(b"FRA")?,
         destination: Airport::read(b"JFK")?,

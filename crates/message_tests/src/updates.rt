@@ -1,9 +1,9 @@
 //! Status updates that are sent.
 use crate::said::words;
 use awb_number::Awb;
-use fsu_text::{Handling, SentCarriage, SentStatus, Update, read, write_fsu};
+use fsu_text::{Handling, SentCarriage, SentStatus, SentUpdate, read, write_fsu};
 use imp_fields::{
-    Airport, BookTenths, Consigned, DayMonth, DayTime, Discrepancy, Flight, Name, Pieces,
+    Airport, BookTenths, DayMonth, DayTime, Discrepancy, Flight, Name, Pieces, WaybillSummary,
     normal_text,
 };
 use std::alloc::Global;
@@ -16,7 +16,7 @@ pub fn answer(alloc: Global, asked: &str, text: &[u8]) -> Option<String> {
     let here = Airport::read(words.next()?.as_bytes())?;
     let pieces = Pieces::read(words.next()?.as_bytes())?;
     let tenths = BookTenths::new(words.next()?.parse::<u32>().ok()?)?;
-    let update = Update {
+    let update = SentUpdate {
         of: consigned()?,
         status: status(asked, &mut words)?,
         here,
@@ -45,8 +45,8 @@ fn is_read(alloc: Global, text: &[u8]) -> bool {
     }
 }
 
-fn consigned() -> Option<Consigned> {
-    Some(Consigned {
+fn consigned() -> Option<WaybillSummary> {
+    Some(WaybillSummary {
         awb: Awb::read(b"020-12345675").ok()?,
         origin: Airport::read(b"FRA")?,
         destination: Airport::read(b"JFK")?,

@@ -5,10 +5,11 @@
 #![tactic(auto)]
 
 mod cargo;
-mod ends;
+mod counted_ends;
 mod memory;
 mod plain;
 mod rows;
+mod sinks;
 mod tables;
 
 use case_files::{Answers, go_through};
@@ -19,7 +20,7 @@ use std::{env, fs, io};
 use tables::TableAnswers;
 
 /// The files of cases, in the order in which they are gone through.
-const FILES: [&str; 4] = ["rows", "tables", "ends", "cargo"];
+const FILES: [&str; 4] = ["rows", "tables", "counted-ends", "cargo"];
 
 /// What answers the cases of a file.
 #[derive(Drop)]
@@ -35,7 +36,7 @@ impl Answers for FileAnswers {
         match self.file {
             "rows" => self.rows.answer(asked, text),
             "tables" => self.tables.answer(asked, text),
-            "ends" => ends::answer(self.alloc, asked, text),
+            "counted-ends" => counted_ends::answer(self.alloc, asked, text),
             "cargo" => cargo_answer(self.alloc, asked, text),
             _ => None,
         }

@@ -1,10 +1,10 @@
 //! Messages that are written and read where memory may run out: that is reported, and leaves the buffer as it was.
 use awb_number::Awb;
 use ffm_text::{Load, write_ffm};
-use fsu_text::{Handling, SentStatus, Update, write_fsu};
+use fsu_text::{Handling, SentStatus, SentUpdate, write_fsu};
 use imp_fields::{
-    Airport, BookTenths, Consigned, DayMonth, DayTime, Flight, Goods, LocalDay, Moment, Name,
-    Pieces, TextFault, Why, normal_text,
+    Airport, BookTenths, DayMonth, DayTime, Flight, Goods, LocalDay, Moment, Name, Pieces,
+    TextFault, WaybillSummary, Why, normal_text,
 };
 use shipment_machine::{Event, FlightDate, ManifestLine, ManifestLines, Notice};
 use std::alloc::Global;
@@ -69,8 +69,8 @@ fn is_manifest_read(alloc: Global, text: &[u8]) -> bool {
 }
 
 /// Ten pieces of 100 kilograms from FRA to JFK.
-fn consigned() -> Option<Consigned> {
-    Some(Consigned {
+fn consigned() -> Option<WaybillSummary> {
+    Some(WaybillSummary {
         awb: Awb::read(b"020-12345675").ok()?,
         origin: Airport::read(b"FRA")?,
         destination: Airport::read(b"JFK")?,
@@ -80,13 +80,13 @@ fn consigned() -> Option<Consigned> {
 }
 
 /// A receipt of the ten pieces from a shipper.
-fn receipt() -> Option<Update> {
+fn receipt() -> Option<SentUpdate> {
     let status = SentStatus::Handled {
         event: Handling::ReceivedFromShipper,
         at: DayTime::read(b"12JAN1030")?,
         name: Name::read(b"ACME")?,
     };
-    Some(Update {
+    Some(SentUpdate {
         of: consigned()?,
         status,
         here: Airport::read(b"FRA")?,

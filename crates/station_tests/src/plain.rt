@@ -1,29 +1,14 @@
 //! A station in memory: sinks that take no more, inputs at once, and memory that runs out.
+use crate::sinks::Taken;
 use crate::tables::answers_said;
 use awb_number::Awb;
-use case_words::{count_said, shown};
-use desk_commands::read_command_text;
+use case_words::{count_said, is_done, keyed, shown};
 use imp_fields::{Airport, Moment};
 use plain_station::PlainStation;
-use station_core::{ActFault, Answer, BookRow, Input, Keeper, Key, Sink, act_all, answer_one};
+use station_core::{ActFault, Answer, BookRow, Input, Keeper, act_all, answer_one};
 use station_rows::open_memory;
 use station_tables::{AttachFault, create};
 use std::alloc::Global;
-
-/// Takes so many rows, and takes no more then.
-#[derive(Drop)]
-struct Taken<Row> {
-    rows: Vec<Row>,
-    wanted: usize,
-}
-
-impl<Row: Drop> Sink<Row> for Taken<Row> {
-    ghost takes = { λ before row goes_on after. Unit {0} };
-
-    fn take(&mut self, row: Row) -> bool {
-        self.rows.push(row).is_ok() && self.rows.len() < self.wanted
-    }
-}
 
 /// A minute of 2026-01-12.
 fn at(hour: u16, minute: u16) -> Option<Moment> {
@@ -33,13 +18,6 @@ fn at(hour: u16, minute: u16) -> Option<Moment> {
 /// A new station at FRA.
 fn station(alloc: Global) -> Option<PlainStation> {
     Some(PlainStation::new(alloc, Airport::read(b"FRA")?))
-}
-
-/// A command, as a text, under a key.
-fn keyed<'a>(key: &str, command: &str) -> Option<Input<'a>> {
-    let key = Key::read(key.as_bytes())?;
-    let command = read_command_text(command.as_bytes())?;
-    Some(Input::Keyed(key, command))
 }
 
 /// Ten pieces of a waybill are booked.
@@ -62,11 +40,6 @@ fn departure<'a>() -> Option<Input<'a>> {
     keyed("d1", "depart\nLH400\n2026-01-12")
 }
 
-/// Whether an input is accepted.
-fn is_done(station: &mut impl Keeper, input: &Input<'_>, at: Moment) -> bool {
-    matches!(answer_one(station, input, at), Ok(Answer::Done(_)))
-}
-
 /// A station that has received ten pieces of a waybill, of which four left.
 fn departed(alloc: Global) -> Option<PlainStation> {
     let mut station = station(alloc)?;
@@ -81,13 +54,10 @@ fn departed(alloc: Global) -> Option<PlainStation> {
     }
 }
 
-/// How many of its messages a sink takes that wants so many.
-pub fn pending_rows(alloc: Global, wanted: &[u8]) -> Option<String> {
+/// How many of its messages a sink is handed that takes so many at most.
+pub fn pending_rows(alloc: Global, most: &[u8]) -> Option<String> {
     let mut station = departed(alloc)?;
-    let mut sink = Taken {
-        rows: Vec::new(alloc),
-        wanted: shown(wanted).parse::<usize>().ok()?,
-    };
+    let mut sink = Taken::new(alloc, shown(most).parse::<usize>().ok()?);
     let is_given = station.pending(&mut sink).is_ok();
     count_said(alloc, is_given, sink.rows.len())
 }
@@ -150,10 +120,7 @@ fn give(station: &mut impl Keeper, input: &Input<'_>, at: Moment) -> Outcome {
 
 /// Whether a reader hands out all of the book's rows, at the second attempt if memory was refused at the first, and no row then.
 fn is_book_told(alloc: Global, station: &mut impl Keeper) -> bool {
-    let mut sink: Taken<BookRow> = Taken {
-        rows: Vec::new(alloc),
-        wanted: usize::MAX,
-    };
+    let mut sink: Taken<BookRow> = Taken::new(alloc, usize::MAX);
     match station.book(&mut sink) {
         Ok(()) => true,
         Err(ActFault::Memory) | Err(ActFault::Store) => {

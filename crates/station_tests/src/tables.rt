@@ -1,4 +1,5 @@
 //! A station over the tables of a database in memory.
+use crate::sinks::RowCount;
 use agent_stock::{AgentCode, Order, Run, RunCount};
 use awb_number::Awb;
 use case_words::{
@@ -7,7 +8,7 @@ use case_words::{
 use desk_commands::Command;
 use imp_fields::Airport;
 use sqlite::{Connection, MemStore};
-use station_core::{Answer, Input, Keeper, Key, Sink, act_all};
+use station_core::{Answer, Input, Keeper, Key, act_all};
 use station_rows::{Rows, StockRow, TableStore, open_memory};
 use station_tables::{AttachFault, Station, create};
 use std::alloc::Global;
@@ -161,21 +162,6 @@ fn waybill(alloc: Global, keeper: &mut impl Keeper, text: &[u8]) -> Option<Strin
     match keeper.waybill(&number(text)?).ok()? {
         Some(_) => say(alloc, "known"),
         None => say(alloc, "none"),
-    }
-}
-
-/// A sink that counts its rows.
-#[derive(Drop)]
-struct RowCount {
-    rows: u64,
-}
-
-impl<Row: Drop> Sink<Row> for RowCount {
-    ghost takes = { λ old row go new. Unit {0} };
-
-    fn take(&mut self, _row: Row) -> bool {
-        self.rows = self.rows.saturating_add(1);
-        true
     }
 }
 

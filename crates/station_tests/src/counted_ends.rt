@@ -1,9 +1,9 @@
 //! Readers and writers that count, some of which fail.
-use case_words::{say, shown};
+use case_words::{Narrow, say, shown};
 use station_core::{ByteIn, ByteOut, Counted, ReadFault, WriteFault, send};
 use std::alloc::Global;
 use std::io;
-use std::io::{Read, Write};
+use std::io::Read;
 
 /// What comes of what is asked.
 pub fn answer(alloc: Global, asked: &str, text: &[u8]) -> Option<String> {
@@ -76,22 +76,8 @@ fn read_haltingly(alloc: Global, bytes: &[u8]) -> Option<String> {
     format!(in alloc; "{first} {second} {third} [{}]", shown(&buf)).ok()
 }
 
-/// A writer that fails.
-#[derive(Drop)]
-struct Failing;
-
-impl Write for Failing {
-    fn write(&mut self, _: &[u8]) -> io::Result<usize> {
-        Err(io::Error::from(io::ErrorKind::Other))
-    }
-
-    fn flush(&mut self) -> io::Result<()> {
-        Ok(())
-    }
-}
-
 fn sent_in_vain(alloc: Global, text: &[u8]) -> Option<String> {
-    let mut writer = Counted::new(Failing);
+    let mut writer = Counted::new(Narrow::new(alloc, 0));
     match ByteOut::write(&mut writer, text) {
         Ok(_) => None,
         Err(WriteFault) => sent_said(alloc, send(&mut writer, text)),

@@ -1,11 +1,10 @@
 //! Databases that were found: a station's tables, right or damaged, that no rule of the database guards, and stations that go on.
 use crate::faults::fault_said;
 use crate::listing::all_rows;
-use case_words::{answered, holder, say, shown, stock, waybill};
-use desk_commands::read_command_text;
+use case_words::{answered, holder, keyed, say, shown, stock, waybill};
 use imp_fields::Airport;
 use sqlite::{Connection, MemStore};
-use station_core::{Input, Key};
+use station_core::Input;
 use station_rows::open_memory;
 use station_tables::{AttachFault, Station, attach, create};
 use std::alloc::Global;
@@ -159,13 +158,8 @@ impl FoundAnswers {
     /// The answer to a command: its key, a blank and its text.
     fn act(&mut self, text: &str) -> Option<String> {
         let (key, command) = text.split_once(' ')?;
-        let key = Key::read(key.as_bytes())?;
-        let command = read_command_text(command.as_bytes())?;
-        answered(
-            self.alloc,
-            self.station.as_mut()?,
-            &Input::Keyed(key, command),
-        )
+        let input = keyed(key, command)?;
+        answered(self.alloc, self.station.as_mut()?, &input)
     }
 
     /// The answer to a telegram.

@@ -1,0 +1,43 @@
+//! Sinks of rows.
+use station_core::Sink;
+use std::alloc::Global;
+
+/// A sink that keeps its rows, and takes so many at most.
+#[derive(Drop)]
+pub struct Taken<Row> {
+    pub rows: Vec<Row>,
+    most: usize,
+}
+
+impl<Row> Taken<Row> {
+    /// No row yet, and room for so many.
+    pub fn new(alloc: Global, most: usize) -> Taken<Row> {
+        Taken {
+            rows: Vec::new(alloc),
+            most,
+        }
+    }
+}
+
+impl<Row: Drop> Sink<Row> for Taken<Row> {
+    ghost takes = { λ before row goes_on after. Unit {0} };
+
+    fn take(&mut self, row: Row) -> bool {
+        self.rows.push(row).is_ok() && self.rows.len() < self.most
+    }
+}
+
+/// A sink that counts its rows.
+#[derive(Clone, Copy)]
+pub struct RowCount {
+    pub rows: u64,
+}
+
+impl<Row: Drop> Sink<Row> for RowCount {
+    ghost takes = { λ before row goes_on after. Unit {0} };
+
+    fn take(&mut self, _: Row) -> bool {
+        self.rows = self.rows.saturating_add(1);
+        true
+    }
+}
