@@ -18,6 +18,8 @@ struct Names {
     lh400: FlightDate,
     goods: Goods,
     name: Name,
+    ten: Pieces,
+    hundred_kilograms: Tenths,
     /// 2026-01-12 at 14:30.
     at: Moment,
 }
@@ -34,6 +36,8 @@ fn all_names() -> Option<Names> {
         },
         goods: Goods::read(b"CARGO")?,
         name: Name::read(b"ACME")?,
+        ten: Pieces::new(10)?,
+        hundred_kilograms: Tenths::new(1000)?,
         at: Moment::new(20465, 870)?,
     })
 }
@@ -60,8 +64,8 @@ fn declared(alloc: Global, names: &Names) -> Option<PlainStation> {
         awb: names.awb,
         origin: names.fra,
         destination: names.jfk,
-        pieces: Pieces::new(10)?,
-        tenths: Tenths::new(1000)?,
+        pieces: names.ten,
+        tenths: names.hundred_kilograms,
         goods: names.goods,
     };
     match done(&mut station, "b1", book, names.at)? {
@@ -70,13 +74,13 @@ fn declared(alloc: Global, names: &Names) -> Option<PlainStation> {
     }
 }
 
-fn receive(names: &Names) -> Option<DeskCommand> {
-    Some(DeskCommand::Receive {
+fn receive(names: &Names) -> DeskCommand {
+    DeskCommand::Receive {
         awb: names.awb,
-        pieces: Pieces::new(10)?,
-        tenths: Tenths::new(1000)?,
+        pieces: names.ten,
+        tenths: names.hundred_kilograms,
         name: names.name,
-    })
+    }
 }
 
 fn manifest(names: &Names) -> Option<DeskCommand> {
@@ -95,7 +99,7 @@ fn exported(alloc: Global, names: &Names) -> Option<PlainStation> {
     let depart = DeskCommand::Depart {
         flight: names.lh400,
     };
-    done(&mut station, "r1", receive(names)?, at)?.ok()?;
+    done(&mut station, "r1", receive(names), at)?.ok()?;
     done(&mut station, "m1", manifest(names)?, names.at)?.ok()?;
     done(&mut station, "d1", depart, names.at)?.ok()?;
     Some(station)
@@ -137,15 +141,21 @@ fn taken_over(station: &mut PlainStation, names: &Names) -> Option<Amount> {
     }
 }
 
+/// Receives ten pieces of the waybill. It returns what `done` does.
+fn received(station: &mut PlainStation, names: &Names) -> Option<Result<u32, u16>> {
+    let command = receive(names);
+    done(station, "r1", command, names.at)
+}
+
 /// Whether ten pieces are received, at the second attempt if memory ran out at the first, after which nothing has changed.
 fn is_received_at_last(station: &mut PlainStation, names: &Names) -> Option<bool> {
-    if done(station, "r1", receive(names)?, names.at).is_some() {
+    if received(station, names).is_some() {
         return Some(true);
     }
     if taken_over(station, names)? != amount(0, 0) {
         return Some(false);
     }
-    Some(done(station, "r1", receive(names)?, names.at) == Some(Ok(10)))
+    Some(received(station, names) == Some(Ok(10)))
 }
 
 /// Whether the book has one row, which comes at the second attempt if memory ran out at the first.
