@@ -7,6 +7,7 @@ mod plain;
 mod rows;
 mod runs;
 mod stock;
+mod terms;
 
 pub use agent_code::AgentCode;
 pub use orders::{carry_out, give_back, issue, take_in, void_run};
@@ -14,3 +15,4 @@ pub use plain::PlainRows;
 pub use rows::StockRows;
 pub use runs::{Held, StockRun, runs_of};
 pub use stock::{Holder, Order, Run, RunCount, StockFault, Test};
+pub use terms::Terms;

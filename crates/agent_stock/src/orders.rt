@@ -3,36 +3,45 @@ ghost use Rattle.agent_stock.specs.Stock.{run_refusal, order_refusal, assigned, 
 
 use crate::agent_code::AgentCode;
 use crate::rows::StockRows;
-use crate::stock::{Holder, Order, Run, StockFault, Test};
+use crate::stock::{Order, Run, StockFault};
+use crate::terms::Terms;
 
-/// Gives a run to a holder, where each of its numbers passes a test.
-fn change<R: StockRows>(
-    rows: &mut R,
-    run: &Run,
-    test: &Test,
-    to: &Holder,
-    number: u16,
-) -> Result<(), StockFault<R::Fault>>
+/// Gives the run of some terms to their holder, where each of its numbers passes the test.
+fn change<R: StockRows>(rows: &mut R, terms: &Terms) -> Result<(), StockFault<R::Fault>>
     requires { R.is_sound rows.old → R.is_ready rows.old }
-    ensures accepted { R.is_sound rows.new → OnOk result (run_refusal (R.holders rows.old) run.now test.now number ≡ None) }
-    ensures given { R.is_sound rows.new → OnOk result (R.holders rows.new ≡ assigned (R.holders rows.old) run.now to.now) }
+    ensures accepted { R.is_sound rows.new → OnOk result (run_refusal (R.holders rows.old) terms.now.run terms.now.test terms.now.refusal ≡ None) }
+    ensures given { R.is_sound rows.new → OnOk result (R.holders rows.new ≡ assigned (R.holders rows.old) terms.now.run terms.now.to) }
     ensures beside { R.is_sound rows.new → OnOk result (R.beside rows.old rows.new) }
-    ensures refused { R.is_sound rows.new → IfErr result (RefusesOrder (run_refusal (R.holders rows.old) run.now test.now number) (R.holders rows.old) (R.holders rows.new)) }
+    ensures refused { R.is_sound rows.new → IfErr result (RefusesOrder (run_refusal (R.holders rows.old) terms.now.run terms.now.test terms.now.refusal) (R.holders rows.old) (R.holders rows.new)) }
     ensures as_before { R.is_sound rows.new → IfErr result (UnlessRows (R.as_before rows.old rows.new)) }
     ensures sound { R.is_sound rows.new → R.is_sound rows.old }
     ensures commits { R.commits_nothing rows.old rows.new }
 {
-    if !run.is_run() {
+    if !terms.run.is_run() {
         return Err(StockFault::Refused(105, None));
     }
-    match rows.uniform(run, test) {
+    match rows.uniform(&terms.run, &terms.test) {
         Err(fault) => Err(StockFault::Rows(fault)),
-        Ok(Some(lowest)) => Err(StockFault::Refused(number, Some(lowest))),
-        Ok(None) => match rows.assign(run, to) {
+        Ok(Some(lowest)) => Err(StockFault::Refused(terms.refusal, Some(lowest))),
+        Ok(None) => match rows.assign(&terms.run, &terms.to) {
             Err(fault) => Err(StockFault::Rows(fault)),
             Ok(()) => Ok(()),
         },
     }
+}
+
+/// Carries out an order.
+pub fn carry_out<R: StockRows>(rows: &mut R, order: &Order) -> Result<(), StockFault<R::Fault>>
+    requires { R.is_sound rows.old → R.is_ready rows.old }
+    ensures accepted { R.is_sound rows.new → OnOk result (order_refusal (R.holders rows.old) (order.now) ≡ None) }
+    ensures given { R.is_sound rows.new → OnOk result (R.holders rows.new ≡ after_order (R.holders rows.old) (order.now)) }
+    ensures beside { R.is_sound rows.new → OnOk result (R.beside rows.old rows.new) }
+    ensures refused { R.is_sound rows.new → IfErr result (RefusesOrder (order_refusal (R.holders rows.old) (order.now)) (R.holders rows.old) (R.holders rows.new)) }
+    ensures as_before { R.is_sound rows.new → IfErr result (UnlessRows (R.as_before rows.old rows.new)) }
+    ensures sound { R.is_sound rows.new → R.is_sound rows.old }
+    ensures commits { R.commits_nothing rows.old rows.new }
+{
+    change(rows, &order.terms())
 }
 
 /// Takes in numbers that aren't in stock: they go to the desk. Refused 105, then 101.
@@ -46,7 +55,7 @@ pub fn take_in<R: StockRows>(rows: &mut R, run: &Run) -> Result<(), StockFault<R
     ensures sound { R.is_sound rows.new → R.is_sound rows.old }
     ensures commits { R.commits_nothing rows.old rows.new }
 {
-    change(rows, run, &Test::Absent, &Holder::Desk, 101)
+    carry_out(rows, &Order::TakeIn(*run))
 }
 
 /// Gives numbers of the desk to an agent. Refused 105, then 102.
@@ -64,7 +73,7 @@ pub fn issue<R: StockRows>(
     ensures sound { R.is_sound rows.new → R.is_sound rows.old }
     ensures commits { R.commits_nothing rows.old rows.new }
 {
-    change(rows, run, &Test::Desk, &Holder::Agent(agent), 102)
+    carry_out(rows, &Order::Issue(*run, agent))
 }
 
 /// Gives numbers of an agent back to the desk. Refused 105, then 103.
@@ -82,7 +91,7 @@ pub fn give_back<R: StockRows>(
     ensures sound { R.is_sound rows.new → R.is_sound rows.old }
     ensures commits { R.commits_nothing rows.old rows.new }
 {
-    change(rows, run, &Test::With(agent), &Holder::Desk, 103)
+    carry_out(rows, &Order::GiveBack(*run, agent))
 }
 
 /// Makes numbers void that the desk or an agent has. Refused 105, then 104.
@@ -96,24 +105,5 @@ pub fn void_run<R: StockRows>(rows: &mut R, run: &Run) -> Result<(), StockFault<
     ensures sound { R.is_sound rows.new → R.is_sound rows.old }
     ensures commits { R.commits_nothing rows.old rows.new }
 {
-    change(rows, run, &Test::DeskOrAgent, &Holder::Void, 104)
-}
-
-/// Carries out an order.
-pub fn carry_out<R: StockRows>(rows: &mut R, order: &Order) -> Result<(), StockFault<R::Fault>>
-    requires { R.is_sound rows.old → R.is_ready rows.old }
-    ensures accepted { R.is_sound rows.new → OnOk result (order_refusal (R.holders rows.old) (order.now) ≡ None) }
-    ensures given { R.is_sound rows.new → OnOk result (R.holders rows.new ≡ after_order (R.holders rows.old) (order.now)) }
-    ensures beside { R.is_sound rows.new → OnOk result (R.beside rows.old rows.new) }
-    ensures refused { R.is_sound rows.new → IfErr result (RefusesOrder (order_refusal (R.holders rows.old) (order.now)) (R.holders rows.old) (R.holders rows.new)) }
-    ensures as_before { R.is_sound rows.new → IfErr result (UnlessRows (R.as_before rows.old rows.new)) }
-    ensures sound { R.is_sound rows.new → R.is_sound rows.old }
-    ensures commits { R.commits_nothing rows.old rows.new }
-{
-    match order {
-        Order::TakeIn(run) => take_in(rows, run),
-        Order::Issue(run, agent) => issue(rows, run, *agent),
-        Order::GiveBack(run, agent) => give_back(rows, run, *agent),
-        Order::Void(run) => void_run(rows, run),
-    }
+    carry_out(rows, &Order::Void(*run))
 }

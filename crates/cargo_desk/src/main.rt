@@ -2,6 +2,7 @@
 #![tactic(auto)]
 
 mod files;
+mod output;
 mod service;
 mod task;
 

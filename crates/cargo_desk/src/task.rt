@@ -1,14 +1,16 @@
 //! A line over its store: memory, or a file.
 
 use crate::files::{make_file, open_file};
+use crate::output::{Gathered, Prompted};
 use crate::service::{Service, serve_line};
 use desk_call::{DeskFault, end, run_line};
 use desk_run::{Feed, is_opening};
-use desk_words::Line;
+use desk_words::{Line, LineCommand};
 use imp_fields::Moment;
 use memory_files::open_pages;
 use sqlite::{Alter, Connection};
 use station_core::Counted;
+use std::cell::RefCell;
 use std::io::{BufWriter, Read, Write};
 use stock_list::RunFault;
 
@@ -40,7 +42,30 @@ fn failed_late(rt: &HostRuntime, status: u8, fault: RunFault) -> u8 {
     }
 }
 
-/// Runs a line over a connection. What it writes is gathered, and goes out before the end.
+/// Runs a stock list over a connection to a file. Each line goes out before the next row acts.
+fn run_direct<S: Alter, R: Read + Drop>(
+    rt: &HostRuntime,
+    line: &Line<'_>,
+    conn: Connection<S>,
+    reader: R,
+    at: Moment,
+) -> (u8, Connection<S>) {
+    let mut output = Counted::new(rt.stdout());
+    let mut errors = Counted::new(rt.stderr());
+    let mut feed = Feed::new(reader);
+    run_line(
+        rt.alloc(),
+        line,
+        conn,
+        &mut feed,
+        &mut output,
+        &mut errors,
+        at,
+    )
+}
+
+/// Runs a line over a connection. What it writes is gathered, and goes out before each read of the input, and before the
+/// end.
 fn run_gathered<S: Alter, R: Read + Drop>(
     rt: &HostRuntime,
     line: &Line<'_>,
@@ -52,9 +77,10 @@ fn run_gathered<S: Alter, R: Read + Drop>(
     let Ok(gathered) = BufWriter::new(alloc, rt.stdout()) else {
         return (faulted(rt, RunFault::Memory), conn);
     };
-    let mut output = Counted::new(gathered);
+    let shared = RefCell::new(gathered);
+    let mut output = Counted::new(Gathered::new(&shared));
     let mut errors = Counted::new(rt.stderr());
-    let mut feed = Feed::new(reader);
+    let mut feed = Feed::new(Prompted::new(reader, &shared));
     let (status, conn) = run_line(alloc, line, conn, &mut feed, &mut output, &mut errors, at);
     if output.into_inner().flush().is_err() {
         return (failed_late(rt, status, RunFault::Write), conn);
@@ -70,7 +96,13 @@ fn run_task<S: Alter, R: Read + Drop>(
     task: Task<'_, R>,
 ) -> (u8, Connection<S>) {
     match task {
-        Task::Run { reader, at } => run_gathered(rt, line, conn, reader, at),
+        Task::Run { reader, at } => {
+            if line.db.is_some() && matches!(&line.command, LineCommand::Stock) {
+                run_direct(rt, line, conn, reader, at)
+            } else {
+                run_gathered(rt, line, conn, reader, at)
+            }
+        }
         Task::Serve(service) => serve_line(rt, line, conn, service),
     }
 }

@@ -16,5 +16,5 @@ pub use builds::{
 pub use counts::{CountRow, counts_of, delete_count, insert_count, update_count};
 pub use expected::{ExpectedRow, expected_row, insert_expected, update_expected};
 pub use flights::{FlightRow, flight_row, insert_flight, update_flight};
-pub use moves::{MoveRow, all_moves, insert_move, moves_of};
+pub use moves::{MoveRow, all_moves, hand_out_moves, insert_move, moves_of};
 pub use waybills::{WaybillRow, insert_waybill, update_waybill, waybill_row};

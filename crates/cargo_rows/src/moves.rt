@@ -1,8 +1,13 @@
-ghost use Rattle.std.specs.Prelude.{◌≡◌, map, filter, IfOk};
-ghost use Rattle.row_schema.specs.Calls.{Alters, CommitsNothing, LeavesAll, Tells};
+ghost use Rattle.std.specs.Prelude.{◌≡◌, List, map, filter, IfOk};
+ghost use Rattle.row_laws.specs.Streams.{taking};
+ghost use Rattle.row_schema.specs.Calls.{Alters, CommitsNothing, HandsRows, LeavesAll, Tells};
+ghost use Rattle.row_sinks.specs.Handed.{HandedOut};
+ghost use Rattle.cargo_rows.specs.declared.moves.MoveRow.{MoveRow as AnyMoveRow};
 ghost use Rattle.cargo_rows.specs.Shown.{move_read, move_shown};
 ghost use Rattle.cargo_rows.specs.Meant.{is_of, move_meant, with_move};
 
+use row_laws::{ReadRow, stream};
+use row_sinks::Sink;
 use sqlite::{Alter, Connection, Error, Row, params};
 use std::alloc::Global;
 
@@ -65,21 +70,23 @@ fn shown_moves_of<S: Alter>(conn: &mut Connection<S>, awb: i64) -> Result<Vec<Ro
     )
 }
 
-fn read_move(row: &Row) -> Result<MoveRow, Error>
-    ensures { IfOk result (λ r. move_meant r ≡ move_read row.now) }
-{
-    Ok(MoveRow {
-        number: row.get(0)?,
-        awb: row.get(1)?,
-        src: row.get(2)?,
-        dst: row.get(3)?,
-        pieces: row.get(4)?,
-        tenths: row.get(5)?,
-        flight: row.get(6)?,
-        fday: row.get(7)?,
-        day: row.get(8)?,
-        minute: row.get(9)?,
-    })
+impl ReadRow for MoveRow {
+    ghost reads = { λ row r. move_meant r ≡ move_read row };
+
+    fn read(row: &Row) -> Result<MoveRow, Error> {
+        Ok(MoveRow {
+            number: row.get(0)?,
+            awb: row.get(1)?,
+            src: row.get(2)?,
+            dst: row.get(3)?,
+            pieces: row.get(4)?,
+            tenths: row.get(5)?,
+            flight: row.get(6)?,
+            fday: row.get(7)?,
+            day: row.get(8)?,
+            minute: row.get(9)?,
+        })
+    }
 }
 
 fn read_moves(alloc: Global, rows: &[Row]) -> Result<Vec<MoveRow>, Error>
@@ -87,7 +94,7 @@ fn read_moves(alloc: Global, rows: &[Row]) -> Result<Vec<MoveRow>, Error>
 {
     let mut all = Vec::new(alloc);
     for row in rows {
-        all.push(read_move(row)?)?;
+        all.push(MoveRow::read(row)?)?;
     }
     Ok(all)
 }
@@ -121,4 +128,23 @@ pub fn all_moves<S: Alter>(conn: &mut Connection<S>) -> Result<Vec<MoveRow>, Err
 {
     let rows = shown_all_moves(conn)?;
     read_moves(*rows.allocator(), &rows)
+}
+
+/// Hands out all moves, in order, as the query gives them, until the sink takes no more. It fails where the database call fails or
+/// memory runs out; what was handed out before is a beginning.
+pub fn hand_out_moves<S: Alter, K: Sink<MoveRow>>(
+    conn: &mut Connection<S>,
+    sink: &mut K,
+) -> Result<(), Error>
+    ensures hands { HandsRows S.Store conn.old conn.new result
+        (taking (λ movement row. move_meant row ≡ movement) K.takes) (λ tables. tables.moves) sink.old sink.new }
+    ensures took { (rows : List AnyMoveRow) × HandedOut K.takes rows sink.old sink.new }
+    ensures survives { LeavesAll S.Store conn.old conn.new }
+{
+    stream::<S, MoveRow, K>(
+        conn,
+        "SELECT number, awb, src, dst, pieces, tenths, flight, fday, day, minute FROM moves ORDER BY number",
+        &[],
+        sink,
+    )
 }

@@ -13,6 +13,8 @@ use Rattle.count_tables.specs.Stored.{meant, come_to, storing_count, posting_cou
 
 pub survives_on : (old mid new : View) → Survives old mid → Survives mid new → Survives old new
 survives_on old mid new a b = record {
+  clean = λ clean. a.clean (b.clean clean);
+  still = λ was clean. b.still (a.still was (b.clean clean)) clean;
   sound = λ sound. a.sound (b.sound sound);
   crash = λ sound t left. a.crash (b.sound sound) t (b.crash sound t left);
 }

@@ -1,6 +1,5 @@
 -- The tables of a database that obeys the schema of a station are a station's.
 use Rattle.std.proofs.Common.{◌≡◌, ℕ, IsTrue, [], ◌∷◌, refl, sym, ap, subst, ◌∙◌, arith, codes}
-use Rattle.sqlite.specs.Effect.{Database, IsDatabase}
 use Rattle.sqlite.specs.Schema.{Schema}
 use Rattle.sqlite.specs.State.{IsLive}
 use Rattle.sqlite.specs.Held.{Held, state}
@@ -9,7 +8,6 @@ use Rattle.sqlite_schema.specs.declared.schema.Constraint.TheVariants.{Datatype,
 use Rattle.sqlite_schema.specs.Rules.{IsLaidOut, Keeps}
 use Rattle.sqlite_catalog.specs.Listing.{IsSound}
 use Rattle.sqlite_catalog.proofs.LayoutLemmas.{laid_out, objects_rise}
-use Rattle.sqlite_catalog.proofs.ReadLemmas.{lists_once}
 use Rattle.sqlite_trees.specs.View.{View, IsShaped, IsOrdered}
 use Rattle.sqlite_trees.specs.Objects.{catalog_tree, IsListed}
 use Rattle.sqlite_trees.specs.declared.store.Store.{Ghosts}
@@ -19,18 +17,10 @@ use Rattle.row_schema.specs.Schema.{key_column, station_schema, station, waybill
 use Rattle.row_schema.specs.Tables as table
 use Rattle.row_schema.specs.Tables.{IsStation}
 use Rattle.row_schema.proofs.Keys.{stock_total, flight_total, expected_total, part_total, kept_total, kept_text_total, count_total, build_total}
-use Rattle.declared_tables.specs.Own.{IsOwn, LiesInOrder}
+use Rattle.row_schema.specs.Own.{LiesInOrder}
 use Rattle.declared_tables.proofs.Compared.{stock_compares, flight_compares, expected_compares, part_compares, kept_compares, kept_text_compares, count_compares, build_compares}
 use Rattle.declared_tables.proofs.Typed.{wanted_of, rows_listed, rows_entered}
 use Rattle.std.specs.Prelude.{drop}
-
--- a schema is read out of trees in one way
-pub owns : (db : Database) → db.schema ≡ station_schema → IsDatabase db → IsOwn db.trees
-owns db has sound = record { only = λ schema other. lists_once _ schema db.schema other.lists sound.lists ∙ has }
-
--- and of such trees it is a station's
-pub owned : (db : Database) → IsOwn db.trees → IsDatabase db → db.schema ≡ station_schema
-owned db own sound = own.only db.schema sound
 
 module _ (v : View) (listed : IsListed (v.trees catalog_tree) v.shape v.reals) (ordered : IsOrdered v.shape v.trees) (schema : Schema) (sound : IsSound schema v.trees) (has : schema ≡ station_schema) where
   laid : IsLaidOut station_schema v.shape

@@ -21,7 +21,7 @@ use Rattle.sqlite_store.specs.Listed.{catalog_rows, is_listed}
 use Rattle.sqlite_store.specs.Listing.{all_shapes, file_trees, IsOurs}
 use Rattle.sqlite_store.proofs.ListingLemmas.{all_ordered}
 use Rattle.sqlite.specs.Files.{over_files}
-use Rattle.declared_tables.specs.Own.{LiesInOrder}
+use Rattle.row_schema.specs.Own.{LiesInOrder}
 
 module _ {D : Type 0} {g : Ghosts D} (stays : SeenMayStay g) (it : FileStore D g) (is_open : IsTrue (view it).is_open) where
   abbrev pages : PageMap

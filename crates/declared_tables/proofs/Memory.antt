@@ -9,7 +9,7 @@ use Rattle.sqlite_trees.specs.Objects.{catalog_tree, version_tree, version_rows,
 use Rattle.sqlite_trees.specs.Props.{IsShaped-prop}
 use Rattle.sqlite_trees.specs.View.{IsShaped, IsOrdered}
 use Rattle.sqlite.specs.Steps.{over_memory}
-use Rattle.declared_tables.specs.Own.{LiesInOrder}
+use Rattle.row_schema.specs.Own.{LiesInOrder}
 
 trees_are_ordered : (trees : List Tree) → IsOrdered (shape_of trees) (rows_of trees)
 trees_are_ordered [] t = refl

@@ -2,7 +2,7 @@ ghost use Rattle.std.specs.Prelude.{◌≡◌, ◌↔◌, true, IsTrue};
 ghost use Rattle.sqlite.specs.Held.{state};
 ghost use Rattle.row_schema.specs.Schema.{station_schema};
 ghost use Rattle.row_schema.specs.Tables.{IsStation};
-ghost use Rattle.declared_tables.specs.Own.{IsOwn, LiesInOrder};
+ghost use Rattle.row_schema.specs.Own.{IsOwn, LiesInOrder};
 
 use crate::schema::is_declared;
 use sqlite::{Alter, Connection};
@@ -15,11 +15,4 @@ pub fn has_station<S: Alter>(conn: &Connection<S>) -> bool
     ensures station { IsTrue result → IsTrue (state S.Store conn.now).is_open → (state S.Store conn.now).now ≡ (state S.Store conn.now).committed → LiesInOrder S.Store → IsStation (state S.Store conn.now).now }
 {
     is_declared(conn.schema())
-}
-
-/// The law that an open connection with the schema of a station shows trees out of which no other schema is read.
-pub fn shows_own<S: Alter>(conn: &Connection<S>)
-    ensures { IsTrue (state S.Store conn.now).is_open → (state S.Store conn.now).now.schema ≡ station_schema → IsOwn (state S.Store conn.now).now.trees }
-{
-    let _ = conn.schema();
 }

@@ -1,6 +1,6 @@
 ghost use Rattle.sqlite.specs.Files.{over_files};
 ghost use Rattle.sqlite.specs.Steps.{over_memory};
-ghost use Rattle.declared_tables.specs.Own.{LiesInOrder};
+ghost use Rattle.row_schema.specs.Own.{LiesInOrder};
 
 use sqlite_disk::Disk;
 

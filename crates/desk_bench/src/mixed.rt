@@ -1,5 +1,5 @@
-//! A session on a station in memory alone: orders on the stock, waybills that are booked, received and built, flights that leave,
-//! and repeats.
+//! A session on a station in memory alone: orders on the stock, waybills that are booked, received
+//! and built, flights that leave, and repeats.
 ghost use Rattle.std.specs.Prelude.{◌<◌};
 
 use crate::report::{Done, counted};
@@ -13,7 +13,8 @@ use shipment_machine::{DeskCommand, FlightDate};
 use station_core::{Input, Keeper};
 use std::alloc::Global;
 
-/// How many waybills are sent. Each has eleven inputs: five orders, and three commands that are repeated once.
+/// How many waybills are sent. Each has eleven inputs: five orders, and three commands that are
+/// repeated once.
 const WAYBILLS: u32 = 900;
 
 /// How many of them leave with one flight, by one more input.
@@ -81,7 +82,8 @@ fn tell(
     }
 }
 
-/// The orders of a delivery of ten numbers: five are issued to two agents, one of these comes back, and one is voided.
+/// The orders of a delivery of ten numbers: five are issued to two agents, one of these comes
+/// back, and one is voided.
 fn delivery(names: &Names, serial: u32) -> Option<[(char, Order); 5]>
     requires { serial < 9_000_000 }
 {

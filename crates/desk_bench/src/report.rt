@@ -33,7 +33,8 @@ pub fn give_up(rt: &HostRuntime, what: &str) -> Result<(), io::Error> {
     println!(rt; "gave up: {what}")
 }
 
-/// Prints how often work was done in a second, how long it took once, and how many million bytes of texts there were in a second.
+/// Prints how often work was done in a second, how long it took once, and how many million bytes
+/// of texts there were in a second.
 pub fn report(
     rt: &HostRuntime,
     what: &str,

@@ -4,7 +4,7 @@ use Rattle.sqlite.specs.Held.{Held, state}
 use Rattle.sqlite.specs.State.{HasCleanDisk}
 use Rattle.sqlite_trees.specs.declared.store.Store.{Ghosts}
 use Rattle.row_schema.specs.Connection.{connection_view, IsVacant}
-use Rattle.declared_tables.specs.Own.{IsOwn, LiesInOrder}
+use Rattle.row_schema.specs.Own.{IsOwn, LiesInOrder}
 use Rattle.station_core.specs.Step.{State, IsLawfulState, opening}
 use Rattle.station_rows.specs.Own.{are_declared}
 use Rattle.station_tables.specs.declared.fault.AttachFault.{AttachFault}

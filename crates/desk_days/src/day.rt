@@ -56,6 +56,8 @@ pub enum Ask {
     Waybill(Awb),
     Holder(Awb),
     Report(Report),
+    /// The messages, to a writer that takes so many bytes and then fails.
+    CutOutbox(usize),
     /// A request over HTTP.
     Request,
 }

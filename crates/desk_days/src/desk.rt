@@ -2,15 +2,17 @@
 use crate::day::Report;
 use agent_stock::Holder;
 use awb_number::Awb;
+use case_words::Narrow;
 use http_desk::serve_one;
 use imp_fields::{Airport, Moment};
-use memory_files::{MemoryPages, open_pages};
 use plain_station::PlainStation;
 use reports::{
     ReportCause, ReportFault, irregularity_report, movement_book, pending_report, stock_report,
     trail_report,
 };
+use sqlite::MemStore;
 use station_core::{ActFault, Answer, Counted, Input, Keeper, Waybill, act_all, answer_one};
+use station_rows::open_memory;
 use station_tables::{AttachFault, Station, attach, create};
 use std::alloc::Global;
 
@@ -21,7 +23,8 @@ pub enum Kind {
     Plain,
     /// The tables of a store in memory.
     Tables,
-    /// The same, where the station is given back and its tables are opened again in the midst of the day.
+    /// The same, where the station is given back and its tables are opened again in the midst of
+    /// the day.
     Reopened,
 }
 
@@ -40,7 +43,7 @@ impl Kind {
 #[derive(Drop)]
 pub enum Desk {
     Plain(PlainStation),
-    Tables(Station<MemoryPages>),
+    Tables(Station<MemStore>),
 }
 
 /// A report.
@@ -67,9 +70,20 @@ fn cause(fault: ReportFault) -> ActFault {
     }
 }
 
+/// What of the pending report goes out to a writer that takes so many bytes and then fails, and
+/// how many bytes the fault tells.
+fn cut_outbox<K: Keeper>(alloc: Global, keeper: &mut K, room: usize) -> (Vec<u8>, Option<u64>) {
+    let mut writer = Counted::new(Narrow::new(alloc, room));
+    let sent = match pending_report(alloc, keeper, &mut writer) {
+        Ok(()) => None,
+        Err(fault) => Some(fault.sent),
+    };
+    (writer.into_inner().into_taken(), sent)
+}
+
 /// A new station over tables in memory.
 fn tables(alloc: Global, here: Airport) -> Result<Desk, ActFault> {
-    let Ok(conn) = open_pages(alloc) else {
+    let Ok(conn) = open_memory(alloc) else {
         return Err(ActFault::Memory);
     };
     match create(alloc, conn, here) {
@@ -157,6 +171,15 @@ impl Desk {
         match put {
             Ok(()) => Ok(writer.into_inner()),
             Err(fault) => Err(cause(fault)),
+        }
+    }
+
+    /// What of the pending report goes out to a writer that takes so many bytes and then fails,
+    /// and how many bytes the fault tells.
+    pub fn cut_outbox(&mut self, alloc: Global, room: usize) -> (Vec<u8>, Option<u64>) {
+        match self {
+            Desk::Plain(station) => cut_outbox(alloc, station, room),
+            Desk::Tables(station) => cut_outbox(alloc, station, room),
         }
     }
 

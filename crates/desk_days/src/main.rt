@@ -1,5 +1,5 @@
-//! Days at a cargo station, as scripts. Each one is played on every keeper of a station's state, and each line that the station
-//! prints is compared with the line that the script says.
+//! Days at a cargo station, as scripts. Each one is played on every keeper of a station's state,
+//! and each line that the station prints is compared with the line that the script says.
 //!
 //! A script is plain text. Its statements, one a line:
 //!
@@ -7,21 +7,30 @@
 //! - `at 2026-01-12 10:30`: the moment of all that follows;
 //! - `act VERB KEY BODY`: a command, its body one line of JSON;
 //! - `take`, `take lf`, `take hex`: a telegram, from the `|` lines below;
-//! - `beginnings`: each beginning of the bytes of the `|` lines, from none to all, as a telegram. It prints a line for each run of
-//!   equal answers;
-//! - `stock`: the `|` lines below as rows of a stock list: key, verb, prefix, serial, count and agent;
-//! - `waybill NUMBER`, `holder NUMBER`: what is known of a waybill, and who has a number, as objects of JSON, or `none`;
+//! - `beginnings`: each beginning of the bytes of the `|` lines, from none to all, as a telegram.
+//!   It prints a line for each run of equal answers;
+//! - `stock`: the `|` lines below as rows of a stock list: key, verb, prefix, serial, count and
+//!   agent;
+//! - `waybill NUMBER`, `holder NUMBER`: what is known of a waybill, and who has a number, as
+//!   objects of JSON, or `none`;
 //! - `outbox`, `report NAME`: a report;
-//! - `request`: a request over HTTP, from the `|` lines below, each ended by CR and LF. What stands behind its body isn't read.
+//! - `outbox 20`: what of the messages goes out to a writer that takes so many bytes and then
+//!   fails, and how many bytes the fault tells;
+//! - `request`: a request over HTTP, from the `|` lines below, each ended by CR and LF. What
+//!   stands behind its body isn't read.
 //!
-//! A line `| TEXT` belongs to the statement above it. `take` sends such lines ended by CR and LF, `take lf` and `beginnings` by LF,
-//! and `take hex` sends the bytes that their digits write. `|998 TEXT` stands for 998 such lines. A line `= TEXT` is what must be printed,
-//! one for each line, where a CR at the end of a printed line doesn't count. Empty lines and those that begin with `#` are for the reader.
+//! A line `| TEXT` belongs to the statement above it. `take` sends such lines ended by CR and LF,
+//! `take lf` and `beginnings` by LF, and `take hex` sends the bytes that their digits write. `|998
+//! TEXT` stands for 998 such lines. A line `= TEXT` is what must be printed, one for each line,
+//! where a CR at the end of a printed line doesn't count. Empty lines and those that begin with
+//! `#` are for the reader.
 //!
-//! One of the keepers has its tables opened again before each statement, and in a long day before each tenth.
+//! One of the keepers has its tables opened again before each statement, and in a long day before
+//! each tenth.
 //!
-//! The word `by-rule` in place of a script gives each keeper two hundred inputs by a fixed rule, one by one and as one list: their answers,
-//! and all that their readers hand out, have to be equal. `orders-by-rule` does the same with two thousand orders on the stock.
+//! The word `by-rule` in place of a script gives each keeper two hundred inputs by a fixed rule,
+//! one by one and as one list: their answers, and all that their readers hand out, have to be
+//! equal. `orders-by-rule` does the same with two thousand orders on the stock.
 #![tactic(auto)]
 
 mod compare;
@@ -140,7 +149,8 @@ fn status_after(status: u8, outcome: Outcome) -> u8 {
     status.max(own)
 }
 
-/// Status 0: all went as the scripts say; 1: a line differed; 2: a script can't be read, or none was named.
+/// Status 0: all went as the scripts say; 1: a line differed; 2: a script can't be read, or none
+/// was named.
 fn main(rt: HostRuntime) -> Result<ExitCode, io::Error> {
     let words: Vec<String> = env::args(&rt)?.collect(rt.alloc())?;
     let mut status = 0;

@@ -136,7 +136,8 @@ fn take_beginnings(
     put_run(alloc, out, from, bytes.len(), before.as_str())
 }
 
-/// The key of a row of a stock list and the text of its command, where the row has six fields and a key.
+/// The key of a row of a stock list and the text of its command, where the row has six fields and
+/// a key.
 fn row_text(alloc: Global, row: &str) -> Result<Option<(Key, String)>, AllocError> {
     if row.split(',').count() != 6 {
         return Ok(None);
@@ -236,6 +237,18 @@ fn answered(
     }
 }
 
+/// What goes out of the messages to a writer of so many bytes, and a line with the bytes that the
+/// fault tells.
+fn cut_outbox(alloc: Global, desk: &mut Desk, room: usize) -> Result<Vec<u8>, AllocError> {
+    let (mut out, sent) = desk.cut_outbox(alloc, room);
+    let line = match sent {
+        Some(sent) => format!(in alloc; "fault after {sent}\n")?,
+        None => String::from_str(alloc, "no fault\n")?,
+    };
+    out.extend_from_slice(line.as_bytes())?;
+    Ok(out)
+}
+
 /// What is printed at a statement.
 fn printed(alloc: Global, desk: &mut Desk, step: &Step<'_>) -> Result<Vec<u8>, DayFault> {
     let mut out = Vec::new(alloc);
@@ -258,6 +271,7 @@ fn printed(alloc: Global, desk: &mut Desk, step: &Step<'_>) -> Result<Vec<u8>, D
         Ask::Stock => act_rows(alloc, desk, &step.lines, step.at, &mut out)?,
         Ask::Waybill(number) => put_text(&mut out, &waybill_text(alloc, desk, number)?)?,
         Ask::Holder(number) => put_text(&mut out, &holder_text(alloc, desk, number)?)?,
+        Ask::CutOutbox(room) => return Ok(cut_outbox(alloc, desk, *room)?),
         Ask::Request => return answered(alloc, desk, &step.lines, step.at),
         Ask::Report(report) => match desk.report(alloc, *report) {
             Ok(text) => return Ok(text),
@@ -278,8 +292,8 @@ fn new_desk(alloc: Global, kind: Kind, here: Airport, line: u32) -> Result<Desk,
     }
 }
 
-/// Whether the station is opened again before a statement, counted from 0: in a long day before each tenth one, since an opening
-/// reads all that the station has.
+/// Whether the station is opened again before a statement, counted from 0: in a long day before
+/// each tenth one, since an opening reads all that the station has.
 fn is_opened_again(kind: Kind, day_is_long: bool, statement: usize) -> bool {
     kind == Kind::Reopened && (!day_is_long || statement % 10 == 9)
 }

@@ -71,6 +71,7 @@ fn ask(word: &str, rest: &str) -> Option<Ask> {
         ("waybill", _) => Some(Ask::Waybill(number(rest)?)),
         ("holder", _) => Some(Ask::Holder(number(rest)?)),
         ("outbox", "") => Some(Ask::Report(Report::Pending)),
+        ("outbox", room) => Some(Ask::CutOutbox(room.parse::<usize>().ok()?)),
         ("report", _) => Some(Ask::Report(report(rest)?)),
         ("request", "") => Some(Ask::Request),
         _ => None,

@@ -1,12 +1,15 @@
 -- A command over an input that came whole.
-use Rattle.std.proofs.Common.{ℕ, Bool, List, Option, Result, Ok, Err, IfOk, IfErr, inr}
+use Rattle.std.specs.Result.{IsErrAnd}
+use Rattle.std.proofs.Common.{◌≡◌, refl, sym, subst, ℕ, Bool, List, Option, Result, Ok, Err, IfOk, IfErr, inl, inr}
 use Rattle.imp_fields.specs.Date.{LocalMinute}
 use Rattle.station_core.specs.Given.{Given}
 use Rattle.station_core.specs.Step.{State}
 use Rattle.stock_list.specs.declared.answer.RunFault.{RunFault}
+use Rattle.stock_list.specs.Ended.{IsReadersFault}
 use Rattle.desk_line.specs.declared.asked.Asked.{Asked}
 use Rattle.desk_line.specs.Came.{HasCome}
 use Rattle.desk_line.specs.Ended.{IsAnswered, IsStopped, HasRun}
+use Rattle.desk_line.specs.Shut.{IsAnsweredShut, HasRunShut}
 
 pub has_run : (IsAsked : List ℕ → Asked → Type 0) (s : State) (at : LocalMinute) (read_before read_after : Given) (before after : List ℕ)
     (keeps : State → Type 0) (may_find : Option State → Type 0) (bytes : List ℕ) (asks : Asked) (r : Result Bool RunFault)
@@ -14,3 +17,15 @@ pub has_run : (IsAsked : List ℕ → Asked → Type 0) (s : State) (at : LocalM
     → IfErr r (λ e. IsStopped s asks at e before after keeps may_find) → HasRun IsAsked s at read_before read_after before after keeps may_find r
 has_run IsAsked s at read_before read_after before after keeps may_find bytes asks (Ok good) come is answered stopped = (bytes, come, (asks, is, answered))
 has_run IsAsked s at read_before read_after before after keeps may_find bytes asks (Err e) come is answered stopped = inr (bytes, come, (asks, is, stopped))
+
+-- the same on a station that has to be opened again
+pub has_run_shut : (IsAsked : List ℕ → Asked → Type 0) (read_old read_new old new : Given) (bytes : List ℕ) (asks : Asked) (r : Result Bool RunFault)
+    → HasCome read_old read_new bytes → IsAsked bytes asks → IsAnsweredShut asks old new r → HasRunShut IsAsked read_old read_new old new r
+has_run_shut IsAsked read_old read_new old new bytes asks (Ok good) come is told = (bytes, (come, (asks, (is, told))))
+has_run_shut IsAsked read_old read_new old new bytes asks (Err e) come is told = inr (bytes, (come, (asks, (is, told))))
+
+-- an input that didn't come whole
+pub not_come : (IsAsked : List ℕ → Asked → Type 0) (read_old read_new old : Given) (r : Result Bool RunFault) (e : RunFault)
+    → IsErrAnd r (λ x. x ≡ e) → IsReadersFault e → HasRunShut IsAsked read_old read_new old old r
+not_come IsAsked read_old read_new old (Ok x) e same why = absurd same
+not_come IsAsked read_old read_new old (Err x) e same why = inl (subst IsReadersFault (sym same) why, refl)

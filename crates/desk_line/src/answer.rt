@@ -1,10 +1,11 @@
 //! Answering what the input of a command asks.
-ghost use Rattle.std.specs.Prelude.{◌≡◌, ◌++◌, ◌∷◌, [], false, Err, IfOk, IfErr, OnOk, codes, string_bytes};
+ghost use Rattle.std.specs.Prelude.{◌≡◌, ◌++◌, ◌∷◌, [], true, false, Err, IfOk, IfErr, OnOk, codes, string_bytes};
 ghost use Rattle.station_core.specs.Ends.{HasCause};
 ghost use Rattle.station_core.specs.Step.{State};
 ghost use Rattle.station_core.specs.Texts.{refusal_text};
 ghost use Rattle.stock_list.specs.Lines.{answer_text};
 ghost use Rattle.desk_line.specs.Ended.{HasToldPart, IsAnswered, IsStopped};
+ghost use Rattle.desk_line.specs.Shut.{HasToldLine, IsAnsweredShut};
 
 use crate::asked::Asked;
 use imp_fields::Moment;
@@ -48,6 +49,8 @@ fn answer_input<K: Keeper, O: ByteOut>(
         → IfErr result (λ e. IsStopped s (Asked.Input input.now) at e (O.taken writer.old).bytes (O.taken writer.new).bytes (K.keeps keeper.new) (K.may_find keeper.new)) }
     ensures read { result ≡ Err RunFault.Read → ⊥ }
     ensures write { result ≡ Err RunFault.Write → HasCause (O.taken writer.old) (O.taken writer.new) }
+    ensures same { K.is_broken keeper.old ≡ true → keeper.new ≡ keeper.old }
+    ensures reopen { K.is_broken keeper.old ≡ true → IsAnsweredShut (Asked.Input input.now) (O.taken writer.old) (O.taken writer.new) result }
 {
     let answer = match answer_one(keeper, input, at) {
         Ok(answer) => answer,
@@ -68,6 +71,7 @@ fn answer_refusal<O: ByteOut>(
 ) -> Result<bool, RunFault>
     ensures answered { IfOk result (λ good. (good ≡ false) × ((O.taken writer.new).bytes ≡ (O.taken writer.old).bytes ++ (refusal_text refusal.now ++ 10 ∷ []))) }
     ensures stopped { IfErr result (HasToldPart (refusal_text refusal.now ++ 10 ∷ []) (O.taken writer.old) (O.taken writer.new)) }
+    ensures told { HasToldLine (refusal_text refusal.now ++ 10 ∷ []) (O.taken writer.old) (O.taken writer.new) result }
 {
     let Ok(line) = refusal_line(alloc, refusal) else {
         return Err(RunFault::Memory);
@@ -80,6 +84,7 @@ fn answer_refusal<O: ByteOut>(
 fn answer_bad<O: ByteOut>(writer: &mut O) -> Result<bool, RunFault>
     ensures answered { IfOk result (λ good. (good ≡ false) × ((O.taken writer.new).bytes ≡ (O.taken writer.old).bytes ++ codes "body bad\n")) }
     ensures stopped { IfErr result (HasToldPart (codes "body bad\n") (O.taken writer.old) (O.taken writer.new)) }
+    ensures told { HasToldLine (codes "body bad\n") (O.taken writer.old) (O.taken writer.new) result }
 {
     send_line(writer, BAD_BODY)?;
     Ok(false)
@@ -101,6 +106,8 @@ pub(crate) fn answer_asked<K: Keeper, O: ByteOut>(
         → IfErr result (λ e. IsStopped s asked.now at e (O.taken writer.old).bytes (O.taken writer.new).bytes (K.keeps keeper.new) (K.may_find keeper.new)) }
     ensures read { result ≡ Err RunFault.Read → ⊥ }
     ensures write { result ≡ Err RunFault.Write → HasCause (O.taken writer.old) (O.taken writer.new) }
+    ensures same { K.is_broken keeper.old ≡ true → keeper.new ≡ keeper.old }
+    ensures reopen { K.is_broken keeper.old ≡ true → IsAnsweredShut asked.now (O.taken writer.old) (O.taken writer.new) result }
 {
     match asked {
         Asked::Input(input) => answer_input(alloc, keeper, writer, input, at),

@@ -1,9 +1,10 @@
-ghost use Rattle.std.specs.Prelude.{◌≡◌, false, Err, OnOk};
+ghost use Rattle.std.specs.Prelude.{◌≡◌, true, false, Err, OnOk};
 ghost use Rattle.station_core.specs.Ends.{HasCause};
 ghost use Rattle.station_core.specs.Step.{State};
 ghost use Rattle.desk_line.specs.Asked.{IsTelegramAsked};
 ghost use Rattle.desk_line.specs.Came.{HasFailed};
 ghost use Rattle.desk_line.specs.Ended.{HasRun};
+ghost use Rattle.desk_line.specs.Shut.{HasRunShut};
 
 use crate::answer::answer_asked;
 use crate::asked::telegram_asked;
@@ -36,6 +37,11 @@ pub fn run_take<K: Keeper, I: ByteIn, O: ByteOut>(
     ensures unread { result ≡ Err RunFault.Read → (keeper.new ≡ keeper.old) × (O.taken writer.new ≡ O.taken writer.old) }
     ensures read_cause { result ≡ Err RunFault.Read → HasFailed (I.given reader.old) (I.given reader.new) }
     ensures write_cause { result ≡ Err RunFault.Write → HasCause (O.taken writer.old) (O.taken writer.new) }
+
+    // A station that has to be opened again stays as it is, and nothing is asked of it.
+    ensures same { K.is_broken keeper.old ≡ true → keeper.new ≡ keeper.old }
+    ensures reopen { K.is_broken keeper.old ≡ true
+        → HasRunShut IsTelegramAsked (I.given reader.old) (I.given reader.new) (O.taken writer.old) (O.taken writer.new) result }
 {
     let bytes = read_input(alloc, reader)?;
     match telegram_asked(alloc, bytes.as_slice()) {

@@ -11,10 +11,12 @@ use Rattle.stock_list.specs.declared.answer.RunFault.TheVariants as fault
 use Rattle.stock_list.specs.Ended.{rows_read, AreFirst, HasStopped}
 use Rattle.stock_list.specs.Ended.{HasRun as HasRunRows}
 use Rattle.stock_list.specs.Lines.{Row, stock_rows}
+use Rattle.stock_list.specs.Shut.{HasRunShut as HasRunRowsShut}
 use Rattle.desk_line.specs.declared.asked.Asked.{Asked}
 use Rattle.desk_line.specs.Asked.{IsTelegramAsked, IsCommandAsked}
 use Rattle.desk_line.specs.Came.{HasFailed}
 use Rattle.desk_line.specs.Ended.{HasRun}
+use Rattle.desk_line.specs.Shut.{HasRunShut}
 use Rattle.desk_line.specs.Report.{IsReport, HasReported}
 use Rattle.desk_words.specs.declared.line.LineCommand.{LineCommand}
 use Rattle.desk_words.specs.declared.line.LineCommand.TheVariants as command
@@ -38,7 +40,8 @@ pub record HasToldMade {K : Type 0} (here : List ℕ) (old new : K) (sent_old se
   pub why : IfErr result (λ e. e ≡ fault.Write)
   pub cause : OnErr result (HasCause sent_old sent_new)
 
--- The rows of a stock list were answered, all of them or up to a fault. `left` is the list, where it is known.
+-- The rows of a stock list were answered, all of them or up to a fault; a writer is named only where it failed. A station that has to be
+-- opened again is asked nothing. `left` is the list, where it is known.
 pub record HasAnsweredRows {K : Type 0} (keeps : K → State → Type 0) (is_sound : K → Type 0) (is_broken : K → Bool) (may_find : K → Option State → Type 0)
     (left : Option (List ℕ)) (at : LocalMinute) (old new : K) (sent_old sent_new : Given) (result : Result Bool RunFault) : Type 0 where
   pub ran : (s : State) → keeps old s → is_broken old ≡ false → is_sound new
@@ -46,8 +49,12 @@ pub record HasAnsweredRows {K : Type 0} (keeps : K → State → Type 0) (is_sou
   pub stopped : (s : State) → keeps old s → is_broken old ≡ false → is_sound new
       → IfErr result (λ e. (rows : List Row) × ((next : Option Row) × (IfSome left (AreFirst (rows_read rows next))
       × HasStopped s rows next at e sent_old.bytes sent_new.bytes (keeps new) (may_find new))))
+  pub write_cause : result ≡ Err fault.Write → HasCause sent_old sent_new
+  pub same : is_broken old ≡ true → new ≡ old
+  pub reopen : is_broken old ≡ true → HasRunRowsShut left sent_old.bytes sent_new.bytes result
 
--- What the input asks was done and answered, or the run stopped there or before. A reader or a writer is named only where it failed.
+-- What the input asks was done and answered, or the run stopped there or before. A reader or a writer is named only where it failed. A
+-- station that has to be opened again is asked nothing.
 pub record HasAnsweredAsked {K : Type 0} (IsAsked : List ℕ → Asked → Type 0) (keeps : K → State → Type 0) (is_sound : K → Type 0) (is_broken : K → Bool)
     (may_find : K → Option State → Type 0) (at : LocalMinute) (old new : K) (read_old read_new sent_old sent_new : Given) (result : Result Bool RunFault) : Type 0 where
   pub ran : (s : State) → keeps old s → is_broken old ≡ false → is_sound new
@@ -55,6 +62,8 @@ pub record HasAnsweredAsked {K : Type 0} (IsAsked : List ℕ → Asked → Type 
   pub unread : result ≡ Err fault.Read → (new ≡ old) × (sent_new ≡ sent_old)
   pub read_cause : result ≡ Err fault.Read → HasFailed read_old read_new
   pub write_cause : result ≡ Err fault.Write → HasCause sent_old sent_new
+  pub same : is_broken old ≡ true → new ≡ old
+  pub reopen : is_broken old ≡ true → HasRunShut IsAsked read_old read_new sent_old sent_new result
 
 -- The report went out, or a beginning of it, and nothing changed. A station that has to be opened again returns nothing.
 pub record HasToldReport {K : Type 0} (IsText : State → List ℕ → Type 0) (keeps : K → State → Type 0) (is_sound : K → Type 0) (is_broken : K → Bool)

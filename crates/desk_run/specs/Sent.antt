@@ -6,8 +6,3 @@ use Rattle.station_core.specs.Ends.{Sent}
 -- a beginning of it, which may be all
 abbrev pub HasSent : List ℕ → Given → Given → Type 0
 HasSent line old new = (n : ℕ) × Sent old new line n
-
--- the writer didn't fail, and took a byte at each call
-pub record IsUntroubled (old new : Given) : Type 0 where
-  pub failures : new.failures ≡ old.failures
-  pub idle : new.idle ≡ old.idle

@@ -1,7 +1,8 @@
 //! Lines that go out in parts.
 ghost use Rattle.std.specs.Prelude.{◌≡◌, ◌++◌, ◌∷◌, [], IfErr, OnErr, OnOk};
 ghost use Rattle.station_core.specs.Ends.{HasCause};
-ghost use Rattle.desk_run.specs.Sent.{HasSent, IsUntroubled};
+ghost use Rattle.stock_list.specs.Ended.{IsUntroubled};
+ghost use Rattle.desk_run.specs.Sent.{HasSent};
 
 use station_core::{ByteOut, send};
 use stock_list::RunFault;

@@ -1,6 +1,6 @@
 //! One connection after another.
 
-use crate::timed::Timed;
+use crate::timed::{Timed, Waits};
 use desk_clock::{Zone, moment_now};
 use http_desk::{ServeFault, Served, serve_one};
 use imp_fields::Moment;
@@ -11,11 +11,18 @@ use std::io::{ErrorKind, Read};
 use std::net::{Ipv4Addr, Net, Shutdown, SocketAddr, TcpListener, TcpStream};
 use std::time::{Clock, Duration};
 
-/// How long a read or a write of a connection may wait, in seconds.
+/// How long a connection may wait for its first byte, in milliseconds. Others wait meanwhile, and most that send nothing
+/// by then never do: eight of them hold the next one up for 1.6 seconds.
+const MOST_SILENCE: u64 = 200;
+
+/// How long a read behind the first byte, or a write, may wait, in seconds.
 const MOST_WAIT: u64 = 10;
 
 /// How long a request may take to come, in seconds.
 const MOST_REQUEST: u64 = 30;
+
+/// How long a read behind the answer may wait, in seconds.
+const MOST_LINGER: u64 = 1;
 
 /// How long the peer may take to close behind its answer, in seconds.
 const MOST_CLOSE: u64 = 2;
@@ -41,22 +48,27 @@ pub fn listen<N: Net>(net: &N, port: u16) -> io::Result<N::Listener> {
     TcpListener::bind(net, SocketAddr::from((Ipv4Addr::LOCALHOST, port)))
 }
 
-/// The reader of a connection, whose waits and whose request have their time.
-fn timed<'a, C: Clock>(
-    clock: &'a C,
-    stream: &'a TcpStream,
-) -> io::Result<Timed<'a, C, &'a TcpStream>> {
+/// The reader of a connection's request.
+fn timed<'a, C: Clock>(clock: &'a C, stream: &'a TcpStream) -> io::Result<Timed<'a, C>> {
     stream.set_nodelay(true)?;
-    stream.set_read_timeout(Some(Duration::from_secs(MOST_WAIT)))?;
     stream.set_write_timeout(Some(Duration::from_secs(MOST_WAIT)))?;
-    Timed::new(clock, stream, Duration::from_secs(MOST_REQUEST))
+    let waits = Waits {
+        first: Duration::from_millis(MOST_SILENCE),
+        next: Duration::from_secs(MOST_WAIT),
+        all: Duration::from_secs(MOST_REQUEST),
+    };
+    Timed::new(clock, stream, waits)
 }
 
 /// Ends the answer, and reads what the peer still sends: a close over unread bytes would take the answer back.
 fn finish<C: Clock>(clock: &C, stream: &TcpStream) -> io::Result<()> {
     stream.shutdown(Shutdown::Write)?;
-    stream.set_read_timeout(Some(Duration::from_secs(1)))?;
-    let mut reader = Timed::new(clock, stream, Duration::from_secs(MOST_CLOSE))?;
+    let waits = Waits {
+        first: Duration::from_secs(MOST_LINGER),
+        next: Duration::from_secs(MOST_LINGER),
+        all: Duration::from_secs(MOST_CLOSE),
+    };
+    let mut reader = Timed::new(clock, stream, waits)?;
     let mut room = [0; 4096];
     for _ in 0..MOST_LEFT {
         if reader.read(&mut room)? == 0 {

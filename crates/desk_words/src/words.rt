@@ -56,38 +56,58 @@ fn command<'a>(alloc: Global, name: &'a str, about: &'a str, examples: &'a str) 
     Command::new(alloc, name).about(about).after_help(examples)
 }
 
+/// The command that takes a telegram.
+fn take<'a>(alloc: Global) -> Result<Command<'a>, AllocError> {
+    command(alloc, "take", help::TAKE, help::TAKE_EXAMPLES).arg(word(alloc, "FILE", "The telegram"))
+}
+
+/// The command that acts.
+fn act<'a>(alloc: Global) -> Result<Command<'a>, AllocError> {
+    let act = command(alloc, "act", help::ACT, help::ACT_EXAMPLES);
+    let act = act.arg(word(alloc, "VERB", help::VERBS))?;
+    act.arg(word(alloc, "KEY", help::KEY))
+}
+
+/// The command that reports.
+fn report<'a>(alloc: Global) -> Result<Command<'a>, AllocError> {
+    command(alloc, "report", help::REPORT, help::REPORT_EXAMPLES).arg(word(
+        alloc,
+        "NAME",
+        help::REPORT_NAMES,
+    ))
+}
+
+/// The command that serves.
+fn serve<'a>(alloc: Global) -> Result<Command<'a>, AllocError> {
+    let serve = command(alloc, "serve", help::SERVE, help::SERVE_EXAMPLES);
+    let serve = serve.arg(option(alloc, "port", "N", help::PORT).required(true))?;
+    serve.arg(option(alloc, "count", "K", help::COUNT))
+}
+
+/// A command below another, where memory allowed it.
+fn below<'a>(
+    top: Command<'a>,
+    sub: Result<Command<'a>, AllocError>,
+) -> Result<Command<'a>, AllocError> {
+    match sub {
+        Ok(sub) => top.subcommand(sub),
+        Err(error) => Err(error),
+    }
+}
+
 /// The commands that change a station.
 fn changing<'a>(alloc: Global, top: Command<'a>) -> Result<Command<'a>, AllocError> {
-    let init = command(alloc, "init", help::INIT, help::INIT_EXAMPLES);
-    let stock = command(alloc, "stock", help::STOCK, help::STOCK_EXAMPLES);
-    let take = command(alloc, "take", help::TAKE, help::TAKE_EXAMPLES).arg(word(
-        alloc,
-        "FILE",
-        "The telegram",
-    ))?;
-    let act = command(alloc, "act", help::ACT, help::ACT_EXAMPLES)
-        .arg(word(alloc, "VERB", help::VERBS))?
-        .arg(word(alloc, "KEY", help::KEY))?;
-    top.subcommand(init)?
-        .subcommand(stock)?
-        .subcommand(take)?
-        .subcommand(act)
+    let top = top.subcommand(command(alloc, "init", help::INIT, help::INIT_EXAMPLES))?;
+    let top = top.subcommand(command(alloc, "stock", help::STOCK, help::STOCK_EXAMPLES))?;
+    let top = below(top, take(alloc))?;
+    below(top, act(alloc))
 }
 
 /// The commands that report on a station, and the one that serves.
 fn telling<'a>(alloc: Global, top: Command<'a>) -> Result<Command<'a>, AllocError> {
-    let outbox = command(alloc, "outbox", help::OUTBOX, help::OUTBOX_EXAMPLES);
-    let report = command(alloc, "report", help::REPORT, help::REPORT_EXAMPLES).arg(word(
-        alloc,
-        "NAME",
-        help::REPORT_NAMES,
-    ))?;
-    let serve = command(alloc, "serve", help::SERVE, help::SERVE_EXAMPLES)
-        .arg(option(alloc, "port", "N", help::PORT).required(true))?
-        .arg(option(alloc, "count", "K", help::COUNT))?;
-    top.subcommand(outbox)?
-        .subcommand(report)?
-        .subcommand(serve)
+    let top = top.subcommand(command(alloc, "outbox", help::OUTBOX, help::OUTBOX_EXAMPLES))?;
+    let top = below(top, report(alloc))?;
+    below(top, serve(alloc))
 }
 
 /// The whole command line.

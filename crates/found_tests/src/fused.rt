@@ -8,9 +8,10 @@ use shipment_machine::{
     Amount, Balances, Change, Declared, Expected, FlightDate, Move, Outbound, Part,
 };
 use state_store::{KeptReply, Load, Sizes, StateStore, StoreFault};
-use station_core::{BookRow, Key, Message, TrailRow};
+use station_core::{BookRow, Key, Message, Sink, TrailRow};
 
-/// A store that serves so many calls, and none after them. A call that fails changes nothing.
+/// A store that serves so many calls, and none after them. A call that fails changes nothing. The
+/// calls that hand out rows aren't counted: no input makes one.
 #[derive(Drop)]
 pub struct Fused<S: StateStore> {
     store: S,
@@ -21,6 +22,11 @@ impl<S: StateStore> Fused<S> {
     /// So many calls of a store.
     pub fn new(store: S, calls: u32) -> Fused<S> {
         Fused { store, calls }
+    }
+
+    /// How many calls are left.
+    pub fn left(&self) -> u32 {
+        self.calls
     }
 
     /// The store comes back.
@@ -43,6 +49,8 @@ impl<S: StateStore> Fused<S> {
 
 impl<S: StateStore> StateStore for Fused<S> {
     ghost shows = { λ k x. S.shows k.store x };
+
+    ghost is_clean = { λ k. S.is_clean k.store };
 
     ghost is_sound = { λ k. S.is_sound k.store };
 
@@ -214,25 +222,16 @@ impl<S: StateStore> StateStore for Fused<S> {
         self.store.moved()
     }
 
-    fn book(&mut self) -> Result<Vec<BookRow>, StoreFault> {
-        if !self.is_served() {
-            return Err(StoreFault);
-        }
-        self.store.book()
+    fn book<K: Sink<BookRow>>(&mut self, sink: &mut K) -> Result<(), StoreFault> {
+        self.store.book(sink)
     }
 
-    fn pending(&mut self) -> Result<Vec<Message>, StoreFault> {
-        if !self.is_served() {
-            return Err(StoreFault);
-        }
-        self.store.pending()
+    fn pending<K: Sink<Message>>(&mut self, sink: &mut K) -> Result<(), StoreFault> {
+        self.store.pending(sink)
     }
 
-    fn trail(&mut self) -> Result<Vec<TrailRow>, StoreFault> {
-        if !self.is_served() {
-            return Err(StoreFault);
-        }
-        self.store.trail()
+    fn trail<K: Sink<TrailRow>>(&mut self, sink: &mut K) -> Result<(), StoreFault> {
+        self.store.trail(sink)
     }
 
     ghost settled = { λ k s shown sound found finds. S.settled k.store s shown sound found finds };

@@ -1,6 +1,6 @@
 -- What a request wants, by what has come of it.
-use Rattle.std.proofs.Common.{arith, ◌≡◌, ◌∙◌, ap, sym, subst, ℕ, ◌+◌, ◌-◌, ◌≤◌, List, ◌++◌, length, take, drop, codes}
-use Rattle.std.proofs.lemmas.List.{length-drop}
+use Rattle.std.proofs.Common.{arith, ◌≡◌, ◌∙◌, ap, sym, subst, ℕ, ◌+◌, ◌-◌, ◌<◌, ◌≤◌, List, ◌++◌, length, length-append, take, drop, codes}
+use Rattle.std.proofs.lemmas.List.{length-drop, take-append-drop}
 use Rattle.httparse.specs.Grammar.{RequestHead, print_request}
 use Rattle.httparse.proofs.GrammarLemmas.{request_unique}
 use Rattle.imp_fields.specs.Date.{LocalMinute}
@@ -17,7 +17,8 @@ use Rattle.http_desk.specs.Reply.{Reply, fault_reply, body_reply}
 use Rattle.http_desk.specs.Answer.{head_room, head_of, HasHead, Replied, SendsAnswer, IsAnsweredAs, Answers}
 use Rattle.http_desk.specs.Reading.{HasNoHead}
 use Rattle.http_desk.specs.Wanted.{wanted_state, Wants, BodyWants, posted_of}
-use Rattle.http_desk.specs.Came.{BeginsWith}
+use Rattle.http_desk.specs.Came.{BeginsWith, HasPartBody}
+use Rattle.http_desk.specs.Serving.{LacksBody}
 use Rattle.http_desk.proofs.Heads.{head_stays}
 
 pub no_head_wants : (bytes : List ℕ) (f : FaultTold) → meant f ≡ fault 400 (codes "head") → HasNoHead bytes → Wants bytes (wanted.Fault f)
@@ -104,3 +105,21 @@ begins_on before after part w key start room is b = record {
 
 pub len_of : (start n : ℕ) → (start + n) - start ≡ n
 len_of start n = omega arith
+
+-- a body that hasn't come whole
+head_fits : (bytes : List ℕ) (h : RequestHead) → HasHead bytes h → length (print_request h) ≤ length bytes
+head_fits bytes h has =
+    let parts : length (take head_room bytes) + length (drop head_room bytes) ≡ length bytes =
+    sym (length-append (take head_room bytes) (drop head_room bytes)) ∙ ap length (take-append-drop head_room bytes) in
+    let front : length (take head_room bytes) ≡ length (print_request h) + length has.0.0 = ap length has.0.1.1 ∙ length-append (print_request h) has.0.0 in
+    omega (arith, parts, front)
+
+fewer_come : (whole start at n left : ℕ) → left ≡ whole - at → start ≡ at → whole < start + n → at ≤ whole → left < n
+fewer_come whole start at n left rest same few fits = omega (arith, rest, same, few, fits)
+
+pub lacks_body : (bytes : List ℕ) (w : HeadWants) (key : _) (start : ℕ) → BeginsWith bytes w key start → HasPartBody w start bytes → LacksBody bytes
+lacks_body bytes (wants.Now w) key start b part = absurd part
+lacks_body bytes (wants.Body post n) key start b part =
+    let at : ℕ = length (print_request b.head) in
+    let fewer : length (drop at bytes) < n = fewer_come (length bytes) start at n (length (drop at bytes)) (length-drop at bytes) b.start_is part (head_fits bytes b.head b.has) in
+    (b.head, (b.has, (posted_of post, (n, (b.wants, fewer)))))

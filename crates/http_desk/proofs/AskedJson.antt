@@ -1,5 +1,5 @@
 -- What is sent once the station was asked.
-use Rattle.std.proofs.Common.{◌≡◌, sym, ap, subst, refl, inl, inr, ⊎_elim, Bool, Option, Err}
+use Rattle.std.proofs.Common.{◌≡◌, sym, ap, subst, refl, inl, inr, ⊎_elim, Bool, false, Option, Some, Err}
 use Rattle.imp_fields.specs.Date.{LocalMinute}
 use Rattle.shipment_machine.specs.declared.plans.Refusal.{Refusal}
 use Rattle.station_core.specs.declared.answer.ActFault.{ActFault}
@@ -14,7 +14,7 @@ use Rattle.http_desk.specs.declared.wanted.Wanted.{Wanted}
 use Rattle.http_desk.specs.declared.wanted.Wanted.TheVariants as wanted
 use Rattle.http_desk.specs.Reply.{Reply, answer_reply, refusal_reply}
 use Rattle.http_desk.specs.Serving.{IsKept}
-use Rattle.http_desk.specs.Told.{IsToldAs, HasAsked}
+use Rattle.http_desk.specs.Told.{IsToldAs, HasAsked, HasAskedShut, IsUnavailable}
 use Rattle.http_desk.specs.Wanted.{wanted_reply, wanted_state}
 use Rattle.http_desk.proofs.Refusals.{refused_stays}
 
@@ -41,3 +41,14 @@ asked_fault s at i fault.Memory reopen broken keeps may_find is breaks kept leav
 asked_fault s at i fault.Store reopen broken keeps may_find is breaks kept leaves = inr (breaks, (i, refl, λ found finds. ⊎_elim (λ before. inl before) (λ after. inr after.1) (leaves found finds)))
 asked_fault s at i (fault.Refused refusal) reopen broken keeps may_find is breaks kept leaves = absurd is
 asked_fault s at i fault.Reopen reopen broken keeps may_find is breaks kept leaves = absurd is
+
+-- a reply of JSON that asks nothing of a station that has to be opened again
+pub shut_json : (at : LocalMinute) (w : Wanted) (t : Told) → ((s : State) → IsToldAs (wanted_reply s at w) t) → ((s : State) → wanted_state s at w ≡ s) → HasAskedShut at w t
+shut_json at w t is same = λ s. asked_json s at w t false (λ next. next ≡ s) (λ found. found ≡ Some s) (is s) (same s) (refl, refl)
+
+-- what it would be asked isn't replied
+pub shut_unavailable : (at : LocalMinute) (w : Wanted) (t : Told) → IsUnavailable t → HasAskedShut at w t
+shut_unavailable at w (told.Unavailable reopen) is = λ s. inl (refl, refl)
+shut_unavailable at w (told.Accepted count) is = absurd is
+shut_unavailable at w (told.Json status text) is = absurd is
+shut_unavailable at w (told.Report name) is = absurd is

@@ -16,7 +16,7 @@ use Rattle.http_desk.specs.declared.serve.Served.{Served}
 use Rattle.http_desk.specs.declared.serve.ServeFault.{ServeFault}
 use Rattle.http_desk.specs.declared.serve.ServeFault.TheVariants as serve
 use Rattle.http_desk.specs.Routes.{Posted, posted_command, posted_telegram, Got, Place, posts, gets, place_of}
-use Rattle.http_desk.specs.Request.{Head, Fault, fault, wrong_method, HeadAsks, refuses, looks_up, sends, sends_body, place_asks, head_asks, body_length, length_beside, length_among, within_length, length_told, key_of, values_of, BodyAsks, bad_body, unreadable, for_station, IsAskedUnder, IsAsked}
+use Rattle.http_desk.specs.Request.{Head, Fault, fault, wrong_method, HeadAsks, refuses, looks_up, sends, sends_body, place_asks, is_foreign, own_asks, head_asks, body_length, length_beside, length_among, within_length, length_told, key_of, values_of, BodyAsks, bad_body, unreadable, for_station, IsAskedUnder, IsAsked}
 use Rattle.http_desk.specs.Reply.{refused_data, answer_reply, refusal_status, body_reply, body_state, IsWritten}
 use Rattle.http_desk.specs.Answer.{head_of, HasHead, Replied, IsAnsweredAs}
 use Rattle.http_desk.specs.Serving.{added, GetsReport, IsAnswer, IsPartOut, HasServed, IsPosted, BeginsAs200, IsAfterStep}
@@ -78,8 +78,12 @@ place_told head (Some (posts posted)) =
     (body_told head.method posted (body_length head.fields) (beside_told (values_of (codes "transfer-encoding") head.fields) (values_of (codes "content-length") head.fields)))
 place_told head (Some (gets got)) = get_told (bytes_eq head.method (codes "GET")) head.method got refl
 
+origin_told : (b : Bool) (method : List ℕ) (asks : HeadAsks) → IsTold method asks → IsTold method (if b then refuses (fault 400 (codes "origin")) else asks)
+origin_told true method asks told = no_400
+origin_told false method asks told = told
+
 head_told : (head : Head) → IsTold head.method (head_asks head)
-head_told head = place_told head (place_of head.target)
+head_told head = origin_told (is_foreign head.fields) head.method (own_asks head) (place_told head (place_of head.target))
 
 no_get : (method : List ℕ) → method ≡ codes "POST" → ¬ (bytes_eq method (codes "GET") ≡ true)
 no_get method is e = never (ap (λ m. bytes_eq m (codes "GET")) (sym is) ∙ e)

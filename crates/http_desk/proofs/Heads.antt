@@ -1,16 +1,19 @@
 -- Bytes that have no head.
 use Rattle.std.proofs.Common.{arith, ◌≡◌, ◌∙◌, sym, ap, subst, inl, inr, ⊎_elim, Result, Ok, Err, ℕ, ◌+◌, ◌-◌, ◌<◌, ◌≤◌, List, [], ◌∷◌, ◌++◌, length, take, drop, append_assoc, refl}
 use Rattle.std.specs.Prelude.{◌⊎◌}
+use Rattle.std.specs.Result.{IsErrAnd}
 use Rattle.std.proofs.Math.Seq.{take-append-add}
 use Rattle.std.proofs.lemmas.List.{take_all, length-map, length-take-le}
-use Rattle.httparse.specs.Grammar.{RequestHead, ReadsRequest, HasNoRequest}
+use Rattle.httparse.specs.Grammar.{RequestHead, print_blank, ReadsRequest, HasNoRequest}
 use Rattle.httparse.specs.Spans.{RequestOverflows, IsRequestWithin, IsRequestAt, name_and_value, header_bytes}
 use Rattle.httparse.specs.declared.spans.HeaderSpan.{HeaderSpan}
 use Rattle.httparse.specs.declared.spans.RequestSpans.{RequestSpans}
-use Rattle.httparse.proofs.GrammarLemmas.{ReadsRequest-append}
+use Rattle.httparse.proofs.GrammarLemmas.{ReadsRequest-append, print_request-append}
 use Rattle.station_core.specs.Given.{Given}
 use Rattle.http_desk.specs.Answer.{most_fields, HasHead}
-use Rattle.http_desk.specs.Reading.{HasNoHead, HasCome, HasGrown, HasEndedEarly, HasEndedAfter}
+use Rattle.http_desk.specs.declared.reading.ReadEnd.{ReadEnd}
+use Rattle.http_desk.specs.declared.reading.ReadEnd.TheVariants as end
+use Rattle.http_desk.specs.Reading.{HasNoHead, HasCome, HasGrown, HasMore, HasEndedEarly, HasEndedAfter}
 
 nothing_behind : (xs : List ℕ) → xs ++ [] ≡ xs
 nothing_behind [] = refl
@@ -85,3 +88,35 @@ err_of (Err e) other = e
 pub other_err : {A B E : Type 0} (x y : E) → ◌≡◌ {A = Result A E} (Err x) (Err y) → ◌≡◌ {A = Result B E} (Err x) (Err y)
 unfolding err_of
 other_err x y e = ap (λ r. Err (err_of r x)) e
+
+-- no head is there of no bytes, nor where the parser found none
+cons_in : (a b c : List ℕ) (x : ℕ) → ¬ ([] ≡ a ++ (b ++ (x ∷ c)))
+cons_in [] [] c x e = cc
+cons_in [] (b ∷ bs) c x e = cc
+cons_in (a ∷ rest) b c x e = cc
+
+pub none_of_nothing : (h : RequestHead) → ¬ (HasHead [] h)
+none_of_nothing h head =
+    let reads = whole_room [] h (omega arith) head in
+    cons_in (print_blank h.blank) h.method _ _ (reads.1.1 ∙ print_request-append h reads.0)
+
+pub none_found : (bytes : List ℕ) → length bytes ≤ 16_384 → HasNoRequest bytes → (h : RequestHead) → ¬ (HasHead bytes h)
+none_found bytes le none h head = let reads = whole_room bytes h le head in none h reads.0 reads.1
+
+-- reads went on behind a head, and were so many
+pub most_all : (start mid now : Given) (turns : ℕ) → turns ≤ 100_000 → mid.calls ≡ start.calls + turns → now.calls ≤ mid.calls + (100_000 - turns) → now.calls ≤ start.calls + 100_000
+most_all start mid now turns few calls most = omega (arith, few, calls, most)
+
+-- bytes that have come behind others
+pub more_come : (start mid now : Given) (before after : List ℕ) → mid.bytes ≡ start.bytes ++ before → HasMore mid now before after → now.bytes ≡ start.bytes ++ after
+more_come start mid now before after so_far (part, (is, come)) =
+    come ∙ ap (λ b. b ++ part) so_far ∙ append_assoc start.bytes before part ∙ ap (λ b. start.bytes ++ b) (sym is)
+
+-- a read that brought nothing left the bytes as they were
+pub still_more : (start mid now : Given) (first before after : List ℕ) → HasGrown start mid first before → after ≡ before → now.bytes ≡ mid.bytes → HasMore start now first after
+still_more start mid now first before after so_far same still = (so_far.part, (same ∙ so_far.bytes, still ∙ so_far.given))
+
+-- an error that is passed on
+pub passed_read : {A : Type 0} (r : Result A ReadEnd) (e : ReadEnd) (C : Type 0) → IsErrAnd r (λ x. x ≡ e) → (e ≡ end.Read → C) → r ≡ Err end.Read → C
+passed_read (Ok x) e C same told is = absurd same
+passed_read (Err x) e C same told is = let read : x ≡ end.Read = cc in told (sym same ∙ read)

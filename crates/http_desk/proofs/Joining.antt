@@ -1,5 +1,5 @@
 -- What is sent for a request, once it went out, is its answer.
-use Rattle.std.proofs.Common.{◌≡◌, ◌∙◌, ap, sym, subst, refl, inl, inr, ⊎_elim, ℕ, Bool, Option, None, Result, Ok, Err, List, [], ◌∷◌, ◌++◌, length, take, drop, string_bytes}
+use Rattle.std.proofs.Common.{◌≡◌, ◌∙◌, ap, sym, subst, refl, inl, inr, ⊎_elim, ℕ, Bool, false, Option, Some, None, Result, Ok, Err, List, [], ◌∷◌, ◌++◌, length, take, drop, string_bytes}
 use Rattle.std.specs.Prelude.{IfOk}
 use Rattle.imp_fields.specs.Date.{LocalMinute}
 use Rattle.station_core.specs.Given.{Given}
@@ -7,7 +7,7 @@ use Rattle.station_core.specs.Ends.{HasCause}
 use Rattle.station_core.specs.Step.{State}
 use Rattle.http_desk.specs.declared.wanted.Wanted.{Wanted}
 use Rattle.http_desk.specs.declared.wanted.Wanted.TheVariants as wanted
-use Rattle.http_desk.specs.Told.{HasAsked, tells_reopen}
+use Rattle.http_desk.specs.Told.{HasAsked, HasAskedShut, tells_reopen}
 use Rattle.http_desk.specs.Wanted.{Wants, wanted_reply, wanted_state}
 use Rattle.http_desk.specs.declared.asking.Told.{Told}
 use Rattle.http_desk.specs.declared.asking.Told.TheVariants as told
@@ -17,8 +17,8 @@ use Rattle.http_desk.specs.declared.serve.ServeFault.{ServeFault}
 use Rattle.http_desk.specs.declared.serve.ServeFault.TheVariants as serve
 use Rattle.http_desk.specs.Answer.{Replied}
 use Rattle.http_desk.specs.Reply.{Reply, json_reply, ok_data, ok_answer, report_head}
-use Rattle.http_desk.specs.Serving.{added, unavailable, SomeOrEach, IsKept, IsUnchangedOrBroken, BeginsAs503, IsAnswer, IsPartOut, HasServed}
-use Rattle.http_desk.specs.Writing.{IsToldFor, HasSent, HasReported, HasWritten}
+use Rattle.http_desk.specs.Serving.{added, unavailable, SomeOrEach, IsBeginning, IsKept, IsUnchangedOrBroken, BeginsAs503, IsAnswer, IsPartOut, HasServed, HasServedShut}
+use Rattle.http_desk.specs.Writing.{IsToldFor, IsToldShut, HasSent, HasBegun, HasReported, HasWritten, HasWrittenShut}
 use Rattle.http_desk.proofs.Beginnings.{ok_no_503, begins_as_503}
 use Rattle.http_desk.proofs.Reporting.{some_or_each}
 
@@ -65,7 +65,7 @@ module _ (s : State) (at : LocalMinute) (bytes : List ℕ) (old new : Given) (br
   reported : (name : Report) (r : Result Served ServeFault) → IsToldFor bytes s at (told.Report name) broken keeps may_find → HasReported s name old new r → Out r
   reported name (Ok served) (gets, whole, kept) (inl (is, (text, are, e))) = sent_whole 200 _ (report_head ++ text) served is e (inl (s, whole text are, kept_on s kept))
   reported name (Ok served) (gets, whole, kept) (inr (inl (is, part))) =
-      let begun : SomeOrEach s name (λ text. (n : ℕ) × (added old new ≡ take n text)) = some_or_each s name (λ text. (n : ℕ) × (new.bytes ≡ old.bytes ++ take n text)) (λ text. (n : ℕ) × (added old new ≡ take n text)) (λ text p. (p.0, added_is old new (take p.0 text) p.1)) part in
+      let begun : SomeOrEach s name (IsBeginning (added old new)) = some_or_each s name (HasBegun old new) (IsBeginning (added old new)) (λ text p. (p.0, (p.1.0, p.1.1, added_is old new (take p.0 text) p.1.2))) part in
       let answer : Gives 200 (added old new) = inr (inr (name, gets, begun, refl, kept_on s kept)) in
       subst (λ (n : ℕ). Gives n (added old new)) (sym (ap (λ (v : Served). v.status) is)) answer
   reported name (Ok served) (gets, whole, kept) (inr (inr (is, e))) = sent_whole 503 _ unavailable served is e (no_answer (inl (kept_on s kept)))
@@ -88,6 +88,17 @@ module _ (s : State) (at : LocalMinute) (bytes : List ℕ) (old new : Given) (br
   pub served : (t : Told) (r : Result Served ServeFault) (before now : Given) → added before now ≡ bytes → IsToldFor bytes s at t broken keeps may_find → HasWritten t s old new r
       → HasServed s at before now old new now_broken still finds r
   served t r before now come is h = of_out r before now come (written t r is h)
+
+  -- the same on a station that has to be opened again
+  written_shut : (t : Told) (r : Result Served ServeFault) → IsToldFor bytes s at t broken keeps may_find → HasWrittenShut t old new r → Out r
+  written_shut (told.Accepted count) r (after, answers, kept) h = sent 200 _ (ok_answer count) r (inl (after, answers, kept_on after kept)) h
+  written_shut (told.Json status text) r (answers, kept) h = sent status _ (string_bytes text) r (inl (s, answers, kept_on s kept)) h
+  written_shut (told.Report name) r (gets, whole, kept) (reopen, h) = sent 503 reopen unavailable r (no_answer (inl (kept_on s kept))) h
+  written_shut (told.Unavailable reopen) r states h = sent 503 reopen unavailable r (no_answer (told_on states)) h
+
+  pub served_shut : (t : Told) (r : Result Served ServeFault) (before now : Given) → added before now ≡ bytes → IsToldFor bytes s at t broken keeps may_find → HasWrittenShut t old new r
+      → HasServed s at before now old new now_broken still finds r
+  served_shut t r before now come is h = of_out r before now come (written_shut t r is h)
 
   -- 503 began: an accepted input isn't answered so, and nothing else changes a station that works
   no_accepted : (count : ℕ) (reopen : Bool) (r : Result Served ServeFault) → HasSent 200 reopen (ok_answer count) old new r → ¬ (BeginsAs503 (added old new))
@@ -139,3 +150,14 @@ module _ (bytes : List ℕ) (s : State) (at : LocalMinute) where
   )
   told_bytes w (told.Unavailable reopen) broken keeps may_find wants (inl kept) = inl kept
   told_bytes w (told.Unavailable reopen) broken keeps may_find wants (inr (broke, (i, is, states))) = inr (broke, (i, wants.input i is, states))
+
+-- what is served on a station that has to be opened again
+pub all_shut : (at : LocalMinute) (bytes : List ℕ) (old new before now : Given) (t : Told) (r : Result Served ServeFault) → added before now ≡ bytes → IsToldShut bytes at t
+    → HasWrittenShut t old new r → HasServedShut at before now old new r
+all_shut at bytes old new before now t r come told written = λ s.
+    served_shut s at bytes old new false false (λ next. next ≡ s) (λ found. found ≡ Some s) (λ next. next ≡ s) (λ found. found ≡ Some s)
+    refl (λ next is. is) (λ found is. is) t r before now come (told s) written
+
+-- what was asked there is told for the request's bytes
+pub shut_bytes : (bytes : List ℕ) (at : LocalMinute) (w : Wanted) (t : Told) → Wants bytes w → HasAskedShut at w t → IsToldShut bytes at t
+shut_bytes bytes at w t wants asked = λ s. told_bytes bytes s at w t false (λ next. next ≡ s) (λ found. found ≡ Some s) wants (asked s)

@@ -13,7 +13,7 @@ use Rattle.http_desk.specs.declared.route.Report.{Report}
 use Rattle.http_desk.specs.declared.route.Report.TheVariants as report
 use Rattle.http_desk.specs.Reply.{report_head, IsReport}
 use Rattle.http_desk.specs.Serving.{unavailable, SomeOrEach}
-use Rattle.http_desk.specs.Writing.{HasEndedReport, HasSent, HasReported}
+use Rattle.http_desk.specs.Writing.{HasEndedReport, HasSent, HasBegun, HasReported}
 use Rattle.http_desk.specs.declared.serve.Served.{Served}
 use Rattle.http_desk.specs.declared.serve.ServeFault.{ServeFault}
 use Rattle.http_desk.specs.declared.serve.ServeFault.TheVariants as serve
@@ -63,8 +63,8 @@ module _ (s : State) (name : Report) (old mid : Given) where
       → (SomeOrEach s name (λ whole. Sent old mid whole e.sent) ⊎ Sent old mid unavailable e.sent) × HasCause old mid
   after_write Open e is ended = (inl ended.part, subst (λ (why : ReportCause). HasTold why old mid) is ended.told)
 
-  pub after_part : (Open : Type 0) (e : ReportFault) → EndedEarly Open s name old mid e → HasReported s name old mid (Ok (record { status = 200; reopen = false }))
-  after_part Open e ended = inr (inl (refl, some_or_each s name (λ whole. Sent old mid whole e.sent) (λ whole. (n : ℕ) × (mid.bytes ≡ old.bytes ++ take n whole)) (λ whole sent. (e.sent, sent.1)) ended.part))
+  pub after_part : (Open : Type 0) (e : ReportFault) → 0 < e.sent → EndedEarly Open s name old mid e → HasReported s name old mid (Ok (record { status = 200; reopen = false }))
+  after_part Open e some ended = inr (inl (refl, some_or_each s name (λ whole. Sent old mid whole e.sent) (HasBegun old mid) (λ whole sent. (e.sent, (some, sent.0, sent.1))) ended.part))
 
   none_gone : HaveGone 0 old mid → mid.bytes ≡ old.bytes
   none_gone ([], empty, e) = e ∙ append_none old.bytes

@@ -1,6 +1,6 @@
 -- What a head or a body wants.
-use Rattle.std.proofs.Common.{◌≡◌, ◌∙◌, sym, ap, subst, refl, ℕ, List, [], Option, Some, None, Result, Ok, Err}
-use Rattle.std.specs.Prelude.{MatchResult}
+use Rattle.std.proofs.Common.{◌≡◌, ◌∙◌, sym, ap, subst, refl, ℕ, Bool, true, false, codes, List, [], Option, Some, None, Result, Ok, Err}
+use Rattle.std.specs.Prelude.{MatchResult, if◌then◌else◌}
 use Rattle.std.specs.Result.{result_ok}
 use Rattle.std.specs.Array.{IsWholeChunk}
 use Rattle.awb_number.specs.Number.{number_of}
@@ -12,10 +12,12 @@ use Rattle.http_desk.specs.declared.wanted.Wanted.{Wanted}
 use Rattle.http_desk.specs.declared.wanted.Wanted.TheVariants as wanted
 use Rattle.http_desk.specs.Fields.{meant}
 use Rattle.http_desk.specs.Routes.{got_waybill, got_holder, got_report}
-use Rattle.http_desk.specs.Request.{HeadAsks, refuses, looks_up, fault}
+use Rattle.http_desk.specs.Request.{Head, HeadAsks, refuses, looks_up, fault, is_foreign, own_asks, head_asks}
 use Rattle.http_desk.specs.Reply.{Reply, numbered, unknown, fault_reply, waybill_reply, holder_reply}
 use Rattle.http_desk.specs.Answer.{Replied, IsAnsweredAs}
-use Rattle.http_desk.specs.Wanted.{WantsNow}
+use Rattle.http_desk.specs.declared.wanted.HeadWants.{HeadWants}
+use Rattle.http_desk.specs.declared.wanted.HeadWants.TheVariants as wants
+use Rattle.http_desk.specs.Wanted.{WantsNow, HasWants}
 
 option_of : {A : Type 0} → Option A → A → A
 option_of (Some x) other = x
@@ -91,3 +93,13 @@ fault_wanted asks f is = record {
   report = λ report is. cc is;
   input = λ i is. cc is;
 }
+
+-- what a head wants, by whether a page of another host sent it
+pub foreign_wants : (head : Head) (f : FaultTold) → is_foreign head.fields ≡ true → meant f ≡ fault 400 (codes "origin") → HasWants (head_asks head) (wants.Now (wanted.Fault f))
+foreign_wants head f foreign is =
+    fault_wanted (head_asks head) f
+    (ap (λ (b : Bool). if b then refuses (fault 400 (codes "origin")) else own_asks head) foreign ∙ ap refuses (sym is))
+
+pub wants_on : (head : Head) (w : HeadWants) → is_foreign head.fields ≡ false → HasWants (own_asks head) w → HasWants (head_asks head) w
+wants_on head w own told =
+    subst (λ (b : Bool). HasWants (if b then refuses (fault 400 (codes "origin")) else own_asks head) w) (sym own) told

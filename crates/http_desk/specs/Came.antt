@@ -1,5 +1,5 @@
 -- What has come of a request, once it is whole.
-use Rattle.std.specs.Prelude.{◌≡◌, ℕ, ◌+◌, ◌≤◌, Option, List, length}
+use Rattle.std.specs.Prelude.{◌≡◌, ℕ, ◌+◌, ◌<◌, ◌≤◌, Option, List, length}
 use Rattle.httparse.specs.Grammar.{RequestHead, print_request}
 use Rattle.http_desk.specs.declared.wanted.HeadWants.{HeadWants}
 use Rattle.http_desk.specs.declared.wanted.HeadWants.TheVariants as wants
@@ -14,6 +14,11 @@ use Rattle.http_desk.specs.Wanted.{HasWants}
 abbrev pub HasBody : HeadWants → ℕ → List ℕ → Type 0
 HasBody (wants.Now w) start bytes = Unit {0}
 HasBody (wants.Body post n) start bytes = start + n ≤ length bytes
+
+-- a body is sent, and not all of it has come
+abbrev pub HasPartBody : HeadWants → ℕ → List ℕ → Type 0
+HasPartBody (wants.Now w) start bytes = ⊥
+HasPartBody (wants.Body post n) start bytes = length bytes < start + n
 
 -- the bytes begin with a head that wants this and has this key, and its body starts there
 pub record BeginsWith (bytes : List ℕ) (w : HeadWants) (key : Option (List ℕ)) (start : ℕ) : Type 0 where

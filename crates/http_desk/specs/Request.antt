@@ -1,5 +1,5 @@
 -- What a request asks, by the tests in their order.
-use Rattle.std.specs.Prelude.{◌≡◌, ◌⊎◌, ℕ, ◌&&◌, Bool, nat_le, List, [], ◌∷◌, length, map, codes, Option, Some, None, Result, Ok, Err, IsUtf8, if◌then◌else◌}
+use Rattle.std.specs.Prelude.{◌≡◌, ◌⊎◌, ℕ, ◌&&◌, ◌||◌, not, Bool, true, false, nat_le, take, drop, List, [], ◌∷◌, length, map, codes, Option, Some, None, Result, Ok, Err, IsUtf8, if◌then◌else◌}
 use Rattle.std.specs.Char.{to_ascii_lowercase}
 use Rattle.std.specs.List.{list_all}
 use Rattle.std.specs.Str.{bytes_eq}
@@ -86,8 +86,33 @@ place_asks head None = refuses (fault 404 [])
 place_asks head (Some (posts posted)) = if bytes_eq head.method (codes "POST") then sends_body posted (body_length head.fields) else refuses (wrong_method (codes "POST"))
 place_asks head (Some (gets got)) = if bytes_eq head.method (codes "GET") then looks_up got else refuses (wrong_method (codes "GET"))
 
+-- Which page a request comes from, where a browser tells it. Only the host's own pages may ask: this scheme, and then the host.
+abbrev pub is_at : List ℕ → List ℕ → List ℕ → Bool
+is_at scheme host origin = bytes_eq (take (length scheme) origin) scheme && bytes_eq (drop (length scheme) origin) host
+
+abbrev pub is_own : List ℕ → List ℕ → Bool
+is_own host origin = is_at (codes "http://") host origin || is_at (codes "https://") host origin
+
+-- an origin is foreign to all hosts but one that is named once
+abbrev pub is_foreign_to : List (List ℕ) → List ℕ → Bool
+is_foreign_to (host ∷ []) origin = not (is_own host origin)
+is_foreign_to _ origin = true
+
+-- a request that tells no origin isn't foreign, and one that tells several is
+abbrev pub is_foreign_among : List (List ℕ) → List (List ℕ) → Bool
+is_foreign_among hosts [] = false
+is_foreign_among hosts (origin ∷ []) = is_foreign_to hosts origin
+is_foreign_among hosts (origin ∷ other ∷ origins) = true
+
+abbrev pub is_foreign : List (List ℕ × List ℕ) → Bool
+is_foreign fields = is_foreign_among (values_of (codes "host") fields) (values_of (codes "origin") fields)
+
+-- what is asked by a page of the host, or by no page
+abbrev pub own_asks : Head → HeadAsks
+own_asks head = place_asks head (place_of head.target)
+
 abbrev pub head_asks : Head → HeadAsks
-head_asks head = place_asks head (place_of head.target)
+head_asks head = if is_foreign head.fields then refuses (fault 400 (codes "origin")) else own_asks head
 
 -- the key under which a command is posted: there is one, and it is a key
 abbrev pub key_among : List (List ℕ) → Option (List ℕ)

@@ -1,5 +1,5 @@
 -- What one connection leaves.
-use Rattle.std.specs.Prelude.{◌≡◌, ◌⊎◌, ℕ, ◌≤◌, Bool, true, false, Option, Some, None, Result, Ok, Err, List, [], ◌++◌, length, take, drop, codes}
+use Rattle.std.specs.Prelude.{◌≡◌, ◌⊎◌, ℕ, ◌<◌, ◌≤◌, Bool, true, false, Option, Some, None, Result, Ok, Err, List, [], ◌++◌, length, take, drop, codes}
 use Rattle.serde_json.specs.Written.{compact_text}
 use Rattle.imp_fields.specs.Date.{LocalMinute}
 use Rattle.station_core.specs.Given.{Given}
@@ -15,6 +15,7 @@ use Rattle.httparse.specs.Grammar.{RequestHead, print_request}
 use Rattle.http_desk.specs.Routes.{Posted, got_report}
 use Rattle.http_desk.specs.Request.{looks_up, sends, head_asks, for_station, IsAsked}
 use Rattle.http_desk.specs.Answer.{head_of, HasHead, Answers}
+use Rattle.http_desk.specs.Reading.{HasNoHeadYet}
 
 -- the bytes that were moved since
 abbrev pub added : Given → Given → List ℕ
@@ -23,6 +24,15 @@ added old new = drop (length old.bytes) new.bytes
 -- the answer of a station that can't answer
 abbrev pub unavailable : List ℕ
 unavailable = json_answer 503 None (compact_text (refused_data 503 []))
+
+-- The bytes are no whole request: no head is there yet, and there is room for one; or its head sends a body that hasn't come whole.
+abbrev pub LacksBody : List ℕ → Type 0
+LacksBody bytes =
+    (h : RequestHead) × (HasHead bytes h × ((posted : Posted) × ((size : ℕ) × ((head_asks (head_of h) ≡ sends posted size)
+    × (length (drop (length (print_request h)) bytes) < size)))))
+
+abbrev pub IsUnfinished : List ℕ → Type 0
+IsUnfinished bytes = HasNoHeadYet bytes ⊎ LacksBody bytes
 
 -- the request gets a report
 abbrev pub GetsReport : List ℕ → Report → Type 0
@@ -55,11 +65,15 @@ IsBrokenAt bytes s at broken may_find =
 abbrev pub IsUnchangedOrBroken : List ℕ → State → LocalMinute → Bool → (State → Type 0) → (Option State → Type 0) → Type 0
 IsUnchangedOrBroken bytes s at broken keeps may_find = IsKept broken keeps s ⊎ IsBrokenAt bytes s at broken may_find
 
--- In place of an answer: 503; or a beginning of the report that the request gets, and nothing has changed.
+-- the bytes are a beginning of a text, of a byte or more
+abbrev pub IsBeginning : List ℕ → List ℕ → Type 0
+IsBeginning out whole = (n : ℕ) × ((0 < n) × (n ≤ length whole) × (out ≡ take n whole))
+
+-- In place of an answer: 503; or a beginning of the report that the request gets, of a byte or more, and nothing has changed.
 abbrev pub IsExcuse : List ℕ → State → LocalMinute → List ℕ → ℕ → Bool → (State → Type 0) → (Option State → Type 0) → Type 0
 IsExcuse bytes s at out status broken keeps may_find =
     ((out ≡ unavailable) × (status ≡ 503) × IsUnchangedOrBroken bytes s at broken keeps may_find)
-    ⊎ ((name : Report) × GetsReport bytes name × SomeOrEach s name (λ whole. (n : ℕ) × (out ≡ take n whole)) × (status ≡ 200) × IsKept broken keeps s)
+    ⊎ ((name : Report) × GetsReport bytes name × SomeOrEach s name (IsBeginning out) × (status ≡ 200) × IsKept broken keeps s)
 
 -- the answer to the bytes of a request, and what is kept after it
 abbrev pub IsAnswer : State → LocalMinute → List ℕ → ℕ → List ℕ → Bool → (State → Type 0) → (Option State → Type 0) → Type 0
@@ -80,6 +94,12 @@ HasServed s at read_before read_after before after broken keeps may_find (Ok ser
 HasServed s at read_before read_after before after broken keeps may_find (Err serve.Read) = IsKept broken keeps s
 HasServed s at read_before read_after before after broken keeps may_find (Err (serve.Write sent)) =
     IsPartOut s at (added read_before read_after) sent before after broken keeps may_find × HasCause before after
+
+-- On a station that has to be opened again the answer holds of each state, and leaves it as it is: one that asks nothing of the station,
+-- or 503.
+abbrev pub HasServedShut : LocalMinute → Given → Given → Given → Given → Result Served ServeFault → Type 0
+HasServedShut at read_before read_after before after r =
+    (s : State) → HasServed s at read_before read_after before after false (λ next. next ≡ s) (λ found. found ≡ Some s) r
 
 -- Once an answer has begun.
 

@@ -34,3 +34,12 @@ HasAsked s at w (told.Unavailable reopen) broken keeps may_find =
 abbrev pub tells_reopen : Told → Bool
 tells_reopen (told.Unavailable reopen) = reopen
 tells_reopen _ = false
+
+-- a station that has to be opened again isn't asked in vain: it is told
+abbrev pub IsUnavailable : Told → Type 0
+IsUnavailable (told.Unavailable reopen) = reopen ≡ true
+IsUnavailable _ = ⊥
+
+-- What is replied there holds of each state, and leaves it as it is: nothing was asked of the station, or nothing is replied.
+abbrev pub HasAskedShut : LocalMinute → Wanted → Told → Type 0
+HasAskedShut at w t = (s : State) → HasAsked s at w t false (λ next. next ≡ s) (λ found. found ≡ Some s)

@@ -1,5 +1,5 @@
 -- What a request is answered with, and what goes out of it.
-use Rattle.std.specs.Prelude.{◌≡◌, ◌⊎◌, ℕ, Bool, false, Option, Result, Ok, Err, List, ◌++◌, take, string_bytes}
+use Rattle.std.specs.Prelude.{◌≡◌, ◌⊎◌, ℕ, ◌<◌, ◌≤◌, Bool, false, Option, Some, Result, Ok, Err, List, ◌++◌, length, take, string_bytes}
 use Rattle.imp_fields.specs.Date.{LocalMinute}
 use Rattle.station_core.specs.Given.{Given}
 use Rattle.station_core.specs.Ends.{Sent, HasCause}
@@ -41,11 +41,15 @@ HasEndedReport open_station s report.Movements front old new r = HasEnded open_s
 HasEndedReport open_station s report.Trail front old new r = HasEnded open_station (front ++ trail_report s.cargo) old new r
 HasEndedReport open_station s report.Pending front old new r = HasEnded open_station (front ++ pending_report s.cargo) old new r
 
+-- a beginning of a text went out, of a byte or more
+abbrev pub HasBegun : Given → Given → List ℕ → Type 0
+HasBegun old new whole = (n : ℕ) × ((0 < n) × (n ≤ length whole) × (new.bytes ≡ old.bytes ++ take n whole))
+
 -- an answer with a report went out: whole, up to a fault, or 503 where it hadn't begun
 abbrev pub HasReported : State → Report → Given → Given → Result Served ServeFault → Type 0
 HasReported s name old new (Ok served) =
     ((served ≡ record { status = 200; reopen = false }) × ((text : List ℕ) × IsReport s name text × (new.bytes ≡ old.bytes ++ (report_head ++ text))))
-    ⊎ (((served ≡ record { status = 200; reopen = false }) × SomeOrEach s name (λ whole. (n : ℕ) × (new.bytes ≡ old.bytes ++ take n whole)))
+    ⊎ (((served ≡ record { status = 200; reopen = false }) × SomeOrEach s name (HasBegun old new))
     ⊎ ((served ≡ record { status = 503; reopen = false }) × (new.bytes ≡ old.bytes ++ unavailable)))
 HasReported s name old new (Err serve.Read) = ⊥
 HasReported s name old new (Err (serve.Write sent)) = (SomeOrEach s name (λ whole. Sent old new whole sent) ⊎ Sent old new unavailable sent) × HasCause old new
@@ -56,3 +60,14 @@ HasWritten (told.Accepted count) s old new r = HasSent 200 false (ok_answer coun
 HasWritten (told.Json status text) s old new r = HasSent status false (string_bytes text) old new r
 HasWritten (told.Report name) s old new r = HasReported s name old new r
 HasWritten (told.Unavailable reopen) s old new r = HasSent 503 reopen unavailable old new r
+
+-- the same on a station that has to be opened again, whose reports aren't read
+abbrev pub HasWrittenShut : Told → Given → Given → Result Served ServeFault → Type 0
+HasWrittenShut (told.Accepted count) old new r = HasSent 200 false (ok_answer count) old new r
+HasWrittenShut (told.Json status text) old new r = HasSent status false (string_bytes text) old new r
+HasWrittenShut (told.Report name) old new r = (reopen : Bool) × HasSent 503 reopen unavailable old new r
+HasWrittenShut (told.Unavailable reopen) old new r = HasSent 503 reopen unavailable old new r
+
+-- what is answered there holds of each state, and leaves it as it is
+abbrev pub IsToldShut : List ℕ → LocalMinute → Told → Type 0
+IsToldShut bytes at t = (s : State) → IsToldFor bytes s at t false (λ next. next ≡ s) (λ found. found ≡ Some s)

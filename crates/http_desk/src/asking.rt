@@ -4,7 +4,7 @@ ghost use Rattle.http.specs.StatusCode.{IsStatusCode};
 ghost use Rattle.serde_json.specs.Data.{Data};
 ghost use Rattle.serde_json.specs.Written.{compact_text};
 ghost use Rattle.station_core.specs.Step.{State};
-ghost use Rattle.http_desk.specs.Told.{IsToldAs, HasAsked, tells_reopen};
+ghost use Rattle.http_desk.specs.Told.{IsToldAs, HasAsked, HasAskedShut, IsUnavailable, tells_reopen};
 ghost use Rattle.imp_fields.specs.Date.{LocalMinute};
 ghost use Rattle.station_core.specs.Texts.{detail_text};
 ghost use Rattle.http_desk.specs.Fields.{meant};
@@ -119,6 +119,7 @@ fn ask_holder<K: Keeper>(alloc: Global, keeper: &mut K, number: &Awb) -> Told
     ensures asked { (s : State) (at : LocalMinute) → K.keeps keeper.old s → K.is_broken keeper.old ≡ false → K.is_sound keeper.new
         → HasAsked s at (Wanted.Holder number.now) result (K.is_broken keeper.new) (K.keeps keeper.new) (K.may_find keeper.new) }
     ensures reopen { tells_reopen result ≡ K.is_broken keeper.new }
+    ensures shut { K.is_broken keeper.old ≡ true → (keeper.new ≡ keeper.old) × IsUnavailable result }
 {
     match keeper.holder(number) {
         Ok(holder) => holder_told(alloc, number, &holder),
@@ -133,6 +134,7 @@ fn ask_waybill<K: Keeper>(alloc: Global, keeper: &mut K, number: &Awb) -> Told
     ensures asked { (s : State) (at : LocalMinute) → K.keeps keeper.old s → K.is_broken keeper.old ≡ false → K.is_sound keeper.new
         → HasAsked s at (Wanted.Waybill number.now) result (K.is_broken keeper.new) (K.keeps keeper.new) (K.may_find keeper.new) }
     ensures reopen { tells_reopen result ≡ K.is_broken keeper.new }
+    ensures shut { K.is_broken keeper.old ≡ true → (keeper.new ≡ keeper.old) × IsUnavailable result }
 {
     match keeper.waybill(number) {
         Ok(waybill) => waybill_told(alloc, number, &waybill),
@@ -146,6 +148,7 @@ fn ask_input<K: Keeper>(alloc: Global, keeper: &mut K, input: &Input<'_>, at: Mo
     ensures asked { (s : State) → K.keeps keeper.old s → K.is_broken keeper.old ≡ false → K.is_sound keeper.new
         → HasAsked s at (Wanted.Input input.now) result (K.is_broken keeper.new) (K.keeps keeper.new) (K.may_find keeper.new) }
     ensures reopen { tells_reopen result ≡ K.is_broken keeper.new }
+    ensures shut { K.is_broken keeper.old ≡ true → (keeper.new ≡ keeper.old) × IsUnavailable result }
 {
     match answer_one(keeper, input, at) {
         Ok(Answer::Done(reply)) => Told::Accepted(reply.count),
@@ -160,6 +163,8 @@ pub(crate) fn ask<K: Keeper>(alloc: Global, keeper: &mut K, wanted: &Wanted<'_>,
     ensures asked { (s : State) → K.keeps keeper.old s → K.is_broken keeper.old ≡ false → K.is_sound keeper.new
         → HasAsked s at wanted.now result (K.is_broken keeper.new) (K.keeps keeper.new) (K.may_find keeper.new) }
     ensures told { K.is_broken keeper.old ≡ false → tells_reopen result ≡ K.is_broken keeper.new }
+    ensures same { K.is_broken keeper.old ≡ true → keeper.new ≡ keeper.old }
+    ensures shut { K.is_broken keeper.old ≡ true → HasAskedShut at wanted.now result }
 {
     match wanted {
         Wanted::Fault(fault) => fault_told(alloc, fault),

@@ -1,8 +1,8 @@
 //! Reading a request.
-ghost use Rattle.std.specs.Prelude.{◌≡◌, ◌<◌, ◌≤◌, ◌+◌, ◌++◌, [], length, Err, OnOk, IfOk};
+ghost use Rattle.std.specs.Prelude.{◌≡◌, ◌<◌, ◌≤◌, ◌+◌, ◌-◌, ◌++◌, [], length, Err, OnOk, IfOk};
 ghost use Rattle.httparse.specs.Spans.{IsRequestOf, IsRequestWithin};
 ghost use Rattle.station_core.specs.Ends.{HasCause};
-ghost use Rattle.http_desk.specs.Reading.{HasCome, HasGrown, HasEndedEarly, HasEndedAfter, HasNoHead};
+ghost use Rattle.http_desk.specs.Reading.{HasCome, HasGrown, HasMore, HasEndedEarly, HasEndedAfter, HasNoHead, HasNoHeadYet, most_reads};
 
 use httparse::Status;
 use httparse::spans::{HeaderSpan, RequestSpans, parse_request};
@@ -32,7 +32,9 @@ fn read_more<I: ByteIn>(reader: &mut I, bytes: &mut Vec<u8>, most: usize) -> Res
     requires { length bytes.old.items < most }
     ensures come { OnOk result (HasCome (I.given reader.old) (I.given reader.new) bytes.old.items bytes.new.items) }
     ensures room { OnOk result (length bytes.new.items ≤ most) }
+    ensures calls { (I.given reader.new).calls ≡ (I.given reader.old).calls + 1 }
     ensures read { result ≡ Err ReadEnd.Read → HasCause (I.given reader.old) (I.given reader.new) }
+    ensures still { result ≡ Err ReadEnd.Read → (bytes.new.items ≡ bytes.old.items) × ((I.given reader.new).bytes ≡ (I.given reader.old).bytes) }
     ensures no_head { result ≡ Err ReadEnd.Head → ⊥ }
 {
     let mut room = [0; CHUNK];
@@ -63,10 +65,13 @@ pub(crate) fn read_head<I: ByteIn>(
     ensures few { OnOk result (length headers.new ≡ 64) }
     ensures turns { IfOk result (λ head. head.1 ≤ 100_000) }
     ensures calls { IfOk result (λ head. (I.given reader.new).calls ≡ (I.given reader.old).calls + head.1) }
+    ensures most { (I.given reader.new).calls ≤ (I.given reader.old).calls + most_reads }
     ensures failures { OnOk result ((I.given reader.new).failures ≡ (I.given reader.old).failures) }
     ensures idle { OnOk result ((I.given reader.new).idle ≡ (I.given reader.old).idle) }
     ensures none { result ≡ Err ReadEnd.Head → HasNoHead bytes.new.items × ((I.given reader.new).bytes ≡ (I.given reader.old).bytes ++ bytes.new.items) }
     ensures read { result ≡ Err ReadEnd.Read → HasEndedEarly (I.given reader.old) (I.given reader.new) }
+    ensures unfinished { result ≡ Err ReadEnd.Read
+        → HasNoHeadYet bytes.new.items × ((I.given reader.new).bytes ≡ (I.given reader.old).bytes ++ bytes.new.items) }
 {
     for turn in 0..MOST_READS {
         read_more(reader, bytes, HEAD_ROOM)?;
@@ -93,7 +98,10 @@ pub(crate) fn read_on<I: ByteIn>(
     requires { turns ≤ 100_000 }
     ensures come { OnOk result (HasGrown (I.given reader.old) (I.given reader.new) bytes.old.items bytes.new.items) }
     ensures whole { OnOk result (whole ≤ length bytes.new.items) }
+    ensures most { (I.given reader.new).calls ≤ (I.given reader.old).calls + (most_reads - turns) }
     ensures read { result ≡ Err ReadEnd.Read → HasEndedAfter turns (I.given reader.old) (I.given reader.new) }
+    ensures unfinished { result ≡ Err ReadEnd.Read
+        → (length bytes.new.items < whole) × HasMore (I.given reader.old) (I.given reader.new) bytes.old.items bytes.new.items }
     ensures no_head { result ≡ Err ReadEnd.Head → ⊥ }
 {
     for _turn in turns..MOST_READS {

@@ -1,8 +1,9 @@
 //! One request, from its reader.
-ghost use Rattle.std.specs.Prelude.{◌≡◌, ◌≤◌, ◌+◌, ◌++◌, [], length, Err, OnOk, IfOk};
+ghost use Rattle.std.specs.Prelude.{◌≡◌, ◌≤◌, ◌+◌, ◌-◌, ◌++◌, [], length, Err, OnOk, IfOk};
 ghost use Rattle.httparse.specs.Spans.{IsRequestOf, IsRequestWithin};
-ghost use Rattle.http_desk.specs.Came.{BeginsWith, HasBody, HasRequest};
-ghost use Rattle.http_desk.specs.Reading.{HasEndedEarly, HasEndedAfter, HasGrown};
+ghost use Rattle.http_desk.specs.Came.{BeginsWith, HasBody, HasPartBody, HasRequest};
+ghost use Rattle.http_desk.specs.Reading.{HasEndedEarly, HasEndedAfter, HasGrown, HasMore, most_reads};
+ghost use Rattle.http_desk.specs.Serving.{IsUnfinished};
 ghost use Rattle.http_desk.specs.Wanted.{Wants};
 
 use crate::fault::FaultTold;
@@ -57,7 +58,10 @@ fn read_body<I: ByteIn>(
     requires { turns ≤ 100_000 }
     ensures come { OnOk result (HasGrown (I.given reader.old) (I.given reader.new) bytes.old.items bytes.new.items) }
     ensures body { OnOk result (HasBody wants.now start bytes.new.items) }
+    ensures most { (I.given reader.new).calls ≤ (I.given reader.old).calls + (most_reads - turns) }
     ensures read { result ≡ Err ReadEnd.Read → HasEndedAfter turns (I.given reader.old) (I.given reader.new) }
+    ensures unfinished { result ≡ Err ReadEnd.Read → HasPartBody wants.now start bytes.new.items
+        × HasMore (I.given reader.old) (I.given reader.new) bytes.old.items bytes.new.items }
     ensures no_head { result ≡ Err ReadEnd.Head → ⊥ }
 {
     let HeadWants::Body(_, len) = wants else {
@@ -78,7 +82,10 @@ pub(crate) fn read_request<I: ByteIn>(
     requires { bytes.old.items ≡ [] }
     ensures come { OnOk result ((I.given reader.new).bytes ≡ (I.given reader.old).bytes ++ bytes.new.items) }
     ensures request { IfOk result (HasRequest bytes.new.items) }
+    ensures most { (I.given reader.new).calls ≤ (I.given reader.old).calls + most_reads }
     ensures read { result ≡ Err ReadEnd.Read → HasEndedEarly (I.given reader.old) (I.given reader.new) }
+    ensures unfinished { result ≡ Err ReadEnd.Read
+        → IsUnfinished bytes.new.items × ((I.given reader.new).bytes ≡ (I.given reader.old).bytes ++ bytes.new.items) }
     ensures no_head { result ≡ Err ReadEnd.Head → ⊥ }
 {
     let mut headers = [EMPTY_HEADER_SPAN; 64];

@@ -1,11 +1,11 @@
 //! One connection.
-ghost use Rattle.std.specs.Prelude.{◌≡◌, false, Err, IfOk};
+ghost use Rattle.std.specs.Prelude.{◌≡◌, ◌+◌, ◌≤◌, true, false, Err, IfOk};
 ghost use Rattle.station_core.specs.Step.{State};
 ghost use Rattle.http_desk.specs.Told.{tells_reopen};
 ghost use Rattle.http_desk.specs.Came.{HasRequest};
-ghost use Rattle.http_desk.specs.Reading.{HasEndedEarly};
-ghost use Rattle.http_desk.specs.Serving.{added, HasServed, IsPosted, BeginsAs200, BeginsAs503, IsAfterStep, IsUnchangedOrBroken};
-ghost use Rattle.http_desk.specs.Writing.{IsToldFor};
+ghost use Rattle.http_desk.specs.Reading.{HasEndedEarly, most_reads};
+ghost use Rattle.http_desk.specs.Serving.{added, HasServed, HasServedShut, IsUnfinished, IsPosted, BeginsAs200, BeginsAs503, IsAfterStep, IsUnchangedOrBroken};
+ghost use Rattle.http_desk.specs.Writing.{IsToldFor, IsToldShut};
 
 use crate::asking::{Told, ask};
 use crate::reading::ReadEnd;
@@ -39,6 +39,8 @@ fn told_for<K: Keeper>(alloc: Global, keeper: &mut K, bytes: &[u8], came: Came, 
     ensures told { (s : State) → K.keeps keeper.old s → K.is_broken keeper.old ≡ false → K.is_sound keeper.new
         → IsToldFor bytes.now s at result (K.is_broken keeper.new) (K.keeps keeper.new) (K.may_find keeper.new) }
     ensures tells { K.is_broken keeper.old ≡ false → tells_reopen result ≡ K.is_broken keeper.new }
+    ensures same { K.is_broken keeper.old ≡ true → keeper.new ≡ keeper.old }
+    ensures shut { K.is_broken keeper.old ≡ true → IsToldShut bytes.now at result }
 {
     match wanted(alloc, bytes, came) {
         Ok(wanted) => ask(alloc, keeper, &wanted, at),
@@ -56,9 +58,11 @@ pub fn serve_one<K: Keeper, I: ByteIn, O: ByteOut>(
 ) -> Result<Served, ServeFault>
     ensures sound { K.is_sound keeper.new → K.is_sound keeper.old }
 
-    // Reading ended: nothing was written, nothing was changed.
+    // Reading ended within the request: nothing was written, nothing was changed. There are at most so many reads, however it ends.
     ensures unread { result ≡ Err ServeFault.Read → (O.taken writer.new ≡ O.taken writer.old) × (keeper.new ≡ keeper.old) }
     ensures read_cause { result ≡ Err ServeFault.Read → HasEndedEarly (I.given reader.old) (I.given reader.new) }
+    ensures unfinished { result ≡ Err ServeFault.Read → IsUnfinished (added (I.given reader.old) (I.given reader.new)) }
+    ensures most { (I.given reader.new).calls ≤ (I.given reader.old).calls + most_reads }
 
     // The answer to the bytes that were read, or a beginning of it; and the keeper keeps the state after it.
     ensures served { (s : State) → K.keeps keeper.old s → K.is_broken keeper.old ≡ false → K.is_sound keeper.new
@@ -78,6 +82,11 @@ pub fn serve_one<K: Keeper, I: ByteIn, O: ByteOut>(
     // It asks to open the station again exactly where this connection broke it.
     ensures told { (s : State) → K.keeps keeper.old s → K.is_broken keeper.old ≡ false → K.is_sound keeper.new
         → IfOk result (λ served. served.reopen ≡ K.is_broken keeper.new) }
+
+    // A station that has to be opened again stays as it is, and nothing of it is told.
+    ensures same { K.is_broken keeper.old ≡ true → keeper.new ≡ keeper.old }
+    ensures reopen { K.is_broken keeper.old ≡ true
+        → HasServedShut at (I.given reader.old) (I.given reader.new) (O.taken writer.old) (O.taken writer.new) result }
 {
     let mut bytes = Vec::new(alloc);
     match read_request(alloc, reader, &mut bytes) {
@@ -86,6 +95,7 @@ pub fn serve_one<K: Keeper, I: ByteIn, O: ByteOut>(
             write_told(alloc, keeper, writer, &told)
         }
         Err(ReadEnd::Memory) => write_told(alloc, keeper, writer, &Told::Unavailable(false)),
-        Err(_) => Err(ServeFault::Read),
+        Err(ReadEnd::Read) => Err(ServeFault::Read),
+        Err(ReadEnd::Head) => unreachable!(),
     }
 }

@@ -7,12 +7,13 @@ ghost use Rattle.httparse.specs.Spans.{IsRequestAt, IsRequestOf, IsRequestWithin
 ghost use Rattle.http_desk.specs.Answer.{head_of};
 ghost use Rattle.http_desk.specs.Asked.{body_meant};
 ghost use Rattle.http_desk.specs.HeadTold.{asks_meant, got_at};
-ghost use Rattle.http_desk.specs.Request.{head_asks, IsAskedUnder};
+ghost use Rattle.http_desk.specs.Request.{head_asks, own_asks, IsAskedUnder};
 ghost use Rattle.http_desk.specs.Routes.{desk_rows, page_of, path_of, place_at, place_told};
 ghost use Rattle.http_desk.specs.Wanted.{WantsNow, HasWants, WantsAsked, BodyWants, posted_of};
 
 use crate::asked::{Body, command_asked, telegram_asked};
 use crate::fault::FaultTold;
+use crate::fields::is_foreign;
 use crate::head::{Asks, NOT_FOUND, head_asks};
 use crate::route::{Report, Route, behind, desk_router, route_of};
 use awb_number::Awb;
@@ -50,6 +51,13 @@ pub(crate) enum HeadWants {
     /// A body of so many bytes is posted.
     Body(Post, u64),
 }
+
+/// A page of another host asks.
+const BAD_ORIGIN: FaultTold = FaultTold {
+    status: 400,
+    word: "origin",
+    allow: None,
+};
 
 /// The part of a target in front of a question mark.
 fn path_in(target: &str) -> &str
@@ -149,6 +157,24 @@ fn wants_of(asks: Asks, path: &str) -> HeadWants
     }
 }
 
+/// What a head wants that no page of another host sends.
+fn own_wants(
+    alloc: Global,
+    bytes: &[u8],
+    spans: &RequestSpans,
+    headers: &[HeaderSpan],
+) -> Result<HeadWants, AllocError>
+    requires within { IsRequestWithin bytes.now headers.now spans.now }
+    requires head { IsRequestOf bytes.now headers.now spans.now }
+    ensures { (h : RequestHead) → IsRequestAt bytes.now headers.now spans.now h → IfOk result (HasWants (own_asks (head_of h))) }
+{
+    let path = path_in(target_of(bytes, spans, headers));
+    let route = routed(alloc, path)?;
+    let method = spans.method.of(bytes);
+    let asks = head_asks(route, method, bytes, &headers[..spans.headers]);
+    Ok(wants_of(asks, path))
+}
+
 /// What a head wants.
 pub(crate) fn head_wants(
     alloc: Global,
@@ -160,11 +186,10 @@ pub(crate) fn head_wants(
     requires head { IsRequestOf bytes.now headers.now spans.now }
     ensures { (h : RequestHead) → IsRequestAt bytes.now headers.now spans.now h → IfOk result (HasWants (head_asks (head_of h))) }
 {
-    let path = path_in(target_of(bytes, spans, headers));
-    let route = routed(alloc, path)?;
-    let method = spans.method.of(bytes);
-    let asks = head_asks(route, method, bytes, &headers[..spans.headers]);
-    Ok(wants_of(asks, path))
+    if is_foreign(bytes, &headers[..spans.headers]) {
+        return Ok(HeadWants::Now(Wanted::Fault(BAD_ORIGIN)));
+    }
+    own_wants(alloc, bytes, spans, headers)
 }
 
 /// What a body asks.

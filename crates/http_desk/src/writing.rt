@@ -1,10 +1,10 @@
 //! Writing an answer.
-ghost use Rattle.std.specs.Prelude.{◌≡◌, true, false, Err};
+ghost use Rattle.std.specs.Prelude.{◌≡◌, Bool, true, false, Err};
 ghost use Rattle.station_core.specs.Keeping.{IsReadersFault, OnlyReads};
 ghost use Rattle.station_core.specs.Step.{State};
 ghost use Rattle.http_desk.specs.Reply.{ok_answer};
 ghost use Rattle.http_desk.specs.Serving.{unavailable};
-ghost use Rattle.http_desk.specs.Writing.{HasSent, HasEndedReport, HasReported, HasWritten};
+ghost use Rattle.http_desk.specs.Writing.{HasSent, HasEndedReport, HasReported, HasWritten, HasWrittenShut};
 ghost use Rattle.reports.specs.Ended.{IsReopen};
 ghost use Rattle.http_desk.specs.declared.route.Report.{Report as AnyReport};
 
@@ -97,6 +97,9 @@ fn write_report<K: Keeper, O: ByteOut>(
     ensures reads { OnlyReads K.keeps K.is_sound K.is_broken K.may_find keeper.old keeper.new }
     ensures reported { (s : State) → K.keeps keeper.old s → K.is_broken keeper.old ≡ false → K.is_sound keeper.new
         → HasReported s report (O.taken writer.old) (O.taken writer.new) result }
+    ensures same { K.is_broken keeper.old ≡ true → keeper.new ≡ keeper.old }
+    ensures shut { K.is_broken keeper.old ≡ true
+        → (reopen : Bool) × HasSent 503 reopen unavailable (O.taken writer.old) (O.taken writer.new) result }
     ensures read { result ≡ Err ServeFault.Read → ⊥ }
 {
     let Ok(head) = report_head(alloc) else {
@@ -132,6 +135,8 @@ pub(crate) fn write_told<K: Keeper, O: ByteOut>(
     ensures reads { OnlyReads K.keeps K.is_sound K.is_broken K.may_find keeper.old keeper.new }
     ensures written { (s : State) → ((name : AnyReport) → told.now ≡ Told.Report name → K.keeps keeper.old s × (K.is_broken keeper.old ≡ false)) → K.is_sound keeper.new
         → HasWritten told.now s (O.taken writer.old) (O.taken writer.new) result }
+    ensures same { K.is_broken keeper.old ≡ true → keeper.new ≡ keeper.old }
+    ensures shut { K.is_broken keeper.old ≡ true → HasWrittenShut told.now (O.taken writer.old) (O.taken writer.new) result }
     ensures read { result ≡ Err ServeFault.Read → ⊥ }
 {
     match told {

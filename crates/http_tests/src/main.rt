@@ -19,8 +19,8 @@
 //!
 //! - its bytes in one piece, one byte a read and one byte a write, and with an interrupted read before each byte;
 //! - beginnings of it: where the request isn't whole nothing is written and the station stays as it was;
-//! - for beginnings of the answer, with a writer that takes these bytes and then fails, or takes none. These bytes went out, the
-//!   station is as after the whole answer, and the same request again is answered in the same way.
+//! - for beginnings of the answer, with a writer that takes these bytes and then fails, and with one that then takes none. These
+//!   bytes went out, the station is as after the whole answer, and the same request again is answered in the same way.
 //!
 //! Of the beginnings the empty one, half of it, and all but a byte are played, and each one of a `request every`. `request early` may be
 //! answered before all of its `|` bytes came, since nothing can follow that makes it good. `request long` is played in one piece and in

@@ -227,24 +227,32 @@ impl Case<'_> {
         self.check_whole(log, Way::Again(room), &again)
     }
 
+    /// Its answer is written to a writer that stops so behind these first bytes of it.
+    fn play_stop(
+        &self,
+        log: &mut Log,
+        station: &mut PlainStation,
+        written: &[u8],
+        stop: Stop,
+        after: &[u8],
+    ) -> Result<(), ScriptFault> {
+        if self.step.may_change() {
+            self.play_room_alone(log, written, stop, after)
+        } else {
+            self.play_room(log, station, written, stop)
+        }
+    }
+
     /// Writers that take a beginning of the answer. Where the request changes nothing they share a station.
     fn play_rooms(&self, log: &mut Log, after: &[u8]) -> Result<(), ScriptFault> {
         let mut station = self.station()?;
         for room in 0..self.step.answer.len() {
             let written = &self.step.answer[..room];
-            let stop = if room % 2 == 0 {
-                Stop::Fails
-            } else {
-                Stop::TakesNone
-            };
             if !self.plays(room, self.step.answer.len()) {
                 continue;
             }
-            if self.step.may_change() {
-                self.play_room_alone(log, written, stop, after)?;
-            } else {
-                self.play_room(log, &mut station, written, stop)?;
-            }
+            self.play_stop(log, &mut station, written, Stop::Fails, after)?;
+            self.play_stop(log, &mut station, written, Stop::TakesNone, after)?;
         }
         if self.step.may_change() {
             return Ok(());

@@ -16,6 +16,7 @@ use std::cell::Cell;
 use std::io;
 use std::io::{ErrorKind, Write};
 use std::net::{Shutdown, SocketAddr, TcpListener, TcpStream};
+use std::time::{Duration, Instant};
 
 /// 2026-01-12 10:30, in seconds since 1970-01-01.
 const MORNING: u64 = 1_768_213_800;
@@ -106,14 +107,64 @@ fn play<K: Keeper>(
     println!(rt; "{ended:?}")
 }
 
-/// A request with a body that is too long, all of which is sent.
-fn long_request(rt: &HostRuntime) -> io::Result<String> {
-    let mut request = String::new(rt.alloc());
-    request.push_str("POST /v1/telegrams HTTP/1.1\r\nContent-Length: 70000\r\n\r\n")?;
-    for _ in 0..7000 {
+/// A request with so many tens of bytes behind its head, all of which are sent.
+fn long_request(rt: &HostRuntime, tens: u32) -> io::Result<String> {
+    let mut request = format!(in rt.alloc();
+        "POST /v1/telegrams HTTP/1.1\r\nContent-Length: {tens}0\r\n\r\n"
+    )?;
+    for _ in 0..tens {
         request.push_str("0123456789")?;
     }
     Ok(request)
+}
+
+/// Eight connections that send nothing stand before one that asks. It is answered before one read may have waited its ten
+/// seconds.
+fn play_silent(rt: &HostRuntime, station: &mut PlainStation) -> io::Result<()> {
+    println!(rt; "eight connections that send nothing")?;
+    let listener = listen(rt, 0)?;
+    let address = listener.local_addr()?;
+    let mut clients = Vec::new(rt.alloc());
+    for _ in 0..8 {
+        clients.push(TcpStream::connect(rt, address)?)?;
+    }
+    clients.push(ask(rt, address, HOLDER)?)?;
+    let begun = Instant::now(rt)?;
+    let ended = serve_all(rt, &still(MORNING), station, listener, clients.len())?;
+    let is_soon = begun.elapsed(rt)? < Duration::from_secs(8);
+    for client in clients {
+        tell(rt, client)?;
+    }
+    println!(rt; "{}", if is_soon { "soon" } else { "late" })?;
+    println!(rt; "{ended:?}")
+}
+
+/// Requests that take too long: one whose first byte comes too late, and one whose end does.
+fn play_slow(rt: &HostRuntime, station: &mut PlainStation) -> io::Result<()> {
+    let late = Stepped {
+        step: 31,
+        ..still(MORNING)
+    };
+    play(
+        rt,
+        "a request that takes too long",
+        &late,
+        station,
+        &[HOLDER],
+    )?;
+    let slow = Stepped {
+        step: 16,
+        ..still(MORNING)
+    };
+    let long = long_request(rt, 6000)?;
+    let longs = [long.as_str()];
+    play(
+        rt,
+        "a request whose end takes too long",
+        &slow,
+        station,
+        &longs,
+    )
 }
 
 /// A store that fails at its second input: that is answered 503, and the service ends.
@@ -137,20 +188,11 @@ fn play_all(rt: &HostRuntime, here: Airport) -> io::Result<()> {
     play(rt, "one after another", &clock, &mut station, &day)?;
     let cut = [&TAKE_IN[..90], HOLDER];
     play(rt, "an input that ends early", &clock, &mut station, &cut)?;
-    let long = long_request(rt)?;
+    let long = long_request(rt, 7000)?;
     let longs = [long.as_str(), HOLDER];
     play(rt, "a body that is too long", &clock, &mut station, &longs)?;
-    let slow = Stepped {
-        step: 31,
-        ..still(MORNING)
-    };
-    play(
-        rt,
-        "a request that takes too long",
-        &slow,
-        &mut station,
-        &[HOLDER],
-    )?;
+    play_slow(rt, &mut station)?;
+    play_silent(rt, &mut station)?;
     let early = still(0);
     play(
         rt,

@@ -1,6 +1,7 @@
 //! Telegrams that arrive.
-use crate::said::{say, shown, told};
-use shipment_machine::{CargoLine, Detail, Refusal};
+use crate::said::{Runs, say, shown, told};
+use shipment_machine::{CargoLine, Refusal};
+use station_core::refusal_text;
 use std::alloc::Global;
 use telegrams::{Content, PartContent, StatusContent, TelegramFault, read_telegram};
 
@@ -10,6 +11,7 @@ pub fn answer(alloc: Global, asked: &str, text: &[u8]) -> Option<String> {
         "text" => normal(alloc, text),
         "content" => content(alloc, text),
         "fault" => fault(alloc, text),
+        "beginnings" => beginnings(alloc, text),
         _ => None,
     }
 }
@@ -75,22 +77,41 @@ fn trail(alloc: Global, status: &StatusContent<'_>) -> Option<String> {
     Some(said)
 }
 
-/// The number of a telegram's refusal, with the line and what is wrong there, or `none`.
+/// A telegram's refusal, or `none`.
 fn fault(alloc: Global, text: &[u8]) -> Option<String> {
     let Err(fault) = read_telegram(alloc, text) else {
         return say(alloc, "none");
     };
     match fault {
         TelegramFault::Memory => None,
-        TelegramFault::Refused(refusal) => refused(alloc, &refusal),
+        TelegramFault::Refused(refusal) => refusal_text(alloc, &refusal).ok(),
     }
 }
 
-fn refused(alloc: Global, refusal: &Refusal) -> Option<String> {
+/// The number of a refusal.
+fn number_said(alloc: Global, refusal: &Refusal) -> Option<String> {
     let number = refusal.number;
-    match refusal.detail {
-        Detail::Nothing => format!(in alloc; "{number}").ok(),
-        Detail::Line { line, why } => format!(in alloc; "{number} {line} {why:?}").ok(),
-        _ => None,
+    format!(in alloc; "{number}").ok()
+}
+
+/// The number of a telegram's refusal, or `none`.
+fn refused(alloc: Global, text: &[u8]) -> Option<String> {
+    let Err(fault) = read_telegram(alloc, text) else {
+        return say(alloc, "none");
+    };
+    match fault {
+        TelegramFault::Memory => None,
+        TelegramFault::Refused(refusal) => number_said(alloc, &refusal),
     }
+}
+
+/// The numbers of the refusals of each beginning of a text, from the empty one on.
+fn beginnings(alloc: Global, text: &[u8]) -> Option<String> {
+    let mut runs = Runs::new(alloc, 0);
+    for len in 0..text.len() {
+        let (front, _) = text.split_at_checked(len)?;
+        runs.push(refused(alloc, front)?.as_str())?;
+    }
+    runs.push(refused(alloc, text)?.as_str())?;
+    runs.said()
 }

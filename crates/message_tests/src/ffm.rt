@@ -1,9 +1,9 @@
 //! Flight manifest messages.
-use crate::said::{Runs, fault_said, quantity_said, shown, token_said, words};
+use crate::said::{fault_said, quantity_said, shown, token_said, words};
 use awb_number::Awb;
 use ffm_text::{Ffm, FfmLine, Load, read, write_ffm};
 use imp_fields::{
-    Airport, BookTenths, DayMonth, Flight, Goods, Lines, Pieces, TextFault, Why, normal_text,
+    Airport, BookTenths, DayMonth, Flight, Goods, Lines, Pieces, TextFault, normal_text,
 };
 use std::alloc::Global;
 
@@ -15,7 +15,6 @@ pub fn answer(alloc: Global, asked: &str, text: &[u8]) -> Option<String> {
         "unloaded" => unloaded(alloc, &part(alloc, text)?),
         "goods" => goods(alloc, &part(alloc, text)?),
         "fault" => fault_said(alloc, fault(alloc, text)),
-        "beginnings" => beginnings(alloc, text),
         "written" => written(alloc, text),
         _ => None,
     }
@@ -91,25 +90,6 @@ fn fault(alloc: Global, text: &[u8]) -> Option<TextFault> {
     match read(alloc, &lines) {
         Ok(_) => None,
         Err(fault) => Some(fault),
-    }
-}
-
-/// What comes of each beginning of a text, from the empty one on.
-fn beginnings(alloc: Global, text: &[u8]) -> Option<String> {
-    let mut runs = Runs::new(alloc, 0);
-    for len in 0..text.len() {
-        let (front, _) = text.split_at_checked(len)?;
-        runs.push(told_of(fault(alloc, front)))?;
-    }
-    runs.push(told_of(fault(alloc, text)))?;
-    runs.said()
-}
-
-fn told_of(fault: Option<TextFault>) -> &'static str {
-    match fault {
-        None => "read",
-        Some(TextFault { why: Why::Kind, .. }) => "of no kind",
-        Some(_) => "faulty",
     }
 }
 

@@ -48,6 +48,40 @@ pub fn token_said(alloc: Global, token: &Token<'_>) -> Option<String> {
     format!(in alloc; "{start}-{end} [{text}]").ok()
 }
 
+/// The text that a list of numbers is, without the zeros at its end, where it is one of bytes of a text.
+fn text_of(alloc: Global, list: &str) -> Option<String> {
+    let mut bytes = Vec::new(alloc);
+    for number in list.split(", ") {
+        bytes.push(number.parse::<u8>().ok()?).ok()?;
+    }
+    say(alloc, shown(&bytes).trim_end_matches('\0'))
+}
+
+/// Appends a list, as a text where it is one, and what stands behind it.
+fn push_list(alloc: Global, said: &mut String, list: &str, rest: &str) -> Option<()> {
+    match text_of(alloc, list) {
+        Some(text) => said.push_str(text.as_str()).ok()?,
+        None => said.push_str(list).ok()?,
+    }
+    said.push_str("]").ok()?;
+    said.push_str(rest).ok()
+}
+
+/// What is written of a value, with its lists of bytes as texts: `letters: [70, 82, 65]` as `letters: [FRA]`.
+pub fn readable(alloc: Global, written: &str) -> Option<String> {
+    let mut said = String::new(alloc);
+    let mut parts = written.split('[');
+    said.push_str(parts.next()?).ok()?;
+    for part in parts {
+        said.push_str("[").ok()?;
+        match part.split_once(']') {
+            Some((list, rest)) => push_list(alloc, &mut said, list, rest)?,
+            None => said.push_str(part).ok()?,
+        }
+    }
+    Some(said)
+}
+
 /// The fault of a text, or `none`.
 pub fn fault_said(alloc: Global, fault: Option<TextFault>) -> Option<String> {
     match fault {

@@ -2,7 +2,8 @@
 ghost use Rattle.std.specs.Prelude.{◌≡◌, List, ◌≤◌, ◌<◌, ℕ, ◌+◌, ◌++◌, [], ◌∷◌, if◌then◌else◌, length, get_or, take, IsSome, IfOk, OnOk, OnErr, IfErr};
 ghost use Rattle.agent_stock.specs.Runs.{AreStockRuns};
 ghost use Rattle.agent_stock.specs.declared.runs.StockRun.{StockRun};
-ghost use Rattle.station_core.specs.Readers.{HandedOut, told_of, waybill_of, is_irregular, irregular_row, irregular_rows, book_rows, message, pending_messages, trail_row, trail_rows};
+ghost use Rattle.row_sinks.specs.Handed.{HandedOut};
+ghost use Rattle.station_core.specs.Readers.{told_of, waybill_of, is_irregular, irregular_row, irregular_rows, book_rows, message, pending_messages, trail_row, trail_rows};
 ghost use Rattle.plain_station.specs.Lists.{cargo_of, trail_row as kept_line, texts_in};
 
 use crate::balances::stored;

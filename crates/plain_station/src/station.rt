@@ -4,7 +4,8 @@ ghost use Rattle.agent_stock.specs.declared.runs.StockRun.{StockRun as AnyRun};
 ghost use Rattle.desk_commands.specs.Command.{command_text};
 ghost use Rattle.plain_station.specs.State.{state_of};
 ghost use Rattle.station_core.specs.Keeping.{Acts, Breaks};
-ghost use Rattle.station_core.specs.Readers.{HandedOut, waybill_of, irregular_rows, book_rows, pending_messages, trail_rows};
+ghost use Rattle.row_sinks.specs.Handed.{HandedOut};
+ghost use Rattle.station_core.specs.Readers.{waybill_of, irregular_rows, book_rows, pending_messages, trail_rows};
 ghost use Rattle.station_core.specs.Step.{opening};
 ghost use Rattle.station_core.specs.declared.input.Input.TheVariants.{Keyed, Wire};
 

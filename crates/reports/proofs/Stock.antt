@@ -8,7 +8,7 @@ use Rattle.agent_stock.specs.declared.runs.StockRun.{StockRun}
 use Rattle.station_core.specs.Given.{Given}
 use Rattle.station_core.specs.Ends.{Sent}
 use Rattle.station_core.specs.Keeping.{IsReadersFault}
-use Rattle.station_core.specs.Readers.{HandedOut}
+use Rattle.row_sinks.specs.Handed.{HandedOut}
 use Rattle.station_core.specs.declared.answer.ActFault.{ActFault}
 use Rattle.reports.specs.declared.fault.ReportCause.{ReportCause}
 use Rattle.reports.specs.declared.fault.ReportCause.TheVariants as cause

@@ -6,7 +6,7 @@ use Rattle.std.proofs.lemmas.List.{take-append-le, take-append-drop}
 use Rattle.std.proofs.lemmas.Grind.{flat_map-append}
 use Rattle.station_core.specs.Given.{Given}
 use Rattle.station_core.specs.Keeping.{IsReadersFault}
-use Rattle.station_core.specs.Readers.{HandedOut}
+use Rattle.row_sinks.specs.Handed.{HandedOut}
 use Rattle.station_core.specs.declared.answer.ActFault.{ActFault}
 use Rattle.reports.specs.declared.fault.ReportCause.{ReportCause}
 use Rattle.reports.specs.declared.fault.ReportCause.TheVariants as cause

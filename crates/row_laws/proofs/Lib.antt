@@ -10,3 +10,4 @@ pub mod Inside
 pub mod Ran
 pub mod Turns
 pub mod Creating
+pub mod Handing

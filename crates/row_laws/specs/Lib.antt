@@ -1,3 +1,4 @@
 pub mod Columns
 pub mod Laws
 pub mod Calls
+pub mod Streams

@@ -3,6 +3,8 @@
 //! calls that begin, end and undo a transaction.
 #![tactic(auto)]
 
+mod streaming;
 mod transaction;
 
+pub use streaming::{ReadRow, stream};
 pub use transaction::{begin, commit, is_live, roll_back};

@@ -5,3 +5,4 @@ pub mod Statements
 pub mod StationLemmas
 pub mod Creating
 pub mod Opened
+pub mod Owned

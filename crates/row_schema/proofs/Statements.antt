@@ -21,6 +21,10 @@ module _ (sql : List ℕ) (params : Row) (old new : State) where
   pub query_survives : IsPlain (understood station_schema sql) → Survives old new (CommitsShowing sql params old) → Survives old new (λ _. ¬ IsStation old.now)
   query_survives plain = survives_weaker old new _ _ (λ _ db h was. never_commits sql params old db (subst (λ s. IsPlain (understood s sql)) (sym was.schema) plain) h)
 
+  -- a text that reads, under the schema of a station
+  pub still_plain : IsPlain (understood station_schema sql) → IsStation old.now → IsPlain (understood old.now.schema sql)
+  still_plain plain was = subst (λ s. IsPlain (understood s sql)) (sym was.schema) plain
+
   -- the two forms of clause
   pub changes : (change : Tables → Tables) → ((count : ℕ) → Executes sql params old new (Ok count) → Edits old new change) → (r : Result ℕ Error) → Executes sql params old new r → Changes old new r change
   changes change made (Ok count) h = made count h

@@ -1,10 +1,11 @@
 -- What a call does to the tables of a station that a connection shows.
-use Rattle.std.specs.Prelude.{◌≡◌, ℕ, pos, List, true, false, IsTrue, Result, Ok, Err}
+use Rattle.std.specs.Prelude.{◌≡◌, ℕ, pos, List, Bool, true, false, IsTrue, Result, Ok, Err}
 use Rattle.sqlite.specs.declared.error.Error.{Error}
 use Rattle.sqlite.specs.State.{State, Shows, KeepsCommit, HasCleanDisk, Survives}
 use Rattle.sqlite.specs.Held.{Held, state}
 use Rattle.sqlite_trees.specs.declared.store.Store.{Ghosts}
 use Rattle.row_laws.specs.Calls.{Reads}
+use Rattle.row_laws.specs.Streams.{StreamsRows}
 use Rattle.sqlite_keyed.specs.Keyed.{insert_by}
 use Rattle.row_schema.specs.Connection.{opening}
 use Rattle.row_schema.specs.Tables.{Tables, Station, station_id, tables_of, IsStation}
@@ -38,6 +39,11 @@ CommitsNothing g old new = Survives (state g old) (state g new) (λ _. ¬ IsInsi
 abbrev pub Tells : {S X : Type 0} → Ghosts S → Held S → Held S → Result X Error → (Tables → X → Type 0) → Type 0
 Tells g old new result Is =
     HasCleanDisk (state g new) → IsStation (state g old).now → Reads (state g old) (state g new) result (Is (tables_of (state g old).now.trees))
+
+-- a call that hands the rows of a table to a sink, one after another
+abbrev pub HandsRows : {S K X : Type 0} → Ghosts S → Held S → Held S → Result (Unit {0}) Error → (K → X → Bool → K → Type 0) → (Tables → List X) → K → K → Type 0
+HandsRows g old new result takes rows from to =
+    HasCleanDisk (state g new) → IsStation (state g old).now → StreamsRows (state g old) (state g new) takes (rows (tables_of (state g old).now.trees)) from to result
 
 -- it commits nothing in a station's tables
 abbrev pub LeavesAll : {S : Type 0} → Ghosts S → Held S → Held S → Type 0

@@ -15,6 +15,7 @@ view_of s = record {
   committed = tables_of s.committed.trees;
   in_transaction = s.in_transaction;
   is_open = s.is_open;
+  IsClean = HasCleanDisk s;
   IsSound = HasCleanDisk s;
   may_leave = λ t. (db : Trees) × s.may_leave db × (t ≡ tables_of db);
 }

@@ -5,3 +5,4 @@ pub mod Connection
 pub mod Calls
 pub mod Once
 pub mod Code
+pub mod Own

@@ -9,6 +9,8 @@ pub record View : Type 1 where
   pub in_transaction : Bool
   pub is_open : Bool
   -- so far the disk has returned what was written
+  pub IsClean : Type 0
+  -- the premise of what is said of values: it is clean, and its tables are declared as a new station declares them
   pub IsSound : Type 0
   -- what an open after a crash at this moment may find
   pub may_leave : Tables → Type 0
@@ -44,13 +46,17 @@ pub record IsAtRest (v : View) : Type 0 where
   pub same : v.now ≡ v.committed
 
 module _ (old new : View) where
-  -- whatever a call returns: no fault is forgotten, and a crash leaves what it left before
+  -- whatever a call returns: no fault is forgotten, what was sound and is clean is sound, and a crash leaves what it left before
   pub record Survives : Type 0 where
+    pub clean : new.IsClean → old.IsClean
+    pub still : old.IsSound → new.IsClean → new.IsSound
     pub sound : new.IsSound → old.IsSound
     pub crash : new.IsSound → (t : Tables) → new.may_leave t → old.may_leave t
 
   -- a commit may leave what the transaction saw
   pub record MayCommit : Type 0 where
+    pub clean : new.IsClean → old.IsClean
+    pub still : old.IsSound → new.IsClean → new.IsSound
     pub sound : new.IsSound → old.IsSound
     pub crash : new.IsSound → (t : Tables) → new.may_leave t → old.may_leave t ⊎ (t ≡ old.now)
 

@@ -3,10 +3,11 @@ ghost use Rattle.sqlite.specs.State.{HasCleanDisk, Survives};
 ghost use Rattle.sqlite.specs.Held.{state};
 ghost use Rattle.row_laws.specs.Calls.{IsMade, IsSettled, IsUndone, Makes};
 ghost use Rattle.row_schema.specs.Schema.{no_schema, station_made, waybill_made, stock_made, flight_made, moves_made, moves_indexed, expected_made, part_made, trail_made, outbox_made, kept_key_made, kept_text_made, counts_made, station_schema};
-ghost use Rattle.row_schema.specs.Tables.{tables_of};
-ghost use Rattle.row_schema.specs.Connection.{IsVacant, opening};
+ghost use Rattle.row_schema.specs.Connection.{IsVacant};
+ghost use Rattle.row_schema.specs.Own.{IsNewStation};
 ghost use Rattle.row_schema.specs.Calls.{IsInside, Changes, Fills, Founds, IsFounded, with_station};
 
+use crate::own::shows_own;
 use row_laws::{begin, commit, roll_back};
 use sqlite::{Alter, Connection, Error, params};
 
@@ -246,21 +247,21 @@ fn fill_tables<S: Alter>(conn: &mut Connection<S>, airport: &str) -> Result<(), 
 /// Makes the tables of a new station and commits them.
 fn commit_tables<S: Alter>(conn: &mut Connection<S>, airport: &str) -> Result<(), Error>
     ensures made { HasCleanDisk (state S.Store conn.new) → IsMade no_schema (state S.Store conn.old) → Founds (state S.Store conn.old) (state S.Store conn.new) result airport.now }
-    ensures survives { Survives (state S.Store conn.old) (state S.Store conn.new) (λ db. IsMade no_schema (state S.Store conn.old) → tables_of db ≡ opening airport.now) }
+    ensures survives { Survives (state S.Store conn.old) (state S.Store conn.new) (λ db. IsMade no_schema (state S.Store conn.old) → IsNewStation airport.now db) }
 {
     fill_tables(conn, airport)?;
+    shows_own(conn);
     commit(conn)?;
     Ok(())
 }
 
-/// Makes the tables of a new station in a store that has none, in one transaction. On error the connection is
-/// back outside a
-/// transaction and, while it is open, at the last commit. It fails where a transaction is open, and where the
-/// store fails.
+/// Makes the tables of a new station in a store that has none, in one transaction. On error the connection is back
+/// outside a transaction and, while it is open, at the last commit. It fails where a transaction is open, and where
+/// the store fails.
 pub fn create_schema<S: Alter>(conn: &mut Connection<S>, airport: &str) -> Result<(), Error>
     ensures made { HasCleanDisk (state S.Store conn.new) → IsVacant S.Store conn.old → OnOk result (IsFounded (state S.Store conn.new) airport.now) }
     ensures undone { HasCleanDisk (state S.Store conn.new) → IsVacant S.Store conn.old → IsSettled (state S.Store conn.old) → OnErr result (IsUndone (state S.Store conn.old) (state S.Store conn.new)) }
-    ensures survives { Survives (state S.Store conn.old) (state S.Store conn.new) (λ db. IsVacant S.Store conn.old → tables_of db ≡ opening airport.now) }
+    ensures survives { Survives (state S.Store conn.old) (state S.Store conn.new) (λ db. IsVacant S.Store conn.old → IsNewStation airport.now db) }
 {
     begin(conn)?;
     match commit_tables(conn, airport) {

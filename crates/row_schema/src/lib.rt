@@ -5,6 +5,8 @@
 
 mod creation;
 mod memory;
+mod own;
 
 pub use creation::create_schema;
 pub use memory::open_memory;
+pub use own::shows_own;

@@ -10,11 +10,7 @@ use Rattle.station_core.specs.Step.{State}
 use Rattle.station_core.specs.declared.rows.BookRow.{BookRow}
 use Rattle.station_core.specs.declared.rows.Message as reader
 use Rattle.station_core.specs.declared.rows.TrailRow as line
-use Rattle.cargo_rows.specs.declared.moves.MoveRow.{MoveRow}
-use Rattle.text_rows.specs.declared.trail.TrailRow.{TrailRow}
-use Rattle.text_rows.specs.declared.outbox.MessageRow.{MessageRow}
-use Rattle.cargo_rows.specs.Meant.{move_meant}
-use Rattle.text_rows.specs.Meant.{trail_meant, message_meant, is_after}
+use Rattle.text_rows.specs.Meant.{is_after}
 use Rattle.row_schema.specs.Tables.{Tables, Move, move_id, TrailLine, Message, message_id}
 use Rattle.row_values.specs.Numbers.{natural}
 use Rattle.row_values.specs.Moves.{move_by}
@@ -76,24 +72,20 @@ line_of row = trail_row (line_by row)
 
 module _ (t : Tables) (s : State) (means : Means t (Some s)) where
   -- the whole book
-  pub book_handed : (rows : List MoveRow) → map move_meant rows ≡ t.moves → map (λ (row : MoveRow). book_row_of (move_meant row)) rows ≡ book_rows s.cargo
-  book_handed rows are =
-      sym (map-map book_row_of move_meant rows) ∙ ap (map book_row_of) are ∙ numbered_as move_id move_by book_row t.moves 1 means.0.book ∙ ap (numbered book_row 1) (book_told t s means)
+  pub book_handed : map book_row_of t.moves ≡ book_rows s.cargo
+  book_handed = numbered_as move_id move_by book_row t.moves 1 means.0.book ∙ ap (numbered book_row 1) (book_told t s means)
 
   -- the trail
-  pub trail_handed : (rows : List TrailRow) → map trail_meant rows ≡ t.trail → map (λ (row : TrailRow). line_of (trail_meant row)) rows ≡ trail_rows s.cargo
-  trail_handed rows are =
-      sym (map-map line_of trail_meant rows) ∙ ap (map line_of) are ∙ sym (map-map trail_row line_by t.trail) ∙ ap (map trail_row) (trail_told t s means)
+  pub trail_handed : map line_of t.trail ≡ trail_rows s.cargo
+  trail_handed = sym (map-map trail_row line_by t.trail) ∙ ap (map trail_row) (trail_told t s means)
 
   -- the messages behind the mark
-  pub pending_handed : (rows : List MessageRow) → map message_meant rows ≡ filter (is_after (pos s.cargo.confirmed)) t.outbox
-      → map (λ (row : MessageRow). message_of (message_meant row)) rows ≡ pending_messages s.cargo
-  pending_handed rows are =
+  pub pending_handed : map message_of (filter (is_after (pos s.cargo.confirmed)) t.outbox) ≡ pending_messages s.cargo
+  pending_handed =
       let mark : ℕ = s.cargo.confirmed in
       let one : mark + 1 - 1 ≡ mark = omega arith in
       let after : 1 + mark ≡ mark + 1 = omega arith in
-      sym (map-map message_of message_meant rows) ∙ ap (map message_of) are
-      ∙ ap (map message_of) (behind_mark message_id mark t.outbox 1 means.0.outbox ∙ ap (λ n. drop n t.outbox) one)
+      ap (map message_of) (behind_mark message_id mark t.outbox 1 means.0.outbox ∙ ap (λ n. drop n t.outbox) one)
       ∙ numbered_as message_id (λ (m : Message). m.body) message (drop mark t.outbox) (1 + mark) (behind_from message_id mark t.outbox 1 means.0.outbox)
       ∙ ap (λ n. numbered message n (map (λ (m : Message). m.body) (drop mark t.outbox))) after
       ∙ ap (numbered message (mark + 1)) (sym (drop-map (λ (m : Message). m.body) mark t.outbox) ∙ ap (drop mark) (outbox_told t s means))

@@ -1,11 +1,10 @@
-ghost use Rattle.std.specs.Prelude.{◌≡◌, IsTrue, IfSome, IfOk, OnOk, map};
+ghost use Rattle.std.specs.Prelude.{◌≡◌, IsTrue, IfSome, IfOk, OnOk};
 ghost use Rattle.station_core.specs.Readers.{trail_row as reader_line, message};
 ghost use Rattle.text_rows.specs.Meant.{trail_meant, message_meant};
 ghost use Rattle.row_values.specs.Numbers.{natural};
 ghost use Rattle.row_values.specs.Logs.{line_by, line_row, is_trail_row, message_row, is_message_row};
 
 use crate::flights::{awb_by, awb_key};
-use crate::lists::put;
 use crate::replies::count_of;
 use crate::texts::text;
 use awb_number::Awb;
@@ -72,32 +71,4 @@ pub fn message_by(row: MessageRow) -> Option<Message>
         number,
         text: RowText::new(row.body.into_bytes()),
     })
-}
-
-/// Lines of the trail in order, as readers are given them. A fault: a number is out of range, or out of memory.
-pub fn lines_by(alloc: Global, rows: Vec<TrailRow>) -> Result<Vec<ReaderLine>, StoreFault>
-    ensures { IfOk result (λ lines. lines.items ≡ map (λ row. reader_line (line_by (trail_meant row))) rows.items) }
-{
-    let mut lines = Vec::new(alloc);
-    for row in rows {
-        let Some(line) = line_by(row) else {
-            return Err(StoreFault);
-        };
-        put(&mut lines, line)?;
-    }
-    Ok(lines)
-}
-
-/// Messages in order, as readers are given them. A fault: a number is out of range, or out of memory.
-pub fn messages_by(alloc: Global, rows: Vec<MessageRow>) -> Result<Vec<Message>, StoreFault>
-    ensures { IfOk result (λ messages. messages.items ≡ map (λ row. message (natural row.number) (message_meant row).body) rows.items) }
-{
-    let mut messages = Vec::new(alloc);
-    for row in rows {
-        let Some(one) = message_by(row) else {
-            return Err(StoreFault);
-        };
-        put(&mut messages, one)?;
-    }
-    Ok(messages)
 }

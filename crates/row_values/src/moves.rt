@@ -1,4 +1,4 @@
-ghost use Rattle.std.specs.Prelude.{◌≡◌, ◌<◌, pos, ℤ, true, IsTrue, IfSome, IfOk, OnOk, Some, string_bytes, map, ◌++◌, ◌∷◌, []};
+ghost use Rattle.std.specs.Prelude.{◌≡◌, ◌<◌, pos, ℤ, true, IsTrue, IfSome, IfOk, OnOk, Some, string_bytes};
 ghost use Rattle.std.specs.Option.{unwrap_or};
 ghost use Rattle.shipment_machine.specs.Flights.{same_flight_date};
 ghost use Rattle.shipment_machine.specs.declared.moves.Place.TheVariants.{Hand};
@@ -9,7 +9,6 @@ ghost use Rattle.row_values.specs.Moves.{place_code, place_of, move_by, flight_c
 ghost use Rattle.row_values.specs.Numbers.{natural, is_day};
 
 use crate::flights::{awb_by, awb_key, day_number, flight_range, flight_text};
-use crate::lists::put;
 use crate::replies::count_of;
 use imp_fields::{BookTenths, Flight, LocalDay, Moment, Pieces};
 use shipment_machine::{FlightDate, Move, Place};
@@ -79,33 +78,6 @@ pub fn book_row_by(row: &MoveRow) -> Option<BookRow>
         number: count_of(row.number)?,
         movement: move_by(row)?,
     })
-}
-
-/// Puts the move in a row behind the others.
-fn put_book_row(book: &mut Vec<BookRow>, row: &MoveRow) -> Result<(), StoreFault>
-    ensures { OnOk result (book.new.items ≡ book.old.items ++ book_row (natural (move_meant row.now).number) (move_by (move_meant row.now)) ∷ []) }
-{
-    let Some(movement) = move_by(row) else {
-        return Err(StoreFault);
-    };
-    let Some(number) = count_of(row.number) else {
-        return Err(StoreFault);
-    };
-    // The checker wants the types of a move's parts to be named where moves are stored.
-    let _from: Place = movement.from;
-    let _flight: Option<FlightDate> = movement.flight;
-    put(book, BookRow { number, movement })
-}
-
-/// The book's rows in order, as readers are given them. A fault: a column is out of range, or out of memory.
-pub fn book_rows_by(alloc: Global, rows: &[MoveRow]) -> Result<Vec<BookRow>, StoreFault>
-    ensures { IfOk result (λ book. book.items ≡ map (λ row. book_row (natural (move_meant row).number) (move_by (move_meant row))) rows.now) }
-{
-    let mut book = Vec::new(alloc);
-    for row in rows {
-        put_book_row(&mut book, row)?;
-    }
-    Ok(book)
 }
 
 /// The code of a place, as the columns of `moves` and `counts` have it: 0 to 6.

@@ -5,9 +5,11 @@ use Rattle.std.proofs.lemmas.List.{map_more}
 use Rattle.station_core.specs.Step.{State}
 use Rattle.state_store.specs.Store.{Survives}
 
-module _ {K : Type 0} (is_sound : K → Type 0) (may_find : K → Option State → Type 0) where
-  pub survives_then : (a b c : K) → Survives is_sound may_find a b → Survives is_sound may_find b c → Survives is_sound may_find a c
+module _ {K : Type 0} (is_clean is_sound : K → Type 0) (may_find : K → Option State → Type 0) where
+  pub survives_then : (a b c : K) → Survives is_clean is_sound may_find a b → Survives is_clean is_sound may_find b c → Survives is_clean is_sound may_find a c
   survives_then a b c first second = record {
+    clean = λ clean. first.clean (second.clean clean);
+    still = λ was clean. second.still (first.still was (second.clean clean)) clean;
     sound = λ sound. first.sound (second.sound sound);
     leaves = λ sound found finds. first.leaves (second.sound sound) found (second.leaves sound found finds);
   }

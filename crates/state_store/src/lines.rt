@@ -23,7 +23,7 @@ fn declared_load<S: StateStore>(store: &mut S, load: &Load) -> Result<FlightLoad
     ensures value { (x : Seen) → S.shows store.old x → S.is_sound store.new
         → IfOk result (λ row. row ≡ aboard_of x.now.cargo load.now) }
     ensures same { (x : Seen) → S.shows store.old x → OnOk result (S.shows store.new x) }
-    ensures survives { Survives S.is_sound S.may_find store.old store.new }
+    ensures survives { Survives S.is_clean S.is_sound S.may_find store.old store.new }
 {
     match store.declared(&load.awb)? {
         None => Err(StoreFault),
@@ -44,7 +44,7 @@ fn declared_loads<S: StateStore>(
     ensures value { (x : Seen) → S.shows store.old x → S.is_sound store.new
         → IfOk result (λ rows. rows.items ≡ map (aboard_of x.now.cargo) loads.now) }
     ensures same { (x : Seen) → S.shows store.old x → OnOk result (S.shows store.new x) }
-    ensures survives { Survives S.is_sound S.may_find store.old store.new }
+    ensures survives { Survives S.is_clean S.is_sound S.may_find store.old store.new }
 {
     let mut rows = Vec::new(alloc);
     for load in loads {
@@ -62,7 +62,7 @@ pub(crate) fn loads_of<S: StateStore>(
     ensures value { (x : Seen) → S.shows store.old x → S.is_sound store.new
         → IfOk result (λ loads. loads ≡ loads_of x.now.cargo flight.now) }
     ensures same { (x : Seen) → S.shows store.old x → OnOk result (S.shows store.new x) }
-    ensures survives { Survives S.is_sound S.may_find store.old store.new }
+    ensures survives { Survives S.is_clean S.is_sound S.may_find store.old store.new }
 {
     let aboard = store.aboard(flight)?;
     let rows = declared_loads(alloc, store, &aboard)?;
@@ -81,7 +81,7 @@ fn line_view<S: StateStore>(
     ensures value { (x : Seen) → S.shows store.old x → S.is_sound store.new
         → IfOk result (λ row. row ≡ line_view_of x.now.cargo flight.now line.now.cargo) }
     ensures same { (x : Seen) → S.shows store.old x → OnOk result (S.shows store.new x) }
-    ensures survives { Survives S.is_sound S.may_find store.old store.new }
+    ensures survives { Survives S.is_clean S.is_sound S.may_find store.old store.new }
 {
     let awb = &line.cargo.awb;
     let declared = store.declared(awb)?;
@@ -107,7 +107,7 @@ fn put_line<S: StateStore>(
         ≡ rows.old.items ++ map (line_view_of x.now.cargo flight.now) (lines_for here
         (line.now ∷ []))) }
     ensures same { (x : Seen) → S.shows store.old x → OnOk result (S.shows store.new x) }
-    ensures survives { Survives S.is_sound S.may_find store.old store.new }
+    ensures survives { Survives S.is_clean S.is_sound S.may_find store.old store.new }
 {
     if line.unload == here {
         rows.push(line_view(store, flight, line)?)?;
@@ -127,7 +127,7 @@ fn line_rows<S: StateStore>(
         → IfOk result
         (λ rows. rows ≡ map (line_view_of x.now.cargo flight.now) (lines_for here lines.now)) }
     ensures same { (x : Seen) → S.shows store.old x → OnOk result (S.shows store.new x) }
-    ensures survives { Survives S.is_sound S.may_find store.old store.new }
+    ensures survives { Survives S.is_clean S.is_sound S.may_find store.old store.new }
 {
     let mut rows = Vec::new(alloc);
     for line in lines {
@@ -166,7 +166,7 @@ fn rows_on<S: StateStore>(
     ensures value { (x : Seen) → S.shows store.old x → S.is_sound store.new
         → IfOk result (λ made. made ≡ part_rows_on x.now.cargo part.now day) }
     ensures same { (x : Seen) → S.shows store.old x → OnOk result (S.shows store.new x) }
-    ensures survives { Survives S.is_sound S.may_find store.old store.new }
+    ensures survives { Survives S.is_clean S.is_sound S.may_find store.old store.new }
 {
     let flight = FlightDate {
         flight: part.flight,
@@ -193,7 +193,7 @@ pub(crate) fn part_rows<S: StateStore>(
     ensures value { (x : Seen) → S.shows store.old x → S.is_sound store.new
         → IfOk result (λ made. made ≡ rows_for x.now.cargo (order.Ffm part.now) at) }
     ensures same { (x : Seen) → S.shows store.old x → OnOk result (S.shows store.new x) }
-    ensures survives { Survives S.is_sound S.may_find store.old store.new }
+    ensures survives { Survives S.is_clean S.is_sound S.may_find store.old store.new }
 {
     match day_meant(part.date, at) {
         None => Ok(no_lines(alloc)),

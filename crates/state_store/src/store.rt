@@ -4,7 +4,7 @@ use imp_fields::Airport;
 use shipment_machine::{
     Amount, Balances, Change, Declared, Expected, FlightDate, Move, Outbound, Part,
 };
-use station_core::{BookRow, Key, Message, TrailRow};
+use station_core::{BookRow, Key, Message, Sink, TrailRow};
 use std::alloc::{AllocError, AllocFailed};
 
 /// A call of the store failed: the store itself, or memory ran out once it had been asked.
@@ -60,13 +60,21 @@ pub trait StateStore {
     ghost use Rattle.shipment_machine.specs.Cargo.{written};
     ghost use Rattle.station_core.specs.Readers.{book_rows, pending_messages, trail_rows};
     ghost use Rattle.station_core.specs.Step.{State, has_room};
+    ghost use Rattle.station_core.specs.declared.rows.BookRow.{BookRow as AnyBookRow};
+    ghost use Rattle.station_core.specs.declared.rows.Message.{Message as AnyMessage};
+    ghost use Rattle.station_core.specs.declared.rows.TrailRow.{TrailRow as AnyTrailRow};
+    ghost use Rattle.row_sinks.specs.Handed.{HandedOut, Hands};
     ghost use Rattle.state_store.specs.Store.{Seen, at_rest, inside, Survives, MayLeave, OnRefused, RefusesBy};
     ghost use Rattle.state_store.specs.Told.{IsRequest, kept_of, sizes_of, loads_on, on_cargo, with_moves, with_messages, with_key, with_text, with_order};
 
     /// It shows this, as long as the disk returned what was written.
     ghost shows: { Self → Seen → Type 0 };
 
-    /// The premise of what the calls say: the disk has returned what was written, and kept what it confirmed.
+    /// The disk has returned what was written, and kept what it confirmed.
+    ghost is_clean: { Self → Type 0 };
+
+    /// The premise of what the calls say: it is clean, and nothing else is wrong with what it lies in. A call changes it only
+    /// where the disk fails.
     ghost is_sound: { Self → Type 0 };
 
     /// What a reopening after a crash at this moment may find: a state, or what means none.
@@ -76,12 +84,14 @@ pub trait StateStore {
     fn begin(&mut self) -> Result<(), StoreFault>
         ensures begun { (s : State) → shows self.old (at_rest s)
             → OnOk result (shows self.new (inside s s)) }
-        ensures survives { Survives is_sound may_find self.old self.new };
+        ensures survives { Survives is_clean is_sound may_find self.old self.new };
 
     /// Ends the transaction and keeps what it wrote.
     fn commit(&mut self) -> Result<(), StoreFault>
         ensures done { (before s : State) → shows self.old (inside before s)
             → OnOk result (shows self.new (at_rest s)) }
+        ensures clean { is_clean self.new → is_clean self.old }
+        ensures still { is_sound self.old → is_clean self.new → is_sound self.new }
         ensures sound { is_sound self.new → is_sound self.old }
         ensures leaves { (before s : State) → shows self.old (inside before s)
             → MayLeave is_sound may_find s self.old self.new };
@@ -91,14 +101,14 @@ pub trait StateStore {
         ensures value { (x : Seen) → shows self.old x → is_sound self.new
             → IfOk result (λ kept. option_map kept_of kept ≡ x.now.kept_keys key.now) }
         ensures same { (x : Seen) → shows self.old x → OnOk result (shows self.new x) }
-        ensures survives { Survives is_sound may_find self.old self.new };
+        ensures survives { Survives is_clean is_sound may_find self.old self.new };
 
     /// The count that was kept of the telegram with this normal text, if it was taken.
     fn kept_text(&mut self, text: &[u8]) -> Result<Option<u32>, StoreFault>
         ensures value { (x : Seen) → shows self.old x → is_sound self.new
             → IfOk result (λ kept. kept ≡ x.now.kept_texts text.now) }
         ensures same { (x : Seen) → shows self.old x → OnOk result (shows self.new x) }
-        ensures survives { Survives is_sound may_find self.old self.new };
+        ensures survives { Survives is_clean is_sound may_find self.old self.new };
 
     /// What is declared of a waybill.
     fn declared(&mut self, awb: &Awb) -> Result<Option<Declared>, StoreFault>
@@ -106,7 +116,7 @@ pub trait StateStore {
             → IfOk result (λ declared. declared ≡ x.now.cargo.declared awb.now) }
         ensures same { (x : Seen) → shows self.old x → OnOk result (shows self.new x) }
         ensures rests { (s : State) → shows self.old (at_rest s) → shows self.new (at_rest s) }
-        ensures survives { Survives is_sound may_find self.old self.new };
+        ensures survives { Survives is_clean is_sound may_find self.old self.new };
 
     /// Who holds a number.
     fn holder(&mut self, awb: &Awb) -> Result<Option<Holder>, StoreFault>
@@ -114,14 +124,14 @@ pub trait StateStore {
             → IfOk result (λ holder. holder ≡ x.now.cargo.holders awb.now) }
         ensures same { (x : Seen) → shows self.old x → OnOk result (shows self.new x) }
         ensures rests { (s : State) → shows self.old (at_rest s) → shows self.new (at_rest s) }
-        ensures survives { Survives is_sound may_find self.old self.new };
+        ensures survives { Survives is_clean is_sound may_find self.old self.new };
 
     /// Whether the book has a move of a waybill.
     fn has_moves(&mut self, awb: &Awb) -> Result<bool, StoreFault>
         ensures value { (x : Seen) → shows self.old x → is_sound self.new
             → IfOk result (λ moved. moved ≡ is_moved x.now.cargo.book awb.now) }
         ensures same { (x : Seen) → shows self.old x → OnOk result (shows self.new x) }
-        ensures survives { Survives is_sound may_find self.old self.new };
+        ensures survives { Survives is_clean is_sound may_find self.old self.new };
 
     /// What the moves of a waybill add up to.
     fn balances(&mut self, awb: &Awb) -> Result<Balances, StoreFault>
@@ -129,21 +139,21 @@ pub trait StateStore {
             → IfOk result (λ balances. balances ≡ balances_of x.now.cargo.book awb.now) }
         ensures same { (x : Seen) → shows self.old x → OnOk result (shows self.new x) }
         ensures rests { (s : State) → shows self.old (at_rest s) → shows self.new (at_rest s) }
-        ensures survives { Survives is_sound may_find self.old self.new };
+        ensures survives { Survives is_clean is_sound may_find self.old self.new };
 
     /// What of a waybill is built on a flight.
     fn load(&mut self, awb: &Awb, flight: &FlightDate) -> Result<Amount, StoreFault>
         ensures value { (x : Seen) → shows self.old x → is_sound self.new
             → IfOk result (λ load. load ≡ built x.now.cargo.book awb.now flight.now) }
         ensures same { (x : Seen) → shows self.old x → OnOk result (shows self.new x) }
-        ensures survives { Survives is_sound may_find self.old self.new };
+        ensures survives { Survives is_clean is_sound may_find self.old self.new };
 
     /// The waybills of which something is built on a flight, ascending, each with its load.
     fn aboard(&mut self, flight: &FlightDate) -> Result<Vec<Load>, StoreFault>
         ensures value { (x : Seen) → shows self.old x → is_sound self.new
             → IfOk result (λ loads. loads.items ≡ loads_on x.now.cargo.book flight.now) }
         ensures same { (x : Seen) → shows self.old x → OnOk result (shows self.new x) }
-        ensures survives { Survives is_sound may_find self.old self.new };
+        ensures survives { Survives is_clean is_sound may_find self.old self.new };
 
     /// How many waybills have something built on a flight: a departure reads each load, by `aboard`, and the building of a
     /// waybill needs their number alone.
@@ -151,28 +161,28 @@ pub trait StateStore {
         ensures value { (x : Seen) → shows self.old x → is_sound self.new
             → IfOk result (λ number. number ≡ length (waybills_on x.now.cargo.book flight.now)) }
         ensures same { (x : Seen) → shows self.old x → OnOk result (shows self.new x) }
-        ensures survives { Survives is_sound may_find self.old self.new };
+        ensures survives { Survives is_clean is_sound may_find self.old self.new };
 
     /// What is noted of an outbound flight.
     fn outbound(&mut self, flight: &FlightDate) -> Result<Option<Outbound>, StoreFault>
         ensures value { (x : Seen) → shows self.old x → is_sound self.new
             → IfOk result (λ outbound. outbound ≡ x.now.cargo.flights flight.now) }
         ensures same { (x : Seen) → shows self.old x → OnOk result (shows self.new x) }
-        ensures survives { Survives is_sound may_find self.old self.new };
+        ensures survives { Survives is_clean is_sound may_find self.old self.new };
 
     /// What a flight brings of a waybill.
     fn expected(&mut self, flight: &FlightDate, awb: &Awb) -> Result<Option<Expected>, StoreFault>
         ensures value { (x : Seen) → shows self.old x → is_sound self.new
             → IfOk result (λ expected. expected ≡ x.now.cargo.expected flight.now awb.now) }
         ensures same { (x : Seen) → shows self.old x → OnOk result (shows self.new x) }
-        ensures survives { Survives is_sound may_find self.old self.new };
+        ensures survives { Survives is_clean is_sound may_find self.old self.new };
 
     /// Whether a part of a manifest was taken.
     fn has_part(&mut self, part: &Part) -> Result<bool, StoreFault>
         ensures value { (x : Seen) → shows self.old x → is_sound self.new
             → IfOk result (λ taken. taken ≡ is_some (x.now.cargo.parts part.now)) }
         ensures same { (x : Seen) → shows self.old x → OnOk result (shows self.new x) }
-        ensures survives { Survives is_sound may_find self.old self.new };
+        ensures survives { Survives is_clean is_sound may_find self.old self.new };
 
     /// The station's airport.
     fn here(&self) -> Airport
@@ -192,33 +202,33 @@ pub trait StateStore {
     fn add_move(&mut self, movement: &Move) -> Result<(), StoreFault>
         ensures done { (before s : State) → shows self.old (inside before s)
             → OnOk result (shows self.new (inside before (with_moves (movement.now ∷ []) s))) }
-        ensures survives { Survives is_sound may_find self.old self.new };
+        ensures survives { Survives is_clean is_sound may_find self.old self.new };
 
     /// Writes a row, where the telegram in work has this text, in a transaction.
     fn write(&mut self, text: &[u8], change: &Change<'_>) -> Result<(), StoreFault>
         ensures done { (before s : State) → shows self.old (inside before s)
             → OnOk result (shows self.new (inside before (on_cargo
             (written text.now change.now) s))) }
-        ensures survives { Survives is_sound may_find self.old self.new };
+        ensures survives { Survives is_clean is_sound may_find self.old self.new };
 
     /// Adds a message to the outbox, in a transaction.
     fn add_message(&mut self, text: &[u8]) -> Result<(), StoreFault>
         ensures done { (before s : State) → shows self.old (inside before s)
             → OnOk result (shows self.new (inside before (with_messages (text.now ∷ []) s))) }
-        ensures survives { Survives is_sound may_find self.old self.new };
+        ensures survives { Survives is_clean is_sound may_find self.old self.new };
 
     /// Keeps the text of a command that was accepted under a key, and its count, in a transaction.
     fn keep_key(&mut self, key: &Key, request: &str, count: u32) -> Result<(), StoreFault>
         ensures done { (before s : State) → shows self.old (inside before s) → IsRequest request.now
             → OnOk result (shows self.new (inside before (with_key key.now
             (record { request = request.now; count = count }) s))) }
-        ensures survives { Survives is_sound may_find self.old self.new };
+        ensures survives { Survives is_clean is_sound may_find self.old self.new };
 
     /// Keeps the count that is returned for a telegram with this normal text, in a transaction.
     fn keep_text(&mut self, text: &[u8], count: u32) -> Result<(), StoreFault>
         ensures done { (before s : State) → shows self.old (inside before s)
             → OnOk result (shows self.new (inside before (with_text text.now count s))) }
-        ensures survives { Survives is_sound may_find self.old self.new };
+        ensures survives { Survives is_clean is_sound may_find self.old self.new };
 
     /// Does an order on the stock in a transaction that it begins; where the order is refused, none is begun.
     fn carry_out_order(&mut self, order: &Order) -> Result<(), StockFault<StoreFault>>
@@ -230,42 +240,45 @@ pub trait StateStore {
             → IfErr result (RefusesBy (order_refusal s.cargo.holders order.now)) }
         ensures same { (s : State) → shows self.old (at_rest s)
             → OnRefused result (shows self.new (at_rest s)) }
-        ensures survives { Survives is_sound may_find self.old self.new };
+        ensures survives { Survives is_clean is_sound may_find self.old self.new };
 
     /// The stock, as its maximal runs of one holder, ascending.
     fn runs(&mut self) -> Result<Vec<StockRun>, StoreFault>
         ensures value { (s : State) → shows self.old (at_rest s) → is_sound self.new
             → IfOk result (λ runs. AreStockRuns s.cargo.holders runs.items) }
         ensures rests { (s : State) → shows self.old (at_rest s) → shows self.new (at_rest s) }
-        ensures survives { Survives is_sound may_find self.old self.new };
+        ensures survives { Survives is_clean is_sound may_find self.old self.new };
 
     /// The waybills that have a move, ascending.
     fn moved(&mut self) -> Result<Vec<Awb>, StoreFault>
         ensures value { (s : State) → shows self.old (at_rest s) → is_sound self.new
             → IfOk result (λ numbers. numbers.items ≡ waybills_of s.cargo.book) }
         ensures rests { (s : State) → shows self.old (at_rest s) → shows self.new (at_rest s) }
-        ensures survives { Survives is_sound may_find self.old self.new };
+        ensures survives { Survives is_clean is_sound may_find self.old self.new };
 
-    /// The movement book, in order.
-    fn book(&mut self) -> Result<Vec<BookRow>, StoreFault>
-        ensures value { (s : State) → shows self.old (at_rest s) → is_sound self.new
-            → IfOk result (λ rows. rows.items ≡ book_rows s.cargo) }
+    /// Hands out the movement book, in order, as it is read, until the sink takes no more.
+    fn book<K: Sink<BookRow>>(&mut self, sink: &mut K) -> Result<(), StoreFault>
+        ensures rows { (s : State) → shows self.old (at_rest s) → is_sound self.new
+            → Hands K.takes (book_rows s.cargo) sink.old sink.new result }
+        ensures took { (rows : List AnyBookRow) × HandedOut K.takes rows sink.old sink.new }
         ensures rests { (s : State) → shows self.old (at_rest s) → shows self.new (at_rest s) }
-        ensures survives { Survives is_sound may_find self.old self.new };
+        ensures survives { Survives is_clean is_sound may_find self.old self.new };
 
-    /// The messages that weren't confirmed yet, in order.
-    fn pending(&mut self) -> Result<Vec<Message>, StoreFault>
-        ensures value { (s : State) → shows self.old (at_rest s) → is_sound self.new
-            → IfOk result (λ rows. rows.items ≡ pending_messages s.cargo) }
+    /// Hands out the messages that weren't confirmed yet, in order, as they are read, until the sink takes no more.
+    fn pending<K: Sink<Message>>(&mut self, sink: &mut K) -> Result<(), StoreFault>
+        ensures rows { (s : State) → shows self.old (at_rest s) → is_sound self.new
+            → Hands K.takes (pending_messages s.cargo) sink.old sink.new result }
+        ensures took { (rows : List AnyMessage) × HandedOut K.takes rows sink.old sink.new }
         ensures rests { (s : State) → shows self.old (at_rest s) → shows self.new (at_rest s) }
-        ensures survives { Survives is_sound may_find self.old self.new };
+        ensures survives { Survives is_clean is_sound may_find self.old self.new };
 
-    /// The trail, in order.
-    fn trail(&mut self) -> Result<Vec<TrailRow>, StoreFault>
-        ensures value { (s : State) → shows self.old (at_rest s) → is_sound self.new
-            → IfOk result (λ rows. rows.items ≡ trail_rows s.cargo) }
+    /// Hands out the trail, in order, as it is read, until the sink takes no more.
+    fn trail<K: Sink<TrailRow>>(&mut self, sink: &mut K) -> Result<(), StoreFault>
+        ensures rows { (s : State) → shows self.old (at_rest s) → is_sound self.new
+            → Hands K.takes (trail_rows s.cargo) sink.old sink.new result }
+        ensures took { (rows : List AnyTrailRow) × HandedOut K.takes rows sink.old sink.new }
         ensures rests { (s : State) → shows self.old (at_rest s) → shows self.new (at_rest s) }
-        ensures survives { Survives is_sound may_find self.old self.new };
+        ensures survives { Survives is_clean is_sound may_find self.old self.new };
 
     /// A reopening finds what it shows between two transactions.
     ghost settled: { (k : Self) (s : State) → shows k (at_rest s) → is_sound k → (found : Option State) → may_find k found → found ≡ Some s };

@@ -92,7 +92,7 @@ pub fn waybill_in<S: StateStore>(store: &mut S, number: &Awb) -> Result<Option<W
     ensures value { (s : State) → S.shows store.old (at_rest s) → IsLawful s.cargo
         → S.is_sound store.new → IfOk result (λ waybill. waybill ≡ waybill_of s.cargo number.now) }
     ensures rests { (s : State) → S.shows store.old (at_rest s) → S.shows store.new (at_rest s) }
-    ensures survives { Survives S.is_sound S.may_find store.old store.new }
+    ensures survives { Survives S.is_clean S.is_sound S.may_find store.old store.new }
 {
     match store.declared(number)? {
         None => Ok(None),
@@ -108,7 +108,7 @@ fn irregular_row<S: StateStore>(store: &mut S, number: &Awb) -> Result<Irregular
     ensures value { (s : State) → S.shows store.old (at_rest s) → S.is_sound store.new
         → IfOk result (λ row. row ≡ irregular_row s.cargo number.now) }
     ensures rests { (s : State) → S.shows store.old (at_rest s) → S.shows store.new (at_rest s) }
-    ensures survives { Survives S.is_sound S.may_find store.old store.new }
+    ensures survives { Survives S.is_clean S.is_sound S.may_find store.old store.new }
 {
     let balances = store.balances(number)?;
     match store.declared(number)? {
@@ -134,7 +134,7 @@ fn put_irregular<S: StateStore>(
         ≡ rows.old.items ++
         (if is_irregular s.cargo number.now then irregular_row s.cargo number.now ∷ [] else [])) }
     ensures rests { (s : State) → S.shows store.old (at_rest s) → S.shows store.new (at_rest s) }
-    ensures survives { Survives S.is_sound S.may_find store.old store.new }
+    ensures survives { Survives S.is_clean S.is_sound S.may_find store.old store.new }
 {
     let row = irregular_row(store, number)?;
     if row.missing.pieces > 0 || row.found.pieces > 0 {
@@ -153,7 +153,7 @@ fn irregular_among<S: StateStore>(
         → IfOk result (λ rows. rows.items ≡ flat_map
         (λ w. if is_irregular s.cargo w then irregular_row s.cargo w ∷ [] else []) numbers.now) }
     ensures rests { (s : State) → S.shows store.old (at_rest s) → S.shows store.new (at_rest s) }
-    ensures survives { Survives S.is_sound S.may_find store.old store.new }
+    ensures survives { Survives S.is_clean S.is_sound S.may_find store.old store.new }
 {
     let mut rows = Vec::new(alloc);
     for number in numbers {
@@ -171,7 +171,7 @@ pub fn irregular_rows<S: StateStore>(
     ensures value { (s : State) → S.shows store.old (at_rest s) → S.is_sound store.new
         → IfOk result (λ rows. rows.items ≡ irregular_rows s.cargo) }
     ensures rests { (s : State) → S.shows store.old (at_rest s) → S.shows store.new (at_rest s) }
-    ensures survives { Survives S.is_sound S.may_find store.old store.new }
+    ensures survives { Survives S.is_clean S.is_sound S.may_find store.old store.new }
 {
     let numbers = store.moved()?;
     irregular_among(alloc, store, &numbers)

@@ -21,7 +21,7 @@ fn declaration_rows<S: StateStore>(store: &mut S, awb: &Awb) -> Result<Rows, Sto
     ensures value { (x : Seen) → S.shows store.old x → S.is_sound store.new
         → IfOk result (λ made. made ≡ rows.Declaration (declaration_view x.now.cargo awb.now)) }
     ensures same { (x : Seen) → S.shows store.old x → OnOk result (S.shows store.new x) }
-    ensures survives { Survives S.is_sound S.may_find store.old store.new }
+    ensures survives { Survives S.is_clean S.is_sound S.may_find store.old store.new }
 {
     let declared = store.declared(awb)?;
     let has_moves = store.has_moves(awb)?;
@@ -40,7 +40,7 @@ fn waybill_view<S: StateStore>(store: &mut S, awb: &Awb) -> Result<WaybillView, 
     ensures value { (x : Seen) → S.shows store.old x → S.is_sound store.new
         → IfOk result (λ view. view ≡ waybill_view x.now.cargo awb.now) }
     ensures same { (x : Seen) → S.shows store.old x → OnOk result (S.shows store.new x) }
-    ensures survives { Survives S.is_sound S.may_find store.old store.new }
+    ensures survives { Survives S.is_clean S.is_sound S.may_find store.old store.new }
 {
     let declared = store.declared(awb)?;
     let balances = store.balances(awb)?;
@@ -52,7 +52,7 @@ fn waybill_rows<S: StateStore>(store: &mut S, awb: &Awb) -> Result<Rows, StoreFa
     ensures value { (x : Seen) → S.shows store.old x → S.is_sound store.new
         → IfOk result (λ made. made ≡ rows.Waybill (waybill_view x.now.cargo awb.now)) }
     ensures same { (x : Seen) → S.shows store.old x → OnOk result (S.shows store.new x) }
-    ensures survives { Survives S.is_sound S.may_find store.old store.new }
+    ensures survives { Survives S.is_clean S.is_sound S.may_find store.old store.new }
 {
     let waybill = waybill_view(store, awb)?;
     Ok(Rows::Waybill { waybill })
@@ -77,7 +77,7 @@ fn flight_view<S: StateStore>(
     ensures value { (x : Seen) → S.shows store.old x → S.is_sound store.new
         → IfOk result (λ view. view ≡ flight_view x.now.cargo awb.now flight.now) }
     ensures same { (x : Seen) → S.shows store.old x → OnOk result (S.shows store.new x) }
-    ensures survives { Survives S.is_sound S.may_find store.old store.new }
+    ensures survives { Survives S.is_clean S.is_sound S.may_find store.old store.new }
 {
     let outbound = store.outbound(flight)?;
     let waybills = store.waybills_on(flight)?;
@@ -101,7 +101,7 @@ fn manifest_rows<S: StateStore>(
         ≡ rows.Manifest (waybill_view x.now.cargo awb.now)
         (flight_view x.now.cargo awb.now flight.now)) }
     ensures same { (x : Seen) → S.shows store.old x → OnOk result (S.shows store.new x) }
-    ensures survives { Survives S.is_sound S.may_find store.old store.new }
+    ensures survives { Survives S.is_clean S.is_sound S.may_find store.old store.new }
 {
     let waybill = waybill_view(store, awb)?;
     let beside = flight_view(store, awb, flight)?;
@@ -123,7 +123,7 @@ fn offload_rows<S: StateStore>(
         ≡ rows.Offload (x.now.cargo.declared awb.now) (x.now.cargo.flights flight.now)
         (built x.now.cargo.book awb.now flight.now)) }
     ensures same { (x : Seen) → S.shows store.old x → OnOk result (S.shows store.new x) }
-    ensures survives { Survives S.is_sound S.may_find store.old store.new }
+    ensures survives { Survives S.is_clean S.is_sound S.may_find store.old store.new }
 {
     let declared = store.declared(awb)?;
     let outbound = store.outbound(flight)?;
@@ -146,7 +146,7 @@ fn departure_rows<S: StateStore>(
         (λ made. made
         ≡ rows.Departure (x.now.cargo.flights flight.now) (loads_of x.now.cargo flight.now)) }
     ensures same { (x : Seen) → S.shows store.old x → OnOk result (S.shows store.new x) }
-    ensures survives { Survives S.is_sound S.may_find store.old store.new }
+    ensures survives { Survives S.is_clean S.is_sound S.may_find store.old store.new }
 {
     let outbound = store.outbound(flight)?;
     let loads = loads_of(alloc, store, flight)?;
@@ -165,7 +165,7 @@ fn check_in_rows<S: StateStore>(
         ≡ rows.CheckIn (waybill_view x.now.cargo awb.now)
         (x.now.cargo.expected flight.now awb.now)) }
     ensures same { (x : Seen) → S.shows store.old x → OnOk result (S.shows store.new x) }
-    ensures survives { Survives S.is_sound S.may_find store.old store.new }
+    ensures survives { Survives S.is_clean S.is_sound S.may_find store.old store.new }
 {
     let waybill = waybill_view(store, awb)?;
     let expected = store.expected(flight, awb)?;
@@ -177,7 +177,7 @@ fn status_rows<S: StateStore>(store: &mut S, awb: &Awb) -> Result<Rows, StoreFau
     ensures value { (x : Seen) → S.shows store.old x → S.is_sound store.new
         → IfOk result (λ made. made ≡ rows.Status (x.now.cargo.declared awb.now)) }
     ensures same { (x : Seen) → S.shows store.old x → OnOk result (S.shows store.new x) }
-    ensures survives { Survives S.is_sound S.may_find store.old store.new }
+    ensures survives { Survives S.is_clean S.is_sound S.may_find store.old store.new }
 {
     let declared = store.declared(awb)?;
     Ok(Rows::Status { declared })
@@ -205,7 +205,7 @@ fn desk_rows<S: StateStore>(
     ensures value { (x : Seen) → S.shows store.old x → S.is_sound store.new
         → IfOk result (λ made. made ≡ rows_for x.now.cargo (order.Desk command.now) at) }
     ensures same { (x : Seen) → S.shows store.old x → OnOk result (S.shows store.new x) }
-    ensures survives { Survives S.is_sound S.may_find store.old store.new }
+    ensures survives { Survives S.is_clean S.is_sound S.may_find store.old store.new }
 {
     match command {
         DeskCommand::Book { awb, .. } => declaration_rows(store, awb),
@@ -232,7 +232,7 @@ fn rows_for<S: StateStore>(
     ensures value { (x : Seen) → S.shows store.old x → S.is_sound store.new
         → IfOk result (λ made. made ≡ rows_for x.now.cargo command.now at) }
     ensures same { (x : Seen) → S.shows store.old x → OnOk result (S.shows store.new x) }
-    ensures survives { Survives S.is_sound S.may_find store.old store.new }
+    ensures survives { Survives S.is_clean S.is_sound S.may_find store.old store.new }
 {
     match command {
         ShipmentCommand::Desk(desk) => desk_rows(alloc, store, desk.get(), at),
@@ -253,7 +253,7 @@ pub fn view<S: StateStore>(
     ensures value { (x : Seen) → S.shows store.old x → S.is_sound store.new
         → IfOk result (λ view. view ≡ view_of x.now.cargo command.now at) }
     ensures same { (x : Seen) → S.shows store.old x → OnOk result (S.shows store.new x) }
-    ensures survives { Survives S.is_sound S.may_find store.old store.new }
+    ensures survives { Survives S.is_clean S.is_sound S.may_find store.old store.new }
 {
     let rows = rows_for(alloc, store, command, at)?;
     Ok(View {

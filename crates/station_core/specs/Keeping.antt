@@ -8,7 +8,7 @@ use Rattle.station_core.specs.declared.answer.ActFault.{ActFault}
 use Rattle.station_core.specs.declared.answer.ActFault.TheVariants as fault
 use Rattle.imp_fields.specs.Date.{LocalMinute}
 use Rattle.station_core.specs.declared.input.Input.{Input}
-use Rattle.station_core.specs.Readers.{HandedOut}
+use Rattle.row_sinks.specs.Handed.{HandedOut}
 use Rattle.station_core.specs.Step.{State, step, after_all}
 
 -- Whether it returns Reopen from then on: after Store, and then only.

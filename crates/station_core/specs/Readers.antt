@@ -1,8 +1,7 @@
 -- What the readers of a station hand out of its cargo.
-use Rattle.std.specs.Prelude.{◌≡◌, ℕ, ◌+◌, Bool, ◌||◌, nat_lt, if◌then◌else◌, Option, List, [], ◌∷◌, map, drop}
+use Rattle.std.specs.Prelude.{ℕ, ◌+◌, Bool, ◌||◌, nat_lt, if◌then◌else◌, Option, List, [], ◌∷◌, map, drop}
 use Rattle.std.specs.List.{flat_map}
 use Rattle.std.specs.Option.{option_map}
-use Rattle.std.specs.Bool.{MatchBool}
 use Rattle.shipment_machine.specs.declared.moves.Declared.{Declared}
 use Rattle.shipment_machine.specs.declared.moves.Move.{Move}
 use Rattle.shipment_machine.specs.Book.{taken, found, store, departed, delivered, missing, waybills_of}
@@ -71,8 +70,3 @@ trail_row row = record { awb = row.0; line = row.1 }
 
 abbrev pub trail_rows : Cargo → List TrailRow
 trail_rows s = map trail_row s.trail
-
--- The sink took these rows in order, all of them or up to one after which it wanted no more.
-abbrev pub HandedOut : {S Row : Type 0} → (S → Row → Bool → S → Type 0) → List Row → S → S → Type 0
-HandedOut takes [] old new = new ≡ old
-HandedOut {S} takes (row ∷ rows) old new = (go : Bool) × (mid : S) × takes old row go mid × MatchBool go (HandedOut takes rows mid new) (new ≡ mid)

@@ -3,10 +3,10 @@ ghost use Rattle.std.specs.Prelude.{◌≡◌, ℕ, Bool, true, false, List, Opt
 use crate::answer::{ActFault, Reply};
 use crate::input::Input;
 use crate::rows::{BookRow, IrregularRow, Message, TrailRow, Waybill};
-use crate::sink::Sink;
 use agent_stock::{Holder, StockRun};
 use awb_number::Awb;
 use imp_fields::Moment;
+use row_sinks::Sink;
 
 /// What keeps the state of a station.
 ///

@@ -1,7 +1,8 @@
 -- The forms of the clauses of `TableStore`: what the store showed before, and what it shows now.
-use Rattle.std.specs.Prelude.{◌≡◌, true, OnOk, IfOk, Result}
+use Rattle.std.specs.Prelude.{◌≡◌, ◌⊎◌, Bool, true, List, OnOk, IfOk, IsErr, Result}
 use Rattle.row_schema.specs.Tables.{Tables}
 use Rattle.row_schema.specs.Store.{View, Seen, inside, IsShowing}
+use Rattle.row_sinks.specs.Handed.{Hands}
 
 -- a write in a transaction: whatever it showed, it now shows this with one change
 abbrev pub ShowsChange : {X E : Type 0} → View → View → Result X E → (Tables → Tables) → Type 0
@@ -19,3 +20,11 @@ ShowsStill old new result = (seen : Seen) → IsShowing old seen → OnOk result
 -- a call that is answered finds the store open
 abbrev pub WasOpen : {X E : Type 0} → View → View → Result X E → Type 0
 WasOpen old new result = OnOk result (new.IsSound → old.is_open ≡ true)
+
+-- rows are handed out: whatever it showed, they are rows of it
+abbrev pub HandsOf : {S X E : Type 0} → View → View → Result (Unit {0}) E → (S → X → Bool → S → Type 0) → (Tables → List X) → S → S → Type 0
+HandsOf old new result takes rows from to = (seen : Seen) → IsShowing old seen → new.IsSound → Hands takes (rows seen.now) from to result
+
+-- a store that is shut hands out nothing, and the call fails
+abbrev pub HandsIfOpen : {S X E : Type 0} → View → View → Result X E → S → S → Type 0
+HandsIfOpen old new result from to = new.IsSound → (old.is_open ≡ true) ⊎ (IsErr result × (to ≡ from))

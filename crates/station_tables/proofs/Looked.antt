@@ -4,10 +4,12 @@ use Rattle.std.specs.Prelude.{IsTrue, IfOk, IfErr, not}
 use Rattle.sqlite.specs.Effect.{Database}
 use Rattle.sqlite.specs.State as sqlite
 use Rattle.sqlite.specs.State.{HasCleanDisk}
+use Rattle.sqlite.proofs.Callers.{unchanged_then}
+use Rattle.sqlite.proofs.StateLemmas.{survives_then}
 use Rattle.sqlite_trees.specs.View.{doubt}
 use Rattle.row_laws.specs.Calls.{Reads}
 use Rattle.station_core.specs.Step.{State, IsLawfulState}
-use Rattle.declared_tables.specs.Own.{IsOwn}
+use Rattle.row_schema.specs.Own.{IsOwn}
 use Rattle.row_schema.specs.Connection.{view_of}
 use Rattle.row_schema.specs.Store as store
 use Rattle.row_schema.specs.Store.{View}
@@ -28,7 +30,34 @@ no_less a b below none = omega (arith, below, none)
 pub was_clean : (a b : sqlite.State) → sqlite.Survives a b (λ _. ⊥) → HasCleanDisk b → HasCleanDisk a
 was_clean a b s clean = no_less (doubt a.is_clean) (doubt b.is_clean) s.clean clean
 
-either : {X : Type 0} → X ⊎ ⊥ → X
+-- a call that did nothing
+pub survives_same : (s : sqlite.State) → sqlite.Survives s s (λ _. ⊥)
+survives_same s = record { clean = omega arith; shield = λ h. h; counts = omega arith; limit = refl; closes = λ clean is. inl is; crash = λ clean db left. inl left }
+
+-- two calls of which neither wrote
+pub survives_both : (a b c : sqlite.State) → sqlite.Survives a b (λ _. ⊥) → sqlite.Survives b c (λ _. ⊥) → sqlite.Survives a c (λ _. ⊥)
+survives_both a b c s u = survives_then a b c _ _ _ (λ _ db none. none) (λ _ db none. none) s u
+
+pub unwritten_on : {K E : Type 0} (state_of : K → sqlite.State) (a b : sqlite.State) (r : Result K E) → sqlite.Survives a b (λ _. ⊥) → IfOk r (λ k. sqlite.Survives b (state_of k) (λ _. ⊥))
+    → IfOk r (λ k. sqlite.Survives a (state_of k) (λ _. ⊥))
+unwritten_on state_of a b (Ok k) s u = survives_both a b (state_of k) s u
+unwritten_on state_of a b (Err e) s u = tt
+
+pub unwritten_at : {K C F : Type 0} (state_of : C → sqlite.State) (a b : sqlite.State) (r : Result K (C × F)) → sqlite.Survives a b (λ _. ⊥) → IfErr r (λ e. sqlite.Survives b (state_of e.0) (λ _. ⊥))
+    → IfErr r (λ e. sqlite.Survives a (state_of e.0) (λ _. ⊥))
+unwritten_at state_of a b (Ok k) s u = tt
+unwritten_at state_of a b (Err e) s u = survives_both a b (state_of e.0) s u
+
+-- a connection that was looked at twice, and then handed on as it was
+pub seen_on : {K E : Type 0} (state_of : K → sqlite.State) (a b c : sqlite.State) (r : Result K E) → (HasCleanDisk b → sqlite.IsUnchanged a b) → sqlite.Survives b c (λ _. ⊥) → (HasCleanDisk c → IsTrue b.is_open → sqlite.IsUnchanged b c)
+    → IfOk r (λ k. sqlite.Survives c (state_of k) (λ _. ⊥)) → IfOk r (λ k. HasCleanDisk (state_of k) → sqlite.IsUnchanged c (state_of k)) → IfOk r (λ k. HasCleanDisk (state_of k) → sqlite.IsUnchanged a (state_of k))
+seen_on state_of a b c (Ok k) live kept read w same = λ clean.
+    let mid = was_clean c (state_of k) w clean in
+    let first = live (was_clean b c kept mid) in
+    unchanged_then a b (state_of k) first (unchanged_then b c (state_of k) (read mid first.0.is_open) (same clean))
+seen_on state_of a b c (Err e) live kept read w same = tt
+
+pub either : {X : Type 0} → X ⊎ ⊥ → X
 either (inl x) = x
 either (inr never) = absurd never
 

@@ -1,5 +1,5 @@
 -- What a station that stopped may leave, and what is found of it.
-use Rattle.std.proofs.Common.{◌≡◌, ◌⊎◌, inl, inr, ℕ, List, Option, Some, None, Result, Ok, Err, refl}
+use Rattle.std.proofs.Common.{◌≡◌, ◌⊎◌, inl, inr, ℕ, Bool, false, List, Option, Some, None, Result, Ok, Err, refl}
 use Rattle.std.specs.Prelude.{IfOk, IfErr}
 use Rattle.imp_fields.specs.Date.{LocalMinute}
 use Rattle.sqlite.specs.Tree.{Trees}
@@ -15,7 +15,7 @@ use Rattle.station_core.specs.Step.{State, IsLawfulState}
 use Rattle.row_schema.specs.Store.{View}
 use Rattle.row_schema.specs.Tables.{tables_of}
 use Rattle.row_values.specs.Meaning.{meaning_of, IsReadable}
-use Rattle.declared_tables.specs.Own.{IsOwn}
+use Rattle.row_schema.specs.Own.{IsOwn}
 use Rattle.station_rows.specs.Own.{are_declared}
 use Rattle.station_rows.specs.Shown.{rows_view}
 use Rattle.station_tables.proofs.Attached.{is_lawful}
@@ -35,10 +35,11 @@ leaves_own g station sound db left = station.stored.store.store.leaves sound.0 s
 pub finds : (v : View) (found : Database) (it : State) → v.may_leave (tables_of found.trees) → IsStateIn found it → IsTypedState found it → Finds v (Some it)
 finds v found it left in_ typed = (record { tables = tables_of found.trees; left = left; means = typed.means }, is_lawful found it in_)
 
-restored : (s : State) (inputs : List (Input × LocalMinute)) (answered : ℕ) (ended : Option ActFault) (db : Database) (keeps : State → Type 0) (it : State)
-    → IsAfterAnswered s inputs answered ended (Some it) → IsStateIn db it → IsTypedState db it → keeps it → IsRestored s inputs answered ended db keeps
-restored s inputs answered ended db keeps it after in_ means kept = record {
+restored : (s : State) (inputs : List (Input × LocalMinute)) (answered : ℕ) (ended : Option ActFault) (db : Database) (broken : Bool) (keeps : State → Type 0) (it : State)
+    → IsAfterAnswered s inputs answered ended (Some it) → IsStateIn db it → IsTypedState db it → broken ≡ false → keeps it → IsRestored s inputs answered ended db broken keeps
+restored s inputs answered ended db broken keeps it after in_ means works kept = record {
   state = it;
+  works = works;
   is_after = after;
   is_meant = means;
   is_kept = kept;
@@ -48,22 +49,30 @@ restored s inputs answered ended db keeps it after in_ means kept = record {
 }
 
 pub restored_on : {K E : Type 0} (s : State) (inputs : List (Input × LocalMinute)) (answered : ℕ) (ended : Option ActFault) (db : Database)
-    (Clean Declared Sound : K → Type 0) (keeps : K → State → Type 0) (r : Result K E)
-    → IfOk r (λ k. Clean k → (it : State) × IsStateIn db it × keeps k it) → IfOk r (λ k. Clean k → IsOwn db.trees → Declared k)
+    (Clean Declared Sound : K → Type 0) (is_broken : K → Bool) (keeps : K → State → Type 0) (r : Result K E)
+    → IfOk r (λ k. is_broken k ≡ false) → IfOk r (λ k. Clean k → (it : State) × IsStateIn db it × keeps k it) → IfOk r (λ k. Clean k → IsOwn db.trees → Declared k)
     → IfOk r (λ k. Sound k → (it : State) → IsStateIn db it → IsTypedState db it) → IsOwn db.trees → ((k : K) → Clean k → Declared k → Sound k)
     → ((it : State) → IsStateIn db it → IsTypedState db it → IsAfterAnswered s inputs answered ended (Some it))
-    → IfOk r (λ k. Clean k → IsRestored s inputs answered ended db (keeps k))
-restored_on s inputs answered ended db Clean Declared Sound keeps (Ok k) found own typed is_own make after = λ clean.
+    → IfOk r (λ k. Clean k → IsRestored s inputs answered ended db (is_broken k) (keeps k))
+restored_on s inputs answered ended db Clean Declared Sound is_broken keeps (Ok k) works found own typed is_own make after = λ clean.
     let f = found clean in
     let t = typed (make k clean (own clean is_own)) f.0 f.1 in
-    restored s inputs answered ended db (keeps k) f.0 (after f.0 f.1 t) f.1 t f.2
-restored_on s inputs answered ended db Clean Declared Sound keeps (Err e) found own typed is_own make after = tt
+    restored s inputs answered ended db (is_broken k) (keeps k) f.0 (after f.0 f.1 t) f.1 t works f.2
+restored_on s inputs answered ended db Clean Declared Sound is_broken keeps (Err e) works found own typed is_own make after = tt
+
+pub sounds_on : {K E : Type 0} (Clean Declared Sound : K → Type 0) (Own : Type 0) (r : Result K E) → IfOk r (λ k. Clean k → Own → Declared k) → Own → ((k : K) → Clean k → Declared k → Sound k)
+    → IfOk r (λ k. Clean k → Sound k)
+sounds_on Clean Declared Sound Own (Ok k) own is_own make = λ clean. make k clean (own clean is_own)
+sounds_on Clean Declared Sound Own (Err e) own is_own make = tt
 
 -- ---- what a crash leaves is a station's
 
 pub none_after : (s : State) (inputs : List (Input × LocalMinute)) (answered : ℕ) (ended : Option ActFault) → IsAfterAnswered s inputs answered ended None → ⊥
 none_after s inputs answered ended (inl none) = absurd (cc)
 none_after s inputs answered ended (inr (stopped, more, none)) = absurd (cc)
+
+pub settled_none : {s : State} → ◌≡◌ {A = Option State} None (Some s) → ⊥
+settled_none none = absurd (cc)
 
 -- a fault that can't but be a breakdown is one
 surely : (f : AttachFault) → ¬ ¬ IsBreakdown f → IsBreakdown f

@@ -1,3 +1,6 @@
 pub mod Found
 pub mod Attached
+pub mod Repeated
 pub mod Restarted
+pub mod Lives
+pub mod Calls

@@ -1,5 +1,5 @@
 -- What is found by opening a station again after a stop.
-use Rattle.std.specs.Prelude.{ℕ, List, Option, Some}
+use Rattle.std.specs.Prelude.{◌≡◌, ℕ, Bool, false, List, Option, Some}
 use Rattle.imp_fields.specs.Date.{LocalMinute}
 use Rattle.sqlite.specs.Effect.{Database}
 use Rattle.shipment_machine.specs.Laws.{IsConserved, AreBalances}
@@ -10,12 +10,13 @@ use Rattle.station_core.specs.Step.{State, IsLawfulState}
 use Rattle.station_tables.specs.Attached.{IsTypedState}
 
 -- The state after the inputs that were answered or, where they ended by `Store`, after one more: the tables mean it, so that the running
--- counts are the book's sums; the station goes on from it; it is lawful; and for each waybill what was taken over or found is in store,
+-- counts are the book's sums; the station that was opened works, and goes on from it; it is lawful; and for each waybill what was taken over or found is in store,
 -- departed, delivered or missing, in pieces and in tenths, and the amounts that are shown are the balances of its moves.
-pub record IsRestored (s : State) (inputs : List (Input × LocalMinute)) (answered : ℕ) (ended : Option ActFault) (db : Database) (keeps : State → Type 0) : Type 0 where
+pub record IsRestored (s : State) (inputs : List (Input × LocalMinute)) (answered : ℕ) (ended : Option ActFault) (db : Database) (broken : Bool) (keeps : State → Type 0) : Type 0 where
   pub state : State
   pub is_after : IsAfterAnswered s inputs answered ended (Some state)
   pub is_meant : IsTypedState db state
+  pub works : broken ≡ false
   pub is_kept : keeps state
   pub is_lawful : IsLawfulState state
   pub conserved : (w : ℕ) → IsConserved state.cargo.book w

@@ -1,5 +1,5 @@
 ghost use Rattle.std.specs.Prelude.{◌≡◌, true, false, Option, Some, Err, IsTrue, IfOk, IfErr};
-ghost use Rattle.sqlite.specs.State.{HasCleanDisk, Survives};
+ghost use Rattle.sqlite.specs.State.{HasCleanDisk, IsUnchanged, Survives};
 ghost use Rattle.row_laws.specs.Calls.{Reads};
 ghost use Rattle.sqlite.specs.Held.{state};
 ghost use Rattle.sqlite.specs.Effect.{Database};
@@ -11,7 +11,7 @@ ghost use Rattle.row_schema.specs.Tables.{IsStation, Tables};
 ghost use Rattle.row_values.specs.Meaning.{Means};
 ghost use Rattle.state_store.specs.Store.{at_rest};
 ghost use Rattle.table_state.specs.Shown.{HasThese, Knows};
-ghost use Rattle.declared_tables.specs.Own.{IsOwn, LiesInOrder};
+ghost use Rattle.row_schema.specs.Own.{IsOwn, LiesInOrder};
 ghost use Rattle.station_rows.specs.Own.{are_declared};
 ghost use Rattle.station_audit.specs.Verdict.{IsUnfit, Tells};
 ghost use Rattle.station_tables.specs.Attached.{connection_in, IsBreakdown, IsJudged, IsStateIn, IsTypedState, Refuses};
@@ -97,6 +97,10 @@ fn go_on<S: Alter>(
         → (s : State) → IsStateIn (state S.Store conn).now s → IsTypedState (state S.Store conn).now s) }
     ensures fault { IfErr result (λ e. e.1 ≡ AttachFault.Store) }
     ensures spares { IfErr result (λ e. store.Survives (connection_view S.Store conn) (connection_view S.Store e.0)) }
+    ensures unwritten { IfOk result (λ station. Survives (state S.Store conn) (state S.Store (connection_in station)) (λ _. ⊥)) }
+    ensures seen { IfOk result (λ station. HasCleanDisk (state S.Store (connection_in station))
+        → IsUnchanged (state S.Store conn) (state S.Store (connection_in station))) }
+    ensures unwritten_at_err { IfErr result (λ e. Survives (state S.Store conn) (state S.Store e.0) (λ _. ⊥)) }
 {
     shows_station(&conn);
     match Rows::opened(conn) {
@@ -133,6 +137,10 @@ fn settle<S: Alter>(
         → (s : State) → IsStateIn (state S.Store conn).now s → IsTypedState (state S.Store conn).now s) }
     ensures refused { IsJudged (state S.Store conn).now judged → IfErr result (λ e. Refuses (state S.Store conn).now e.1) }
     ensures spares { IfErr result (λ e. store.Survives (connection_view S.Store conn) (connection_view S.Store e.0)) }
+    ensures unwritten { IfOk result (λ station. Survives (state S.Store conn) (state S.Store (connection_in station)) (λ _. ⊥)) }
+    ensures seen { IfOk result (λ station. HasCleanDisk (state S.Store (connection_in station))
+        → IsUnchanged (state S.Store conn) (state S.Store (connection_in station))) }
+    ensures unwritten_at_err { IfErr result (λ e. Survives (state S.Store conn) (state S.Store e.0) (λ _. ⊥)) }
 {
     match judged {
         Ok(found) => go_on(alloc, conn, found),
@@ -170,6 +178,12 @@ pub fn attach<S: Alter>(
     // A crash leaves what it left before.
     ensures leaves { IfErr result (λ e. (connection_view S.Store e.0).IsSound → (found : Option State)
         → Finds (connection_view S.Store e.0) found → Finds (connection_view S.Store conn) found) }
+
+    // Whatever is found, nothing is written. At Ok the connection shows what it showed.
+    ensures unwritten { IfOk result (λ station. Survives (state S.Store conn) (state S.Store (connection_in station)) (λ _. ⊥)) }
+    ensures seen { IfOk result (λ station. HasCleanDisk (state S.Store (connection_in station))
+        → IsUnchanged (state S.Store conn) (state S.Store (connection_in station))) }
+    ensures unwritten_at_err { IfErr result (λ e. Survives (state S.Store conn) (state S.Store e.0) (λ _. ⊥)) }
 {
     shows_own_station(&conn);
     if !conn.is_autocommit() {

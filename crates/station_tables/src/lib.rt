@@ -3,12 +3,16 @@
 
 mod attaching;
 mod fault;
+mod laws;
 mod opening;
+mod repeating;
 mod restarting;
 mod station;
 
 pub use attaching::attach;
 pub use fault::AttachFault;
+pub use laws::{calls_law, lives_law};
 pub use opening::create;
-pub use restarting::{Restart, act_and_restart};
+pub use repeating::attach_and_repeat;
+pub use restarting::{Reopening, Restart, act_and_restart, release_and_restart};
 pub use station::Station;

@@ -1,8 +1,11 @@
 ghost use Rattle.std.specs.Prelude.{◌≡◌, ◌⊎◌, true, false, Some, Option, IfOk, IfErr, OnOk};
+ghost use Rattle.sqlite.specs.Held.{state};
+ghost use Rattle.sqlite.specs.State as connection;
 ghost use Rattle.station_core.specs.Step.{State, opening};
 ghost use Rattle.row_schema.specs.Connection.{connection_view, IsVacant};
 ghost use Rattle.station_rows.specs.Own.{are_declared};
 ghost use Rattle.station_tables.specs.Found.{Finds};
+ghost use Rattle.table_state.specs.File.{IsFileOf};
 
 use crate::fault::AttachFault;
 use crate::station::Station;
@@ -43,6 +46,10 @@ pub fn create<S: Alter>(
     ensures leaves { IfErr result (λ e. (connection_view S.Store e.0).IsSound → (found : Option State)
         → Finds (connection_view S.Store e.0) found → Finds (connection_view S.Store conn) found
         ⊎ (IsVacant S.Store conn × (found ≡ Some (opening here)))) }
+
+    // The same over the database, so that an opening knows the tables: as before, or a new station's file.
+    ensures survives { IfErr result (λ e. connection.Survives (state S.Store conn) (state S.Store e.0)
+        (λ db. IsVacant S.Store conn → IsFileOf db (opening here))) }
 {
     match table_state::create(alloc, conn, here) {
         Ok(tables) => Ok(Station::over(StoredStation::over(alloc, tables))),

@@ -1,4 +1,4 @@
-ghost use Rattle.std.specs.Prelude.{◌≡◌, false, length, IfOk, IfErr};
+ghost use Rattle.std.specs.Prelude.{◌≡◌, false, [], None, length, IfOk, IfErr};
 ghost use Rattle.sqlite.specs.State.{HasCleanDisk};
 ghost use Rattle.sqlite.specs.Held.{state};
 ghost use Rattle.station_core.specs.Step.{State};
@@ -37,7 +37,8 @@ pub fn act_and_restart<S: Alter>(
     ensures restored { (s : State) → ⟦<Station<S> as Keeper>⟧.keeps station s → ⟦<Station<S> as Keeper>⟧.is_broken station ≡ false → ⟦<Station<S> as Keeper>⟧.is_sound result.stopped
         → (state S.Store (connection_in result.stopped)).may_leave (state S.Store other).now.trees
         → IfOk result.opened (λ again. HasCleanDisk (state S.Store (connection_in again))
-        → IsRestored s inputs.now (length result.given.answers.items) result.given.fault (state S.Store other).now (⟦<Station<S> as Keeper>⟧.keeps again)) }
+        → IsRestored s inputs.now (length result.given.answers.items) result.given.fault (state S.Store other).now
+        (⟦<Station<S> as Keeper>⟧.is_broken again) (⟦<Station<S> as Keeper>⟧.keeps again)) }
 
     // What a crash leaves is no reason to refuse it: a fault says that the store failed, or that memory was out.
     ensures opens { (s : State) → ⟦<Station<S> as Keeper>⟧.keeps station s → ⟦<Station<S> as Keeper>⟧.is_broken station ≡ false → ⟦<Station<S> as Keeper>⟧.is_sound result.stopped
@@ -55,4 +56,38 @@ pub fn act_and_restart<S: Alter>(
         stopped: station,
         opened,
     }
+}
+
+/// A connection that a station gave back, and what was opened after it.
+#[derive(Drop)]
+pub struct Reopening<S: Alter> {
+    /// The connection that was given back.
+    pub left: Connection<S>,
+    /// The station that was opened.
+    pub opened: Result<Station<S>, (Connection<S>, AttachFault)>,
+}
+
+/// Ends a station, and then opens another connection.
+///
+/// This is what a program leaves to the next one: where the other connection has what a crash of the one that was given back may
+/// leave, a station that is opened over it goes on from the state that the first one kept.
+pub fn release_and_restart<S: Alter>(
+    alloc: Global,
+    station: Station<S>,
+    other: Connection<S>,
+) -> Reopening<S>
+    ensures restored { (s : State) → ⟦<Station<S> as Keeper>⟧.keeps station s → ⟦<Station<S> as Keeper>⟧.is_sound station
+        → HasCleanDisk (state S.Store result.left) → (state S.Store result.left).may_leave (state S.Store other).now.trees
+        → IfOk result.opened (λ again. HasCleanDisk (state S.Store (connection_in again))
+        → IsRestored s [] 0 None (state S.Store other).now (⟦<Station<S> as Keeper>⟧.is_broken again) (⟦<Station<S> as Keeper>⟧.keeps again)) }
+    ensures opens { (s : State) → ⟦<Station<S> as Keeper>⟧.keeps station s → ⟦<Station<S> as Keeper>⟧.is_sound station
+        → HasCleanDisk (state S.Store result.left) → (state S.Store result.left).may_leave (state S.Store other).now.trees
+        → IfErr result.opened (λ e. HasCleanDisk (state S.Store e.0) → IsBreakdown e.1) }
+    ensures sound { ⟦<Station<S> as Keeper>⟧.is_sound station → HasCleanDisk (state S.Store result.left)
+        → (state S.Store result.left).may_leave (state S.Store other).now.trees
+        → IfOk result.opened (λ again. HasCleanDisk (state S.Store (connection_in again)) → ⟦<Station<S> as Keeper>⟧.is_sound again) }
+{
+    let left = station.release();
+    let opened = attach(alloc, other);
+    Reopening { left, opened }
 }

@@ -1,5 +1,12 @@
-ghost use Rattle.std.specs.Prelude.{◌≡◌, true, Option};
+ghost use Rattle.std.specs.Prelude.{◌≡◌, true, false, Err, Option};
+ghost use Rattle.sqlite.specs.Held.{state};
+ghost use Rattle.sqlite.specs.State.{HasCleanDisk};
+ghost use Rattle.sqlite.specs.State as connection;
+ghost use Rattle.sqlite.specs.Tree.{Trees};
+ghost use Rattle.station_core.specs.Keeping.{Acts, Breaks, Leaves};
+ghost use Rattle.station_tables.specs.Attached.{connection_in};
 ghost use Rattle.row_schema.specs.Connection.{connection_view};
+ghost use Rattle.row_schema.specs.Own.{IsOwn, LiesInOrder};
 ghost use Rattle.station_core.specs.Step.{State};
 ghost use Rattle.station_rows.specs.Own.{are_declared};
 ghost use Rattle.station_rows.specs.Shown.{rows_view};
@@ -36,9 +43,34 @@ impl<S: Alter> Station<S> {
         Station { stored }
     }
 
+    /// One input, at a moment, as a `Keeper` takes it. Its premise holds afterwards as before, but for a disk that failed.
+    pub(crate) fn act_on(&mut self, input: &Input<'_>, at: Moment) -> Result<Reply, ActFault>
+        ensures reopen { ⟦<Station<S> as Keeper>⟧.is_broken self.old ≡ true → (result ≡ Err ActFault.Reopen)
+            × (self.new ≡ self.old) }
+        ensures breaks { ⟦<Station<S> as Keeper>⟧.is_broken self.old ≡ false → Breaks result (⟦<Station<S> as Keeper>⟧.is_broken self.new) }
+
+        // Memory runs out before the first call of the database, and nothing has changed.
+        ensures memory { result ≡ Err ActFault.Memory → self.new ≡ self.old }
+        ensures clean { HasCleanDisk (state S.Store (connection_in self.new)) → HasCleanDisk (state S.Store (connection_in self.old)) }
+        ensures still { ⟦<Station<S> as Keeper>⟧.is_sound self.old → HasCleanDisk (state S.Store (connection_in self.new)) → ⟦<Station<S> as Keeper>⟧.is_sound self.new }
+        ensures sound { ⟦<Station<S> as Keeper>⟧.is_sound self.new → ⟦<Station<S> as Keeper>⟧.is_sound self.old }
+        ensures acts { (s : State) → ⟦<Station<S> as Keeper>⟧.keeps self.old s → ⟦<Station<S> as Keeper>⟧.is_broken self.old ≡ false
+            → ⟦<Station<S> as Keeper>⟧.is_sound self.new → Acts s input.now at result (⟦<Station<S> as Keeper>⟧.keeps self.new) }
+        ensures leaves { (s : State) → ⟦<Station<S> as Keeper>⟧.keeps self.old s → ⟦<Station<S> as Keeper>⟧.is_broken self.old ≡ false
+            → ⟦<Station<S> as Keeper>⟧.is_sound self.new → (found : Option State) → ⟦<Station<S> as Keeper>⟧.may_find self.new found
+            → Leaves s input.now at result found }
+    {
+        self.stored.act_on(input, at)
+    }
+
     /// Gives the connection back, whatever state it is in.
     pub fn release(self) -> Connection<S>
-        // What a crash may leave is as before.
+        ensures clean { HasCleanDisk (state S.Store result) → HasCleanDisk (state S.Store (connection_in self)) }
+
+        // What a crash may leave is as before, over the database: trees that a station declared, if it had declared them.
+        ensures survives { connection.Survives (state S.Store (connection_in self)) (state S.Store result) (λ _. ⊥) }
+        ensures own { HasCleanDisk (state S.Store result) → are_declared self.stored.store.store ≡ true → LiesInOrder S.Store
+            → (db : Trees) → (state S.Store result).may_leave db → IsOwn db }
         ensures leaves { (connection_view S.Store result).IsSound → (found : Option State)
             → Finds (connection_view S.Store result) found
             → ⟦<Station<S> as Keeper>⟧.may_find self found }

@@ -1,7 +1,7 @@
 //! Stations, their tables and what they read and write: each is asked as a file of cases says.
 //!
-//! With the word `memory` it goes through what wants memory alone. Run it so with each allocation failing in turn: each must
-//! be reported, and leave things as they were.
+//! With the word `memory` it goes through what wants memory alone. Run it so with each allocation
+//! failing in turn: each must be reported, and leave things as they were.
 #![tactic(auto)]
 
 mod cargo;
@@ -54,7 +54,8 @@ fn cargo_answer(alloc: Global, asked: &str, text: &[u8]) -> Option<String> {
     }
 }
 
-/// Goes through what needs memory, and prints what came out otherwise. Whether all came out as they must.
+/// Goes through what needs memory, and prints what came out otherwise. Whether all came out as
+/// they must.
 fn try_memory(rt: &HostRuntime) -> Result<bool, io::Error> {
     let alloc = rt.alloc();
     let mut all = true;
@@ -85,6 +86,16 @@ fn try_memory(rt: &HostRuntime) -> Result<bool, io::Error> {
     Ok(all)
 }
 
+/// Reads a trail of two rows, whose first may be handed out before memory is refused, and prints
+/// what came of it.
+fn try_trail(rt: &HostRuntime) -> Result<bool, io::Error> {
+    let Some(told) = plain::trail_told(rt.alloc()) else {
+        return Ok(false);
+    };
+    println!(rt; "memory: a trail of two rows: {told}")?;
+    Ok(told.starts_with("told"))
+}
+
 /// Goes through each file of cases. Whether all came out as they must.
 fn try_cases(rt: &HostRuntime) -> Result<bool, io::Error> {
     let mut all = true;
@@ -105,7 +116,7 @@ fn try_cases(rt: &HostRuntime) -> Result<bool, io::Error> {
 /// The status is 0 where everything came out as it must.
 fn main(rt: HostRuntime) -> Result<ExitCode, io::Error> {
     let words: Vec<String> = env::args(&rt)?.collect(rt.alloc())?;
-    let told = try_memory(&rt)?;
+    let told = try_memory(&rt)? && try_trail(&rt)?;
     let all = words.len() > 1 || try_cases(&rt)?;
     Ok(ExitCode::from(if told && all { 0 } else { 1 }))
 }

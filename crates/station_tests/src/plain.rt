@@ -1,14 +1,15 @@
 //! A station in memory: sinks that take no more, inputs at once, and memory that runs out.
-use crate::sinks::Taken;
+use crate::sinks::{RowCount, Taken};
 use crate::tables::answers_said;
 use awb_number::Awb;
-use case_words::{count_said, is_done, keyed, shown};
+use case_words::{count_said, is_done, keyed, say, shown};
 use imp_fields::{Airport, Moment};
 use plain_station::PlainStation;
-use station_core::{ActFault, Answer, BookRow, Input, Keeper, act_all, answer_one};
+use station_core::{ActFault, Answer, Input, Keeper, act_all, answer_one};
 use station_rows::open_memory;
 use station_tables::{AttachFault, create};
 use std::alloc::Global;
+use telegrams::read_telegram;
 
 /// A minute of 2026-01-12.
 fn at(hour: u16, minute: u16) -> Option<Moment> {
@@ -62,7 +63,8 @@ pub fn pending_rows(alloc: Global, most: &[u8]) -> Option<String> {
     count_said(alloc, is_given, sink.rows.len())
 }
 
-/// The answers to a booking, a receipt, the receipt again, and another command under its key, which come as one list.
+/// The answers to a booking, a receipt, the receipt again, and another command under its key,
+/// which come as one list.
 pub fn at_once(alloc: Global) -> Option<String> {
     let mut station = station(alloc)?;
     let inputs = [
@@ -90,7 +92,8 @@ fn pieces_taken(station: &mut impl Keeper) -> Option<u32> {
 /// What came of an input.
 #[derive(Clone, Copy, Debug, PartialEq, Eq)]
 enum Outcome {
-    /// It was accepted, at the second attempt if memory was refused at the first, after which nothing had changed.
+    /// It was accepted, at the second attempt if memory was refused at the first, after which
+    /// nothing had changed.
     Accepted,
     /// The station has to be opened again.
     Broken,
@@ -118,25 +121,31 @@ fn give(station: &mut impl Keeper, input: &Input<'_>, at: Moment) -> Outcome {
     }
 }
 
-/// Whether a reader hands out all of the book's rows, at the second attempt if memory was refused at the first, and no row then.
-fn is_book_told(alloc: Global, station: &mut impl Keeper) -> bool {
-    let mut sink: Taken<BookRow> = Taken::new(alloc, usize::MAX);
-    match station.book(&mut sink) {
-        Ok(()) => true,
-        Err(ActFault::Memory) | Err(ActFault::Store) => {
-            sink.rows.is_empty() && station.book(&mut sink).is_ok()
-        }
-        Err(_) => false,
+/// How many rows of the book a reader hands out, and whether it fails then.
+fn book_told(station: &mut impl Keeper) -> (u64, bool) {
+    let mut sink = RowCount { rows: 0 };
+    let is_given = station.book(&mut sink).is_ok();
+    (sink.rows, is_given)
+}
+
+/// Whether a reader hands out the one row of the book, at the second attempt if memory was refused
+/// at the first.
+fn is_book_told(station: &mut impl Keeper) -> bool {
+    match book_told(station) {
+        (rows, true) => rows == 1,
+        (rows, false) => rows <= 1 && matches!(book_told(station), (1, true)),
     }
 }
 
-/// Whether so many pieces are taken over, at the second attempt if memory was refused at the first.
+/// Whether so many pieces are taken over, at the second attempt if memory was refused at the
+/// first.
 fn has_taken(station: &mut impl Keeper, pieces: u32) -> bool {
     pieces_taken(station) == Some(pieces) || pieces_taken(station) == Some(pieces)
 }
 
-/// Whether running out of memory is reported, changes nothing, and the input acts when it comes again, or the station may break.
-fn is_told_in_turn(alloc: Global, station: &mut impl Keeper, may_break: bool) -> Option<bool> {
+/// Whether running out of memory is reported, changes nothing, and the input acts when it comes
+/// again, or the station may break.
+fn is_told_in_turn(station: &mut impl Keeper, may_break: bool) -> Option<bool> {
     let steps = [
         (booking()?, at(10, 0)?, 0),
         (receipt()?, at(10, 30)?, 10),
@@ -152,18 +161,19 @@ fn is_told_in_turn(alloc: Global, station: &mut impl Keeper, may_break: bool) ->
             return Some(false);
         }
     }
-    Some(is_book_told(alloc, station))
+    Some(is_book_told(station))
 }
 
 /// Whether a station in memory reports that memory ran out, and goes on.
 pub fn is_memory_told(alloc: Global) -> bool {
     match station(alloc) {
-        Some(mut station) => is_told_in_turn(alloc, &mut station, false) == Some(true),
+        Some(mut station) => is_told_in_turn(&mut station, false) == Some(true),
         None => false,
     }
 }
 
-/// The same of a station over tables, which has to be opened again where memory was refused once its store had been asked.
+/// The same of a station over tables, which has to be opened again where memory was refused once
+/// its store had been asked.
 pub fn is_memory_told_of_tables(alloc: Global) -> bool {
     let Some(here) = Airport::read(b"FRA") else {
         return false;
@@ -172,7 +182,54 @@ pub fn is_memory_told_of_tables(alloc: Global) -> bool {
         return true;
     };
     match create(alloc, conn, here) {
-        Ok(mut station) => is_told_in_turn(alloc, &mut station, true) == Some(true),
+        Ok(mut station) => is_told_in_turn(&mut station, true) == Some(true),
         Err((_, fault)) => fault == AttachFault::Store,
+    }
+}
+
+/// A status message of two lines about the waybill.
+const UPDATE: &[u8] =
+    b"FSU/12\r\n020-12345675FRAJFK/T10K100.0\r\nRCS/12JAN1030/FRA/T10\r\nMAN/LH400/12JAN/FRAJFK/T10\r\n";
+
+/// How many rows of the trail a reader hands out, and whether it fails then.
+fn trail_rows(station: &mut impl Keeper) -> (u64, bool) {
+    let mut sink = RowCount { rows: 0 };
+    let is_given = station.trail(&mut sink).is_ok();
+    (sink.rows, is_given)
+}
+
+/// Books the waybill, and takes a status message of two lines about it.
+fn take_update(alloc: Global, station: &mut impl Keeper) -> Option<()> {
+    let update = Input::Wire(read_telegram(alloc, UPDATE).ok()?);
+    if is_done(station, &booking()?, at(10, 0)?) && is_done(station, &update, at(10, 30)?) {
+        Some(())
+    } else {
+        None
+    }
+}
+
+/// What comes of a trail of two rows that is read over tables, and of one that is read again where
+/// that failed.
+fn two_rows_told(alloc: Global) -> Option<String> {
+    let conn = open_memory(alloc).ok()?;
+    let Ok(mut station) = create(alloc, conn, Airport::read(b"FRA")?) else {
+        return None;
+    };
+    take_update(alloc, &mut station)?;
+    let (rows, is_given) = trail_rows(&mut station);
+    if is_given && rows == 2 {
+        return say(alloc, "told");
+    }
+    if is_given || !matches!(trail_rows(&mut station), (2, true)) {
+        return say(alloc, "not told");
+    }
+    format!(in alloc; "told {rows}, then a fault, then told").ok()
+}
+
+/// The same, from the beginning where memory was refused before the trail was read.
+pub fn trail_told(alloc: Global) -> Option<String> {
+    match two_rows_told(alloc) {
+        Some(told) => Some(told),
+        None => two_rows_told(alloc),
     }
 }

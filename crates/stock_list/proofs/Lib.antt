@@ -4,3 +4,4 @@ mod More
 mod Records
 mod Unanswered
 mod Written
+pub mod Shut

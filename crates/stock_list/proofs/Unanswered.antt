@@ -8,6 +8,7 @@ use Rattle.station_core.specs.declared.answer.ActFault.TheVariants as act
 use Rattle.station_core.specs.declared.input.Input.{Input}
 use Rattle.station_core.specs.Step.{State, step}
 use Rattle.station_core.specs.Keeping.{Answers, MayLeave}
+use Rattle.stock_list.specs.declared.answer.RunFault.{RunFault}
 use Rattle.stock_list.specs.declared.answer.RunFault.TheVariants as fault
 use Rattle.stock_list.specs.Row.{row_asks}
 use Rattle.stock_list.specs.Lines.{Row, input_of, asked_after, row_after}
@@ -33,3 +34,10 @@ found_row s row at asked e found asks left =
 pub passed_on : {T E : Type 0} (r : Result T E) (e : E) (P : E → Type 0) → IsErrAnd r (λ x. x ≡ e) → P e → IfErr r P
 passed_on (Ok x) e P same told = tt
 passed_on (Err x) e P same told = subst P (sym same) told
+
+-- a keeper's fault is out of memory, or the store's
+pub keeper_cause : (f : ActFault) (e : RunFault) → e ≡ run_fault f → (e ≡ fault.Memory) ⊎ (e ≡ fault.Store)
+keeper_cause act.Memory e is = inl is
+keeper_cause act.Store e is = inr is
+keeper_cause act.Reopen e is = inr is
+keeper_cause (act.Refused refusal) e is = inr is

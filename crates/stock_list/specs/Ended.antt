@@ -3,6 +3,7 @@ use Rattle.std.specs.Prelude.{◌≡◌, ◌⊎◌, ℕ, ◌+◌, Bool, Option, 
 use Rattle.csv.specs.declared.error.ErrorKind.{ErrorKind}
 use Rattle.csv.specs.declared.error.ErrorKind.TheVariants as kind
 use Rattle.imp_fields.specs.Date.{LocalMinute}
+use Rattle.station_core.specs.Given.{Given}
 use Rattle.station_core.specs.declared.answer.ActFault.{ActFault}
 use Rattle.station_core.specs.declared.answer.ActFault.TheVariants as act
 use Rattle.station_core.specs.Step.{State}
@@ -15,25 +16,35 @@ abbrev pub run_fault : ActFault → RunFault
 run_fault act.Memory = fault.Memory
 run_fault _ = fault.Store
 
+-- the writer didn't fail, and took a byte at each call
+pub record IsUntroubled (old new : Given) : Type 0 where
+  pub failures : new.failures ≡ old.failures
+  pub idle : new.idle ≡ old.idle
+
 -- its line was written, and the state is the one after it, at this moment
 pub record IsAnswered (number : ℕ) (s : State) (row : Row) (at : LocalMinute) (good : Bool) (before after : List ℕ) (keeps : State → Type 0) : Type 0 where
   pub line : after ≡ before ++ row_line number s row at
   pub good_is : good ≡ row_good s row at
   pub state : keeps (row_after s row at)
 
--- The row has acted, and a beginning of its line was written; or not, or nobody knows, and nothing was written.
-pub record HasActed (number : ℕ) (s : State) (row : Row) (at : LocalMinute) (before after : List ℕ) (keeps : State → Type 0) : Type 0 where
+-- The row has acted, and a beginning of its line was written: the writer failed or took no byte, or memory for the line ran out.
+pub record HasActed (number : ℕ) (s : State) (row : Row) (at : LocalMinute) (e : RunFault) (before after : List ℕ)
+    (keeps : State → Type 0) : Type 0 where
+  pub why : (e ≡ fault.Write) ⊎ (e ≡ fault.Memory)
   pub sent : ℕ
   pub line : after ≡ before ++ take sent (row_line number s row at)
   pub state : keeps (row_after s row at)
 
-pub record HasNotActed (s : State) (row : Row) (at : LocalMinute) (e : RunFault) (before after : List ℕ) (keeps : State → Type 0) (may_find : Option State → Type 0) : Type 0 where
+-- The row hasn't acted, since memory ran out, or where the store failed nobody knows; and nothing was written.
+pub record HasNotActed (s : State) (row : Row) (at : LocalMinute) (e : RunFault) (before after : List ℕ)
+    (keeps : State → Type 0) (may_find : Option State → Type 0) : Type 0 where
+  pub why : (e ≡ fault.Memory) ⊎ (e ≡ fault.Store)
   pub nothing : after ≡ before
   pub memory : e ≡ fault.Memory → keeps s
   pub states : (found : Option State) → may_find found → (found ≡ Some s) ⊎ ((e ≡ fault.Store) × (found ≡ Some (row_after s row at)))
 
 abbrev pub IsStopped : ℕ → State → Row → LocalMinute → RunFault → List ℕ → List ℕ → (State → Type 0) → (Option State → Type 0) → Type 0
-IsStopped number s row at e before after keeps may_find = HasActed number s row at before after keeps ⊎ HasNotActed s row at e before after keeps may_find
+IsStopped number s row at e before after keeps may_find = HasActed number s row at e before after keeps ⊎ HasNotActed s row at e before after keeps may_find
 
 -- why a run ends where the reader fails, or memory for a row runs out
 abbrev pub reader_fault : ErrorKind → RunFault

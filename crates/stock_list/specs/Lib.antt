@@ -1,3 +1,4 @@
 pub mod Row
 pub mod Lines
 pub mod Ended
+pub mod Shut

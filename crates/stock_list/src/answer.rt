@@ -1,9 +1,11 @@
-ghost use Rattle.std.specs.Prelude.{◌≡◌, ◌⊎◌, ℕ, ◌+◌, false, List, ◌++◌, Some, Option, IfOk, IfErr, OnErr, OnOk, take, string_bytes};
+ghost use Rattle.std.specs.Prelude.{◌≡◌, ℕ, true, false, Err, List, ◌++◌, Option, IfOk, IfErr, OnErr, OnOk, take, string_bytes};
 ghost use Rattle.csv.specs.Records.{fields_of};
 ghost use Rattle.station_core.specs.Ends.{HasCause};
 ghost use Rattle.station_core.specs.Step.{State};
-ghost use Rattle.stock_list.specs.Ended.{run_fault, IsAnswered, IsStopped};
+ghost use Rattle.stock_list.specs.Ended.{run_fault, IsAnswered, IsStopped, IsUntroubled};
 ghost use Rattle.stock_list.specs.Lines.{answer_text, answer_line, bad_line};
+ghost use Rattle.stock_list.specs.Row.{row_asks};
+ghost use Rattle.stock_list.specs.Shut.{IsAnsweredShut};
 
 use crate::row::read_row;
 use csv::ByteRecord;
@@ -59,6 +61,7 @@ fn bad_line(alloc: Global, number: u64) -> Result<String, AllocError>
 /// Returns [`RunFault::Write`] where the writer fails or takes no byte.
 pub fn send_line<W: ByteOut>(writer: &mut W, line: &str) -> Result<(), RunFault>
     ensures all { OnOk result ((W.taken writer.new).bytes ≡ (W.taken writer.old).bytes ++ line.now) }
+    ensures untroubled { OnOk result (IsUntroubled (W.taken writer.old) (W.taken writer.new)) }
     ensures cause { OnErr result (HasCause (W.taken writer.old) (W.taken writer.new)) }
     ensures part { IfErr result (λ e. (e ≡ RunFault.Write) × ((sent : ℕ) × ((W.taken writer.new).bytes ≡ (W.taken writer.old).bytes ++ take sent line.now))) }
 {
@@ -93,6 +96,14 @@ pub fn answer_row<K: Keeper, W: ByteOut>(
         → IfOk result (λ good. IsAnswered number s (fields_of row.now) at good (W.taken writer.old).bytes (W.taken writer.new).bytes (K.keeps keeper.new)) }
     ensures stopped { (s : State) → K.keeps keeper.old s → K.is_broken keeper.old ≡ false → K.is_sound keeper.new
         → IfErr result (λ e. IsStopped number s (fields_of row.now) at e (W.taken writer.old).bytes (W.taken writer.new).bytes (K.keeps keeper.new) (K.may_find keeper.new)) }
+    ensures untroubled { OnOk result (IsUntroubled (W.taken writer.old) (W.taken writer.new)) }
+    ensures write_cause { result ≡ Err RunFault.Write → HasCause (W.taken writer.old) (W.taken writer.new) }
+    ensures unread { result ≡ Err RunFault.Read → ⊥ }
+
+    // A station that has to be opened again stays as it is, and no row is asked of it.
+    ensures same { K.is_broken keeper.old ≡ true → keeper.new ≡ keeper.old }
+    ensures reopen { K.is_broken keeper.old ≡ true
+        → IsAnsweredShut number (row_asks (fields_of row.now)) (W.taken writer.old) (W.taken writer.new) result }
 {
     let Some(asked) = read_row(row) else {
         let Ok(line) = bad_line(alloc, number) else {

@@ -1,8 +1,10 @@
-ghost use Rattle.std.specs.Prelude.{◌≡◌, false, List, Option, OnOk, IfOk, IfErr, IfSome};
+ghost use Rattle.std.specs.Prelude.{◌≡◌, true, false, Err, List, Option, OnOk, IfOk, IfErr, IfSome};
 ghost use Rattle.csv.specs.Reading.{error_kind};
+ghost use Rattle.station_core.specs.Ends.{HasCause};
 ghost use Rattle.station_core.specs.Step.{State};
 ghost use Rattle.stock_list.specs.Ended.{reader_fault, HasRun, HasStopped, rows_read, AreFirst};
 ghost use Rattle.stock_list.specs.Lines.{Row, stock_rows};
+ghost use Rattle.stock_list.specs.Shut.{HasRunShut};
 
 use crate::answer::{RunFault, answer_row};
 use csv::{Error, ErrorKind, ReaderBuilder};
@@ -43,6 +45,12 @@ pub fn run_stock<K: Keeper, R: Read + Drop, W: ByteOut>(
     ensures stopped { (s : State) → K.keeps keeper.old s → K.is_broken keeper.old ≡ false → K.is_sound keeper.new
         → IfErr result (λ e. (rows : List Row) × ((next : Option Row) × (IfSome (R.remaining reader) (AreFirst (rows_read rows next))
         × HasStopped s rows next at e (W.taken writer.old).bytes (W.taken writer.new).bytes (K.keeps keeper.new) (K.may_find keeper.new)))) }
+    ensures write_cause { result ≡ Err RunFault.Write → HasCause (W.taken writer.old) (W.taken writer.new) }
+
+    // A station that has to be opened again stays as it is. The first row that asks anything of it ends the run.
+    ensures same { K.is_broken keeper.old ≡ true → keeper.new ≡ keeper.old }
+    ensures reopen { K.is_broken keeper.old ≡ true
+        → HasRunShut (R.remaining reader) (W.taken writer.old).bytes (W.taken writer.new).bytes result }
 {
     let rdr = ReaderBuilder::new()
         .has_headers(false)

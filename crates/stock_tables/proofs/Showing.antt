@@ -43,10 +43,12 @@ module _ (old new : View) where
       }
 
 pub survives_itself : (a : View) → Survives a a
-survives_itself a = record { sound = λ sound. sound; crash = λ sound t left. left }
+survives_itself a = record { clean = λ clean. clean; still = λ was clean. was; sound = λ sound. sound; crash = λ sound t left. left }
 
 pub survives_goes_on : (a b c : View) → Survives a b → Survives b c → Survives a c
 survives_goes_on a b c first second = record {
+  clean = λ clean. first.clean (second.clean clean);
+  still = λ was clean. second.still (first.still was (second.clean clean)) clean;
   sound = λ sound. first.sound (second.sound sound);
   crash = λ sound t left. first.crash (second.sound sound) t (second.crash sound t left);
 }

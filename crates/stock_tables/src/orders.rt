@@ -9,74 +9,68 @@ ghost use Rattle.stock_tables.specs.Stocked.{Stocked, Restocked};
 
 use crate::giving::begin_giving;
 use crate::near::near_of;
-use agent_stock::{Holder, Order, Run, StockFault, Test};
+use agent_stock::{Order, StockFault, Terms};
 use run_rows::lowest_of;
 use station_rows::{StoreFault, TableStore};
 use std::alloc::Global;
 
-/// Gives a run of a size that can be ordered to a holder, where each of its numbers passes a test.
+/// Carries out terms whose run can be ordered, where each of its numbers passes the test.
 fn change_run<S: TableStore>(
     alloc: Global,
     store: &mut S,
-    run: &Run,
-    test: &Test,
-    to: &Holder,
-    number: u16,
+    terms: &Terms,
 ) -> Result<(), StockFault<StoreFault>>
-    requires { is_run run.now ≡ true }
+    requires { is_run terms.now.run ≡ true }
     ensures accepted { (t : Tables) → IsShowing (S.view store.old) (at_rest t) → Stocked t → (S.view store.new).IsSound
-        → OnOk result (refused_by (lowest_failing (holders_in t.stock) run.now test.now) number ≡ None) }
+        → OnOk result (refused_by (lowest_failing (holders_in t.stock) terms.now.run terms.now.test) terms.now.refusal ≡ None) }
     ensures done { (t : Tables) → IsShowing (S.view store.old) (at_rest t) → Stocked t
         → OnOk result ((S.view store.new).IsSound
-        → Restocked (S.view store.new) t t (assigned (holders_in t.stock) run.now to.now)) }
+        → Restocked (S.view store.new) t t (assigned (holders_in t.stock) terms.now.run terms.now.to)) }
     ensures refused { (t : Tables) → IsShowing (S.view store.old) (at_rest t) → Stocked t → (S.view store.new).IsSound
-        → IfErr result (RefusesBy (refused_by (lowest_failing (holders_in t.stock) run.now test.now) number)) }
+        → IfErr result (RefusesBy (refused_by (lowest_failing (holders_in t.stock) terms.now.run terms.now.test) terms.now.refusal)) }
     ensures same { (t : Tables) → IsShowing (S.view store.old) (at_rest t)
         → OnRefused result (IsShowing (S.view store.new) (at_rest t)) }
     ensures open { OnOk result ((S.view store.new).IsSound → (S.view store.old).is_open ≡ true) }
     ensures open_at_refusal { OnRefused result ((S.view store.new).IsSound → (S.view store.old).is_open ≡ true) }
     ensures survives { Survives (S.view store.old) (S.view store.new) }
 {
-    let near = match near_of(alloc, store, run) {
+    let near = match near_of(alloc, store, &terms.run) {
         Ok(near) => near,
         Err(fault) => return Err(StockFault::Rows(fault)),
     };
-    match lowest_of(&near, run, test) {
-        Some(lowest) => Err(StockFault::Refused(number, Some(lowest))),
-        None => match begin_giving(alloc, store, run, &near, to) {
+    match lowest_of(&near, &terms.run, &terms.test) {
+        Some(lowest) => Err(StockFault::Refused(terms.refusal, Some(lowest))),
+        None => match begin_giving(alloc, store, &terms.run, &near, &terms.to) {
             Ok(()) => Ok(()),
             Err(fault) => Err(StockFault::Rows(fault)),
         },
     }
 }
 
-/// Gives a run to a holder, where each of its numbers passes a test.
+/// Carries out the terms of an order, where each number of their run passes the test.
 fn change<S: TableStore>(
     alloc: Global,
     store: &mut S,
-    run: &Run,
-    test: &Test,
-    to: &Holder,
-    number: u16,
+    terms: &Terms,
 ) -> Result<(), StockFault<StoreFault>>
     ensures accepted { (t : Tables) → IsShowing (S.view store.old) (at_rest t) → Stocked t → (S.view store.new).IsSound
-        → OnOk result (run_refusal (holders_in t.stock) run.now test.now number ≡ None) }
+        → OnOk result (run_refusal (holders_in t.stock) terms.now.run terms.now.test terms.now.refusal ≡ None) }
     ensures done { (t : Tables) → IsShowing (S.view store.old) (at_rest t) → Stocked t
         → OnOk result ((S.view store.new).IsSound
-        → Restocked (S.view store.new) t t (assigned (holders_in t.stock) run.now to.now)) }
+        → Restocked (S.view store.new) t t (assigned (holders_in t.stock) terms.now.run terms.now.to)) }
     ensures refused { (t : Tables) → IsShowing (S.view store.old) (at_rest t) → Stocked t → (S.view store.new).IsSound
-        → IfErr result (RefusesBy (run_refusal (holders_in t.stock) run.now test.now number)) }
+        → IfErr result (RefusesBy (run_refusal (holders_in t.stock) terms.now.run terms.now.test terms.now.refusal)) }
     ensures same { (t : Tables) → IsShowing (S.view store.old) (at_rest t)
         → OnRefused result (IsShowing (S.view store.new) (at_rest t)) }
-    ensures size { is_run run.now ≡ false → (result ≡ Err (StockFault.Refused 105 None)) × (store.new ≡ store.old) }
+    ensures size { is_run terms.now.run ≡ false → (result ≡ Err (StockFault.Refused 105 None)) × (store.new ≡ store.old) }
     ensures open { OnOk result ((S.view store.new).IsSound → (S.view store.old).is_open ≡ true) }
-    ensures open_at_refusal { is_run run.now ≡ true → OnRefused result ((S.view store.new).IsSound → (S.view store.old).is_open ≡ true) }
+    ensures open_at_refusal { is_run terms.now.run ≡ true → OnRefused result ((S.view store.new).IsSound → (S.view store.old).is_open ≡ true) }
     ensures survives { Survives (S.view store.old) (S.view store.new) }
 {
-    if !run.is_run() {
+    if !terms.run.is_run() {
         return Err(StockFault::Refused(105, None));
     }
-    change_run(alloc, store, run, test, to, number)
+    change_run(alloc, store, terms)
 }
 
 /// Does an order in a transaction that it begins, and leaves that open. Where the order is refused none is begun, and
@@ -102,19 +96,5 @@ pub fn carry_out_order<S: TableStore>(
     ensures open_at_refusal { is_run (run_of order.now) ≡ true → OnRefused result ((S.view store.new).IsSound → (S.view store.old).is_open ≡ true) }
     ensures survives { Survives (S.view store.old) (S.view store.new) }
 {
-    match order {
-        Order::TakeIn(run) => change(alloc, store, run, &Test::Absent, &Holder::Desk, 101),
-        Order::Issue(run, agent) => change(
-            alloc,
-            store,
-            run,
-            &Test::Desk,
-            &Holder::Agent(*agent),
-            102,
-        ),
-        Order::GiveBack(run, agent) => {
-            change(alloc, store, run, &Test::With(*agent), &Holder::Desk, 103)
-        }
-        Order::Void(run) => change(alloc, store, run, &Test::DeskOrAgent, &Holder::Void, 104),
-    }
+    change(alloc, store, &order.terms())
 }

@@ -1,4 +1,4 @@
 mod Numbering
 mod Reading
-mod Steps
+pub mod Steps
 mod Walks

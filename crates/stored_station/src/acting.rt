@@ -57,7 +57,7 @@ fn plan_on<'a, S: StateStore>(
     ensures stays_lawful { (x : Seen) → S.shows store.old x → IsLawful x.now.cargo
         → S.is_sound store.new → IfOk result (IfPlanned (StaysLawful x.now.cargo)) }
     ensures same { (x : Seen) → S.shows store.old x → OnOk result (S.shows store.new x) }
-    ensures survives { Survives S.is_sound S.may_find store.old store.new }
+    ensures survives { Survives S.is_clean S.is_sound S.may_find store.old store.new }
 {
     let view = view(alloc, store, command, at)?;
     match plan(alloc, &view, command, at) {
@@ -83,6 +83,8 @@ fn do_plan<S: StateStore>(
         → IsPlanned s input.now at text.now plan.now → S.is_sound store.new
         → IfOk result (Serves s input.now at (λ t. IsLawfulState t
         × S.shows store.new (at_rest t))) }
+    ensures clean { S.is_clean store.new → S.is_clean store.old }
+    ensures still { S.is_sound store.old → S.is_clean store.new → S.is_sound store.new }
     ensures sound { S.is_sound store.new → S.is_sound store.old }
     ensures leaves { (s : State) (at : LocalMinute) → S.shows store.old (at_rest s)
         → IsPlanned s input.now at text.now plan.now → S.is_sound store.new
@@ -117,6 +119,8 @@ fn do_shipment<S: StateStore>(
         → repeated s input.now ≡ None → S.is_sound store.new
         → IfOk result (Serves s input.now at (λ t. IsLawfulState t
         × S.shows store.new (at_rest t))) }
+    ensures clean { S.is_clean store.new → S.is_clean store.old }
+    ensures still { S.is_sound store.old → S.is_clean store.new → S.is_sound store.new }
     ensures sound { S.is_sound store.new → S.is_sound store.old }
     ensures leaves { (s : State) → S.shows store.old (at_rest s) → IsLawfulState s
         → repeated s input.now ≡ None → S.is_sound store.new → (found : Option State)
@@ -142,6 +146,8 @@ fn do_order<S: StateStore>(
         → IsLawfulState s → repeated s input.now ≡ None → S.is_sound store.new
         → IfOk result (Serves s input.now at (λ t. IsLawfulState t
         × S.shows store.new (at_rest t))) }
+    ensures clean { S.is_clean store.new → S.is_clean store.old }
+    ensures still { S.is_sound store.old → S.is_clean store.new → S.is_sound store.new }
     ensures sound { S.is_sound store.new → S.is_sound store.old }
     ensures leaves { (s : State) (at : LocalMinute) → S.shows store.old (at_rest s)
         → IsLawfulState s → repeated s input.now ≡ None → S.is_sound store.new
@@ -174,6 +180,8 @@ fn act_anew<S: StateStore>(
         → repeated s input.now ≡ None → S.is_sound store.new
         → IfOk result (Serves s input.now at (λ t. IsLawfulState t
         × S.shows store.new (at_rest t))) }
+    ensures clean { S.is_clean store.new → S.is_clean store.old }
+    ensures still { S.is_sound store.old → S.is_clean store.new → S.is_sound store.new }
     ensures sound { S.is_sound store.new → S.is_sound store.old }
     ensures leaves { (s : State) → S.shows store.old (at_rest s) → IsLawfulState s
         → repeated s input.now ≡ None → S.is_sound store.new → (found : Option State)
@@ -205,6 +213,8 @@ pub(crate) fn serve<S: StateStore>(
     ensures serves { (s : State) → S.shows store.old (at_rest s) → IsLawfulState s
         → S.is_sound store.new → IfOk result (Serves s input.now at (λ t. IsLawfulState t
         × S.shows store.new (at_rest t))) }
+    ensures clean { S.is_clean store.new → S.is_clean store.old }
+    ensures still { S.is_sound store.old → S.is_clean store.new → S.is_sound store.new }
     ensures sound { S.is_sound store.new → S.is_sound store.old }
     ensures leaves { (s : State) → S.shows store.old (at_rest s) → IsLawfulState s
         → S.is_sound store.new → (found : Option State) → S.may_find store.new found

@@ -15,7 +15,7 @@ use station_core::Input;
 fn add_moves<S: StateStore>(store: &mut S, moves: &[Move]) -> Result<(), StoreFault>
     ensures done { (before s : State) → S.shows store.old (inside before s)
         → OnOk result (S.shows store.new (inside before (with_moves moves.now s))) }
-    ensures survives { Survives S.is_sound S.may_find store.old store.new }
+    ensures survives { Survives S.is_clean S.is_sound S.may_find store.old store.new }
 {
     for movement in moves {
         store.add_move(movement)?;
@@ -31,7 +31,7 @@ fn write_all<S: StateStore>(
 ) -> Result<(), StoreFault>
     ensures done { (before s : State) → S.shows store.old (inside before s)
         → OnOk result (S.shows store.new (inside before (with_changes text.now changes.now s))) }
-    ensures survives { Survives S.is_sound S.may_find store.old store.new }
+    ensures survives { Survives S.is_clean S.is_sound S.may_find store.old store.new }
 {
     for change in changes {
         store.write(text, change)?;
@@ -44,7 +44,7 @@ fn add_messages<S: StateStore>(store: &mut S, messages: &[Vec<u8>]) -> Result<()
     ensures done { (before s : State) → S.shows store.old (inside before s)
         → OnOk result (S.shows store.new (inside before (with_messages
         (texts_in messages.now) s))) }
-    ensures survives { Survives S.is_sound S.may_find store.old store.new }
+    ensures survives { Survives S.is_clean S.is_sound S.may_find store.old store.new }
 {
     for message in messages {
         store.add_message(message)?;
@@ -62,7 +62,7 @@ fn carry_out<S: StateStore>(
     ensures done { (before s : State) → S.shows store.old (inside before s)
         → OnOk result (S.shows store.new (inside before (with_plan text.now plan.now
         (texts_in messages.now) s))) }
-    ensures survives { Survives S.is_sound S.may_find store.old store.new }
+    ensures survives { Survives S.is_clean S.is_sound S.may_find store.old store.new }
 {
     add_moves(store, &plan.moves)?;
     write_all(store, text, &plan.changes)?;
@@ -80,6 +80,8 @@ pub(crate) fn keep_and_commit<S: StateStore>(
     requires { request.now ≡ request_of input.now }
     ensures done { (before s : State) → S.shows store.old (inside before s)
         → OnOk result (S.shows store.new (at_rest (kept_with input.now count s))) }
+    ensures clean { S.is_clean store.new → S.is_clean store.old }
+    ensures still { S.is_sound store.old → S.is_clean store.new → S.is_sound store.new }
     ensures sound { S.is_sound store.new → S.is_sound store.old }
     ensures leaves { (before s : State) → S.shows store.old (inside before s)
         → MayLeave S.is_sound S.may_find (kept_with input.now count s) store.old store.new }
@@ -102,6 +104,8 @@ pub(crate) fn commit_plan<S: StateStore>(
     ensures done { (s : State) → S.shows store.old (at_rest s)
         → OnOk result (S.shows store.new (at_rest (kept_with input.now plan.now.count
         (with_plan text.now plan.now (texts_in messages.now) s)))) }
+    ensures clean { S.is_clean store.new → S.is_clean store.old }
+    ensures still { S.is_sound store.old → S.is_clean store.new → S.is_sound store.new }
     ensures sound { S.is_sound store.new → S.is_sound store.old }
     ensures leaves { (s : State) → S.shows store.old (at_rest s)
         → MayLeave S.is_sound S.may_find (kept_with input.now plan.now.count

@@ -51,7 +51,7 @@ pub(crate) fn known<S: StateStore>(
     ensures value { (x : Seen) → S.shows store.old x → S.is_sound store.new
         → IfOk result (λ answer. answer ≡ repeated x.now input.now) }
     ensures same { (x : Seen) → S.shows store.old x → OnOk result (S.shows store.new x) }
-    ensures survives { Survives S.is_sound S.may_find store.old store.new }
+    ensures survives { Survives S.is_clean S.is_sound S.may_find store.old store.new }
 {
     match input {
         Input::Keyed(key, _) => {
@@ -75,7 +75,7 @@ pub(crate) fn keep<S: StateStore>(
     requires { request.now ≡ request_of input.now }
     ensures done { (before s : State) → S.shows store.old (inside before s)
         → OnOk result (S.shows store.new (inside before (kept_with input.now count s))) }
-    ensures survives { Survives S.is_sound S.may_find store.old store.new }
+    ensures survives { Survives S.is_clean S.is_sound S.may_find store.old store.new }
 {
     match input {
         Input::Keyed(key, command) => {

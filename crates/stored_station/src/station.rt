@@ -1,7 +1,7 @@
 ghost use Rattle.std.specs.Prelude.{◌≡◌, true, false, Err, Option, IfOk, IfErr};
 ghost use Rattle.agent_stock.specs.Runs.{AreStockRuns};
-ghost use Rattle.station_core.specs.Keeping.{IsReadersFault, OnlyReads};
-ghost use Rattle.station_core.specs.Readers.{irregular_rows, book_rows, pending_messages, trail_rows};
+ghost use Rattle.station_core.specs.Keeping.{Acts, Breaks, IsReadersFault, Leaves, OnlyReads};
+ghost use Rattle.station_core.specs.Readers.{irregular_rows};
 ghost use Rattle.station_core.specs.Step.{State, IsLawfulState};
 ghost use Rattle.stored_station.specs.Found.{Finds};
 ghost use Rattle.state_store.specs.Store.{at_rest};
@@ -44,6 +44,44 @@ impl<S: StateStore> StoredStation<S> {
             alloc,
             store,
             broken: false,
+        }
+    }
+
+    /// One input, at a moment, as a `Keeper` takes it. The store is as sound afterwards as before, but for a disk that failed.
+    pub fn act_on(&mut self, input: &Input<'_>, at: Moment) -> Result<Reply, ActFault>
+        ensures reopen { self.old.broken ≡ true → (result ≡ Err ActFault.Reopen)
+            × (self.new ≡ self.old) }
+        ensures breaks { self.old.broken ≡ false → Breaks result self.new.broken }
+
+        // Memory runs out before the first call of the store, and nothing has changed.
+        ensures memory { result ≡ Err ActFault.Memory → self.new ≡ self.old }
+        ensures clean { S.is_clean self.new.store → S.is_clean self.old.store }
+        ensures still { S.is_sound self.old.store → S.is_clean self.new.store
+            → S.is_sound self.new.store }
+        ensures sound { S.is_sound self.new.store → S.is_sound self.old.store }
+        ensures acts { (s : State) → ⟦<StoredStation<S> as Keeper>⟧.keeps self.old s → self.old.broken ≡ false
+            → S.is_sound self.new.store → Acts s input.now at result (⟦<StoredStation<S> as Keeper>⟧.keeps self.new) }
+        ensures leaves { (s : State) → ⟦<StoredStation<S> as Keeper>⟧.keeps self.old s → self.old.broken ≡ false
+            → S.is_sound self.new.store → (found : Option State) → ⟦<StoredStation<S> as Keeper>⟧.may_find self.new found
+            → Leaves s input.now at result found }
+    {
+        if self.broken {
+            return Err(ActFault::Reopen);
+        }
+        let Ok(request) = request_of(self.alloc, input) else {
+            return Err(ActFault::Memory);
+        };
+        // Until the store has answered for the whole input.
+        self.broken = true;
+        match serve(self.alloc, &mut self.store, input, &request, at) {
+            Err(_) => Err(ActFault::Store),
+            Ok(answer) => {
+                self.broken = false;
+                match answer {
+                    Answer::Done(reply) => Ok(reply),
+                    Answer::Refused(refusal) => Err(ActFault::Refused(refusal)),
+                }
+            }
         }
     }
 
@@ -108,69 +146,6 @@ impl<S: StateStore> StoredStation<S> {
             Ok(rows) => Ok(rows),
         }
     }
-
-    /// The movement book.
-    #[tactic(auto, using(crate::proofs::Reading::reads_only))]
-    fn book_rows(&mut self) -> Result<Vec<BookRow>, ActFault>
-        ensures reopen { self.old.broken ≡ true → (result ≡ Err ActFault.Reopen)
-            × (self.new ≡ self.old) }
-        ensures fault { self.old.broken ≡ false → IfErr result IsReadersFault }
-        ensures reads { OnlyReads ⟦<StoredStation<S> as Keeper>⟧.keeps ⟦<StoredStation<S> as Keeper>⟧.is_sound
-            ⟦<StoredStation<S> as Keeper>⟧.is_broken ⟦<StoredStation<S> as Keeper>⟧.may_find self.old self.new }
-        ensures rows { (s : State) → ⟦<StoredStation<S> as Keeper>⟧.keeps self.old s
-            → ⟦<StoredStation<S> as Keeper>⟧.is_sound self.new
-            → IfOk result (λ rows. rows.items ≡ book_rows s.cargo) }
-    {
-        if self.broken {
-            return Err(ActFault::Reopen);
-        }
-        match self.store.book() {
-            Err(_) => Err(ActFault::Store),
-            Ok(rows) => Ok(rows),
-        }
-    }
-
-    /// The messages that weren't confirmed yet.
-    #[tactic(auto, using(crate::proofs::Reading::reads_only))]
-    fn pending_rows(&mut self) -> Result<Vec<Message>, ActFault>
-        ensures reopen { self.old.broken ≡ true → (result ≡ Err ActFault.Reopen)
-            × (self.new ≡ self.old) }
-        ensures fault { self.old.broken ≡ false → IfErr result IsReadersFault }
-        ensures reads { OnlyReads ⟦<StoredStation<S> as Keeper>⟧.keeps ⟦<StoredStation<S> as Keeper>⟧.is_sound
-            ⟦<StoredStation<S> as Keeper>⟧.is_broken ⟦<StoredStation<S> as Keeper>⟧.may_find self.old self.new }
-        ensures rows { (s : State) → ⟦<StoredStation<S> as Keeper>⟧.keeps self.old s
-            → ⟦<StoredStation<S> as Keeper>⟧.is_sound self.new
-            → IfOk result (λ rows. rows.items ≡ pending_messages s.cargo) }
-    {
-        if self.broken {
-            return Err(ActFault::Reopen);
-        }
-        match self.store.pending() {
-            Err(_) => Err(ActFault::Store),
-            Ok(rows) => Ok(rows),
-        }
-    }
-
-    /// The trail.
-    #[tactic(auto, using(crate::proofs::Reading::reads_only))]
-    fn trail_rows(&mut self) -> Result<Vec<TrailRow>, ActFault>
-        ensures reopen { self.old.broken ≡ true → (result ≡ Err ActFault.Reopen)
-            × (self.new ≡ self.old) }
-        ensures fault { self.old.broken ≡ false → IfErr result IsReadersFault }
-        ensures reads { OnlyReads ⟦<StoredStation<S> as Keeper>⟧.keeps ⟦<StoredStation<S> as Keeper>⟧.is_sound
-            ⟦<StoredStation<S> as Keeper>⟧.is_broken ⟦<StoredStation<S> as Keeper>⟧.may_find self.old self.new }
-        ensures rows { (s : State) → ⟦<StoredStation<S> as Keeper>⟧.keeps self.old s
-            → ⟦<StoredStation<S> as Keeper>⟧.is_sound self.new
-            → IfOk result (λ rows. rows.items ≡ trail_rows s.cargo) }
-    {
-        if self.broken {
-            return Err(ActFault::Reopen);
-        }
-        match self.store.trail() {
-            Err(_) => Err(ActFault::Store),
-            Ok(rows) => Ok(rows),
-        }
-    }
 }
 
 impl<S: StateStore> Keeper for StoredStation<S> {
@@ -189,24 +164,7 @@ impl<S: StateStore> Keeper for StoredStation<S> {
     ghost lawful = { λ k s sound finds. finds.1 };
 
     fn act(&mut self, input: &Input<'_>, at: Moment) -> Result<Reply, ActFault> {
-        if self.broken {
-            return Err(ActFault::Reopen);
-        }
-        let Ok(request) = request_of(self.alloc, input) else {
-            return Err(ActFault::Memory);
-        };
-        // Until the store has answered for the whole input.
-        self.broken = true;
-        match serve(self.alloc, &mut self.store, input, &request, at) {
-            Err(_) => Err(ActFault::Store),
-            Ok(answer) => {
-                self.broken = false;
-                match answer {
-                    Answer::Done(reply) => Ok(reply),
-                    Answer::Refused(refusal) => Err(ActFault::Refused(refusal)),
-                }
-            }
-        }
+        self.act_on(input, at)
     }
 
     fn holder(&mut self, number: &Awb) -> Result<Option<Holder>, ActFault> {
@@ -241,21 +199,36 @@ impl<S: StateStore> Keeper for StoredStation<S> {
         Ok(())
     }
 
+    #[tactic(auto, using(crate::proofs::Reading::hands_out))]
     fn book<K: Sink<BookRow>>(&mut self, sink: &mut K) -> Result<(), ActFault> {
-        let rows = self.book_rows()?;
-        hand_out(sink, rows);
-        Ok(())
+        if self.broken {
+            return Err(ActFault::Reopen);
+        }
+        match self.store.book(sink) {
+            Err(_) => Err(ActFault::Store),
+            Ok(()) => Ok(()),
+        }
     }
 
+    #[tactic(auto, using(crate::proofs::Reading::hands_out))]
     fn pending<K: Sink<Message>>(&mut self, sink: &mut K) -> Result<(), ActFault> {
-        let rows = self.pending_rows()?;
-        hand_out(sink, rows);
-        Ok(())
+        if self.broken {
+            return Err(ActFault::Reopen);
+        }
+        match self.store.pending(sink) {
+            Err(_) => Err(ActFault::Store),
+            Ok(()) => Ok(()),
+        }
     }
 
+    #[tactic(auto, using(crate::proofs::Reading::hands_out))]
     fn trail<K: Sink<TrailRow>>(&mut self, sink: &mut K) -> Result<(), ActFault> {
-        let rows = self.trail_rows()?;
-        hand_out(sink, rows);
-        Ok(())
+        if self.broken {
+            return Err(ActFault::Reopen);
+        }
+        match self.store.trail(sink) {
+            Err(_) => Err(ActFault::Store),
+            Ok(()) => Ok(()),
+        }
     }
 }

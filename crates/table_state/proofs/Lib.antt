@@ -1,6 +1,8 @@
+pub mod Passing
 pub mod Lifting
 pub mod HasMoves
 pub mod NewState
 pub mod Putting
 pub mod Values
 pub mod Changes
+mod File

@@ -30,10 +30,12 @@ given_back old new here sizes confirmed x was down undone sound up =
     let stands = (was (down sound)).holds.stands d.was_open in
     (d.mode, subst (λ t. Means t (Some x.committed)) (sym d.now_is) stands.committed)
 
-pub survives_so : {K : Type 0} (is_sound : K → Type 0) (may_find : K → Option State → Type 0) (old new : K) (v w : View) → row.Survives v w
-    → (is_sound new → w.IsSound) → (v.IsSound → is_sound old) → ((found : Option State) → may_find new found → Finds w found) → ((found : Option State) → Finds v found → may_find old found)
-    → Survives is_sound may_find old new
-survives_so is_sound may_find old new v w survives down up there back = record {
+pub survives_so : {K : Type 0} (is_clean is_sound : K → Type 0) (may_find : K → Option State → Type 0) (old new : K) (v w : View) → row.Survives v w
+    → (is_clean new → w.IsClean) → (v.IsClean → is_clean old) → (is_sound old → v.IsSound) → (w.IsSound → is_sound new) → (is_sound new → w.IsSound) → (v.IsSound → is_sound old) → ((found : Option State) → may_find new found → Finds w found) → ((found : Option State) → Finds v found → may_find old found)
+    → Survives is_clean is_sound may_find old new
+survives_so is_clean is_sound may_find old new v w survives clean_down clean_up was_down was_up down up there back = record {
+  clean = λ clean. clean_up (survives.clean (clean_down clean));
+  still = λ was clean. was_up (survives.still (was_down was) (clean_down clean));
   sound = λ sound. up (survives.sound (down sound));
   leaves = λ sound found finds. back found (finds_on v w survives (down sound) found (there found finds));
 }

@@ -41,7 +41,6 @@ use Rattle.row_values.specs.Moves.{move_by, book_in}
 use Rattle.row_values.specs.Logs.{line_by}
 use Rattle.row_values.specs.Replies.{kept_by}
 use Rattle.row_values.proofs.Reading.{declared_read, outbound_read, expected_read, part_read, kept_key_read, kept_text_read}
-use Rattle.row_values.proofs.Handing.{book_handed, trail_handed, pending_handed}
 use Rattle.row_values.proofs.Telling.{holders_told, book_told}
 use Rattle.state_store.specs.Store.{Seen}
 use Rattle.state_store.specs.Told.{kept_of, loads_on}
@@ -113,22 +112,6 @@ module _ (old new : View) (here : List ℕ) (sizes : Sizes) (confirmed : ℕ) (x
     moved_are rows tells =
         let r = told old new here sizes confirmed (λ t. map move_meant rows ≡ t.moves) x was survives tells up sound in
         ap waybills_of (sym (map-map move_by move_meant rows) ∙ ap (map move_by) r.0 ∙ book_told old.now x.now r.1)
-
-    pub book_is : (rows : List MoveRow) → (IsShowing old (seen_in old) → new.IsSound → map move_meant rows ≡ old.now.moves) → map (λ m. book_row (natural (move_meant m).number) (move_by (move_meant m))) rows ≡ book_rows x.now.cargo
-    book_is rows tells =
-        let r = told old new here sizes confirmed (λ t. map move_meant rows ≡ t.moves) x was survives tells up sound in
-        book_handed old.now x.now r.1 rows r.0
-
-    pub trail_is : (rows : List TrailRow) → (IsShowing old (seen_in old) → new.IsSound → map trail_meant rows ≡ old.now.trail) → map (λ m. trail_row (line_by (trail_meant m))) rows ≡ trail_rows x.now.cargo
-    trail_is rows tells =
-        let r = told old new here sizes confirmed (λ t. map trail_meant rows ≡ t.trail) x was survives tells up sound in
-        trail_handed old.now x.now r.1 rows r.0
-
-    pub pending_are : (rows : List MessageRow) (after : ℤ) → after ≡ pos confirmed → (IsShowing old (seen_in old) → new.IsSound → map message_meant rows ≡ filter (is_after after) old.now.outbox)
-        → map (λ m. message (natural m.number) (message_meant m).body) rows ≡ pending_messages x.now.cargo
-    pending_are rows after is tells =
-        let r = told old new here sizes confirmed (λ t. map message_meant rows ≡ filter (is_after after) t.outbox) x was survives tells up sound in
-        pending_handed old.now x.now r.1 rows (r.0 ∙ ap (λ z. filter (is_after z) old.now.outbox) (is ∙ ap pos (was (survives.sound sound)).knows.confirmed_is))
 
     -- running counts
 

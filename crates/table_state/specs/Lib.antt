@@ -1,3 +1,5 @@
+pub mod File
+pub mod Handing
 pub mod Laws
 pub mod Put
 pub mod Recorded

@@ -2,6 +2,7 @@
 #![tactic(auto)]
 
 mod changing;
+mod handing;
 mod moved;
 mod opening;
 mod recording;

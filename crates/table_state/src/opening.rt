@@ -1,9 +1,15 @@
 ghost use Rattle.std.specs.Prelude.{◌≡◌, ◌⊎◌, true, false, Some, Option, IfOk, IfErr, OnOk};
+ghost use Rattle.sqlite.specs.Held.{state};
+ghost use Rattle.sqlite.specs.State.{HasCleanDisk};
+ghost use Rattle.sqlite.specs.State as connection;
+ghost use Rattle.sqlite.specs.Tree.{Trees};
 ghost use Rattle.station_core.specs.Step.{State, opening};
 ghost use Rattle.row_schema.specs.Connection.{connection_view, IsVacant};
+ghost use Rattle.row_schema.specs.Own.{IsOwn, LiesInOrder};
 ghost use Rattle.station_rows.specs.Shown.{rows_view};
 ghost use Rattle.station_rows.specs.Own.{are_declared};
 ghost use Rattle.state_store.specs.Store.{Seen, at_rest};
+ghost use Rattle.table_state.specs.File.{IsFileOf};
 ghost use Rattle.table_state.specs.Shown.{Finds, IfGivenBack};
 
 use crate::state::TableState;
@@ -36,6 +42,10 @@ pub fn create<S: Alter>(
     // A crash leaves what it left before the call, or where the store was empty the opening station.
     ensures leaves { IfErr result (λ e. (connection_view S.Store e.0).IsSound → (found : Option State) → Finds (connection_view S.Store e.0) found
         → Finds (connection_view S.Store conn) found ⊎ (IsVacant S.Store conn × (found ≡ Some (opening here)))) }
+
+    // The same over the database, so that an opening knows the tables.
+    ensures survives { IfErr result (λ e. connection.Survives (state S.Store conn) (state S.Store e.0)
+        (λ db. IsVacant S.Store conn → IsFileOf db (opening here))) }
 {
     let letters = here.letters();
     match Rows::create(conn, awb_number::ascii_text(&letters)) {
@@ -48,6 +58,10 @@ impl<S: Alter> TableState<Rows<S>> {
     /// Gives the connection back, whatever state it is in. A transaction that is open is undone as well as it can be, and
     /// what a crash may leave is as before.
     pub fn release(self) -> Connection<S>
+        ensures survives { connection.Survives (state S.Store self.store.conn) (state S.Store result) (λ _. ⊥) }
+        ensures own { HasCleanDisk (state S.Store result) → are_declared self.store ≡ true → LiesInOrder S.Store → (db : Trees)
+            → (state S.Store result).may_leave db → IsOwn db }
+        ensures clean { HasCleanDisk (state S.Store result) → ⟦<TableState<Rows<S>> as StateStore>⟧.is_clean self }
         ensures leaves { (connection_view S.Store result).IsSound → (found : Option State) → Finds (connection_view S.Store result) found → ⟦<TableState<Rows<S>> as StateStore>⟧.may_find self found }
         ensures sound { (rows_view S.Store result (are_declared self.store)).IsSound → ⟦<TableState<Rows<S>> as StateStore>⟧.is_sound self }
 

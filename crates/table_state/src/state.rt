@@ -7,20 +7,21 @@ ghost use Rattle.state_store.specs.Store.{at_rest};
 ghost use Rattle.table_state.specs.Laws.{finds_what_it_shows, all_numbered};
 ghost use Rattle.table_state.specs.Shown.{Shows, Finds, HasThese, Knows};
 
+use crate::handing::{Telling, ended};
 use crate::moved::waybills_moved;
 use crate::recording::record_move;
 use agent_stock::{Holder, Order, StockFault, StockRun};
 use awb_number::Awb;
 use imp_fields::Airport;
 use row_values::{
-    awb_key, book_rows_by, count_of, day_number, declared_by, expected_by, flight_text, kept_by,
-    lines_by, message_row, messages_by, outbound_by,
+    awb_key, count_of, day_number, declared_by, expected_by, flight_text, kept_by, message_row,
+    outbound_by,
 };
 use shipment_machine::{
     Amount, Balances, Change, Declared, Expected, FlightDate, Move, Outbound, Part,
 };
 use state_store::{KeptReply, Load, Sizes, StateStore, StoreFault};
-use station_core::{BookRow, Key, Message, TrailRow};
+use station_core::{BookRow, Key, Message, Sink, TrailRow};
 use station_rows::TableStore;
 use std::alloc::Global;
 
@@ -98,6 +99,8 @@ impl<S: TableStore> TableState<S> {
 
 impl<S: TableStore> StateStore for TableState<S> {
     ghost shows = { λ k x. Shows (S.view k.store) k.here k.counted.sizes k.confirmed x };
+
+    ghost is_clean = { λ k. (S.view k.store).IsClean };
 
     ghost is_sound = { λ k. (S.view k.store).IsSound };
 
@@ -368,36 +371,26 @@ impl<S: TableStore> StateStore for TableState<S> {
     }
 
     #[tactic(auto, using(crate::proofs::Lifting::rests_on, crate::proofs::Lifting::survives_so))]
-    fn book(&mut self) -> Result<Vec<BookRow>, StoreFault> {
-        match self.store.all_moves() {
-            Err(_) => Err(StoreFault),
-            Ok(rows) => match book_rows_by(self.alloc, &rows) {
-                Err(_) => Err(StoreFault),
-                Ok(book) => Ok(book),
-            },
-        }
+    fn book<K: Sink<BookRow>>(&mut self, sink: &mut K) -> Result<(), StoreFault> {
+        let mut telling = Telling::new(sink);
+        let read = self.store.hand_out_moves(&mut telling);
+        ended(read, telling.is_stuck())
     }
 
     #[tactic(auto, using(crate::proofs::Lifting::rests_on, crate::proofs::Lifting::survives_so))]
-    fn pending(&mut self) -> Result<Vec<Message>, StoreFault> {
-        match self.store.messages_after(i64::from(self.confirmed)) {
-            Err(_) => Err(StoreFault),
-            Ok(rows) => match messages_by(self.alloc, rows) {
-                Err(_) => Err(StoreFault),
-                Ok(messages) => Ok(messages),
-            },
-        }
+    fn pending<K: Sink<Message>>(&mut self, sink: &mut K) -> Result<(), StoreFault> {
+        let mut telling = Telling::new(sink);
+        let read = self
+            .store
+            .hand_out_after(i64::from(self.confirmed), &mut telling);
+        ended(read, telling.is_stuck())
     }
 
     #[tactic(auto, using(crate::proofs::Lifting::rests_on, crate::proofs::Lifting::survives_so))]
-    fn trail(&mut self) -> Result<Vec<TrailRow>, StoreFault> {
-        match self.store.all_trail_lines() {
-            Err(_) => Err(StoreFault),
-            Ok(rows) => match lines_by(self.alloc, rows) {
-                Err(_) => Err(StoreFault),
-                Ok(lines) => Ok(lines),
-            },
-        }
+    fn trail<K: Sink<TrailRow>>(&mut self, sink: &mut K) -> Result<(), StoreFault> {
+        let mut telling = Telling::new(sink);
+        let read = self.store.hand_out_trail(&mut telling);
+        ended(read, telling.is_stuck())
     }
 
     ghost settled = { λ k s shown sound found finds. finds_what_it_shows (S.view k.store) s (shown sound).holds found finds };

@@ -11,6 +11,6 @@ mod trail;
 
 pub use kept::{KeptRow, insert_kept, kept_row};
 pub use kept_texts::{insert_kept_text, kept_text_count};
-pub use outbox::{MessageRow, insert_message, messages_after};
+pub use outbox::{MessageRow, hand_out_after, insert_message};
 pub use parts::{insert_part, part_body};
-pub use trail::{TrailRow, all_trail_lines, insert_trail_line};
+pub use trail::{TrailRow, hand_out_trail, insert_trail_line};

@@ -1,10 +1,14 @@
-ghost use Rattle.std.specs.Prelude.{◌≡◌, map, filter, IfOk};
-ghost use Rattle.row_schema.specs.Calls.{Alters, CommitsNothing, LeavesAll, Tells};
-ghost use Rattle.text_rows.specs.Shown.{message_read, message_shown};
+ghost use Rattle.std.specs.Prelude.{◌≡◌, List, filter};
+ghost use Rattle.row_laws.specs.Streams.{taking};
+ghost use Rattle.row_schema.specs.Calls.{Alters, CommitsNothing, HandsRows, LeavesAll};
+ghost use Rattle.row_sinks.specs.Handed.{HandedOut};
+ghost use Rattle.text_rows.specs.Shown.{message_read};
 ghost use Rattle.text_rows.specs.Meant.{is_after, message_meant, with_message};
+ghost use Rattle.text_rows.specs.declared.outbox.MessageRow.{MessageRow as AnyMessageRow};
 
+use row_laws::{ReadRow, stream};
+use row_sinks::Sink;
 use sqlite::{Alter, Connection, Error, Row, params};
-use std::alloc::Global;
 
 /// A row of `outbox`: a message that the station sent.
 #[derive(Debug, Drop)]
@@ -27,46 +31,33 @@ pub fn insert_message<S: Alter>(conn: &mut Connection<S>, row: &MessageRow) -> R
     )
 }
 
-fn shown_messages<S: Alter>(conn: &mut Connection<S>, number: i64) -> Result<Vec<Row>, Error>
-    ensures read { Tells S.Store conn.old conn.new result
-        (λ tables rows. rows.items ≡ map message_shown (filter (is_after number) tables.outbox)) }
-    ensures survives { LeavesAll S.Store conn.old conn.new }
-{
-    conn.query_all(
-        "SELECT number, body FROM outbox WHERE number > ?1 ORDER BY number",
-        params![&number],
-    )
-}
+impl ReadRow for MessageRow {
+    ghost reads = { λ row r. message_meant r ≡ message_read row };
 
-fn read_message(row: &Row) -> Result<MessageRow, Error>
-    ensures { IfOk result (λ r. message_meant r ≡ message_read row.now) }
-{
-    Ok(MessageRow {
-        number: row.get(0)?,
-        body: row.get(1)?,
-    })
-}
-
-fn read_messages(alloc: Global, rows: &[Row]) -> Result<Vec<MessageRow>, Error>
-    ensures { IfOk result (λ all. map message_meant all.items ≡ map message_read rows.now) }
-{
-    let mut all = Vec::new(alloc);
-    for row in rows {
-        all.push(read_message(row)?)?;
+    fn read(row: &Row) -> Result<MessageRow, Error> {
+        Ok(MessageRow {
+            number: row.get(0)?,
+            body: row.get(1)?,
+        })
     }
-    Ok(all)
 }
 
-/// The messages with a higher number than this one, in order. It fails where the database call fails or
-/// memory runs out.
-pub fn messages_after<S: Alter>(
+/// Hands out the messages with a higher number than this one, in order, as the query gives them, until the sink takes no more. It
+/// fails where the database call fails or memory runs out; what was handed out before is a beginning.
+pub fn hand_out_after<S: Alter, K: Sink<MessageRow>>(
     conn: &mut Connection<S>,
     number: i64,
-) -> Result<Vec<MessageRow>, Error>
-    ensures read { Tells S.Store conn.old conn.new result
-        (λ tables all. map message_meant all.items ≡ filter (is_after number) tables.outbox) }
+    sink: &mut K,
+) -> Result<(), Error>
+    ensures hands { HandsRows S.Store conn.old conn.new result
+        (taking (λ message row. message_meant row ≡ message) K.takes) (λ tables. filter (is_after number) tables.outbox) sink.old sink.new }
+    ensures took { (rows : List AnyMessageRow) × HandedOut K.takes rows sink.old sink.new }
     ensures survives { LeavesAll S.Store conn.old conn.new }
 {
-    let rows = shown_messages(conn, number)?;
-    read_messages(*rows.allocator(), &rows)
+    stream::<S, MessageRow, K>(
+        conn,
+        "SELECT number, body FROM outbox WHERE number > ?1 ORDER BY number",
+        params![&number],
+        sink,
+    )
 }

@@ -1,10 +1,14 @@
-ghost use Rattle.std.specs.Prelude.{◌≡◌, map, IfOk};
-ghost use Rattle.row_schema.specs.Calls.{Alters, CommitsNothing, LeavesAll, Tells};
-ghost use Rattle.text_rows.specs.Shown.{trail_read, trail_shown};
+ghost use Rattle.std.specs.Prelude.{◌≡◌, List};
+ghost use Rattle.row_laws.specs.Streams.{taking};
+ghost use Rattle.row_schema.specs.Calls.{Alters, CommitsNothing, HandsRows, LeavesAll};
+ghost use Rattle.row_sinks.specs.Handed.{HandedOut};
+ghost use Rattle.text_rows.specs.Shown.{trail_read};
 ghost use Rattle.text_rows.specs.Meant.{trail_meant, with_trail_line};
+ghost use Rattle.text_rows.specs.declared.trail.TrailRow.{TrailRow as AnyTrailRow};
 
+use row_laws::{ReadRow, stream};
+use row_sinks::Sink;
 use sqlite::{Alter, Connection, Error, Row, params};
-use std::alloc::Global;
 
 /// A row of `trail`: what a line of a status message says of a waybill.
 #[derive(Debug, Drop)]
@@ -29,40 +33,33 @@ pub fn insert_trail_line<S: Alter>(conn: &mut Connection<S>, row: &TrailRow) -> 
     )
 }
 
-fn shown_all_trail_lines<S: Alter>(conn: &mut Connection<S>) -> Result<Vec<Row>, Error>
-    ensures read { Tells S.Store conn.old conn.new result
-        (λ tables rows. rows.items ≡ map trail_shown tables.trail) }
-    ensures survives { LeavesAll S.Store conn.old conn.new }
-{
-    conn.query_all("SELECT number, awb, line FROM trail ORDER BY number", &[])
-}
+impl ReadRow for TrailRow {
+    ghost reads = { λ row r. trail_meant r ≡ trail_read row };
 
-fn read_trail(row: &Row) -> Result<TrailRow, Error>
-    ensures { IfOk result (λ r. trail_meant r ≡ trail_read row.now) }
-{
-    Ok(TrailRow {
-        number: row.get(0)?,
-        awb: row.get(1)?,
-        line: row.get(2)?,
-    })
-}
-
-fn read_trail_lines(alloc: Global, rows: &[Row]) -> Result<Vec<TrailRow>, Error>
-    ensures { IfOk result (λ all. map trail_meant all.items ≡ map trail_read rows.now) }
-{
-    let mut all = Vec::new(alloc);
-    for row in rows {
-        all.push(read_trail(row)?)?;
+    fn read(row: &Row) -> Result<TrailRow, Error> {
+        Ok(TrailRow {
+            number: row.get(0)?,
+            awb: row.get(1)?,
+            line: row.get(2)?,
+        })
     }
-    Ok(all)
 }
 
-/// All lines of the trails, in order. It fails where the database call fails or memory runs out.
-pub fn all_trail_lines<S: Alter>(conn: &mut Connection<S>) -> Result<Vec<TrailRow>, Error>
-    ensures read { Tells S.Store conn.old conn.new result
-        (λ tables all. map trail_meant all.items ≡ tables.trail) }
+/// Hands out all lines of the trails, in order, as the query gives them, until the sink takes no more. It fails where the database
+/// call fails or memory runs out; what was handed out before is a beginning.
+pub fn hand_out_trail<S: Alter, K: Sink<TrailRow>>(
+    conn: &mut Connection<S>,
+    sink: &mut K,
+) -> Result<(), Error>
+    ensures hands { HandsRows S.Store conn.old conn.new result
+        (taking (λ line row. trail_meant row ≡ line) K.takes) (λ tables. tables.trail) sink.old sink.new }
+    ensures took { (rows : List AnyTrailRow) × HandedOut K.takes rows sink.old sink.new }
     ensures survives { LeavesAll S.Store conn.old conn.new }
 {
-    let rows = shown_all_trail_lines(conn)?;
-    read_trail_lines(*rows.allocator(), &rows)
+    stream::<S, TrailRow, K>(
+        conn,
+        "SELECT number, awb, line FROM trail ORDER BY number",
+        &[],
+        sink,
+    )
 }

@@ -1,6 +1,7 @@
 use Rattle.std.proofs.Common.{sym, ◌∙◌}
 use Rattle.sqlite.specs.Held.{state}
-use Rattle.declared_tables.proofs.Again.{owns, owned, found_again}
+use Rattle.row_schema.proofs.Owned.{owns, owned}
+use Rattle.declared_tables.proofs.Again.{found_again}
 use Rattle.declared_tables.proofs.connection.has_station.Goals as goal
 
 pub returns-clause-own : goal.returns-clause-own

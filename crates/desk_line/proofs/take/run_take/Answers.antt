@@ -1,5 +1,5 @@
 use Rattle.desk_line.specs.Asked.{IsTelegramAsked}
-use Rattle.desk_line.proofs.Ran.{has_run}
+use Rattle.desk_line.proofs.Ran.{has_run, has_run_shut, not_come}
 use Rattle.desk_line.proofs.take.run_take.Goals as goal
 
 pub returns-in-Ok-clause-ran : goal.returns-in-Ok-clause-ran
@@ -8,3 +8,14 @@ returns-in-Ok-clause-ran g c = λ s keeps works sound.
     (g.O.ByteOut.taken c.answer_asked.new.writer).bytes (g.K.Keeper.keeps c.answer_asked.new.keeper) (g.K.Keeper.may_find c.answer_asked.new.keeper)
     c.in_ok-bytes.bytes.items c.in-Ok.asked c.answer_asked.result c.in_ok-bytes.ensures.come (rw c.as_slice.ensures.value at c.in-Ok.ensures)
     (c.answer_asked.ensures.answered s keeps works sound) (c.answer_asked.ensures.stopped s keeps works sound)
+
+pub returns-in-Ok-clause-reopen : goal.returns-in-Ok-clause-reopen
+returns-in-Ok-clause-reopen g c = λ broken.
+    has_run_shut IsTelegramAsked (g.I.ByteIn.given c.args.reader.now) (g.I.ByteIn.given c.read_input.new.reader) (g.O.ByteOut.taken c.args.writer.now)
+    (g.O.ByteOut.taken c.answer_asked.new.writer) c.in_ok-bytes.bytes.items c.in-Ok.asked c.answer_asked.result c.in_ok-bytes.ensures.come
+    (rw c.as_slice.ensures.value at c.in-Ok.ensures) (c.answer_asked.ensures.reopen broken)
+
+pub returns-in_err-bytes-clause-reopen : goal.returns-in_err-bytes-clause-reopen
+returns-in_err-bytes-clause-reopen g c = λ broken.
+    not_come IsTelegramAsked (g.I.ByteIn.given c.args.reader.now) (g.I.ByteIn.given c.read_input.new.reader) (g.O.ByteOut.taken c.args.writer.now)
+    c.from_residual.result c.in_err-bytes.field-0.0 c.from_residual.ensures.1 c.in_err-bytes.ensures.fault

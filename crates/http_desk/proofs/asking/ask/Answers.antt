@@ -1,8 +1,8 @@
 use Rattle.std.proofs.Common.{sym, subst, refl}
 use Rattle.http_desk.specs.declared.wanted.Wanted.{Wanted}
 use Rattle.http_desk.specs.declared.wanted.Wanted.TheVariants as wanted
-use Rattle.http_desk.specs.Told.{HasAsked}
-use Rattle.http_desk.proofs.AskedJson.{asked_json}
+use Rattle.http_desk.specs.Told.{HasAsked, HasAskedShut}
+use Rattle.http_desk.proofs.AskedJson.{asked_json, shut_json, shut_unavailable}
 use Rattle.http_desk.proofs.asking.ask.Goals as goal
 
 pub returns-in-Fault-clause-asked : goal.returns-in-Fault-clause-asked
@@ -20,3 +20,25 @@ returns-in-Unreadable-clause-asked g c = λ s kept works sound.
     let broken = g.K.Keeper.is_broken c.args.keeper.now in
     subst (λ (w : Wanted). HasAsked s c.args.at w c.refusal_told.result broken keeps may_find) (sym c.in-Unreadable.is)
     (asked_json s c.args.at (wanted.Unreadable c.in-Unreadable.refusal) c.refusal_told.result broken keeps may_find c.refusal_told.ensures refl (works, kept))
+
+pub returns-in-Fault-clause-shut : goal.returns-in-Fault-clause-shut
+returns-in-Fault-clause-shut g c = λ broken.
+    subst (λ (w : Wanted). HasAskedShut c.args.at w c.fault_told.result) (sym c.in-Fault.is)
+    (shut_json c.args.at (wanted.Fault c.in-Fault.fault) c.fault_told.result (λ s. c.fault_told.ensures) (λ s. refl))
+
+pub returns-in-Unreadable-clause-shut : goal.returns-in-Unreadable-clause-shut
+returns-in-Unreadable-clause-shut g c = λ broken.
+    subst (λ (w : Wanted). HasAskedShut c.args.at w c.refusal_told.result) (sym c.in-Unreadable.is)
+    (shut_json c.args.at (wanted.Unreadable c.in-Unreadable.refusal) c.refusal_told.result (λ s. c.refusal_told.ensures) (λ s. refl))
+
+pub returns-in-Waybill-clause-shut : goal.returns-in-Waybill-clause-shut
+returns-in-Waybill-clause-shut g c = λ broken. shut_unavailable c.args.at c.args.wanted.now c.ask_waybill.result (c.ask_waybill.ensures.shut broken).1
+
+pub returns-in-Holder-clause-shut : goal.returns-in-Holder-clause-shut
+returns-in-Holder-clause-shut g c = λ broken. shut_unavailable c.args.at c.args.wanted.now c.ask_holder.result (c.ask_holder.ensures.shut broken).1
+
+pub returns-in-Input-clause-shut : goal.returns-in-Input-clause-shut
+returns-in-Input-clause-shut g c = λ broken. shut_unavailable c.args.at c.args.wanted.now c.ask_input.result (c.ask_input.ensures.shut broken).1
+
+pub returns-in-Report-clause-shut : goal.returns-in-Report-clause-shut
+returns-in-Report-clause-shut g c = λ broken. λ s. (c.in-Report.is, (refl, refl))

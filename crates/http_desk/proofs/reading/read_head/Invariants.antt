@@ -1,3 +1,5 @@
+use Rattle.httparse.specs.Grammar.{RequestHead}
+use Rattle.http_desk.specs.Answer.{HasHead}
 use Rattle.std.proofs.Common.{◌≡◌, ◌<◌, ◌++◌, length, ◌+◌}
 use Rattle.http_desk.proofs.reading.read_head.Given as goal
 
@@ -12,4 +14,5 @@ invariant-loop-turn g l =
       failures : now.failures ≡ before.failures;
       idle : now.idle ≡ before.idle;
       headers : length l.headers ≡ 64;
+      none : (h : RequestHead) → ¬ (HasHead l.bytes.items h);
     }

@@ -1,7 +1,7 @@
-use Rattle.std.proofs.Common.{subst, List, ℕ}
+use Rattle.std.proofs.Common.{subst, inl, inr, List, ℕ}
 use Rattle.http_desk.specs.Came.{BeginsWith}
-use Rattle.http_desk.proofs.Arrived.{begins_on}
-use Rattle.http_desk.proofs.Heads.{ended_all, other_err}
+use Rattle.http_desk.proofs.Arrived.{begins_on, lacks_body}
+use Rattle.http_desk.proofs.Heads.{ended_all, more_come, most_all, other_err}
 use Rattle.http_desk.specs.declared.reading.ReadEnd.TheVariants as reading
 use Rattle.http_desk.proofs.request.read_request.Goals as goal
 
@@ -17,3 +17,15 @@ returns-in-Ok-read_body-clause-request g c =
           (subst (λ (bytes : List ℕ). BeginsWith bytes c.in-Ok-wants_at.wants c.in-Ok-wants_at.key c.in-Ok.head.0.len) c.as_slice.ensures.value c.in-Ok-wants_at.ensures),
       c.in-Ok-read_body.ensures.body,
     )
+
+pub returns-in-Err-read_body-clause-unfinished : goal.returns-in-Err-read_body-clause-unfinished
+returns-in-Err-read_body-clause-unfinished g c = λ is.
+    let start = g.I.ByteIn.given c.args.reader.now in
+    let mid = g.I.ByteIn.given c.read_head.new.reader in
+    let now = g.I.ByteIn.given c.read_body.new.reader in
+    let before : List ℕ = c.read_head.new.bytes.items in
+    let after : List ℕ = c.read_body.new.bytes.items in
+    let told = c.in-Err-read_body.ensures.unfinished (other_err c.in-Err-read_body.end reading.Read is) in
+    let begins = begins_on before after told.1.0 c.in-Ok-wants_at.wants c.in-Ok-wants_at.key c.in-Ok.head.0.len c.in-Ok.ensures.room told.1.1.0
+    (subst (λ (bytes : List ℕ). BeginsWith bytes c.in-Ok-wants_at.wants c.in-Ok-wants_at.key c.in-Ok.head.0.len) c.as_slice.ensures.value c.in-Ok-wants_at.ensures) in
+    (inr (lacks_body after c.in-Ok-wants_at.wants c.in-Ok-wants_at.key c.in-Ok.head.0.len begins told.0), more_come start mid now before after c.in-Ok.ensures.come told.1)

@@ -1,12 +1,12 @@
-use Rattle.std.proofs.Common.{◌≡◌, ◌∙◌, ap, sym, subst, refl, inl, false, List, ℕ, ◌++◌}
+use Rattle.std.proofs.Common.{rules, ◌≡◌, ◌∙◌, ap, sym, subst, refl, inl, false, List, ℕ, ◌++◌}
 use Rattle.http_desk.specs.declared.asking.Told.{Told}
 use Rattle.http_desk.specs.declared.asking.Told.TheVariants as told
 use Rattle.http_desk.specs.declared.serve.Served.{Served}
-use Rattle.http_desk.specs.Serving.{added}
+use Rattle.http_desk.specs.Serving.{added, IsUnfinished}
 use Rattle.http_desk.specs.Told.{tells_reopen}
 use Rattle.http_desk.specs.Writing.{IsToldFor}
 use Rattle.http_desk.proofs.Begun.{begun}
-use Rattle.http_desk.proofs.Joining.{added_is, served, unavailable_is, reopen_told, ok_more}
+use Rattle.http_desk.proofs.Joining.{added_is, served, unavailable_is, reopen_told, ok_more, all_shut}
 use Rattle.http_desk.proofs.serve.serve_one.Goals as goal
 
 swapped : {A B : Type 0} → A × B → B × A
@@ -101,3 +101,32 @@ pub returns-in-Err-Memory-clause-unavailable : goal.returns-in-Err-Memory-clause
 returns-in-Err-Memory-clause-unavailable g c = λ s kept works sound begins.
     let reads = c.write_told-in-Err-Memory.ensures.reads in
     inl (reads.breaks ∙ works, reads.same s kept sound)
+
+pub returns-in-Ok-clause-same : goal.returns-in-Ok-clause-same
+returns-in-Ok-clause-same g c = λ broken.
+    let same = c.told_for-told.ensures.same broken in
+    c.write_told.ensures.same (ap g.K.Keeper.is_broken same ∙ broken) ∙ same
+
+pub returns-in-Ok-clause-reopen : goal.returns-in-Ok-clause-reopen
+returns-in-Ok-clause-reopen g c = λ broken.
+    let bytes : List ℕ = c.as_slice.result.now in
+    let before = g.I.ByteIn.given c.args.reader.now in
+    let now = g.I.ByteIn.given c.read_request.new.reader in
+    all_shut c.args.at bytes (g.O.ByteOut.taken c.args.writer.now) (g.O.ByteOut.taken c.write_told.new.writer) before now c.told_for-told.result c.write_told.result
+    (added_is before now bytes (c.in-Ok.ensures.come ∙ ap (λ (b : List ℕ). before.bytes ++ b) (sym c.as_slice.ensures.value)))
+    (c.told_for-told.ensures.shut broken) (c.write_told.ensures.shut (ap g.K.Keeper.is_broken (c.told_for-told.ensures.same broken) ∙ broken))
+
+pub returns-in-Err-Memory-clause-reopen : goal.returns-in-Err-Memory-clause-reopen
+returns-in-Err-Memory-clause-reopen g c = λ broken.
+    let before = g.I.ByteIn.given c.args.reader.now in
+    let now = g.I.ByteIn.given c.read_request.new.reader in
+    all_shut c.args.at (added before now) (g.O.ByteOut.taken c.args.writer.now) (g.O.ByteOut.taken c.write_told-in-Err-Memory.new.writer) before now
+    (told.Unavailable false) c.write_told-in-Err-Memory.result refl (λ s. inl (refl, refl)) (c.write_told-in-Err-Memory.ensures.shut broken)
+
+pub returns-in-Err-Read-clause-unfinished : goal.returns-in-Err-Read-clause-unfinished
+returns-in-Err-Read-clause-unfinished g c = λ _.
+    let before = g.I.ByteIn.given c.args.reader.now in
+    let now = g.I.ByteIn.given c.read_request.new.reader in
+    let bytes : List ℕ = c.read_request.new.bytes.items in
+    let came : IsUnfinished bytes × (now.bytes ≡ before.bytes ++ bytes) = search rules in
+    subst IsUnfinished (sym (added_is before now bytes came.1)) came.0

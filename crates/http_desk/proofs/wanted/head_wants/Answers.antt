@@ -1,16 +1,16 @@
-use Rattle.std.proofs.Common.{◌∙◌, ap, subst}
-use Rattle.std.specs.Prelude.{option_and_then}
-use Rattle.http_desk.specs.Request.{HeadAsks, place_asks}
-use Rattle.http_desk.specs.Routes.{desk_rows, page_of, path_of, place_at}
-use Rattle.http_desk.specs.Wanted.{HasWants}
+use Rattle.std.proofs.Common.{◌≡◌, ◌∙◌, ap, sym, refl, true, false}
+use Rattle.http_desk.specs.Answer.{head_of}
+use Rattle.http_desk.specs.Request.{is_foreign}
+use Rattle.http_desk.proofs.Joining.{ok_more}
+use Rattle.http_desk.proofs.Wanting.{foreign_wants, wants_on}
 use Rattle.http_desk.proofs.wanted.head_wants.Goals as goal
+
+pub returns-then-is_foreign : goal.returns-then-is_foreign
+returns-then-is_foreign c = λ h at.
+    let foreign : is_foreign (head_of h).fields ≡ true = ap is_foreign (sym at.fields) ∙ sym c.is_foreign.ensures ∙ c.if-is_foreign.true in
+    foreign_wants (head_of h) _ foreign refl
 
 pub returns : goal.returns
 returns c = λ h at.
-    let bytes = c.args.bytes.now in
-    let method = c.of-method.ensures ∙ at.method in
-    let fields = at.fields in
-    let place = c.in_ok-route.ensures ∙ ap (λ q. option_and_then (place_at q) (page_of desk_rows q)) (c.path_in-path.ensures ∙ ap path_of (c.target_of.ensures h at)) in
-    subst (λ (asks : HeadAsks). HasWants asks c.wants_of.result)
-    (c.head_asks-asks.ensures c.path_in-path.result.now h.target ∙ (λ i. place_asks (record { method = method i; target = h.target; fields = fields i }) (place i)))
-    c.wants_of.ensures
+    let own : is_foreign (head_of h).fields ≡ false = ap is_foreign (sym at.fields) ∙ sym c.is_foreign.ensures ∙ c.if-is_foreign.false in
+    ok_more c.own_wants.result _ _ (λ w told. wants_on (head_of h) w own told) (c.own_wants.ensures h at)

@@ -1,4 +1,4 @@
-use Rattle.std.proofs.Common.{arith, ◌≡◌, ◌∙◌, false, subst, List, ℕ}
+use Rattle.std.proofs.Common.{arith, ◌≡◌, ◌∙◌, ◌<◌, false, subst, List, ℕ}
 use Rattle.reports.specs.Ended.{IsCause}
 use Rattle.http_desk.specs.Writing.{HasSent}
 use Rattle.http_desk.proofs.Reporting.{ended_early, after_write, after_part, after_none}
@@ -17,7 +17,8 @@ returns-then-sent-gt0-clause-reported g c = λ s kept works sound.
     let old = g.O.ByteOut.taken c.args.writer.now in
     let mid = g.O.ByteOut.taken c.send_report.new.writer in
     let Works : Type 0 = g.K.Keeper.is_broken c.args.keeper.now ≡ false in
-    after_part s c.args.report old mid Works c.in-Err.field-0
+    let some : 0 < c.in-Err.field-0.sent = omega arith in
+    after_part s c.args.report old mid Works c.in-Err.field-0 some
     (ended_early Works s old mid c.in-Err.field-0 c.args.report c.as_bytes.result.now (c.as_bytes.ensures.value ∙ c.in-Ok.ensures) (c.in-Err.ensures.ended s kept sound))
 
 pub returns-clause-reported : goal.returns-clause-reported

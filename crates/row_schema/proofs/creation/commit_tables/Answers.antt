@@ -1,6 +1,7 @@
-use Rattle.std.proofs.Common.{arith, ap, ◌∙◌}
+use Rattle.std.proofs.Common.{arith, ap, subst, sym, ◌∙◌}
 use Rattle.sqlite.specs.Held.{state}
 use Rattle.sqlite.proofs.StateLemmas.{survives_weaker, survives_then}
+use Rattle.row_schema.specs.Own.{IsOwn}
 use Rattle.row_schema.specs.Tables.{tables_of}
 use Rattle.row_schema.proofs.creation.commit_tables.Goals as goal
 
@@ -10,4 +11,6 @@ returns-in_err-fill_tables-clause-survives g c = survives_weaker (state g.S.Stor
 pub returns-in_err-commit-clause-survives : goal.returns-in_err-commit-clause-survives
 returns-in_err-commit-clause-survives g c =
     survives_then (state g.S.Store c.args.conn.now) (state g.S.Store c.fill_tables.new.conn) (state g.S.Store c.commit.new.conn) _ _ _ (λ _ db none was. absurd (none was))
-    (λ clean db is was. ap tables_of is ∙ (c.in_ok-fill_tables.ensures.made (omega (arith, c.commit.ensures.survives.clean)) was).tables) c.fill_tables.ensures.survives c.commit.ensures.survives
+    (λ clean db is was.
+    let filled = c.in_ok-fill_tables.ensures.made (omega (arith, c.commit.ensures.survives.clean)) was in
+    record { own = subst IsOwn (sym is) (c.shows_own.ensures filled.shown.is_open filled.station.schema); tables = ap tables_of is ∙ filled.tables }) c.fill_tables.ensures.survives c.commit.ensures.survives

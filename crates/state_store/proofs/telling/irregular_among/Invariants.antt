@@ -8,7 +8,7 @@ use Rattle.state_store.proofs.telling.irregular_among.Given as goal
 
 abbrev pub invariant-loop-number : goal.invariant-loop-number
 invariant-loop-number g l = record {
-  survives : Survives g.S.StateStore.is_sound g.S.StateStore.may_find l.fn.store l.store;
+  survives : Survives g.S.StateStore.is_clean g.S.StateStore.is_sound g.S.StateStore.may_find l.fn.store l.store;
   rests : (s : State) → g.S.StateStore.shows l.fn.store (at_rest s) → g.S.StateStore.shows l.store (at_rest s);
   value : (s : State) → g.S.StateStore.shows l.fn.store (at_rest s) → g.S.StateStore.is_sound l.store
       → l.rows.items ≡ flat_map (λ w. if is_irregular s.cargo w then irregular_row s.cargo w ∷ [] else []) (take l.number-index l.numbers);

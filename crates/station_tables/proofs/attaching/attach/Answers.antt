@@ -1,5 +1,5 @@
 use Rattle.std.proofs.Common.{◌≡◌}
-use Rattle.station_tables.proofs.Looked.{finds_after, finds_after_one, fit_on, own_fit_on, found_on, judged_there, leaves_on, own_on, refused_on, typed_on}
+use Rattle.station_tables.proofs.Looked.{finds_after, finds_after_one, fit_on, own_fit_on, found_on, judged_there, leaves_on, own_on, refused_on, seen_on, survives_both, survives_same, typed_on, unwritten_at, unwritten_on}
 use Rattle.station_tables.proofs.attaching.attach.Goals as goal
 
 pub returns-then-not-is_live-clause-leaves : goal.returns-then-not-is_live-clause-leaves
@@ -40,3 +40,18 @@ returns-in-Ok-clause-leaves g c = leaves_on _ _ _ _ c.is_live.ensures.survives c
 
 pub returns-in-Err-clause-leaves : goal.returns-in-Err-clause-leaves
 returns-in-Err-clause-leaves g c = λ sound found finds. finds_after _ _ _ c.is_live.ensures.survives c.in-Err.ensures.survives sound found finds
+
+pub returns-then-not-is_autocommit-clause-unwritten_at_err : goal.returns-then-not-is_autocommit-clause-unwritten_at_err
+returns-then-not-is_autocommit-clause-unwritten_at_err g c = survives_same _
+
+pub returns-in-Ok-clause-unwritten : goal.returns-in-Ok-clause-unwritten
+returns-in-Ok-clause-unwritten g c = unwritten_on _ _ _ _ (survives_both _ _ _ c.is_live.ensures.survives c.in-Ok.ensures.survives) c.settle.ensures.unwritten
+
+pub returns-in-Ok-clause-seen : goal.returns-in-Ok-clause-seen
+returns-in-Ok-clause-seen g c = seen_on _ _ _ _ _ (c.is_live.ensures.same c.if-not-is_live.false) c.in-Ok.ensures.survives (λ clean is_open. (c.in-Ok.ensures.read clean is_open).1) c.settle.ensures.unwritten c.settle.ensures.seen
+
+pub returns-in-Ok-clause-unwritten_at_err : goal.returns-in-Ok-clause-unwritten_at_err
+returns-in-Ok-clause-unwritten_at_err g c = unwritten_at _ _ _ _ (survives_both _ _ _ c.is_live.ensures.survives c.in-Ok.ensures.survives) c.settle.ensures.unwritten_at_err
+
+pub returns-in-Err-clause-unwritten_at_err : goal.returns-in-Err-clause-unwritten_at_err
+returns-in-Err-clause-unwritten_at_err g c = survives_both _ _ _ c.is_live.ensures.survives c.in-Err.ensures.survives

@@ -2,6 +2,7 @@ use Rattle.std.proofs.Common.{◌≡◌, subst}
 use Rattle.sqlite.specs.Held.{state}
 use Rattle.station_tables.specs.Attached.{IsJudged}
 use Rattle.station_tables.proofs.Attached.{kept_on, store_says_nothing}
+use Rattle.station_tables.proofs.Looked.{survives_same}
 use Rattle.station_tables.proofs.attaching.settle.Goals as goal
 
 pub returns-in-Ok-clause-found : goal.returns-in-Ok-clause-found
@@ -13,3 +14,6 @@ returns-in-Ok-clause-refused g c = λ at. store_says_nothing _ _ c.go_on.ensures
 
 pub returns-in-Err-clause-refused : goal.returns-in-Err-clause-refused
 returns-in-Err-clause-refused g c = λ at. c.unfit_fault.ensures _ (subst (IsJudged (state g.S.Store c.args.conn).now) c.in-Err.is at)
+
+pub returns-in-Err-clause-unwritten_at_err : goal.returns-in-Err-clause-unwritten_at_err
+returns-in-Err-clause-unwritten_at_err g c = survives_same _

@@ -1,13 +1,14 @@
 use Rattle.std.proofs.Common.{refl, sym, ◌∙◌, inl, inr, ⊎_elim}
 use Rattle.csv.specs.Records.{fields_of}
 use Rattle.stock_list.specs.Lines.{input_of}
-use Rattle.stock_list.proofs.Unanswered.{still_kept, found_row}
+use Rattle.stock_list.proofs.Unanswered.{still_kept, found_row, keeper_cause}
 use Rattle.stock_list.proofs.answer.answer_row.Goals as goal
 
 pub returns-in-Err-clause-stopped : goal.returns-in-Err-clause-stopped
 returns-in-Err-clause-stopped g c = λ s keeps works sound.
     let input = input_of c.in-Some.asked in
     inr (record {
+      why = keeper_cause c.in-Err.fault _ c.keeper_fault.ensures;
       nothing = refl;
       memory = λ is. still_kept s input c.args.at c.in-Err.fault (g.K.Keeper.keeps c.answer_one.new.keeper) (c.in-Err.ensures.answers s keeps works sound) (sym c.keeper_fault.ensures ∙ is);
       states = λ found left. ⊎_elim (λ before. inl before) (λ store. inr (c.keeper_fault.ensures ∙ store.0, store.1))

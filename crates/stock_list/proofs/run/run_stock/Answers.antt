@@ -1,8 +1,10 @@
-use Rattle.std.proofs.Common.{rules, arith, ◌∙◌, sym, refl, inl, inr, ◌+◌, ◌<◌, ◌≤◌, List, [], ◌∷◌, ◌++◌, Some, None, subst, Fits, w64}
+use Rattle.std.proofs.Common.{rules, arith, ◌∙◌, sym, refl, inl, inr, ap, ◌+◌, ◌<◌, ◌≤◌, List, [], ◌∷◌, ◌++◌, Some, None, Err, subst, Fits, w64}
+use Rattle.station_core.specs.Ends.{HasCause}
 use Rattle.stock_list.specs.Ended.{IsReadersFault}
 use Rattle.csv.specs.Records.{fields_of}
 use Rattle.stock_list.specs.Lines.{Row, rows_after}
 use Rattle.stock_list.proofs.More.{append_nil, known_start, known_more, known_end, known_first, counted_more, run_more, readers_fault, stops_more}
+use Rattle.stock_list.proofs.Shut.{untroubled_more, cause_behind, passed_cause, no_write, shut_start, shut_more, shut_stops, passed_shut}
 use Rattle.stock_list.proofs.Unanswered.{passed_on}
 use Rattle.stock_list.proofs.run.run_stock.Goals as goal
 
@@ -24,7 +26,15 @@ loop-row-init g c =
       counted = omega (arith, fits);
       sound = λ sound. sound;
       works = λ works. works;
-      rows = ([], refl, rw (start, rdr) known, λ s keeps works sound. record { lines = sym (append_nil (g.W.ByteOut.taken c.args.writer.now).bytes); good_is = refl; state = keeps });
+      untroubled = record { failures = refl; idle = refl };
+      same = λ broken. refl;
+      rows = (
+        [],
+        refl,
+        rw (start, rdr) known,
+        λ s keeps works sound. record { lines = sym (append_nil (g.W.ByteOut.taken c.args.writer.now).bytes); good_is = refl; state = keeps },
+        λ broken. shut_start (g.W.ByteOut.taken c.args.writer.now).bytes,
+      );
     }
 
 pub overflow_add-number : goal.overflow_add-number
@@ -54,6 +64,9 @@ loop-row-preserved g c =
       counted = omega (arith, bound, fewer);
       sound = λ sound. inv.sound (c.answer_row.ensures.sound sound);
       works = λ works. c.in_ok-accepted-in-Ok.ensures.works (inv.works works);
+      untroubled = untroubled_more (g.W.ByteOut.taken c.args.writer.now) (g.W.ByteOut.taken c.loop-row.writer) (g.W.ByteOut.taken c.answer_row.new.writer)
+          inv.untroubled c.in_ok-accepted-in-Ok.ensures.untroubled;
+      same = λ broken. c.answer_row.ensures.same (ap g.K.Keeper.is_broken (inv.same broken) ∙ broken) ∙ inv.same broken;
       rows = (
         rows ++ f ∷ [],
         counted_more c.loop-row.number rows f inv.rows.1,
@@ -62,6 +75,9 @@ loop-row-preserved g c =
             let run = inv.rows.3 s keeps works (c.answer_row.ensures.sound sound) in
             run_more s rows f c.args.at c.loop-row.number c.loop-row.good c.in_ok-accepted-in-Ok.accepted _ _ _ _ _ inv.rows.1 run
             (c.in_ok-accepted-in-Ok.ensures.answered (rows_after s rows c.args.at) run.state (inv.works works) sound),
+        λ broken. shut_more rows f c.loop-row.number c.loop-row.good c.in_ok-accepted-in-Ok.accepted (g.W.ByteOut.taken c.args.writer.now).bytes
+            (g.W.ByteOut.taken c.loop-row.writer) (g.W.ByteOut.taken c.answer_row.new.writer) inv.rows.1 (inv.rows.4 broken)
+            (c.in_ok-accepted-in-Ok.ensures.reopen (ap g.K.Keeper.is_broken (inv.same broken) ∙ broken)),
       );
     }
 
@@ -111,6 +127,72 @@ returns-in_err-accepted-in-Ok-clause-stopped g c = λ s keeps works sound.
         (
           known_first g.R.Read.remaining c.next.new.self.rdr (rows ++ f ∷ []) (g.R.Read.remaining c.args.reader) known,
           stops_more s rows f c.args.at c.loop-row.number c.loop-row.good _ _ _ _ _ _ _ inv.rows.1 run stopped,
+        ),
+      ),
+    )
+
+pub returns-in-Err-clause-write_cause : goal.returns-in-Err-clause-write_cause
+returns-in-Err-clause-write_cause g c = λ is. no_write _ c.reader_fault.result _ c.reader_fault.ensures is
+
+pub returns-in_err-accepted-in-Ok-clause-write_cause : goal.returns-in_err-accepted-in-Ok-clause-write_cause
+returns-in_err-accepted-in-Ok-clause-write_cause g c = λ is.
+    let old = g.W.ByteOut.taken c.args.writer.now in
+    let new = g.W.ByteOut.taken c.answer_row.new.writer in
+    passed_cause c.from_residual.result c.in_err-accepted-in-Ok.field-0.0 (HasCause old new) c.from_residual.ensures.1
+    (λ write. cause_behind old (g.W.ByteOut.taken c.loop-row.writer) new c.loop-row.invariant.untroubled (c.in_err-accepted-in-Ok.ensures.write_cause (ap Err write))) is
+
+pub returns-in-Err-clause-same : goal.returns-in-Err-clause-same
+returns-in-Err-clause-same g c = c.loop-row.invariant.same
+
+pub returns-clause-same : goal.returns-clause-same
+returns-clause-same g c = c.loop-row.invariant.same
+
+pub returns-in_err-accepted-in-Ok-clause-same : goal.returns-in_err-accepted-in-Ok-clause-same
+returns-in_err-accepted-in-Ok-clause-same g c = λ broken.
+    let same = c.loop-row.invariant.same broken in
+    c.answer_row.ensures.same (ap g.K.Keeper.is_broken same ∙ broken) ∙ same
+
+pub returns-clause-reopen : goal.returns-clause-reopen
+returns-clause-reopen g c = λ broken.
+    let inv = c.loop-row.invariant in
+    let step = rw c.in-None.is at ((c.next.ensures.steps inv.left inv.trim).0 inv.ready) in
+    let all = known_end g.R.Read.remaining c.loop-row.row-iterator.rdr c.next.new.self.rdr [] inv.rows.0 (g.R.Read.remaining c.args.reader) inv.config step inv.rows.2 in
+    let shut = inv.rows.4 broken in
+    (inv.rows.0, (all, (shut.good_is, shut.have)))
+
+pub returns-in-Err-clause-reopen : goal.returns-in-Err-clause-reopen
+returns-in-Err-clause-reopen g c = λ broken.
+    let inv = c.loop-row.invariant in
+    let shut = inv.rows.4 broken in (
+      inv.rows.0,
+      (
+        None,
+        (
+          known_first g.R.Read.remaining c.loop-row.row-iterator.rdr inv.rows.0 (g.R.Read.remaining c.args.reader) inv.rows.2,
+          (shut.have.ask, (subst IsReadersFault (sym c.reader_fault.ensures) (readers_fault _), shut.have.lines)),
+        ),
+      ),
+    )
+
+pub returns-in_err-accepted-in-Ok-clause-reopen : goal.returns-in_err-accepted-in-Ok-clause-reopen
+returns-in_err-accepted-in-Ok-clause-reopen g c = λ broken.
+    let inv = c.loop-row.invariant in
+    let rows : List Row = inv.rows.0 in
+    let f : Row = fields_of c.in-Ok.row in
+    let step = rw (c.in-Some.is, c.in-Ok.is) at ((c.next.ensures.steps inv.left inv.trim).0 inv.ready) in
+    let known = known_more g.R.Read.remaining c.loop-row.row-iterator.rdr c.next.new.self.rdr f rows (g.R.Read.remaining c.args.reader) inv.config step.0 inv.rows.2 in
+    let old = g.W.ByteOut.taken c.args.writer.now in
+    let mid = g.W.ByteOut.taken c.loop-row.writer in
+    let new = g.W.ByteOut.taken c.answer_row.new.writer in
+    let shut = inv.rows.4 broken in
+    let told = c.in_err-accepted-in-Ok.ensures.reopen (ap g.K.Keeper.is_broken (inv.same broken) ∙ broken) in
+    passed_shut (g.R.Read.remaining c.args.reader) old.bytes new.bytes c.from_residual.result c.in_err-accepted-in-Ok.field-0.0 c.from_residual.ensures.1 (
+      rows,
+      (
+        Some f,
+        (
+          known_first g.R.Read.remaining c.next.new.self.rdr (rows ++ f ∷ []) (g.R.Read.remaining c.args.reader) known,
+          (shut.have.ask, shut_stops rows f c.loop-row.number c.loop-row.good c.in_err-accepted-in-Ok.field-0.0 old.bytes mid new inv.rows.1 shut told),
         ),
       ),
     )

@@ -7,6 +7,6 @@ use Rattle.stored_station.proofs.carrying.add_messages.Given as goal
 
 abbrev pub invariant-loop-message : goal.invariant-loop-message
 invariant-loop-message g l = record {
-  survives : Survives g.S.StateStore.is_sound g.S.StateStore.may_find l.fn.store l.store;
+  survives : Survives g.S.StateStore.is_clean g.S.StateStore.is_sound g.S.StateStore.may_find l.fn.store l.store;
   done : (before s : State) → g.S.StateStore.shows l.fn.store (inside before s) → g.S.StateStore.shows l.store (inside before (with_messages (texts_in (take l.message-index l.messages)) s));
 }

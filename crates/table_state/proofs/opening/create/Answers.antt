@@ -1,6 +1,7 @@
 use Rattle.std.proofs.Common.{rules, ◌≡◌, true, inl, inr, ⊎_elim, ap, ◌∙◌}
 use Rattle.imp_fields.specs.Airport.{is_airport}
 use Rattle.row_schema.specs.Connection.{opening}
+use Rattle.table_state.proofs.File.{leaves_file}
 use Rattle.table_state.proofs.NewState.{opening_found}
 use Rattle.table_state.proofs.opening.create.Goals as goal
 
@@ -12,3 +13,9 @@ returns-in-Err-clause-leaves g c = λ sound found finds.
     (λ left. inl (record { tables = finds.tables; left = left; means = finds.means }))
     (λ made. inr (made.0, opening_found c.args.here airport finds.tables found (made.1 ∙ ap opening same) finds.means))
     (c.in-Err.ensures.spares.crash sound finds.tables finds.left)
+
+pub returns-in-Err-clause-survives : goal.returns-in-Err-clause-survives
+returns-in-Err-clause-survives g c =
+    let same : c.ascii_text.result.now ≡ c.args.here = search rules in
+    let airport : is_airport c.args.here ≡ true = search rules in
+    leaves_file _ _ _ c.ascii_text.result.now c.args.here same airport c.in-Err.ensures.survives

@@ -1,7 +1,7 @@
 use Rattle.std.proofs.Common.{rules, sym, ap, subst, ◌∙◌}
 use Rattle.sqlite.specs.Held.{state}
 use Rattle.row_schema.specs.Calls.{IsFounded}
-use Rattle.declared_tables.specs.Own.{IsOwn}
+use Rattle.row_schema.specs.Own.{IsOwn}
 use Rattle.station_rows.proofs.rows.Rows.create.Goals as goal
 
 pub invariant_of-result-clause-leaves : goal.invariant_of-result-clause-leaves

@@ -1,12 +1,32 @@
-use Rattle.std.proofs.Common.{rules, ◌∙◌, SFits, w64}
+use Rattle.std.proofs.Common.{rules, List, subst, subst₂, ap, map, filter, pos, ◌∙◌, ◌≡◌, SFits, w64}
 use Rattle.std.proofs.lemmas.Int.{to_z-of_z}
-use Rattle.table_state.proofs.Lifting.{seen_in}
-use Rattle.table_state.proofs.Values.{pending_are}
-use Rattle.state_store.specs.Store.{at_rest}
+use Rattle.row_sinks.specs.Handed.{HandedOut, Hands}
+use Rattle.row_values.proofs.Handing.{message_of, pending_handed}
+use Rattle.station_core.specs.Readers.{pending_messages}
+use Rattle.station_core.specs.declared.rows.Message as reader
+use Rattle.text_rows.specs.declared.outbox.MessageRow.{MessageRow}
+use Rattle.text_rows.specs.Meant.{is_after, message_meant}
+use Rattle.table_state.specs.Handing.{Tells}
+use Rattle.table_state.proofs.Passing.{given_on, some_told}
 use Rattle.table_state.proofs.state.TableStateStateStore.pending.Goals as goal
 
-pub returns-in-Ok-messages_by-clause-value : goal.returns-in-Ok-messages_by-clause-value
-returns-in-Ok-messages_by-clause-value g c = λ s shown sound.
+pub returns-clause-rows : goal.returns-clause-rows
+returns-clause-rows g c = λ s shown sound.
+    let from = c.new-telling.result in
+    let to = c.hand_out_after-read.new.sink in
     let fits : SFits w64 c.from.result = search rules in
-    c.in-Ok-messages_by.ensures
-    ∙ pending_are _ _ _ _ _ (at_rest s) shown c.in-Ok.ensures.survives c.in-Ok.ensures.open sound c.in-Ok.rows.items _ (to_z-of_z w64 c.from.result fits ∙ c.from.ensures) (c.in-Ok.ensures.read (seen_in (g.S.TableStore.view c.args.self.now.store)))
+    let is_mark = to_z-of_z w64 c.from.result fits ∙ c.from.ensures in
+    let handed : Hands g.K.Sink.takes (pending_messages s.cargo) from.sink.now to.sink.now c.ended.result =
+    given_on g.K.Sink.takes message_of _ (λ old x go new h. subst (λ l. Tells g.K.Sink.takes (message_of l) old go new) h.1 h.2) _ _ _ _ _ s shown c.hand_out_after-read.ensures.survives (λ t. filter (is_after _) t.outbox) (pending_messages s.cargo) (λ means confirmed. ap (λ z. map message_of (filter (is_after z) (g.S.TableStore.view c.args.self.now.store).now.outbox)) (is_mark ∙ ap pos confirmed) ∙ pending_handed _ s means)
+    from to c.hand_out_after-read.result c.hand_out_after-read.ensures.hands c.hand_out_after-read.ensures.shut c.ended.result (rw c.is_stuck.ensures at c.ended.ensures) sound in
+    let name = (some_told g.K.Sink.takes (λ (row : MessageRow). message_of (message_meant row)) _ (λ old x go new h. h) _ from to c.hand_out_after-read.ensures.took.1).0 in
+    subst₂ (λ a b. Hands g.K.Sink.takes (pending_messages s.cargo) a b c.ended.result) c.new-telling.ensures.same (search rules) handed
+
+pub returns-clause-took : goal.returns-clause-took
+returns-clause-took g c =
+    let from = c.new-telling.result in
+    let to = c.hand_out_after-read.new.sink in
+    let told = some_told g.K.Sink.takes (λ (row : MessageRow). message_of (message_meant row)) _ (λ old x go new h. h) _ from to c.hand_out_after-read.ensures.took.1 in
+    let values : List reader.Message = told.1 in
+    let handed : HandedOut g.K.Sink.takes values from.sink.now to.sink.now = told.2 in
+    (values, search rules)

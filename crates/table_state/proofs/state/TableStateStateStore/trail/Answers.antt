@@ -1,9 +1,29 @@
-use Rattle.std.proofs.Common.{◌∙◌}
-use Rattle.table_state.proofs.Lifting.{seen_in}
-use Rattle.table_state.proofs.Values.{trail_is}
-use Rattle.state_store.specs.Store.{at_rest}
+use Rattle.std.proofs.Common.{rules, List, subst, subst₂}
+use Rattle.row_sinks.specs.Handed.{HandedOut, Hands}
+use Rattle.row_values.proofs.Handing.{line_of, trail_handed}
+use Rattle.station_core.specs.Readers.{trail_rows}
+use Rattle.station_core.specs.declared.rows.TrailRow as reader
+use Rattle.text_rows.specs.declared.trail.TrailRow.{TrailRow}
+use Rattle.text_rows.specs.Meant.{trail_meant}
+use Rattle.table_state.specs.Handing.{Tells}
+use Rattle.table_state.proofs.Passing.{given_on, some_told}
 use Rattle.table_state.proofs.state.TableStateStateStore.trail.Goals as goal
 
-pub returns-in-Ok-lines_by-clause-value : goal.returns-in-Ok-lines_by-clause-value
-returns-in-Ok-lines_by-clause-value g c = λ s shown sound.
-    c.in-Ok-lines_by.ensures ∙ trail_is _ _ _ _ _ (at_rest s) shown c.in-Ok.ensures.survives c.in-Ok.ensures.open sound c.in-Ok.rows.items (c.in-Ok.ensures.read (seen_in (g.S.TableStore.view c.args.self.now.store)))
+pub returns-clause-rows : goal.returns-clause-rows
+returns-clause-rows g c = λ s shown sound.
+    let from = c.new-telling.result in
+    let to = c.hand_out_trail-read.new.sink in
+    let handed : Hands g.K.Sink.takes (trail_rows s.cargo) from.sink.now to.sink.now c.ended.result =
+    given_on g.K.Sink.takes line_of _ (λ old x go new h. subst (λ l. Tells g.K.Sink.takes (line_of l) old go new) h.1 h.2) _ _ _ _ _ s shown c.hand_out_trail-read.ensures.survives (λ t. t.trail) (trail_rows s.cargo) (λ means _. trail_handed _ s means)
+    from to c.hand_out_trail-read.result c.hand_out_trail-read.ensures.hands c.hand_out_trail-read.ensures.shut c.ended.result (rw c.is_stuck.ensures at c.ended.ensures) sound in
+    let name = (some_told g.K.Sink.takes (λ (row : TrailRow). line_of (trail_meant row)) _ (λ old x go new h. h) _ from to c.hand_out_trail-read.ensures.took.1).0 in
+    subst₂ (λ a b. Hands g.K.Sink.takes (trail_rows s.cargo) a b c.ended.result) c.new-telling.ensures.same (search rules) handed
+
+pub returns-clause-took : goal.returns-clause-took
+returns-clause-took g c =
+    let from = c.new-telling.result in
+    let to = c.hand_out_trail-read.new.sink in
+    let told = some_told g.K.Sink.takes (λ (row : TrailRow). line_of (trail_meant row)) _ (λ old x go new h. h) _ from to c.hand_out_trail-read.ensures.took.1 in
+    let values : List reader.TrailRow = told.1 in
+    let handed : HandedOut g.K.Sink.takes values from.sink.now to.sink.now = told.2 in
+    (values, search rules)

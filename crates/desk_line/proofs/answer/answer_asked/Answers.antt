@@ -1,0 +1,22 @@
+use Rattle.std.proofs.Common.{sym, subst}
+use Rattle.desk_line.specs.declared.asked.Asked.{Asked}
+use Rattle.desk_line.specs.Shut.{IsAnsweredShut}
+use Rattle.desk_line.proofs.answer.answer_asked.Goals as goal
+
+pub returns-in-Input-clause-reopen : goal.returns-in-Input-clause-reopen
+returns-in-Input-clause-reopen g c = λ broken.
+    let old = g.O.ByteOut.taken c.args.writer.now in
+    let new = g.O.ByteOut.taken c.answer_input.new.writer in
+    subst (λ (a : Asked). IsAnsweredShut a old new c.answer_input.result) (sym c.in-Input.is) (c.answer_input.ensures.reopen broken)
+
+pub returns-in-Refused-clause-reopen : goal.returns-in-Refused-clause-reopen
+returns-in-Refused-clause-reopen g c = λ broken.
+    let old = g.O.ByteOut.taken c.args.writer.now in
+    let new = g.O.ByteOut.taken c.answer_refusal.new.writer in
+    subst (λ (a : Asked). IsAnsweredShut a old new c.answer_refusal.result) (sym c.in-Refused.is) c.answer_refusal.ensures.told
+
+pub returns-in-Bad-clause-reopen : goal.returns-in-Bad-clause-reopen
+returns-in-Bad-clause-reopen g c = λ broken.
+    let old = g.O.ByteOut.taken c.args.writer.now in
+    let new = g.O.ByteOut.taken c.answer_bad.new.writer in
+    subst (λ (a : Asked). IsAnsweredShut a old new c.answer_bad.result) (sym c.in-Bad.is) c.answer_bad.ensures.told

@@ -1,7 +1,0 @@
-use Rattle.std.specs.Vec.Iter.{into_iter_items}
-use Rattle.station_core.specs.Readers.{HandedOut}
-use Rattle.station_core.proofs.sink.hand_out.Given as goal
-
--- what is still to be handed out makes the whole
-abbrev pub invariant-loop-row : goal.invariant-loop-row
-invariant-loop-row g l = (new : g.row.S.Denot) → HandedOut g.S.Sink.takes (into_iter_items l.row-iterator) l.sink new → HandedOut g.S.Sink.takes l.fn.rows.items l.fn.sink new

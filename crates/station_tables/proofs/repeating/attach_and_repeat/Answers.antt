@@ -1,0 +1,42 @@
+use Rattle.std.proofs.Common.{inl}
+use Rattle.sqlite.specs.Held.{state}
+use Rattle.sqlite.specs.State.{HasCleanDisk}
+use Rattle.row_schema.specs.Own.{IsOwn, LiesInOrder}
+use Rattle.row_schema.specs.Connection.{connection_view}
+use Rattle.station_tables.specs.Attached.{connection_in}
+use Rattle.station_tables.specs.Found.{Finds}
+use Rattle.station_tables.proofs.Again.{left_on, refuses_on, repeated_on, sound_on, spared_on}
+use Rattle.station_tables.specs.contracts.station.StationKeeper.TheImpl.{ghosts}
+use Rattle.station_tables.proofs.repeating.attach_and_repeat.Goals as goal
+
+pub returns-in-Ok-clause-repeated : goal.returns-in-Ok-clause-repeated
+returns-in-Ok-clause-repeated g c =
+    repeated_on _ c.args.input.now c.args.at _ _ (λ k. HasCleanDisk (state g.S.Store (connection_in k))) c.in-Ok.station _ c.in-Ok.ensures.found _ (λ sound. sound.0) c.repeat_on.ensures.sound c.repeat_on.ensures.repeated
+
+pub returns-in-Ok-clause-own : goal.returns-in-Ok-clause-own
+returns-in-Ok-clause-own g c =
+    let station = ghosts g.row.S g.S.Alter g.S.Alter-dict g.S.Store g.S.Store-dict in
+    sound_on _ c.args.input.now c.args.at station.keeps station.is_sound (λ k. HasCleanDisk (state g.S.Store (connection_in k))) c.in-Ok.station _ c.in-Ok.ensures.found (IsOwn (state g.S.Store c.args.conn).now.trees) (LiesInOrder g.S.Store)
+    (λ clean own lies. (clean, c.in-Ok.ensures.own clean own, lies)) c.repeat_on.ensures.clean c.repeat_on.ensures.still
+
+pub returns-in-Ok-clause-refused : goal.returns-in-Ok-clause-refused
+returns-in-Ok-clause-refused g c =
+    let station = ghosts g.row.S g.S.Alter g.S.Alter-dict g.S.Store g.S.Store-dict in
+    refuses_on _ c.args.input.now c.args.at station.keeps station.is_sound (λ k. HasCleanDisk (state g.S.Store (connection_in k))) c.in-Ok.station _ c.in-Ok.ensures.found (λ conn. HasCleanDisk (state g.S.Store conn)) c.repeat_on.ensures.fault
+
+pub returns-in-Ok-clause-leaves : goal.returns-in-Ok-clause-leaves
+returns-in-Ok-clause-leaves g c =
+    let station = ghosts g.row.S g.S.Alter g.S.Alter-dict g.S.Store g.S.Store-dict in
+    left_on _ c.args.input.now c.args.at station.keeps station.is_sound (λ k. HasCleanDisk (state g.S.Store (connection_in k))) c.in-Ok.station _ c.in-Ok.ensures.found (λ conn. HasCleanDisk (state g.S.Store conn)) (λ conn. Finds (connection_view g.S.Store conn)) _
+    (IsOwn (state g.S.Store c.args.conn).now.trees) (LiesInOrder g.S.Store) (λ clean own lies. (clean, c.in-Ok.ensures.own clean own, lies)) c.repeat_on.ensures.left_clean c.repeat_on.ensures.leaves
+
+pub returns-in-Ok-clause-spares : goal.returns-in-Ok-clause-spares
+returns-in-Ok-clause-spares g c =
+    let station = ghosts g.row.S g.S.Alter g.S.Alter-dict g.S.Store g.S.Store-dict in
+    spared_on _ c.args.input.now c.args.at station.keeps station.is_sound (λ k. HasCleanDisk (state g.S.Store (connection_in k))) c.in-Ok.station _ c.in-Ok.ensures.found (λ conn. HasCleanDisk (state g.S.Store conn)) (λ conn. Finds (connection_view g.S.Store conn)) _ c.repeat_on.ensures.left_clean
+
+pub returns-in-Err-clause-leaves : goal.returns-in-Err-clause-leaves
+returns-in-Err-clause-leaves g c = λ clean own lies found finds. inl (c.in-Err.ensures.leaves clean found finds)
+
+pub returns-in-Err-clause-spares : goal.returns-in-Err-clause-spares
+returns-in-Err-clause-spares g c = λ clean none found finds. c.in-Err.ensures.leaves clean found finds

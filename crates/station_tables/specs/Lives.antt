@@ -1,0 +1,52 @@
+-- The lives of a file: each is a station that opens it, is given inputs, and ends.
+use Rattle.std.specs.Prelude.{◌≡◌, ◌⊎◌, ℕ, ◌+◌, ◌<◌, List, [], ◌∷◌, ◌++◌, take, length, Option, Some}
+use Rattle.std.specs.List.{AllByRecursion, flat_map}
+use Rattle.imp_fields.specs.Date.{LocalMinute}
+use Rattle.shipment_machine.specs.Laws.{IsConserved, AreBalances}
+use Rattle.station_core.specs.declared.answer.ActFault.{ActFault}
+use Rattle.station_core.specs.declared.answer.ActFault.TheVariants as fault
+use Rattle.station_core.specs.declared.input.Input.{Input}
+use Rattle.station_core.specs.Keeping.{IsAfterAnswered}
+use Rattle.station_core.specs.Ranges.{AreInputs}
+use Rattle.station_core.specs.Step.{State, IsLawfulState, opening, after_all}
+
+-- The inputs that a station was given, how many it answered, and the fault that ended them, if any. Then it gave its
+-- connection back, or was cut off.
+pub record Life : Type 0 where
+  pub inputs : List (Input × LocalMinute)
+  pub answered : ℕ
+  pub ended : Option ActFault
+
+-- the next opening finds this state
+abbrev pub IsAfterLife : State → Life → State → Type 0
+IsAfterLife s life found = IsAfterAnswered s life.inputs life.answered life.ended (Some found)
+
+-- one life after another, each from the state that its opening found
+abbrev pub AreLives : State → List Life → State → Type 0
+AreLives s [] found = found ≡ s
+AreLives s (life ∷ lives) found = (mid : State) × IsAfterLife s life mid × AreLives mid lives found
+
+-- Of a life those inputs count that were answered and, where it ended by Store, at most one more.
+abbrev pub Counts : Life → List (Input × LocalMinute) → Type 0
+Counts life inputs =
+    (inputs ≡ take life.answered life.inputs)
+    ⊎ ((life.ended ≡ Some fault.Store) × (life.answered < length life.inputs) × (inputs ≡ take (life.answered + 1) life.inputs))
+
+abbrev pub AreCounted : List Life → List (List (Input × LocalMinute)) → Type 0
+AreCounted [] [] = Unit {0}
+AreCounted (life ∷ lives) (inputs ∷ more) = Counts life inputs × AreCounted lives more
+AreCounted _ _ = ⊥
+
+-- what counts, one life's inputs behind another's
+abbrev pub in_order : List (List (Input × LocalMinute)) → List (Input × LocalMinute)
+in_order counted = flat_map (λ inputs. inputs) counted
+
+-- The state after all that counts: it is lawful, and for each waybill what was taken over or found is in store, departed,
+-- delivered or missing, in pieces and in tenths, and the amounts that are shown are the balances of its moves.
+pub record IsAfterLives (here : List ℕ) (lives : List Life) (found : State) : Type 0 where
+  pub counted : List (List (Input × LocalMinute))
+  pub each : AreCounted lives counted
+  pub state : found ≡ after_all (opening here) (in_order counted)
+  pub lawful : IsLawfulState found
+  pub conserved : (w : ℕ) → IsConserved found.cargo.book w
+  pub shown : (w : ℕ) → AreBalances found.cargo.book w

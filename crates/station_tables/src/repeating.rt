@@ -1,0 +1,120 @@
+ghost use Rattle.std.specs.Prelude.{◌≡◌, true, false, Err, Option, IfOk, IfErr, OnOk};
+ghost use Rattle.sqlite.specs.State.{HasCleanDisk};
+ghost use Rattle.sqlite.specs.Held.{state};
+ghost use Rattle.row_schema.specs.Own.{IsOwn, LiesInOrder};
+ghost use Rattle.row_schema.specs.Connection.{connection_view};
+ghost use Rattle.station_core.specs.Keeping.{Answers, MayLeave, IsMemoryOrStore};
+ghost use Rattle.station_core.specs.Step.{State, IsLawfulState};
+ghost use Rattle.station_rows.specs.Own.{are_declared};
+ghost use Rattle.station_tables.specs.Attached.{connection_in, IsBreakdown, IsStateIn, IsTypedState, Refuses};
+ghost use Rattle.station_tables.specs.Found.{Finds};
+ghost use Rattle.station_tables.specs.Repeated.{HasAnswered, HasRepeated, IsBeforeOrAfter, IsBeforeOrAfterIn};
+
+use crate::attaching::attach;
+use crate::fault::AttachFault;
+use crate::station::Station;
+use imp_fields::Moment;
+use sqlite::{Alter, Connection};
+use station_core::{ActFault, Answer, Input, Keeper};
+use std::alloc::Global;
+
+/// One input, where a refusal is an answer.
+fn answer_on<S: Alter>(
+    station: &mut Station<S>,
+    input: &Input<'_>,
+    at: Moment,
+) -> Result<Answer, ActFault>
+    ensures works { ⟦<Station<S> as Keeper>⟧.is_broken station.old ≡ false → OnOk result (⟦<Station<S> as Keeper>⟧.is_broken station.new ≡ false) }
+    ensures fault { ⟦<Station<S> as Keeper>⟧.is_broken station.old ≡ false → IfErr result IsMemoryOrStore }
+    ensures clean { HasCleanDisk (state S.Store (connection_in station.new)) → HasCleanDisk (state S.Store (connection_in station.old)) }
+    ensures still { ⟦<Station<S> as Keeper>⟧.is_sound station.old → HasCleanDisk (state S.Store (connection_in station.new)) → ⟦<Station<S> as Keeper>⟧.is_sound station.new }
+    ensures sound { ⟦<Station<S> as Keeper>⟧.is_sound station.new → ⟦<Station<S> as Keeper>⟧.is_sound station.old }
+    ensures answers { (s : State) → ⟦<Station<S> as Keeper>⟧.keeps station.old s → ⟦<Station<S> as Keeper>⟧.is_broken station.old ≡ false → ⟦<Station<S> as Keeper>⟧.is_sound station.new
+        → Answers s input.now at result (⟦<Station<S> as Keeper>⟧.keeps station.new) }
+    ensures leaves { (s : State) → ⟦<Station<S> as Keeper>⟧.keeps station.old s → ⟦<Station<S> as Keeper>⟧.is_broken station.old ≡ false → ⟦<Station<S> as Keeper>⟧.is_sound station.new
+        → (found : Option State) → ⟦<Station<S> as Keeper>⟧.may_find station.new found → MayLeave s input.now at result found }
+{
+    match station.act_on(input, at) {
+        Ok(reply) => Ok(Answer::Done(reply)),
+        Err(ActFault::Refused(refusal)) => Ok(Answer::Refused(refusal)),
+        Err(ActFault::Memory) => Err(ActFault::Memory),
+        Err(ActFault::Store) => Err(ActFault::Store),
+        Err(ActFault::Reopen) => Err(ActFault::Reopen),
+    }
+}
+
+/// The fault of an opening that an input's fault ends.
+fn ended_by(fault: &ActFault) -> AttachFault
+    ensures { IsBreakdown result }
+{
+    match fault {
+        ActFault::Memory => AttachFault::Memory,
+        _ => AttachFault::Store,
+    }
+}
+
+/// One input on a station that was opened. The connection comes back where it fails.
+fn repeat_on<S: Alter>(
+    mut station: Station<S>,
+    input: &Input<'_>,
+    at: Moment,
+) -> Result<(Station<S>, Answer), (Connection<S>, AttachFault)>
+    requires { ⟦<Station<S> as Keeper>⟧.is_broken station ≡ false }
+    ensures works { IfOk result (λ r. ⟦<Station<S> as Keeper>⟧.is_broken r.0 ≡ false) }
+    ensures clean { IfOk result (λ r. HasCleanDisk (state S.Store (connection_in r.0)) → HasCleanDisk (state S.Store (connection_in station))) }
+    ensures still { IfOk result (λ r. ⟦<Station<S> as Keeper>⟧.is_sound station → HasCleanDisk (state S.Store (connection_in r.0)) → ⟦<Station<S> as Keeper>⟧.is_sound r.0) }
+    ensures sound { IfOk result (λ r. ⟦<Station<S> as Keeper>⟧.is_sound r.0 → ⟦<Station<S> as Keeper>⟧.is_sound station) }
+    ensures repeated { (s : State) → ⟦<Station<S> as Keeper>⟧.keeps station s → IfOk result (λ r. ⟦<Station<S> as Keeper>⟧.is_sound r.0
+        → HasAnswered s input.now at r.1 (⟦<Station<S> as Keeper>⟧.keeps r.0) (⟦<Station<S> as Keeper>⟧.may_find r.0)) }
+    ensures fault { IfErr result (λ e. IsBreakdown e.1) }
+    ensures left_clean { IfErr result (λ e. HasCleanDisk (state S.Store e.0) → HasCleanDisk (state S.Store (connection_in station))) }
+    ensures leaves { (s : State) → ⟦<Station<S> as Keeper>⟧.keeps station s → ⟦<Station<S> as Keeper>⟧.is_sound station → IfErr result (λ e. HasCleanDisk (state S.Store e.0)
+        → (found : Option State) → Finds (connection_view S.Store e.0) found → IsBeforeOrAfter s input.now at found) }
+{
+    match answer_on(&mut station, input, at) {
+        Ok(answer) => Ok((station, answer)),
+        Err(fault) => {
+            let fault = ended_by(&fault);
+            Err((station.release(), fault))
+        }
+    }
+}
+
+/// Opens the station of a database and gives it an input that may have been interrupted, or answered with the answer lost. A new input is
+/// done; one that was accepted before gets its one reply, and changes nothing.
+pub fn attach_and_repeat<S: Alter>(
+    alloc: Global,
+    conn: Connection<S>,
+    input: &Input<'_>,
+    at: Moment,
+) -> Result<(Station<S>, Answer), (Connection<S>, AttachFault)>
+    ensures inside { (connection_view S.Store conn).in_transaction ≡ true → result ≡ Err (conn, AttachFault.Store) }
+    ensures works { IfOk result (λ r. ⟦<Station<S> as Keeper>⟧.is_broken r.0 ≡ false) }
+    ensures sound { IfOk result (λ r. ⟦<Station<S> as Keeper>⟧.is_sound r.0 → (connection_view S.Store conn).IsSound) }
+
+    // The answer and the state are those of a step on the state that the tables mean, and a crash leaves that state alone.
+    ensures repeated { IfOk result (λ r. ⟦<Station<S> as Keeper>⟧.is_sound r.0
+        → HasRepeated (state S.Store conn).now input.now at r.1 (⟦<Station<S> as Keeper>⟧.keeps r.0) (⟦<Station<S> as Keeper>⟧.may_find r.0)) }
+
+    // The premise holds where a station wrote the tables and the disk returned them.
+    ensures own { IfOk result (λ r. HasCleanDisk (state S.Store (connection_in r.0)) → IsOwn (state S.Store conn).now.trees → LiesInOrder S.Store → ⟦<Station<S> as Keeper>⟧.is_sound r.0) }
+
+    // A fault names what is so. Where the tables are a station's and lawful, the store failed or memory was out.
+    ensures refused { IfErr result (λ e. HasCleanDisk (state S.Store e.0) → Refuses (state S.Store conn).now e.1) }
+    ensures fit { IfErr result (λ e. HasCleanDisk (state S.Store e.0) → (s : State) → IsStateIn (state S.Store conn).now s → IsBreakdown e.1) }
+    ensures own_fit { IfErr result (λ e. HasCleanDisk (state S.Store e.0) → IsOwn (state S.Store conn).now.trees → LiesInOrder S.Store
+        → (s : State) → IsTypedState (state S.Store conn).now s → IsLawfulState s → IsBreakdown e.1) }
+
+    // A crash then leaves what it left before the call, or, where a station wrote the tables, the state that they mean or the one after it.
+    ensures leaves { IfErr result (λ e. HasCleanDisk (state S.Store e.0) → IsOwn (state S.Store conn).now.trees → LiesInOrder S.Store
+        → (found : Option State) → Finds (connection_view S.Store e.0) found → IsBeforeOrAfterIn (connection_view S.Store conn) (state S.Store conn).now input.now at found) }
+
+    // Tables that aren't a station's are left as they were.
+    ensures spares { IfErr result (λ e. HasCleanDisk (state S.Store e.0) → ((s : State) → ¬ IsStateIn (state S.Store conn).now s)
+        → (found : Option State) → Finds (connection_view S.Store e.0) found → Finds (connection_view S.Store conn) found) }
+{
+    match attach(alloc, conn) {
+        Ok(station) => repeat_on(station, input, at),
+        Err(none) => Err(none),
+    }
+}
