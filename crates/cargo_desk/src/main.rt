@@ -2,7 +2,6 @@
 #![tactic(auto)]
 
 mod files;
-mod output;
 mod service;
 mod task;
 

@@ -1,7 +1,6 @@
 //! A line over its store: memory, or a file.
 
 use crate::files::{make_file, open_file};
-use crate::output::{Gathered, Prompted};
 use crate::service::{Service, serve_line};
 use desk_call::{DeskFault, end, run_line};
 use desk_run::{Feed, is_opening};
@@ -10,7 +9,6 @@ use imp_fields::Moment;
 use memory_files::open_pages;
 use sqlite::{Alter, Connection};
 use station_core::Counted;
-use std::cell::RefCell;
 use std::io::{BufWriter, Read, Write};
 use stock_list::RunFault;
 
@@ -64,8 +62,7 @@ fn run_direct<S: Alter, R: Read + Drop>(
     )
 }
 
-/// Runs a line over a connection. What it writes is gathered, and goes out before each read of the input, and before the
-/// end.
+/// Runs a line over a connection. What it writes is gathered, and goes out before the end.
 fn run_gathered<S: Alter, R: Read + Drop>(
     rt: &HostRuntime,
     line: &Line<'_>,
@@ -77,10 +74,9 @@ fn run_gathered<S: Alter, R: Read + Drop>(
     let Ok(gathered) = BufWriter::new(alloc, rt.stdout()) else {
         return (faulted(rt, RunFault::Memory), conn);
     };
-    let shared = RefCell::new(gathered);
-    let mut output = Counted::new(Gathered::new(&shared));
+    let mut output = Counted::new(gathered);
     let mut errors = Counted::new(rt.stderr());
-    let mut feed = Feed::new(Prompted::new(reader, &shared));
+    let mut feed = Feed::new(reader);
     let (status, conn) = run_line(alloc, line, conn, &mut feed, &mut output, &mut errors, at);
     if output.into_inner().flush().is_err() {
         return (failed_late(rt, status, RunFault::Write), conn);
