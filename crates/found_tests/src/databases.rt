@@ -1,5 +1,4 @@
-//! Databases that were found: a station's tables, right or damaged, that no rule of the database
-//! guards, and stations that go on.
+//! Databases that were found: a station's tables, right or damaged, that no rule of the database guards, and stations that go on.
 use crate::faults::fault_said;
 use crate::listing::all_rows;
 use case_words::{answered, holder, keyed, say, shown, stock, waybill};
@@ -11,8 +10,7 @@ use station_tables::{AttachFault, Station, attach, create};
 use std::alloc::Global;
 use telegrams::read_telegram;
 
-/// What the calls of a file are about: the tables of a day, and a station or the connection that
-/// was left of one.
+/// What the calls of a file are about: the tables of a day, and a station or the connection that was left of one.
 #[derive(Drop)]
 pub struct FoundAnswers {
     alloc: Global,

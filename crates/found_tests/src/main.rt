@@ -1,36 +1,22 @@
-//! Databases that are opened as a station's: found ones, right and damaged, and those of stations
-//! that were stopped.
-//!
-//! With the word `memory` it goes through inputs for which memory may be refused alone. Run it so
-//! with each allocation failing in turn.
+//! Databases that are opened as a station's: found ones, right and damaged, and those of stations that were stopped.
 #![tactic(auto)]
 
 mod databases;
+mod departure;
 mod disks;
 mod faults;
-mod finding;
 mod fused;
 mod listing;
-mod memory;
-mod repeats;
-mod stopping;
 mod stops;
 
 use case_files::{Answers, go_through};
 use databases::FoundAnswers;
-use disks::FusedDisk;
-use memory::{Run, Told, told_at_last};
-use repeats::RepeatAnswers;
-use sqlite::FileStore;
 use std::alloc::Global;
 use std::process::ExitCode;
-use std::{env, fs, io};
+use std::{fs, io};
 
 /// The files of cases, in the order in which they are gone through.
-const FILES: [&str; 3] = ["found", "stops", "repeats"];
-
-/// The store over two files that fail from a call on. No other function of the program names it.
-type Disks = FileStore<FusedDisk>;
+const FILES: [&str; 3] = ["found", "stops", "departures"];
 
 /// What answers the cases of a file.
 #[derive(Drop)]
@@ -38,37 +24,15 @@ struct FileAnswers {
     alloc: Global,
     file: &'static str,
     found: FoundAnswers,
-    repeats: RepeatAnswers,
 }
 
 impl Answers for FileAnswers {
     fn answer(&mut self, asked: &str, text: &[u8]) -> Option<String> {
         match self.file {
             "found" => self.found.answer(asked, text),
-            "stops" => stops::answer::<Disks>(self.alloc, asked),
-            "repeats" => self.repeats.answer::<Disks>(asked, text),
-            _ => None,
+            _ => stops::answer(self.alloc, asked),
         }
     }
-}
-
-/// Gives each input for which memory may be refused, and prints what came of it. Whether all came
-/// out as they must.
-fn try_memory(rt: &HostRuntime) -> Result<bool, io::Error> {
-    let mut all = true;
-    for run in [
-        Run::TakeIn,
-        Run::Manifest,
-        Run::CheckInShort,
-        Run::CheckInOver,
-        Run::Departure,
-        Run::Confirmation,
-    ] {
-        let told = told_at_last(rt.alloc(), run);
-        println!(rt; "{run:?}: {}", told.word())?;
-        all &= told != Told::Otherwise;
-    }
-    Ok(all)
 }
 
 /// Goes through each file of cases. Whether all came out as they must.
@@ -81,7 +45,6 @@ fn try_cases(rt: &HostRuntime) -> Result<bool, io::Error> {
             alloc: rt.alloc(),
             file,
             found: FoundAnswers::new(rt.alloc()),
-            repeats: RepeatAnswers::new(rt.alloc()),
         };
         all &= go_through(rt, file, text.as_str(), &mut answers)?;
     }
@@ -90,8 +53,6 @@ fn try_cases(rt: &HostRuntime) -> Result<bool, io::Error> {
 
 /// The status is 0 where everything came out as it must.
 fn main(rt: HostRuntime) -> Result<ExitCode, io::Error> {
-    let words: Vec<String> = env::args(&rt)?.collect(rt.alloc())?;
-    let told = try_memory(&rt)?;
-    let all = words.len() > 1 || try_cases(&rt)?;
-    Ok(ExitCode::from(if told && all { 0 } else { 1 }))
+    let all = try_cases(&rt)?;
+    Ok(ExitCode::from(if all { 0 } else { 1 }))
 }

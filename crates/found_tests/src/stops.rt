@@ -1,21 +1,18 @@
-//! A store that fails at its n-th call, for every n: what is found afterwards is the station
-//! before or after the interrupted step.
-use crate::disks::{Calls, FailingFile, FileBytes, FusedStore};
-use crate::finding::found;
+//! A store that fails at its n-th call, for every n: what is found afterwards is the station before or after the interrupted step.
+use crate::departure;
+use crate::disks::{FusedDisk, crashed, files, found, found_over, opened};
 use crate::fused::Fused;
-use crate::stopping::found_in;
 use awb_number::Awb;
 use case_words::{is_done, keyed, noon, say};
 use imp_fields::Airport;
-use sqlite::Connection;
+use sqlite::Files;
 use station_core::{ActFault, Keeper};
 use station_rows::open_memory;
 use station_tables::create;
 use std::alloc::Global;
 use stored_station::StoredStation;
 
-/// The commands of a day, each with its key: numbers are taken in, and four of ten pieces that
-/// were received depart.
+/// The commands of a day, each with its key: numbers are taken in, and four of ten pieces that were received depart.
 const DAY: [(&str, &str); 5] = [
     ("t1", "take-in\n055\n0000010\n10"),
     ("b1", "book\n020-12345675\nFRA\nJFK\n10\n1000\nCARGO"),
@@ -31,7 +28,7 @@ const NO_STATION: &str = "602, 0 tables and indexes";
 const STEPS: usize = 6;
 
 /// Whether a command is accepted at noon of 12 January 2026.
-fn accepts(station: &mut impl Keeper, key: &str, command: &str) -> bool {
+pub fn accepts(station: &mut impl Keeper, key: &str, command: &str) -> bool {
     let (Some(input), Some(noon)) = (keyed(key, command), noon()) else {
         return false;
     };
@@ -48,34 +45,25 @@ fn act_on_day(station: &mut impl Keeper, wanted: usize) -> usize {
     wanted.min(DAY.len())
 }
 
-/// Makes a station over a connection and gives it commands, up to so many steps. How many were
-/// done, and what a crash leaves.
-fn make_and_act<S: FusedStore>(
-    alloc: Global,
-    conn: Connection<S>,
-    wanted: usize,
-) -> Option<(usize, FileBytes)> {
-    match create(alloc, conn, Airport::read(b"FRA")?) {
-        Ok(mut station) => {
-            let commands = act_on_day(&mut station, wanted.saturating_sub(1));
-            let left = S::crash(alloc, station.release())?;
-            Some((commands.saturating_add(1), left))
-        }
-        Err((conn, _)) => Some((0, S::crash(alloc, conn)?)),
-    }
-}
-
-/// Takes up to so many steps over new files that serve so many calls. How many were done, and what
-/// a crash leaves.
-fn play<S: FusedStore>(alloc: Global, calls: Calls, wanted: usize) -> Option<(usize, FileBytes)> {
-    let fresh = FileBytes::new(alloc);
+/// Makes a station and gives it commands, up to so many steps. How many were done, and the files.
+fn play(alloc: Global, fresh: Files<FusedDisk>, wanted: usize) -> (usize, Files<FusedDisk>) {
+    let Some(here) = Airport::read(b"FRA") else {
+        return (0, fresh);
+    };
     if wanted == 0 {
-        return Some((0, fresh));
+        return (0, fresh);
     }
-    match S::open(alloc, &fresh, calls)? {
-        Ok(conn) => make_and_act::<S>(alloc, conn, wanted),
-        Err(left) => Some((0, left)),
-    }
+    let conn = match opened(alloc, fresh) {
+        Ok(conn) => conn,
+        Err(files) => return (0, files),
+    };
+    let mut station = match create(alloc, conn, here) {
+        Ok(station) => station,
+        Err((conn, _)) => return (0, conn.into_store().close()),
+    };
+    let commands = act_on_day(&mut station, wanted.saturating_sub(1));
+    let files = station.release().into_store().close();
+    (commands.saturating_add(1), files)
 }
 
 /// The waybill of the day.
@@ -83,25 +71,20 @@ fn number() -> Option<Awb> {
     Awb::new(20, 1_234_567)
 }
 
-/// What is found after so many steps that no failure stops.
-fn state<S: FusedStore>(alloc: Global, wanted: usize) -> Option<String> {
-    let (steps, left) = play::<S>(alloc, Calls::all(), wanted)?;
-    if steps != wanted {
-        return None;
-    }
-    found_in::<S>(alloc, &left, &[number()?])
-}
-
-/// What is found after each number of such steps: first no station, and then one. Each step
-/// differs from the one before it.
-fn states<S: FusedStore>(alloc: Global) -> Option<Vec<String>> {
+/// What is found after each number of steps that no failure stops: first no station, and then one.
+fn states(alloc: Global) -> Option<Vec<String>> {
     let mut states = Vec::new(alloc);
     for wanted in 0..=STEPS {
-        let found = state::<S>(alloc, wanted)?;
-        if (found.as_str() == NO_STATION) != (wanted == 0) {
+        let (steps, left) = play(alloc, files(alloc, u64::MAX, u64::MAX), wanted);
+        if steps != wanted {
             return None;
         }
-        if wanted > 0 && is_state(&states, wanted - 1, found.as_str()) {
+        let found = found(alloc, left, &[number()?])?;
+        if (found.as_str() == NO_STATION) != (steps == 0) {
+            return None;
+        }
+        // Each step differs from the one before it.
+        if steps > 0 && is_state(&states, steps - 1, found.as_str()) {
             return None;
         }
         states.push(found).ok()?;
@@ -118,11 +101,16 @@ fn is_state(states: &[String], steps: usize, found: &str) -> bool {
 }
 
 /// One stop after another, up to the first day that isn't stopped.
-fn stops<S: FusedStore>(alloc: Global, file: FailingFile) -> Option<String> {
-    let states = states::<S>(alloc)?;
+fn stops(alloc: Global, in_log: bool) -> Option<String> {
+    let states = states(alloc)?;
     for calls in 0..5000 {
-        let (steps, left) = play::<S>(alloc, Calls::of(file, calls), STEPS)?;
-        let found = found_in::<S>(alloc, &left, &[number()?])?;
+        let fresh = if in_log {
+            files(alloc, calls, u64::MAX)
+        } else {
+            files(alloc, u64::MAX, calls)
+        };
+        let (steps, left) = play(alloc, fresh, STEPS);
+        let found = found(alloc, crashed(left), &[number()?])?;
         let found = found.as_str();
         if !is_state(&states, steps, found) && !is_state(&states, steps.saturating_add(1), found) {
             return format!(in alloc; "{calls} calls, {steps} steps: {found}").ok();
@@ -142,8 +130,8 @@ fn is_broken(station: &mut impl Keeper) -> bool {
     matches!(station.holder(&number), Err(ActFault::Reopen))
 }
 
-/// Plays the day over tables in memory that serve so many calls of the station. How many steps
-/// were done, and what is found then: nothing where the station goes on after a failed call.
+/// Plays the day over tables in memory that serve so many calls of the station. How many steps were done, and what is found then:
+/// nothing where the station goes on after a failed call.
 fn play_in_memory(alloc: Global, calls: u32) -> Option<(usize, String)> {
     let here = Airport::read(b"FRA")?;
     let tables = match table_state::create(alloc, open_memory(alloc).ok()?, here) {
@@ -156,13 +144,12 @@ fn play_in_memory(alloc: Global, calls: u32) -> Option<(usize, String)> {
         return None;
     }
     let conn = station.into_store().into_store().release();
-    Some((steps, found(alloc, conn, &[number()?])?))
+    Some((steps, found_over(alloc, conn, &[number()?])?))
 }
 
-/// One failing call after another, up to the first day that has none: what is found is what was
-/// acknowledged.
-fn failing_calls<S: FusedStore>(alloc: Global) -> Option<String> {
-    let states = states::<S>(alloc)?;
+/// One failing call after another, up to the first day that has none: what is found is what was acknowledged.
+fn failing_calls(alloc: Global) -> Option<String> {
+    let states = states(alloc)?;
     for calls in 0..5000 {
         let (steps, found) = play_in_memory(alloc, calls)?;
         let found = found.as_str();
@@ -177,11 +164,13 @@ fn failing_calls<S: FusedStore>(alloc: Global) -> Option<String> {
 }
 
 /// What is found after stops at each call of a file, or of a store of tables.
-pub fn answer<S: FusedStore>(alloc: Global, asked: &str) -> Option<String> {
+pub fn answer(alloc: Global, asked: &str) -> Option<String> {
     match asked {
-        "calls" => failing_calls::<S>(alloc),
-        "log" => stops::<S>(alloc, FailingFile::Log),
-        "database" => stops::<S>(alloc, FailingFile::Database),
+        "calls" => failing_calls(alloc),
+        "log" => stops(alloc, true),
+        "database" => stops(alloc, false),
+        "departure-log" => departure::stops(alloc, true),
+        "departure-database" => departure::stops(alloc, false),
         _ => None,
     }
 }
