@@ -1,9 +1,11 @@
 -- The station that a line opens.
-use Rattle.std.specs.Prelude.{◌≡◌, ◌⊎◌, ℕ, Bool, true, false, Option, Some, Result, Err, IfOk, IfErr, OnOk, List}
+use Rattle.std.specs.Prelude.{◌≡◌, ◌⊎◌, ◌↔◌, ℕ, Bool, true, false, IsTrue, Option, Some, Result, Err, IfOk, IfErr, OnOk, List}
 use Rattle.sqlite.specs.Held.{Held, state}
 use Rattle.sqlite.specs.State.{HasCleanDisk}
 use Rattle.sqlite_trees.specs.declared.store.Store.{Ghosts}
+use Rattle.row_schema.specs.Beside.{IsOneStep}
 use Rattle.row_schema.specs.Connection.{connection_view, IsVacant}
+use Rattle.row_schema.specs.Names.{takes_name}
 use Rattle.row_schema.specs.Own.{IsOwn, LiesInOrder}
 use Rattle.station_core.specs.Step.{State, IsLawfulState, opening}
 use Rattle.station_rows.specs.Own.{are_declared}
@@ -16,20 +18,23 @@ use Rattle.station_tables.specs.Found.{Finds}
 -- A new station was made over a connection, at an airport, or none was: what `create` says of it.
 pub record HasMade {S : Type 0} (g : Ghosts S) (keeps : Station S g → State → Type 0) (is_sound : Station S g → Type 0) (is_broken : Station S g → Bool)
     (conn : Held S) (here : List ℕ) (opened : Result (Station S g) (Held S × AttachFault)) : Type 0 where
-  pub empty : OnOk opened (IsVacant g conn)
-  pub declared : IfOk opened (λ station. are_declared station.stored.store.store ≡ true)
+  pub free : OnOk opened (takes_name (state g conn).now.schema ≡ false)
+  pub declared : IfOk opened (λ station. IsTrue (are_declared station.stored.store.store) ↔ IsVacant g conn)
   pub works : IfOk opened (λ station. is_broken station ≡ false)
   pub sound : IfOk opened (λ station. is_sound station → (connection_view g conn).IsSound)
   -- it keeps the opening state
   pub keeps_opening : IfOk opened (λ station. keeps station (opening here))
-  -- Occupied exactly where the store wasn't empty, and then nothing changed
+  -- Occupied exactly where one of a new station's names is taken, and then nothing changed
   pub inside : (connection_view g conn).in_transaction ≡ true → opened ≡ Err (conn, fault.Store)
-  pub occupied : (connection_view g conn).in_transaction ≡ false → ¬ (IsVacant g conn) → opened ≡ Err (conn, fault.Occupied)
-  pub vacant : IfErr opened (λ e. e.1 ≡ fault.Occupied → ¬ (IsVacant g conn))
+  pub occupied : (connection_view g conn).in_transaction ≡ false
+      → takes_name (state g conn).now.schema ≡ true → opened ≡ Err (conn, fault.Occupied)
+  pub taken : IfErr opened (λ e. e.1 ≡ fault.Occupied → takes_name (state g conn).now.schema ≡ true)
   pub faults : IfErr opened (λ e. (e.1 ≡ fault.Occupied) ⊎ (e.1 ≡ fault.Store))
   -- a crash leaves what it left before, or where the store was empty the opening station
-  pub leaves : IfErr opened (λ e. (connection_view g e.0).IsSound → (found : Option State)
+  pub leaves : IfErr opened (λ e. IsVacant g conn → (connection_view g e.0).IsSound → (found : Option State)
       → Finds (connection_view g e.0) found → Finds (connection_view g conn) found ⊎ (IsVacant g conn × (found ≡ Some (opening here))))
+  -- beside other tables it leaves what it left before, or one database more
+  pub step : IfErr opened (λ e. ¬ (IsVacant g conn) → IsOneStep (state g conn) (state g e.0))
 
 -- The station that is there was found over a connection, or there is none: what `attach` says of it.
 pub record HasFound {S : Type 0} (g : Ghosts S) (keeps : Station S g → State → Type 0) (is_sound : Station S g → Type 0) (is_broken : Station S g → Bool)

@@ -10,10 +10,13 @@ use Rattle.sqlite_resolve.specs.declared.error.CompileError.{CompileError}
 use Rattle.sqlite_tied.specs.Compute.{everything}
 use Rattle.sqlite.specs.declared.error.Error.{Error}
 use Rattle.sqlite.specs.Listing.{understood}
-use Rattle.sqlite.specs.State.{State, Survives, IsUnchanged, IsRolledBack, Executes, ExecutesIn, IsNotRun, IsNoStatement, IsMisplaced, MayChange, MayWrite, RunsCommand, CommitsBy, RunsAlone, shows_rows}
+use Rattle.sqlite_trees.specs.declared.error.StoreError.{StoreError}
+use Rattle.sqlite_trees.specs.declared.error.StoreError.TheVariants.{OutOfMemory, Io, Corrupt, Full, Broken, Unstorable}
+use Rattle.sqlite.specs.State.{State, Survives, store_error, IsUnchanged, IsRolledBack, Executes, ExecutesIn, IsNotRun, IsNoStatement, IsMisplaced, MayChange, MayWrite, RunsCommand, CommitsBy, RunsAlone, shows_rows}
 use Rattle.sqlite.specs.Calls.{IsWrite}
 use Rattle.std.specs.Prelude.{MatchBool, IsSome, IfOk, IfErr}
-use Rattle.sqlite.specs.declared.error.Error.TheVariants.{ExecuteReturnedResults}
+use Rattle.sqlite.specs.declared.error.Error.TheVariants.{ExecuteReturnedResults, SqliteFailure}
+use Rattle.sqlite.specs.declared.error.ErrorCode.TheVariants as code
 use Rattle.sqlite.proofs.StateLemmas.{survives_weaker}
 use Rattle.sqlite.proofs.Callers.{IsPlain, command_of, runs_as}
 use Rattle.row_laws.specs.Calls.{Begins, Commits, Stops, IsUndone}
@@ -116,8 +119,45 @@ module _ (old new : State) (begun : IsTrue old.in_transaction) where
   rolls_back (Err e) (inl (inr fails)) = undone_by old new fails.3
   rolls_back (Err e) (inr h) = alone h.0 _ e (ap command_of (sym h.1.is) ∙ (rollback_is old.now.schema).0) (subst IsPlain h.1.is (rollback_is old.now.schema).1).0 h.2
 
--- ---- a statement that is prepared and not run
+-- ---- ROLLBACK outside a transaction, as a question
 
-pub probes : {X : Type 0} (sql : List ℕ) (old new : State) (P : X → Type 0) (r : Result X Error) → IfOk r (λ x. P x × IsUnchanged old new) → IfErr r (λ e. (params : Row) → IsNotRun old new sql params e) → Stops old new
-probes sql old new P (Ok x) ok err = inl ok.1
-probes sql old new P (Err e) ok err = not_run sql [] old new e (err [])
+pub rollback_stops : (old new : State) (r : Result ℕ Error) → Executes rollback_text [] old new r → Stops old new
+rollback_stops old new (Ok count) h = inr (runs_as rollback_text [] old new old.now.schema refl Rollback (rollback_is old.now.schema).0 (rollback_is old.now.schema).1 count h).1
+rollback_stops old new (Err e) h = execute_stops rollback_text [] old new e h
+
+abbrev misplaced_error : Error
+misplaced_error = SqliteFailure code.TransactionState
+
+abbrev misplaced_result : Result ℕ Error
+misplaced_result = Err misplaced_error
+
+unstored : (cause : StoreError) → misplaced_error ≢ store_error cause
+unstored OutOfMemory h = absurd (cc)
+unstored Io h = absurd (cc)
+unstored Corrupt h = absurd (cc)
+unstored Full h = absurd (cc)
+unstored Broken h = absurd (cc)
+unstored Unstorable h = absurd (cc)
+
+unread : (s : State) (sql : List ℕ) (params : Row) → ¬ IsNoStatement s sql params misplaced_error
+unread s sql params (inl h) = absurd (let k = h.2 in cc)
+unread s sql params (inr h) = elim h.2 [
+  | inl long ↦ absurd (let k = long.1 in cc)
+  | inr other ↦ elim other [ inl given ↦ absurd (let k = given.1 in cc) | inr clock ↦ absurd (let k = clock.1 in cc) ]
+]
+
+module _ (old new : State) where
+  ran_live : (c : Compiled) (text : List ℕ) (full : Row) → RunsCommand old new text c full (Err misplaced_error) → IsUnchanged old new
+  ran_live c text full (inl h) = h.1
+  ran_live c text full (inr fails) = absurd (unstored fails.0 fails.1)
+
+  alone_live : (c : Compiled) (text : List ℕ) (full : Row) (shows : Bool) → MatchBool shows ((misplaced_result ≡ Err ExecuteReturnedResults) × IsUnchanged old new) (RunsCommand old new text c full (Err misplaced_error)) → IsUnchanged old new
+  alone_live c text full true h = h.1
+  alone_live c text full false h = ran_live c text full h
+
+  -- it is refused where no transaction is open
+  pub refused_live : (sql : List ℕ) (params : Row) → Executes sql params old new (Err misplaced_error) → IsUnchanged old new
+  unfolding ExecutesIn IsNotRun
+  refused_live sql params (inl (inl none)) = absurd (unread old sql params none.0)
+  refused_live sql params (inl (inr fails)) = absurd (unstored fails.0 fails.1)
+  refused_live sql params (inr h) = alone_live h.0 _ _ (shows_rows false h.0) h.2

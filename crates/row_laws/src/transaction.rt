@@ -1,9 +1,9 @@
-ghost use Rattle.std.specs.Prelude.{◌≡◌, IsTrue};
+ghost use Rattle.std.specs.Prelude.{◌≡◌, Err, IsTrue};
 ghost use Rattle.sqlite.specs.State.{HasCleanDisk, Survives, IsUnchanged};
 ghost use Rattle.sqlite.specs.Held.{state};
 ghost use Rattle.row_laws.specs.Calls.{Begins, Commits, Stops, IsUndone};
 
-use sqlite::{Alter, Connection, Error};
+use sqlite::{Alter, Connection, Error, ErrorCode};
 
 /// Begins a transaction. On error nothing was begun, or the transaction that was open is undone.
 pub fn begin<S: Alter>(conn: &mut Connection<S>) -> Result<usize, Error>
@@ -33,14 +33,21 @@ pub fn roll_back<S: Alter>(conn: &mut Connection<S>)
     let _ = conn.execute("ROLLBACK", &[]);
 }
 
-/// Whether the connection still serves statements. It prepares a statement and runs none.
+/// Whether a statement was refused since no transaction is open.
+fn is_refused(done: &Result<usize, Error>) -> bool
+    ensures { IsTrue result → done.now ≡ Err (Error.SqliteFailure ErrorCode.TransactionState) }
+{
+    matches!(done, Err(Error::SqliteFailure(ErrorCode::TransactionState)))
+}
+
+/// Whether the connection serves statements, outside a transaction. It asks to undo one: an open connection
+/// refuses that where none is open, and does nothing. A transaction that is open is undone, and the answer is
+/// false then. Once the statement is compiled, it takes no memory.
 pub fn is_live<S: Alter>(conn: &mut Connection<S>) -> bool
     ensures same { IsTrue result → HasCleanDisk (state S.Store conn.new) → IsUnchanged (state S.Store conn.old) (state S.Store conn.new) }
     ensures stops { HasCleanDisk (state S.Store conn.new) → Stops (state S.Store conn.old) (state S.Store conn.new) }
     ensures survives { Survives (state S.Store conn.old) (state S.Store conn.new) (λ _. ⊥) }
 {
-    match conn.prepare("COMMIT") {
-        Ok(_) => true,
-        Err(_) => false,
-    }
+    let done = conn.execute("ROLLBACK", &[]);
+    is_refused(&done)
 }

@@ -6,3 +6,4 @@ pub mod StationLemmas
 pub mod Creating
 pub mod Opened
 pub mod Owned
+pub mod Begun

@@ -6,3 +6,5 @@ pub mod Calls
 pub mod Once
 pub mod Code
 pub mod Own
+pub mod Names
+pub mod Beside

@@ -7,6 +7,7 @@ ghost use Rattle.row_schema.specs.Connection.{IsVacant};
 ghost use Rattle.row_schema.specs.Own.{IsNewStation};
 ghost use Rattle.row_schema.specs.Calls.{IsInside, Changes, Fills, Founds, IsFounded, with_station};
 
+use crate::declarations;
 use crate::own::shows_own;
 use row_laws::{begin, commit, roll_back};
 use sqlite::{Alter, Connection, Error, params};
@@ -15,137 +16,98 @@ fn create_station<S: Alter>(conn: &mut Connection<S>) -> Result<usize, Error>
     ensures made { HasCleanDisk (state S.Store conn.new) → IsMade no_schema (state S.Store conn.old) → Makes (state S.Store conn.old) (state S.Store conn.new) result station_made }
     ensures survives { Survives (state S.Store conn.old) (state S.Store conn.new) (λ _. ¬ IsMade no_schema (state S.Store conn.old)) }
 {
-    conn.execute(
-        "CREATE TABLE station (id INTEGER PRIMARY KEY, airport TEXT NOT NULL, version INTEGER NOT NULL, confirmed INTEGER NOT NULL) STRICT",
-        &[],
-    )
+    conn.execute(declarations::STATION, &[])
 }
 
 fn create_waybill<S: Alter>(conn: &mut Connection<S>) -> Result<usize, Error>
     ensures made { HasCleanDisk (state S.Store conn.new) → IsMade station_made (state S.Store conn.old) → Makes (state S.Store conn.old) (state S.Store conn.new) result waybill_made }
     ensures survives { Survives (state S.Store conn.old) (state S.Store conn.new) (λ _. ¬ IsMade station_made (state S.Store conn.old)) }
 {
-    conn.execute(
-        "CREATE TABLE waybill (awb INTEGER PRIMARY KEY, origin TEXT NOT NULL, destination TEXT NOT NULL, pieces INTEGER NOT NULL, tenths INTEGER NOT NULL, goods TEXT NOT NULL, notified INTEGER NOT NULL) STRICT",
-        &[],
-    )
+    conn.execute(declarations::WAYBILL, &[])
 }
 
 fn create_stock<S: Alter>(conn: &mut Connection<S>) -> Result<usize, Error>
     ensures made { HasCleanDisk (state S.Store conn.new) → IsMade waybill_made (state S.Store conn.old) → Makes (state S.Store conn.old) (state S.Store conn.new) result stock_made }
     ensures survives { Survives (state S.Store conn.old) (state S.Store conn.new) (λ _. ¬ IsMade waybill_made (state S.Store conn.old)) }
 {
-    conn.execute(
-        "CREATE TABLE stock (prefix INTEGER NOT NULL, low INTEGER NOT NULL, high INTEGER NOT NULL, holder INTEGER NOT NULL, agent TEXT NOT NULL, PRIMARY KEY (prefix, low)) STRICT",
-        &[],
-    )
+    conn.execute(declarations::STOCK, &[])
 }
 
 fn create_flight<S: Alter>(conn: &mut Connection<S>) -> Result<usize, Error>
     ensures made { HasCleanDisk (state S.Store conn.new) → IsMade stock_made (state S.Store conn.old) → Makes (state S.Store conn.old) (state S.Store conn.new) result flight_made }
     ensures survives { Survives (state S.Store conn.old) (state S.Store conn.new) (λ _. ¬ IsMade stock_made (state S.Store conn.old)) }
 {
-    conn.execute(
-        "CREATE TABLE flight (flight TEXT NOT NULL, day INTEGER NOT NULL, unload TEXT NOT NULL, closed INTEGER NOT NULL, PRIMARY KEY (flight, day)) STRICT",
-        &[],
-    )
+    conn.execute(declarations::FLIGHT, &[])
 }
 
 fn create_moves<S: Alter>(conn: &mut Connection<S>) -> Result<usize, Error>
     ensures made { HasCleanDisk (state S.Store conn.new) → IsMade flight_made (state S.Store conn.old) → Makes (state S.Store conn.old) (state S.Store conn.new) result moves_made }
     ensures survives { Survives (state S.Store conn.old) (state S.Store conn.new) (λ _. ¬ IsMade flight_made (state S.Store conn.old)) }
 {
-    conn.execute(
-        "CREATE TABLE moves (number INTEGER PRIMARY KEY, awb INTEGER NOT NULL, src INTEGER NOT NULL, dst INTEGER NOT NULL, pieces INTEGER NOT NULL, tenths INTEGER NOT NULL, flight TEXT NOT NULL, fday INTEGER NOT NULL, day INTEGER NOT NULL, minute INTEGER NOT NULL) STRICT",
-        &[],
-    )
+    conn.execute(declarations::MOVES, &[])
 }
 
 fn index_moves<S: Alter>(conn: &mut Connection<S>) -> Result<usize, Error>
     ensures made { HasCleanDisk (state S.Store conn.new) → IsMade moves_made (state S.Store conn.old) → Makes (state S.Store conn.old) (state S.Store conn.new) result moves_indexed }
     ensures survives { Survives (state S.Store conn.old) (state S.Store conn.new) (λ _. ¬ IsMade moves_made (state S.Store conn.old)) }
 {
-    conn.execute("CREATE INDEX moves_awb ON moves (awb)", &[])
+    conn.execute(declarations::MOVES_AWB, &[])
 }
 
 fn create_expected<S: Alter>(conn: &mut Connection<S>) -> Result<usize, Error>
     ensures made { HasCleanDisk (state S.Store conn.new) → IsMade moves_indexed (state S.Store conn.old) → Makes (state S.Store conn.old) (state S.Store conn.new) result expected_made }
     ensures survives { Survives (state S.Store conn.old) (state S.Store conn.new) (λ _. ¬ IsMade moves_indexed (state S.Store conn.old)) }
 {
-    conn.execute(
-        "CREATE TABLE expected (flight TEXT NOT NULL, day INTEGER NOT NULL, awb INTEGER NOT NULL, pieces INTEGER NOT NULL, tenths INTEGER NOT NULL, checked INTEGER NOT NULL, PRIMARY KEY (flight, day, awb)) STRICT",
-        &[],
-    )
+    conn.execute(declarations::EXPECTED, &[])
 }
 
 fn create_part<S: Alter>(conn: &mut Connection<S>) -> Result<usize, Error>
     ensures made { HasCleanDisk (state S.Store conn.new) → IsMade expected_made (state S.Store conn.old) → Makes (state S.Store conn.old) (state S.Store conn.new) result part_made }
     ensures survives { Survives (state S.Store conn.old) (state S.Store conn.new) (λ _. ¬ IsMade expected_made (state S.Store conn.old)) }
 {
-    conn.execute(
-        "CREATE TABLE part (flight TEXT NOT NULL, day INTEGER NOT NULL, airport TEXT NOT NULL, seq INTEGER NOT NULL, body TEXT NOT NULL, PRIMARY KEY (flight, day, airport, seq)) STRICT",
-        &[],
-    )
+    conn.execute(declarations::PART, &[])
 }
 
 fn create_trail<S: Alter>(conn: &mut Connection<S>) -> Result<usize, Error>
     ensures made { HasCleanDisk (state S.Store conn.new) → IsMade part_made (state S.Store conn.old) → Makes (state S.Store conn.old) (state S.Store conn.new) result trail_made }
     ensures survives { Survives (state S.Store conn.old) (state S.Store conn.new) (λ _. ¬ IsMade part_made (state S.Store conn.old)) }
 {
-    conn.execute(
-        "CREATE TABLE trail (number INTEGER PRIMARY KEY, awb INTEGER NOT NULL, line TEXT NOT NULL) STRICT",
-        &[],
-    )
+    conn.execute(declarations::TRAIL, &[])
 }
 
 fn create_outbox<S: Alter>(conn: &mut Connection<S>) -> Result<usize, Error>
     ensures made { HasCleanDisk (state S.Store conn.new) → IsMade trail_made (state S.Store conn.old) → Makes (state S.Store conn.old) (state S.Store conn.new) result outbox_made }
     ensures survives { Survives (state S.Store conn.old) (state S.Store conn.new) (λ _. ¬ IsMade trail_made (state S.Store conn.old)) }
 {
-    conn.execute(
-        "CREATE TABLE outbox (number INTEGER PRIMARY KEY, body TEXT NOT NULL) STRICT",
-        &[],
-    )
+    conn.execute(declarations::OUTBOX, &[])
 }
 
 fn create_kept_key<S: Alter>(conn: &mut Connection<S>) -> Result<usize, Error>
     ensures made { HasCleanDisk (state S.Store conn.new) → IsMade outbox_made (state S.Store conn.old) → Makes (state S.Store conn.old) (state S.Store conn.new) result kept_key_made }
     ensures survives { Survives (state S.Store conn.old) (state S.Store conn.new) (λ _. ¬ IsMade outbox_made (state S.Store conn.old)) }
 {
-    conn.execute(
-        "CREATE TABLE kept_key (id TEXT NOT NULL, command TEXT NOT NULL, count INTEGER NOT NULL, PRIMARY KEY (id)) STRICT",
-        &[],
-    )
+    conn.execute(declarations::KEPT_KEY, &[])
 }
 
 fn create_kept_text<S: Alter>(conn: &mut Connection<S>) -> Result<usize, Error>
     ensures made { HasCleanDisk (state S.Store conn.new) → IsMade kept_key_made (state S.Store conn.old) → Makes (state S.Store conn.old) (state S.Store conn.new) result kept_text_made }
     ensures survives { Survives (state S.Store conn.old) (state S.Store conn.new) (λ _. ¬ IsMade kept_key_made (state S.Store conn.old)) }
 {
-    conn.execute(
-        "CREATE TABLE kept_text (body TEXT NOT NULL, count INTEGER NOT NULL, PRIMARY KEY (body)) STRICT",
-        &[],
-    )
+    conn.execute(declarations::KEPT_TEXT, &[])
 }
 
 fn create_counts<S: Alter>(conn: &mut Connection<S>) -> Result<usize, Error>
     ensures made { HasCleanDisk (state S.Store conn.new) → IsMade kept_text_made (state S.Store conn.old) → Makes (state S.Store conn.old) (state S.Store conn.new) result counts_made }
     ensures survives { Survives (state S.Store conn.old) (state S.Store conn.new) (λ _. ¬ IsMade kept_text_made (state S.Store conn.old)) }
 {
-    conn.execute(
-        "CREATE TABLE counts (awb INTEGER NOT NULL, place INTEGER NOT NULL, pieces INTEGER NOT NULL, tenths INTEGER NOT NULL, PRIMARY KEY (awb, place)) STRICT",
-        &[],
-    )
+    conn.execute(declarations::COUNTS, &[])
 }
 
 fn create_build<S: Alter>(conn: &mut Connection<S>) -> Result<usize, Error>
     ensures made { HasCleanDisk (state S.Store conn.new) → IsMade counts_made (state S.Store conn.old) → Makes (state S.Store conn.old) (state S.Store conn.new) result station_schema }
     ensures survives { Survives (state S.Store conn.old) (state S.Store conn.new) (λ _. ¬ IsMade counts_made (state S.Store conn.old)) }
 {
-    conn.execute(
-        "CREATE TABLE build (flight TEXT NOT NULL, day INTEGER NOT NULL, awb INTEGER NOT NULL, pieces INTEGER NOT NULL, tenths INTEGER NOT NULL, PRIMARY KEY (flight, day, awb)) STRICT",
-        &[],
-    )
+    conn.execute(declarations::BUILD, &[])
 }
 
 fn insert_station<S: Alter>(conn: &mut Connection<S>, airport: &str) -> Result<usize, Error>

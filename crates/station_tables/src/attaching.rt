@@ -1,4 +1,4 @@
-ghost use Rattle.std.specs.Prelude.{◌≡◌, true, false, Option, Some, Err, IsTrue, IfOk, IfErr};
+ghost use Rattle.std.specs.Prelude.{◌≡◌, ◌≢◌, true, false, Option, Some, Err, IsTrue, IfOk, IfErr};
 ghost use Rattle.sqlite.specs.State.{HasCleanDisk, IsUnchanged, Survives};
 ghost use Rattle.row_laws.specs.Calls.{Reads};
 ghost use Rattle.sqlite.specs.Held.{state};
@@ -30,7 +30,8 @@ use table_state::TableState;
 
 /// The fault that says why a database is no station's.
 fn unfit_fault(unfit: Unfit) -> AttachFault
-    ensures { (db : Database) → IsUnfit db unfit → Refuses db result }
+    ensures refuses { (db : Database) → IsUnfit db unfit → Refuses db result }
+    ensures never { result ≢ AttachFault.Occupied }
 {
     match unfit {
         Unfit::NoStation => AttachFault::NoStation,
@@ -41,7 +42,8 @@ fn unfit_fault(unfit: Unfit) -> AttachFault
 
 /// The fault that a failed read is.
 fn breakdown(error: &Error) -> AttachFault
-    ensures { IsBreakdown result }
+    ensures told { IsBreakdown result }
+    ensures never { result ≢ AttachFault.Occupied }
 {
     match error {
         Error::SqliteFailure(ErrorCode::OutOfMemory) => AttachFault::Memory,
@@ -136,6 +138,7 @@ fn settle<S: Alter>(
     ensures typed { IfOk result (λ station. ⟦<Station<S> as Keeper>⟧.is_sound station → (state S.Store conn).now ≡ (state S.Store conn).committed
         → (s : State) → IsStateIn (state S.Store conn).now s → IsTypedState (state S.Store conn).now s) }
     ensures refused { IsJudged (state S.Store conn).now judged → IfErr result (λ e. Refuses (state S.Store conn).now e.1) }
+    ensures never { IfErr result (λ e. e.1 ≢ AttachFault.Occupied) }
     ensures spares { IfErr result (λ e. store.Survives (connection_view S.Store conn) (connection_view S.Store e.0)) }
     ensures unwritten { IfOk result (λ station. Survives (state S.Store conn) (state S.Store (connection_in station)) (λ _. ⊥)) }
     ensures seen { IfOk result (λ station. HasCleanDisk (state S.Store (connection_in station))
@@ -170,6 +173,9 @@ pub fn attach<S: Alter>(
     // A fault names what is so. Where the tables are a station's and lawful, the store failed or memory was out.
     ensures refused { IfErr result (λ e. HasCleanDisk (state S.Store e.0) → Refuses (state S.Store conn).now e.1) }
     ensures fit { IfErr result (λ e. HasCleanDisk (state S.Store e.0) → (s : State) → IsStateIn (state S.Store conn).now s → IsBreakdown e.1) }
+
+    // That a name is taken is no fault of an opening.
+    ensures never { IfErr result (λ e. e.1 ≢ AttachFault.Occupied) }
 
     // The same where a station wrote the tables, and they mean a lawful state.
     ensures own_fit { IfErr result (λ e. HasCleanDisk (state S.Store e.0) → IsOwn (state S.Store conn).now.trees → LiesInOrder S.Store

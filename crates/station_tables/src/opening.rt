@@ -1,8 +1,13 @@
-ghost use Rattle.std.specs.Prelude.{◌≡◌, ◌⊎◌, true, false, Some, Option, IfOk, IfErr, OnOk};
+ghost use Rattle.std.specs.Prelude.{◌≡◌, ◌⊎◌, ◌↔◌, true, false, IsTrue, Some, Option, IfOk, IfErr, OnOk};
 ghost use Rattle.sqlite.specs.Held.{state};
 ghost use Rattle.sqlite.specs.State as connection;
+ghost use Rattle.sqlite.specs.State.{HasCleanDisk};
 ghost use Rattle.station_core.specs.Step.{State, opening};
+ghost use Rattle.row_schema.specs.Beside.{IsOneStep};
 ghost use Rattle.row_schema.specs.Connection.{connection_view, IsVacant};
+ghost use Rattle.row_schema.specs.Names.{takes_name};
+ghost use Rattle.row_schema.specs.Store.{IsUnchanged};
+ghost use Rattle.station_tables.specs.Attached.{connection_in};
 ghost use Rattle.station_rows.specs.Own.{are_declared};
 ghost use Rattle.station_tables.specs.Found.{Finds};
 ghost use Rattle.table_state.specs.File.{IsFileOf};
@@ -16,17 +21,20 @@ use station_rows::CreateFault;
 use std::alloc::Global;
 use stored_station::StoredStation;
 
-/// Makes the tables of a station at an airport with nothing in it, in one transaction, in a store that has none of them.
+/// Makes the tables of a station at an airport with nothing in it, in one transaction, in a store
+/// where none of their names is taken.
 ///
-/// Returns [`AttachFault::Occupied`] where the store has a table of one of these names, and [`AttachFault::Store`] where a transaction
-/// is open or the store fails, and no other fault. The connection comes back with it.
+/// Returns [`AttachFault::Occupied`] where a table, an index or a view has one of these names, whatever
+/// the case of its letters, and [`AttachFault::Store`] where a transaction is open or the store fails, and
+/// no other fault. The connection comes back with it. Other tables stay beside the new ones; of what a station
+/// beside others keeps nothing is claimed, as where such tables are opened.
 pub fn create<S: Alter>(
     alloc: Global,
     conn: Connection<S>,
     here: Airport,
 ) -> Result<Station<S>, (Connection<S>, AttachFault)>
-    ensures empty { OnOk result (IsVacant S.Store conn) }
-    ensures declared { IfOk result (λ station. are_declared station.stored.store.store ≡ true) }
+    ensures free { OnOk result (takes_name (state S.Store conn).now.schema ≡ false) }
+    ensures declared { IfOk result (λ station. IsTrue (are_declared station.stored.store.store) ↔ IsVacant S.Store conn) }
     ensures works { IfOk result (λ station. ⟦<Station<S> as Keeper>⟧.is_broken station ≡ false) }
     ensures sound { IfOk result (λ station. ⟦<Station<S> as Keeper>⟧.is_sound station
         → (connection_view S.Store conn).IsSound) }
@@ -34,18 +42,26 @@ pub fn create<S: Alter>(
     // It keeps the opening state, and a crash leaves that alone.
     ensures keeps { IfOk result (λ station. ⟦<Station<S> as Keeper>⟧.keeps station (opening here)) }
 
-    // Occupied exactly where the store wasn't empty, and then nothing changed.
+    // Occupied exactly where one of the names is taken, and then nothing changed.
     ensures inside { (connection_view S.Store conn).in_transaction ≡ true
         → result ≡ Err (conn, AttachFault.Store) }
     ensures occupied { (connection_view S.Store conn).in_transaction ≡ false
-        → ¬ IsVacant S.Store conn → result ≡ Err (conn, AttachFault.Occupied) }
-    ensures vacant { IfErr result (λ e. e.1 ≡ AttachFault.Occupied → ¬ IsVacant S.Store conn) }
+        → takes_name (state S.Store conn).now.schema ≡ true → result ≡ Err (conn, AttachFault.Occupied) }
+    ensures taken { IfErr result (λ e. e.1 ≡ AttachFault.Occupied → takes_name (state S.Store conn).now.schema ≡ true) }
     ensures faults { IfErr result (λ e. (e.1 ≡ AttachFault.Occupied) ⊎ (e.1 ≡ AttachFault.Store)) }
 
     // A crash leaves what it left before the call, or where the store was empty the opening station.
-    ensures leaves { IfErr result (λ e. (connection_view S.Store e.0).IsSound → (found : Option State)
-        → Finds (connection_view S.Store e.0) found → Finds (connection_view S.Store conn) found
+    ensures leaves { IfErr result (λ e. IsVacant S.Store conn
+        → (connection_view S.Store e.0).IsSound → (found : Option State) → Finds (connection_view S.Store e.0) found → Finds (connection_view S.Store conn) found
         ⊎ (IsVacant S.Store conn × (found ≡ Some (opening here)))) }
+
+    // Beside other tables it leaves what it left before, or one database more, and a failure leaves the last commit.
+    ensures step { IfErr result (λ e. ¬ IsVacant S.Store conn → IsOneStep (state S.Store conn) (state S.Store e.0)) }
+    ensures step_at_ok { IfOk result (λ station. ¬ IsVacant S.Store conn
+        → IsOneStep (state S.Store conn) (state S.Store (connection_in station))) }
+    ensures undone { (connection_view S.Store conn).in_transaction ≡ false
+        → IfErr result (λ e. HasCleanDisk (state S.Store e.0) → (connection_view S.Store e.0).is_open ≡ true
+        → IsUnchanged (connection_view S.Store conn) (connection_view S.Store e.0)) }
 
     // The same over the database, so that an opening knows the tables: as before, or a new station's file.
     ensures survives { IfErr result (λ e. connection.Survives (state S.Store conn) (state S.Store e.0)

@@ -1,4 +1,4 @@
-ghost use Rattle.std.specs.Prelude.{◌≡◌, true, false, Err, Option, IfOk, IfErr, OnOk};
+ghost use Rattle.std.specs.Prelude.{◌≡◌, ◌≢◌, true, false, Err, Option, IfOk, IfErr, OnOk};
 ghost use Rattle.sqlite.specs.State.{HasCleanDisk};
 ghost use Rattle.sqlite.specs.Held.{state};
 ghost use Rattle.row_schema.specs.Own.{IsOwn, LiesInOrder};
@@ -45,7 +45,8 @@ fn answer_on<S: Alter>(
 
 /// The fault of an opening that an input's fault ends.
 fn ended_by(fault: &ActFault) -> AttachFault
-    ensures { IsBreakdown result }
+    ensures told { IsBreakdown result }
+    ensures never { result ≢ AttachFault.Occupied }
 {
     match fault {
         ActFault::Memory => AttachFault::Memory,
@@ -67,6 +68,7 @@ fn repeat_on<S: Alter>(
     ensures repeated { (s : State) → ⟦<Station<S> as Keeper>⟧.keeps station s → IfOk result (λ r. ⟦<Station<S> as Keeper>⟧.is_sound r.0
         → HasAnswered s input.now at r.1 (⟦<Station<S> as Keeper>⟧.keeps r.0) (⟦<Station<S> as Keeper>⟧.may_find r.0)) }
     ensures fault { IfErr result (λ e. IsBreakdown e.1) }
+    ensures never { IfErr result (λ e. e.1 ≢ AttachFault.Occupied) }
     ensures left_clean { IfErr result (λ e. HasCleanDisk (state S.Store e.0) → HasCleanDisk (state S.Store (connection_in station))) }
     ensures leaves { (s : State) → ⟦<Station<S> as Keeper>⟧.keeps station s → ⟦<Station<S> as Keeper>⟧.is_sound station → IfErr result (λ e. HasCleanDisk (state S.Store e.0)
         → (found : Option State) → Finds (connection_view S.Store e.0) found → IsBeforeOrAfter s input.now at found) }
@@ -102,6 +104,7 @@ pub fn attach_and_repeat<S: Alter>(
     // A fault names what is so. Where the tables are a station's and lawful, the store failed or memory was out.
     ensures refused { IfErr result (λ e. HasCleanDisk (state S.Store e.0) → Refuses (state S.Store conn).now e.1) }
     ensures fit { IfErr result (λ e. HasCleanDisk (state S.Store e.0) → (s : State) → IsStateIn (state S.Store conn).now s → IsBreakdown e.1) }
+    ensures never { IfErr result (λ e. e.1 ≢ AttachFault.Occupied) }
     ensures own_fit { IfErr result (λ e. HasCleanDisk (state S.Store e.0) → IsOwn (state S.Store conn).now.trees → LiesInOrder S.Store
         → (s : State) → IsTypedState (state S.Store conn).now s → IsLawfulState s → IsBreakdown e.1) }
 

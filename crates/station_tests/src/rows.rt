@@ -71,7 +71,7 @@ impl RowAnswers {
 /// Why no tables are made over a connection, and whether it is outside a transaction.
 fn fault_of(alloc: Global, conn: Connection<MemStore>) -> Option<String> {
     match Rows::create(conn, "FRA") {
-        Ok(_) => None,
+        Ok(_) => say(alloc, "made"),
         Err((conn, fault)) => {
             let word = match fault {
                 CreateFault::Occupied => "occupied",

@@ -1,10 +1,13 @@
-ghost use Rattle.std.specs.Prelude.{◌≡◌, ◌⊎◌, true, false, Some, Option, IfOk, IfErr, OnOk};
+ghost use Rattle.std.specs.Prelude.{◌≡◌, ◌⊎◌, ◌↔◌, true, false, IsTrue, Some, Option, IfOk, IfErr, OnOk};
 ghost use Rattle.sqlite.specs.Held.{state};
 ghost use Rattle.sqlite.specs.State.{HasCleanDisk};
 ghost use Rattle.sqlite.specs.State as connection;
 ghost use Rattle.sqlite.specs.Tree.{Trees};
 ghost use Rattle.station_core.specs.Step.{State, opening};
+ghost use Rattle.row_schema.specs.Beside.{IsOneStep};
 ghost use Rattle.row_schema.specs.Connection.{connection_view, IsVacant};
+ghost use Rattle.row_schema.specs.Names.{takes_name};
+ghost use Rattle.row_schema.specs.Store.{IsUnchanged};
 ghost use Rattle.row_schema.specs.Own.{IsOwn, LiesInOrder};
 ghost use Rattle.station_rows.specs.Shown.{rows_view};
 ghost use Rattle.station_rows.specs.Own.{are_declared};
@@ -19,29 +22,38 @@ use state_store::{Sizes, StateStore};
 use station_rows::{CreateFault, Rows, TableStore};
 use std::alloc::Global;
 
-/// Makes the tables of a station at an airport with nothing in it, in one transaction, in a store that has none. It gives
-/// the connection back where it fails.
+/// Makes the tables of a station at an airport with nothing in it, in one transaction, in a store
+/// where none of their names is taken. It gives the connection back where it fails.
 #[tactic(auto, using(crate::proofs::NewState::ascii_airport, crate::proofs::NewState::opening_found))]
 pub fn create<S: Alter>(
     alloc: Global,
     conn: Connection<S>,
     here: Airport,
 ) -> Result<TableState<Rows<S>>, (Connection<S>, CreateFault)>
-    ensures empty { OnOk result (IsVacant S.Store conn) }
-    ensures declared { IfOk result (λ tables. are_declared tables.store ≡ true) }
+    ensures free { OnOk result (takes_name (state S.Store conn).now.schema ≡ false) }
+    ensures declared { IfOk result (λ tables. IsTrue (are_declared tables.store) ↔ IsVacant S.Store conn) }
     ensures sound { IfOk result (λ tables. ⟦<TableState<Rows<S>> as StateStore>⟧.is_sound tables → (connection_view S.Store conn).IsSound) }
 
     // It shows the opening state, and a crash leaves that alone.
     ensures shows { IfOk result (λ tables. ⟦<TableState<Rows<S>> as StateStore>⟧.shows tables (at_rest (opening here))) }
 
-    // Occupied exactly where the store wasn't empty, and then nothing changed.
+    // Occupied exactly where one of the names is taken, and then nothing changed.
     ensures inside { (connection_view S.Store conn).in_transaction ≡ true → result ≡ Err (conn, CreateFault.Store) }
-    ensures occupied { (connection_view S.Store conn).in_transaction ≡ false → ¬ IsVacant S.Store conn → result ≡ Err (conn, CreateFault.Occupied) }
-    ensures vacant { IfErr result (λ e. e.1 ≡ CreateFault.Occupied → ¬ IsVacant S.Store conn) }
+    ensures occupied { (connection_view S.Store conn).in_transaction ≡ false
+        → takes_name (state S.Store conn).now.schema ≡ true → result ≡ Err (conn, CreateFault.Occupied) }
+    ensures taken { IfErr result (λ e. e.1 ≡ CreateFault.Occupied → takes_name (state S.Store conn).now.schema ≡ true) }
 
     // A crash leaves what it left before the call, or where the store was empty the opening station.
-    ensures leaves { IfErr result (λ e. (connection_view S.Store e.0).IsSound → (found : Option State) → Finds (connection_view S.Store e.0) found
+    ensures leaves { IfErr result (λ e. IsVacant S.Store conn → (connection_view S.Store e.0).IsSound
+        → (found : Option State) → Finds (connection_view S.Store e.0) found
         → Finds (connection_view S.Store conn) found ⊎ (IsVacant S.Store conn × (found ≡ Some (opening here)))) }
+
+    // Beside other tables it leaves what it left before, or one database more, and a failure leaves the last commit.
+    ensures step { IfErr result (λ e. ¬ IsVacant S.Store conn → IsOneStep (state S.Store conn) (state S.Store e.0)) }
+    ensures step_at_ok { IfOk result (λ tables. ¬ IsVacant S.Store conn → IsOneStep (state S.Store conn) (state S.Store tables.store.conn)) }
+    ensures undone { (connection_view S.Store conn).in_transaction ≡ false
+        → IfErr result (λ e. HasCleanDisk (state S.Store e.0) → (connection_view S.Store e.0).is_open ≡ true
+        → IsUnchanged (connection_view S.Store conn) (connection_view S.Store e.0)) }
 
     // The same over the database, so that an opening knows the tables.
     ensures survives { IfErr result (λ e. connection.Survives (state S.Store conn) (state S.Store e.0)

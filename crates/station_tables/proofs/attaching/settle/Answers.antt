@@ -13,7 +13,7 @@ pub returns-in-Ok-clause-refused : goal.returns-in-Ok-clause-refused
 returns-in-Ok-clause-refused g c = λ at. store_says_nothing _ _ c.go_on.ensures.fault
 
 pub returns-in-Err-clause-refused : goal.returns-in-Err-clause-refused
-returns-in-Err-clause-refused g c = λ at. c.unfit_fault.ensures _ (subst (IsJudged (state g.S.Store c.args.conn).now) c.in-Err.is at)
+returns-in-Err-clause-refused g c = λ at. c.unfit_fault.ensures.refuses _ (subst (IsJudged (state g.S.Store c.args.conn).now) c.in-Err.is at)
 
 pub returns-in-Err-clause-unwritten_at_err : goal.returns-in-Err-clause-unwritten_at_err
 returns-in-Err-clause-unwritten_at_err g c = survives_same _

@@ -6,9 +6,9 @@ pub returns-in-Ok-clause-keeps : goal.returns-in-Ok-clause-keeps
 returns-in-Ok-clause-keeps g c = rw c.over-in-Ok.ensures (c.over.ensures.keeps (opening c.args.here) (opened_lawful c.args.here) c.in-Ok.ensures.shows)
 
 pub returns-in-Err-default-Occupied-clause-leaves : goal.returns-in-Err-default-Occupied-clause-leaves
-returns-in-Err-default-Occupied-clause-leaves g c = λ sound found finds.
-    made_or_before _ _ c.args.here _ (opened_lawful c.args.here) (λ f left. c.in-Err-default-Occupied.ensures.leaves sound f left) found finds
+returns-in-Err-default-Occupied-clause-leaves g c = λ vacant sound found finds.
+    made_or_before _ _ c.args.here _ (opened_lawful c.args.here) (λ f left. c.in-Err-default-Occupied.ensures.leaves vacant sound f left) found finds
 
 pub returns-in-Err-default-Store-clause-leaves : goal.returns-in-Err-default-Store-clause-leaves
-returns-in-Err-default-Store-clause-leaves g c = λ sound found finds.
-    made_or_before _ _ c.args.here _ (opened_lawful c.args.here) (λ f left. c.in-Err-default-Store.ensures.leaves sound f left) found finds
+returns-in-Err-default-Store-clause-leaves g c = λ vacant sound found finds.
+    made_or_before _ _ c.args.here _ (opened_lawful c.args.here) (λ f left. c.in-Err-default-Store.ensures.leaves vacant sound f left) found finds

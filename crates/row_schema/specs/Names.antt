@@ -1,0 +1,19 @@
+-- The names that a new station gives to its tables and to an index of its own.
+use Rattle.std.specs.Prelude.{ℕ, Bool, ◌||◌, List, [], ◌∷◌, codes, is_some}
+use Rattle.std.specs.List.{list_any}
+use Rattle.sqlite.specs.Schema.{Schema}
+use Rattle.sqlite_schema.specs.Names.{table_named, index_named, view_named}
+
+-- thirteen tables, and the index of the moves by their waybills
+abbrev pub station_names : List (List ℕ)
+station_names =
+    codes "station" ∷ codes "waybill" ∷ codes "stock" ∷ codes "flight" ∷ codes "moves" ∷ codes "moves_awb" ∷ codes "expected"
+    ∷ codes "part" ∷ codes "trail" ∷ codes "outbox" ∷ codes "kept_key" ∷ codes "kept_text" ∷ codes "counts" ∷ codes "build" ∷ []
+
+-- a table, an index or a view has this name, whatever the case of its ASCII letters
+abbrev pub is_taken : Schema → List ℕ → Bool
+is_taken schema name = is_some (table_named schema name) || is_some (index_named schema name) || is_some (view_named schema name)
+
+-- one of a new station's names is taken
+abbrev pub takes_name : Schema → Bool
+takes_name schema = list_any (λ name. is_taken schema name) station_names
