@@ -8,6 +8,8 @@ mod FieldLaws
 mod Heads
 mod Joining
 mod NoVerb
+mod Pages
+mod Paths
 mod Refusals
 mod Reporting
 mod Wanting

@@ -1,23 +1,46 @@
 -- How an answer with a report ends, by how the report ended.
-use Rattle.std.proofs.Common.{arith, ◌≡◌, ◌∙◌, ap, subst, refl, inl, inr, ℕ, ◌<◌, Bool, false, Result, Ok, Err, List, [], ◌∷◌, ◌++◌, take}
+use Rattle.std.proofs.Common.{arith, ◌≡◌, ◌∙◌, ap, subst, refl, inl, inr, ⊎_elim, ℕ, ◌+◌, ◌<◌, Bool, false, Result, Ok, Err, List, [], ◌∷◌, ◌++◌, length, take}
 use Rattle.std.specs.Prelude.{◌⊎◌}
 use Rattle.std.proofs.lemmas.List.{length-take-le}
 use Rattle.station_core.specs.Given.{Given}
 use Rattle.station_core.specs.Ends.{Sent, HasCause}
 use Rattle.station_core.specs.Step.{State}
-use Rattle.reports.specs.Ended.{HasTold, HaveGone, IsBegun, IsCause}
+use Rattle.reports.specs.Ended.{HasTold, HaveGone, IsBegun, IsCause, NoneFailed, OneFailed, StopsBy}
 use Rattle.reports.specs.declared.fault.ReportCause.{ReportCause}
 use Rattle.reports.specs.declared.fault.ReportCause.TheVariants as cause
 use Rattle.reports.specs.declared.fault.ReportFault.{ReportFault}
 use Rattle.http_desk.specs.declared.route.Report.{Report}
 use Rattle.http_desk.specs.declared.route.Report.TheVariants as report
 use Rattle.http_desk.specs.Reply.{report_head, IsReport}
-use Rattle.http_desk.specs.Serving.{unavailable, SomeOrEach}
+use Rattle.http_desk.specs.Serving.{unavailable, SomeOrEach, StopsServing}
 use Rattle.http_desk.specs.Writing.{HasEndedReport, HasSent, HasBegun, HasReported}
 use Rattle.http_desk.specs.declared.serve.Served.{Served}
 use Rattle.http_desk.specs.declared.serve.ServeFault.{ServeFault}
 use Rattle.http_desk.specs.declared.serve.ServeFault.TheVariants as serve
 use Rattle.station_core.specs.declared.answer.ActFault.{ActFault}
+
+-- a write that failed or took no byte
+pub cause_of : (old new : Given) → OneFailed old new → HasCause old new
+cause_of old new (inl (failed, idle)) = inl (omega (arith, failed))
+cause_of old new (inr (failures, none)) = inr (omega (arith, none))
+
+-- the writing goes on where no write failed
+pub stops_behind : (old mid new : Given) (r : Result Served ServeFault) → NoneFailed old mid → StopsServing mid new r → StopsServing old new r
+stops_behind old mid new (Ok served) none stops = (stops.0 ∙ none.0, stops.1 ∙ none.1)
+stops_behind old mid new (Err serve.Read) none stops = (stops.0 ∙ none.0, stops.1 ∙ none.1)
+stops_behind old mid new (Err (serve.Write sent)) none (inl (failed, idle)) = inl (failed ∙ ap (λ n. n + 1) none.0, idle ∙ none.1)
+stops_behind old mid new (Err (serve.Write sent)) none (inr (failures, took)) = inr (failures ∙ none.0, took ∙ ap (λ n. n + 1) none.1)
+
+-- how a report stopped at a keeper's fault: with its head and a byte of it, or with nothing
+module _ (front : List ℕ) (e : ReportFault) (fault : ActFault) (old new : Given) (why : e.cause ≡ cause.Act fault) (stops : StopsBy front e.cause e.sent old new) where
+  abbrev at_fault : StopsBy front (cause.Act fault) e.sent old new
+  at_fault = subst (λ (w : ReportCause). StopsBy front w e.sent old new) why stops
+
+  pub none_failed : NoneFailed old new
+  none_failed = at_fault.0
+
+  pub some_of_report : front ≡ report_head → 0 < e.sent → length report_head < e.sent
+  some_of_report is some = ⊎_elim (λ none. absurd (omega (arith, none, some))) (λ more. subst (λ f. length f < e.sent) is more) at_fault.1
 
 -- a report that ended before its end
 pub record EndedEarly (Open : Type 0) (s : State) (name : Report) (old new : Given) (e : ReportFault) : Type 0 where
@@ -63,7 +86,7 @@ module _ (s : State) (name : Report) (old mid : Given) where
       → (SomeOrEach s name (λ whole. Sent old mid whole e.sent) ⊎ Sent old mid unavailable e.sent) × HasCause old mid
   after_write Open e is ended = (inl ended.part, subst (λ (why : ReportCause). HasTold why old mid) is ended.told)
 
-  pub after_part : (Open : Type 0) (e : ReportFault) → 0 < e.sent → EndedEarly Open s name old mid e → HasReported s name old mid (Ok (record { status = 200; reopen = false }))
+  pub after_part : (Open : Type 0) (e : ReportFault) → length report_head < e.sent → EndedEarly Open s name old mid e → HasReported s name old mid (Ok (record { status = 200; reopen = false }))
   after_part Open e some ended = inr (inl (refl, some_or_each s name (λ whole. Sent old mid whole e.sent) (HasBegun old mid) (λ whole sent. (e.sent, (some, sent.0, sent.1))) ended.part))
 
   none_gone : HaveGone 0 old mid → mid.bytes ≡ old.bytes

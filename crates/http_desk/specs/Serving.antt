@@ -6,6 +6,7 @@ use Rattle.station_core.specs.Given.{Given}
 use Rattle.station_core.specs.Ends.{Sent, HasCause}
 use Rattle.station_core.specs.declared.input.Input.{Input}
 use Rattle.station_core.specs.Step.{State, accepted, step}
+use Rattle.reports.specs.Ended.{NoneFailed, OneFailed}
 use Rattle.http_desk.specs.declared.serve.Served.{Served}
 use Rattle.http_desk.specs.declared.serve.ServeFault.{ServeFault}
 use Rattle.http_desk.specs.declared.serve.ServeFault.TheVariants as serve
@@ -65,11 +66,11 @@ IsBrokenAt bytes s at broken may_find =
 abbrev pub IsUnchangedOrBroken : List ℕ → State → LocalMinute → Bool → (State → Type 0) → (Option State → Type 0) → Type 0
 IsUnchangedOrBroken bytes s at broken keeps may_find = IsKept broken keeps s ⊎ IsBrokenAt bytes s at broken may_find
 
--- the bytes are a beginning of a text, of a byte or more
+-- the bytes are a beginning of an answer with a report: all of its head, and a byte of the report or more
 abbrev pub IsBeginning : List ℕ → List ℕ → Type 0
-IsBeginning out whole = (n : ℕ) × ((0 < n) × (n ≤ length whole) × (out ≡ take n whole))
+IsBeginning out whole = (n : ℕ) × ((length report_head < n) × (n ≤ length whole) × (out ≡ take n whole))
 
--- In place of an answer: 503; or a beginning of the report that the request gets, of a byte or more, and nothing has changed.
+-- In place of an answer: 503; or the head of the report that the request gets, and a byte of the report or more, and nothing has changed.
 abbrev pub IsExcuse : List ℕ → State → LocalMinute → List ℕ → ℕ → Bool → (State → Type 0) → (Option State → Type 0) → Type 0
 IsExcuse bytes s at out status broken keeps may_find =
     ((out ≡ unavailable) × (status ≡ 503) × IsUnchangedOrBroken bytes s at broken keeps may_find)
@@ -94,6 +95,12 @@ HasServed s at read_before read_after before after broken keeps may_find (Ok ser
 HasServed s at read_before read_after before after broken keeps may_find (Err serve.Read) = IsKept broken keeps s
 HasServed s at read_before read_after before after broken keeps may_find (Err (serve.Write sent)) =
     IsPartOut s at (added read_before read_after) sent before after broken keeps may_find × HasCause before after
+
+-- No write failed or took no byte; at a writer's fault one did, and no second one.
+abbrev pub StopsServing : Given → Given → Result Served ServeFault → Type 0
+StopsServing old new (Ok served) = NoneFailed old new
+StopsServing old new (Err serve.Read) = NoneFailed old new
+StopsServing old new (Err (serve.Write sent)) = OneFailed old new
 
 -- On a station that has to be opened again the answer holds of each state, and leaves it as it is: one that asks nothing of the station,
 -- or 503.

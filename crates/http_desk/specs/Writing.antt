@@ -41,9 +41,9 @@ HasEndedReport open_station s report.Movements front old new r = HasEnded open_s
 HasEndedReport open_station s report.Trail front old new r = HasEnded open_station (front ++ trail_report s.cargo) old new r
 HasEndedReport open_station s report.Pending front old new r = HasEnded open_station (front ++ pending_report s.cargo) old new r
 
--- a beginning of a text went out, of a byte or more
+-- all of a report's head went out, and a byte of the report or more
 abbrev pub HasBegun : Given → Given → List ℕ → Type 0
-HasBegun old new whole = (n : ℕ) × ((0 < n) × (n ≤ length whole) × (new.bytes ≡ old.bytes ++ take n whole))
+HasBegun old new whole = (n : ℕ) × ((length report_head < n) × (n ≤ length whole) × (new.bytes ≡ old.bytes ++ take n whole))
 
 -- an answer with a report went out: whole, up to a fault, or 503 where it hadn't begun
 abbrev pub HasReported : State → Report → Given → Given → Result Served ServeFault → Type 0

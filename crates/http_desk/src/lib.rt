@@ -8,6 +8,7 @@ mod asking;
 mod fault;
 mod fields;
 mod head;
+mod law;
 mod reading;
 mod request;
 mod route;
@@ -15,5 +16,6 @@ mod serve;
 mod wanted;
 mod writing;
 
+pub use law::routes_law;
 pub use route::{Page, Report, Route};
 pub use serve::{ServeFault, Served, serve_one};

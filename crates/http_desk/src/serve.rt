@@ -4,7 +4,7 @@ ghost use Rattle.station_core.specs.Step.{State};
 ghost use Rattle.http_desk.specs.Told.{tells_reopen};
 ghost use Rattle.http_desk.specs.Came.{HasRequest};
 ghost use Rattle.http_desk.specs.Reading.{HasEndedEarly, most_reads};
-ghost use Rattle.http_desk.specs.Serving.{added, HasServed, HasServedShut, IsUnfinished, IsPosted, BeginsAs200, BeginsAs503, IsAfterStep, IsUnchangedOrBroken};
+ghost use Rattle.http_desk.specs.Serving.{added, HasServed, HasServedShut, IsUnfinished, StopsServing, IsPosted, BeginsAs200, BeginsAs503, IsAfterStep, IsUnchangedOrBroken};
 ghost use Rattle.http_desk.specs.Writing.{IsToldFor, IsToldShut};
 
 use crate::asking::{Told, ask};
@@ -63,6 +63,9 @@ pub fn serve_one<K: Keeper, I: ByteIn, O: ByteOut>(
     ensures read_cause { result ≡ Err ServeFault.Read → HasEndedEarly (I.given reader.old) (I.given reader.new) }
     ensures unfinished { result ≡ Err ServeFault.Read → IsUnfinished (added (I.given reader.old) (I.given reader.new)) }
     ensures most { (I.given reader.new).calls ≤ (I.given reader.old).calls + most_reads }
+
+    // One write failed where the writer's fault is returned, and else none.
+    ensures writes { StopsServing (O.taken writer.old) (O.taken writer.new) result }
 
     // The answer to the bytes that were read, or a beginning of it; and the keeper keeps the state after it.
     ensures served { (s : State) → K.keeps keeper.old s → K.is_broken keeper.old ≡ false → K.is_sound keeper.new

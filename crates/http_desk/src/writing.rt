@@ -3,9 +3,9 @@ ghost use Rattle.std.specs.Prelude.{◌≡◌, Bool, true, false, Err};
 ghost use Rattle.station_core.specs.Keeping.{IsReadersFault, OnlyReads};
 ghost use Rattle.station_core.specs.Step.{State};
 ghost use Rattle.http_desk.specs.Reply.{ok_answer};
-ghost use Rattle.http_desk.specs.Serving.{unavailable};
+ghost use Rattle.http_desk.specs.Serving.{unavailable, StopsServing};
 ghost use Rattle.http_desk.specs.Writing.{HasSent, HasEndedReport, HasReported, HasWritten, HasWrittenShut};
-ghost use Rattle.reports.specs.Ended.{IsReopen};
+ghost use Rattle.reports.specs.Ended.{IsReopen, StopsWriting};
 ghost use Rattle.http_desk.specs.declared.route.Report.{Report as AnyReport};
 
 use crate::accepted::{ROOM, put_accepted};
@@ -15,9 +15,9 @@ use crate::route::Report;
 use crate::serve::{ServeFault, Served};
 use reports::{
     ReportCause, ReportFault, irregularity_report_behind, movement_book_behind,
-    pending_report_behind, stock_report_behind, trail_report_behind,
+    pending_report_behind, send_whole, stock_report_behind, trail_report_behind,
 };
-use station_core::{ActFault, ByteOut, Keeper, send};
+use station_core::{ActFault, ByteOut, Keeper};
 use std::alloc::Global;
 
 /// The answer of a station that can't answer. It wants no memory.
@@ -31,16 +31,18 @@ fn unavailable() -> &'static [u8]
     UNAVAILABLE.as_bytes()
 }
 
-/// Writes an answer.
+/// Writes an answer, up to the first write that fails.
+#[tactic(auto, using(crate::proofs::Reporting::cause_of))]
 fn send_answer<O: ByteOut>(
     writer: &mut O,
     status: u16,
     bytes: &[u8],
     reopen: bool,
 ) -> Result<Served, ServeFault>
-    ensures { HasSent status reopen bytes.now (O.taken writer.old) (O.taken writer.new) result }
+    ensures sent { HasSent status reopen bytes.now (O.taken writer.old) (O.taken writer.new) result }
+    ensures writes { StopsServing (O.taken writer.old) (O.taken writer.new) result }
 {
-    match send(writer, bytes) {
+    match send_whole(writer, bytes) {
         Ok(()) => Ok(Served { status, reopen }),
         Err(sent) => Err(ServeFault::Write { sent: sent as u64 }),
     }
@@ -48,7 +50,8 @@ fn send_answer<O: ByteOut>(
 
 /// Writes the answer to an accepted input.
 fn send_accepted<O: ByteOut>(writer: &mut O, count: u32) -> Result<Served, ServeFault>
-    ensures { HasSent 200 false (ok_answer count) (O.taken writer.old) (O.taken writer.new) result }
+    ensures sent { HasSent 200 false (ok_answer count) (O.taken writer.old) (O.taken writer.new) result }
+    ensures writes { StopsServing (O.taken writer.old) (O.taken writer.new) result }
 {
     let mut room = [0; ROOM];
     let len = put_accepted(&mut room, count);
@@ -65,6 +68,7 @@ fn send_report<K: Keeper, O: ByteOut>(
 ) -> Result<(), ReportFault>
     ensures reads { OnlyReads K.keeps K.is_sound K.is_broken K.may_find keeper.old keeper.new }
     ensures reopen { K.is_broken keeper.old ≡ true → IsReopen result × (keeper.new ≡ keeper.old) × (O.taken writer.new ≡ O.taken writer.old) }
+    ensures writes { StopsWriting head.now (O.taken writer.old) (O.taken writer.new) result }
     ensures ended { (s : State) → K.keeps keeper.old s → K.is_sound keeper.new
         → HasEndedReport (K.is_broken keeper.old ≡ false) s report head.now (O.taken writer.old) (O.taken writer.new) result }
 {
@@ -95,6 +99,7 @@ fn write_report<K: Keeper, O: ByteOut>(
     report: Report,
 ) -> Result<Served, ServeFault>
     ensures reads { OnlyReads K.keeps K.is_sound K.is_broken K.may_find keeper.old keeper.new }
+    ensures writes { StopsServing (O.taken writer.old) (O.taken writer.new) result }
     ensures reported { (s : State) → K.keeps keeper.old s → K.is_broken keeper.old ≡ false → K.is_sound keeper.new
         → HasReported s report (O.taken writer.old) (O.taken writer.new) result }
     ensures same { K.is_broken keeper.old ≡ true → keeper.new ≡ keeper.old }
@@ -133,6 +138,7 @@ pub(crate) fn write_told<K: Keeper, O: ByteOut>(
     told: &Told,
 ) -> Result<Served, ServeFault>
     ensures reads { OnlyReads K.keeps K.is_sound K.is_broken K.may_find keeper.old keeper.new }
+    ensures writes { StopsServing (O.taken writer.old) (O.taken writer.new) result }
     ensures written { (s : State) → ((name : AnyReport) → told.now ≡ Told.Report name → K.keeps keeper.old s × (K.is_broken keeper.old ≡ false)) → K.is_sound keeper.new
         → HasWritten told.now s (O.taken writer.old) (O.taken writer.new) result }
     ensures same { K.is_broken keeper.old ≡ true → keeper.new ≡ keeper.old }

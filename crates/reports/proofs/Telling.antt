@@ -47,7 +47,8 @@ longer text more e start now (sent, told) =
     ((fits, sent.1 ∙ ap (λ t. start.bytes ++ t) (sym (take_front e.sent text more sent.0))), told)
 
 told_since : (why : ReportCause) (start old new : Given) → old.failures ≡ start.failures → old.idle ≡ start.idle → IsWhy why old new → HasTold why start new
-told_since cause.Write start old new failures idle has = rw (failures, idle) at has
+told_since cause.Write start old new failures idle (inl (failed, same)) = inl (omega (arith, failed, failures))
+told_since cause.Write start old new failures idle (inr (same, none)) = inr (omega (arith, none, idle))
 told_since (cause.Act e) start old new failures idle (memory, same) = (ap (λ (g : Given). g.failures) same ∙ failures, ap (λ (g : Given). g.idle) same ∙ idle)
 
 why_cause : (why : ReportCause) (old new : Given) → IsWhy why old new → IsCause why

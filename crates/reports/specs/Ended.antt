@@ -1,5 +1,5 @@
 -- What a report that ended before its end leaves.
-use Rattle.std.specs.Prelude.{◌≡◌, ◌⊎◌, ℕ, Result, Ok, Err, List, ◌++◌, length}
+use Rattle.std.specs.Prelude.{◌≡◌, ◌⊎◌, ℕ, ◌+◌, ◌<◌, Result, Ok, Err, List, ◌++◌, length}
 use Rattle.agent_stock.specs.Stock.{Holders}
 use Rattle.station_core.specs.Given.{Given}
 use Rattle.station_core.specs.Ends.{Sent, HasCause}
@@ -26,6 +26,25 @@ IsFault e = IsCause e.cause
 abbrev pub HasTold : ReportCause → Given → Given → Type 0
 HasTold cause.Write old new = HasCause old new
 HasTold (cause.Act e) old new = (new.failures ≡ old.failures) × (new.idle ≡ old.idle)
+
+-- no write failed or took no byte
+abbrev pub NoneFailed : Given → Given → Type 0
+NoneFailed old new = (new.failures ≡ old.failures) × (new.idle ≡ old.idle)
+
+-- one write failed or took no byte, and no second one
+abbrev pub OneFailed : Given → Given → Type 0
+OneFailed old new = ((new.failures ≡ old.failures + 1) × (new.idle ≡ old.idle)) ⊎ ((new.failures ≡ old.failures) × (new.idle ≡ old.idle + 1))
+
+-- At a fault of the writer one write failed. At another none did, and nothing went out, or all that stands in front and a byte of the
+-- report at least.
+abbrev pub StopsBy : List ℕ → ReportCause → ℕ → Given → Given → Type 0
+StopsBy front cause.Write sent old new = OneFailed old new
+StopsBy front (cause.Act e) sent old new = NoneFailed old new × ((sent ≡ 0) ⊎ (length front < sent))
+
+-- how the writing of a report ended, whatever the station keeps
+abbrev pub StopsWriting : List ℕ → Given → Given → Result (Unit {0}) ReportFault → Type 0
+StopsWriting front old new (Ok x) = NoneFailed old new
+StopsWriting front old new (Err e) = StopsBy front e.cause e.sent old new
 
 -- as many bytes went out as it returns, and they are a beginning of the text
 abbrev pub IsBegun : List ℕ → ReportFault → Given → Given → Type 0

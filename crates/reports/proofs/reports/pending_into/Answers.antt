@@ -3,6 +3,7 @@ use Rattle.station_core.specs.Readers.{pending_messages}
 use Rattle.reports.specs.Lines.{message_lines}
 use Rattle.reports.specs.Progress.{progress_of}
 use Rattle.reports.proofs.Telling.{handed_same, all_these, part_of_these, reported}
+use Rattle.reports.proofs.Stopping.{message_some, stops}
 use Rattle.reports.proofs.reports.pending_into.Goals as goal
 
 pub returns-clause-writer : goal.returns-clause-writer
@@ -15,3 +16,8 @@ returns-clause-ended g c = λ s keeps sound.
     c.requires.0 c.requires.1 c.requires.2 (all_these _ (pending_messages s.cargo) c.args.sink.now c.pending-read.new.sink c.pending-read.result (c.pending-read.ensures.rows s keeps sound))
     (part_of_these _ (pending_messages s.cargo) c.args.sink.now c.pending-read.new.sink c.pending-read.result (c.pending-read.ensures.beginning s keeps sound))
     c.pending-read.ensures.fault c.finish.ensures.stuck c.finish.ensures.unread c.finish.ensures.ended
+
+pub returns-clause-writes : goal.returns-clause-writes
+returns-clause-writes g c =
+    stops (progress_of g.W.ByteOut.taken) message_lines (λ sink. sink.writer.ghost_name) message_some c.pending-read.result c.finish.result c.args.sink.now c.pending-read.new.sink c.finish.new.self
+    c.requires.1 c.requires.2 c.pending-read.ensures.took c.finish.ensures.stuck c.finish.ensures.unread c.finish.ensures.ended

@@ -1,0 +1,143 @@
+-- Which paths lead where.
+use Rattle.std.proofs.Common.{arith, ◌≡◌, ◌∙◌, ap, sym, subst, refl, ℕ, Bool, true, false, cond, Option, Some, None, List, ◌∷◌, ◌++◌, codes}
+use Rattle.std.specs.Prelude.{◌↔◌, option_map, option_and_then}
+use Rattle.std.specs.Str.{bytes_eq}
+use Rattle.imp_fields.proofs.SameFlight.{bytes_eq-true}
+use Rattle.desk_commands.specs.declared.verb.Verb.{Verb}
+use Rattle.desk_commands.specs.declared.verb.Verb.TheVariants as verb
+use Rattle.desk_commands.specs.Verb.{word, verbs, verb_called}
+use Rattle.http_desk.specs.declared.route.Page.{Page}
+use Rattle.http_desk.specs.declared.route.Page.TheVariants as page
+use Rattle.http_desk.specs.declared.route.Report.{Report}
+use Rattle.http_desk.specs.declared.route.Report.TheVariants as report
+use Rattle.http_desk.specs.Routes.{desk_rows, page_of, report_called, posted_command, posted_telegram, got_waybill, got_holder, got_report, Place, posts, gets, place_at, place_of}
+use Rattle.http_desk.specs.Paths.{IsPath, IsName, report_path, LeadsTo}
+use Rattle.http_desk.proofs.NoVerb.{found_word}
+use Rattle.http_desk.proofs.Pages.{LeadsToPage, page_leads, page_only, path_is, path_behind}
+
+-- there, by the page of a path
+at_page : (path : List ℕ) (value : Page) (place : Place) → IsPath path → LeadsToPage path value → place_at path value ≡ Some place → place_of path ≡ Some place
+at_page path value place all leads is =
+    ap (λ p. option_and_then (place_at p) (page_of desk_rows p)) (path_is path all) ∙ ap (option_and_then (place_at path)) (page_leads path value all leads) ∙ is
+
+word_name : (v : Verb) → IsName (word v)
+word_name verb.TakeIn = (omega arith, refl)
+word_name verb.Issue = (omega arith, refl)
+word_name verb.Return = (omega arith, refl)
+word_name verb.Void = (omega arith, refl)
+word_name verb.Book = (omega arith, refl)
+word_name verb.Receive = (omega arith, refl)
+word_name verb.Manifest = (omega arith, refl)
+word_name verb.Offload = (omega arith, refl)
+word_name verb.Depart = (omega arith, refl)
+word_name verb.CheckIn = (omega arith, refl)
+word_name verb.Notify = (omega arith, refl)
+word_name verb.Deliver = (omega arith, refl)
+word_name verb.Missing = (omega arith, refl)
+word_name verb.Found = (omega arith, refl)
+word_name verb.Confirm = (omega arith, refl)
+
+word_called : (v : Verb) → verb_called (word v) ≡ Some v
+word_called verb.TakeIn = refl
+word_called verb.Issue = refl
+word_called verb.Return = refl
+word_called verb.Void = refl
+word_called verb.Book = refl
+word_called verb.Receive = refl
+word_called verb.Manifest = refl
+word_called verb.Offload = refl
+word_called verb.Depart = refl
+word_called verb.CheckIn = refl
+word_called verb.Notify = refl
+word_called verb.Deliver = refl
+word_called verb.Missing = refl
+word_called verb.Found = refl
+word_called verb.Confirm = refl
+
+act_at : (v : Verb) → place_at (codes "/v1/act/" ++ word v) page.Act ≡ Some (posts (posted_command v))
+act_at v = ap (option_map (λ verb. posts (posted_command verb))) (word_called v)
+
+abbrev IsThere : Place → List ℕ → Type 0
+IsThere place path = IsPath path → place_of path ≡ Some place
+
+report_there : (name : Report) → IsThere (gets (got_report name)) (report_path name)
+report_there report.Stock all = at_page _ page.Report _ all (codes "stock", (omega arith, refl), refl) refl
+report_there report.Irregularities all = at_page _ page.Report _ all (codes "irregularities", (omega arith, refl), refl) refl
+report_there report.Movements all = at_page _ page.Report _ all (codes "movements", (omega arith, refl), refl) refl
+report_there report.Trail all = at_page _ page.Report _ all (codes "trail", (omega arith, refl), refl) refl
+report_there report.Pending all = at_page _ page.Outbox _ all refl refl
+
+there : (path : List ℕ) (place : Place) → IsPath path → LeadsTo path place → place_of path ≡ Some place
+there path (posts (posted_command v)) all e =
+    subst (IsThere (posts (posted_command v))) (sym e) (λ all. at_page (codes "/v1/act/" ++ word v) page.Act (posts (posted_command v)) all (word v, word_name v, refl) (act_at v)) all
+there path (posts posted_telegram) all e = at_page path page.Telegrams (posts posted_telegram) all e refl
+there path (gets (got_waybill name)) all (is, e) =
+    subst (IsThere (gets (got_waybill name))) (sym e) (λ all. at_page (codes "/v1/waybills/" ++ name) page.Waybill (gets (got_waybill name)) all (name, is, refl) refl) all
+there path (gets (got_holder name)) all (is, e) =
+    subst (IsThere (gets (got_holder name))) (sym e) (λ all. at_page (codes "/v1/stock/" ++ name) page.Stock (gets (got_holder name)) all (name, is, refl) refl) all
+there path (gets (got_report name)) all e = subst (IsThere (gets (got_report name))) (sym e) (report_there name) all
+
+-- Only those.
+
+some_is : {A : Type 0} (x y : A) → ◌≡◌ {A = Option A} (Some x) (Some y) → x ≡ y
+some_is x y e = cc e
+
+no_some : {A : Type 0} (y : A) → ◌≡◌ {A = Option A} None (Some y) → ⊥
+no_some y e = cc e
+
+then_some : {A B : Type 0} (f : A → Option B) (o : Option A) (y : B) → option_and_then f o ≡ Some y → (x : A) × (o ≡ Some x) × (f x ≡ Some y)
+then_some f None y e = absurd (no_some y e)
+then_some f (Some x) y e = (x, refl, e)
+
+map_some : {A B : Type 0} (f : A → B) (o : Option A) (y : B) → option_map f o ≡ Some y → (x : A) × (o ≡ Some x) × (f x ≡ y)
+map_some f None y e = absurd (no_some y e)
+map_some f (Some x) y e = (x, refl, some_is (f x) y e)
+
+act_only : (name : List ℕ) (place : Place) → place_at (codes "/v1/act/" ++ name) page.Act ≡ Some place → LeadsTo (codes "/v1/act/" ++ name) place
+act_only name place e =
+    let told = map_some (λ verb. posts (posted_command verb)) (verb_called name) place e in
+    subst (LeadsTo (codes "/v1/act/" ++ name)) told.2 (ap (λ w. codes "/v1/act/" ++ w) (sym (found_word name verbs told.0 told.1)))
+
+-- a report by its name
+abbrev IsCalled : List ℕ → Report → Type 0
+IsCalled name r = codes "/v1/reports/" ++ name ≡ report_path r
+
+called_at : (name text : List ℕ) (r : Report) (rest : Option Report) (v : Bool) → bytes_eq name text ≡ v → codes "/v1/reports/" ++ text ≡ report_path r → (found : Report) → (rest ≡ Some found → IsCalled name found)
+    → cond v (Some r) rest ≡ Some found → IsCalled name found
+called_at name text r rest true same path found more e =
+    ap (λ n. codes "/v1/reports/" ++ n) (bytes_eq-true name text same) ∙ path ∙ ap report_path (some_is r found e)
+called_at name text r rest false same path found more e = more e
+
+called_only : (name : List ℕ) (found : Report) → report_called name ≡ Some found → IsCalled name found
+called_only name found e =
+    called_at name (codes "stock") report.Stock _ (bytes_eq name (codes "stock")) refl refl found
+    (called_at name (codes "irregularities") report.Irregularities _ (bytes_eq name (codes "irregularities")) refl refl found
+    (called_at name (codes "movements") report.Movements _ (bytes_eq name (codes "movements")) refl refl found
+    (called_at name (codes "trail") report.Trail None (bytes_eq name (codes "trail")) refl refl found (λ none. absurd (no_some found none)))))
+    e
+
+report_only : (name : List ℕ) (place : Place) → place_at (codes "/v1/reports/" ++ name) page.Report ≡ Some place → LeadsTo (codes "/v1/reports/" ++ name) place
+report_only name place e =
+    let told = map_some (λ (r : Report). gets (got_report r)) (report_called name) place e in
+    subst (LeadsTo (codes "/v1/reports/" ++ name)) told.2 (called_only name told.0 told.1)
+
+of_page : (path : List ℕ) (value : Page) (place : Place) → LeadsToPage path value → place_at path value ≡ Some place → LeadsTo path place
+of_page path page.Act place (name, is, e) at = subst (λ p. place_at p page.Act ≡ Some place → LeadsTo p place) (sym e) (act_only name place) at
+of_page path page.Telegrams place e at = subst (LeadsTo path) (some_is (posts posted_telegram) place at) e
+of_page path page.Waybill place (name, is, e) at =
+    subst (λ p. place_at p page.Waybill ≡ Some place → LeadsTo p place) (sym e) (λ at. subst (LeadsTo (codes "/v1/waybills/" ++ name)) (some_is (gets (got_waybill name)) place at) (is, refl)) at
+of_page path page.Stock place (name, is, e) at =
+    subst (λ p. place_at p page.Stock ≡ Some place → LeadsTo p place) (sym e) (λ at. subst (LeadsTo (codes "/v1/stock/" ++ name)) (some_is (gets (got_holder name)) place at) (is, refl)) at
+of_page path page.Outbox place e at = subst (LeadsTo path) (some_is (gets (got_report report.Pending)) place at) e
+of_page path page.Report place (name, is, e) at = subst (λ p. place_at p page.Report ≡ Some place → LeadsTo p place) (sym e) (report_only name place) at
+
+only_there : (path : List ℕ) (place : Place) → IsPath path → place_of path ≡ Some place → LeadsTo path place
+only_there path place all e =
+    let told = then_some (place_at path) (page_of desk_rows path) place (sym (ap (λ p. option_and_then (place_at p) (page_of desk_rows p)) (path_is path all)) ∙ e) in
+    of_page path told.0 place (page_only path told.0 all told.1) told.2
+
+pub leads : (path : List ℕ) (place : Place) → IsPath path → (place_of path ≡ Some place) ↔ LeadsTo path place
+leads path place all = (only_there path place all, there path place all)
+
+pub query_off : (path query : List ℕ) → IsPath path → place_of (path ++ 63 ∷ query) ≡ place_of path
+query_off path query all = ap (λ p. option_and_then (place_at p) (page_of desk_rows p)) (path_behind path query all ∙ sym (path_is path all))

@@ -1,0 +1,35 @@
+-- Which paths lead where.
+use Rattle.std.specs.Prelude.{◌≡◌, ℕ, ◌<◌, ◌==◌, ◌&&◌, not, nat_lt, Bool, true, false, List, ◌++◌, length, codes}
+use Rattle.std.specs.List.{list_all}
+use Rattle.matchit.specs.Seek.{has_slash}
+use Rattle.desk_commands.specs.Verb.{word}
+use Rattle.http_desk.specs.declared.route.Report.{Report}
+use Rattle.http_desk.specs.declared.route.Report.TheVariants as report
+use Rattle.http_desk.specs.Routes.{posted_command, posted_telegram, got_waybill, got_holder, got_report, Place, posts, gets}
+
+-- bytes without a question mark
+abbrev pub is_path_byte : ℕ → Bool
+is_path_byte b = nat_lt b 256 && not (b == 63)
+
+abbrev pub IsPath : List ℕ → Type 0
+IsPath path = list_all is_path_byte path ≡ true
+
+-- a name at a path's end: a byte or more, and no slash
+abbrev pub IsName : List ℕ → Type 0
+IsName name = (0 < length name) × (has_slash name ≡ false)
+
+-- the path of a report
+abbrev pub report_path : Report → List ℕ
+report_path report.Stock = codes "/v1/reports/stock"
+report_path report.Irregularities = codes "/v1/reports/irregularities"
+report_path report.Movements = codes "/v1/reports/movements"
+report_path report.Trail = codes "/v1/reports/trail"
+report_path report.Pending = codes "/v1/outbox"
+
+-- the path leads there
+abbrev pub LeadsTo : List ℕ → Place → Type 0
+LeadsTo path (posts (posted_command verb)) = path ≡ codes "/v1/act/" ++ word verb
+LeadsTo path (posts posted_telegram) = path ≡ codes "/v1/telegrams"
+LeadsTo path (gets (got_waybill name)) = IsName name × (path ≡ codes "/v1/waybills/" ++ name)
+LeadsTo path (gets (got_holder name)) = IsName name × (path ≡ codes "/v1/stock/" ++ name)
+LeadsTo path (gets (got_report name)) = path ≡ report_path name

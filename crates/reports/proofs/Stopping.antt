@@ -1,0 +1,151 @@
+-- How the writing of a report ends, whatever the station keeps.
+use Rattle.std.proofs.Common.{arith, ◌≡◌, ◌∙◌, ap, sym, refl, subst, inl, inr, ℕ, ◌+◌, ◌<◌, ◌≤◌, Bool, true, false, Some, None, Result, Ok, Err, List, [], ◌∷◌, ◌++◌, length, take, length-append, OnOk, IfErr}
+use Rattle.std.specs.Prelude.{◌⊎◌, ◌-◌, decimal, codes}
+use Rattle.std.specs.List.{join_with_byte}
+use Rattle.std.proofs.lemmas.List.{length-take-le}
+use Rattle.awb_number.specs.Digits.{padded}
+use Rattle.awb_number.specs.Number.{number_text, prefix_of, serial_of}
+use Rattle.agent_stock.specs.declared.runs.StockRun.{StockRun}
+use Rattle.station_core.specs.Given.{Given}
+use Rattle.station_core.specs.declared.answer.ActFault.{ActFault}
+use Rattle.station_core.specs.declared.rows.IrregularRow.{IrregularRow}
+use Rattle.station_core.specs.declared.rows.BookRow.{BookRow}
+use Rattle.station_core.specs.declared.rows.Message.{Message}
+use Rattle.station_core.specs.declared.rows.TrailRow.{TrailRow}
+use Rattle.row_sinks.specs.Handed.{HandedOut}
+use Rattle.reports.specs.declared.fault.ReportCause.{ReportCause}
+use Rattle.reports.specs.declared.fault.ReportCause.TheVariants as cause
+use Rattle.reports.specs.declared.fault.ReportFault.{ReportFault}
+use Rattle.reports.specs.Ended.{NoneFailed, OneFailed, StopsBy, StopsWriting}
+use Rattle.reports.specs.Layout.{right}
+use Rattle.reports.specs.Lines.{line, holder_text, amount_text, moment_text, places_text, flight_or_none, stock_line, irregular_line, book_line, message_lines, trail_line, end_line}
+use Rattle.reports.specs.Progress.{Progress, IsWhy, Waits, HasGone, HasStuck, Takes, Ends}
+use Rattle.reports.proofs.Telling.{Took, SameName}
+
+-- Each line has a byte at least, its end.
+
+line_some : (fields : List (List ℕ)) → 0 < length (line fields)
+line_some fields = omega (arith, length-append (join_with_byte 32 fields) (10 ∷ []))
+
+pub stock_some : (row : StockRun) → 0 < length (stock_line row)
+stock_some row =
+    line_some (padded 3 (prefix_of row.first) ∷ padded 7 (serial_of row.first) ∷ padded 7 (serial_of row.first + row.count - 1)
+    ∷ right 8 (decimal row.count) ∷ holder_text row.holder ∷ [])
+
+pub irregular_some : (row : IrregularRow) → 0 < length (irregular_line row)
+irregular_some row =
+    line_some (number_text row.awb ∷ (row.origin ++ row.destination) ∷ codes "missing" ∷ amount_text row.missing.pieces row.missing.tenths
+    ∷ codes "found" ∷ amount_text row.found.pieces row.found.tenths ∷ [])
+
+pub book_some : (row : BookRow) → 0 < length (book_line row)
+book_some row =
+    line_some (right 8 (decimal row.number) ∷ moment_text row.movement.at ∷ number_text row.movement.awb
+    ∷ places_text row.movement.from row.movement.to ∷ amount_text row.movement.pieces row.movement.tenths
+    ∷ flight_or_none row.movement.flight ∷ [])
+
+abbrev message_head : Message → List ℕ
+message_head message = line (codes "MESSAGE" ∷ decimal message.number ∷ decimal (length message.text) ∷ [])
+
+pub message_some : (row : Message) → 0 < length (message_lines row)
+message_some row =
+    omega (arith, length-append (message_head row) row.text, line_some (codes "MESSAGE" ∷ decimal row.number ∷ decimal (length row.text) ∷ []))
+
+pub trail_some : (row : TrailRow) → 0 < length (trail_line row)
+trail_some row = line_some (number_text row.awb ∷ row.line ∷ [])
+
+-- all goes well: what stands in front went out with a byte behind it, or waits
+pub record GoesOn (start : Given) (front : List ℕ) (p : Progress) : Type 0 where
+  pub held : length front ≤ p.sent + length p.waiting
+  pub some : (p.sent ≡ 0) ⊎ (length front < p.sent)
+  pub none : NoneFailed start p.given
+  pub cause : p.cause ≡ None
+
+-- no more is taken
+pub record HasStopped (start : Given) (front : List ℕ) (p : Progress) : Type 0 where
+  pub why : ReportCause
+  pub cause : p.cause ≡ Some why
+  pub stops : StopsBy front why p.sent start p.given
+
+abbrev pub Stands : Given → List ℕ → Progress → Type 0
+Stands start front p = GoesOn start front p ⊎ HasStopped start front p
+
+none_behind : (start old new : Given) → NoneFailed start old → new.failures ≡ old.failures → new.idle ≡ old.idle → NoneFailed start new
+none_behind start old new none failures idle = (failures ∙ none.0, idle ∙ none.1)
+
+one_behind : (start old new : Given) → NoneFailed start old → OneFailed old new → OneFailed start new
+one_behind start old new none (inl (failed, idle)) = inl (failed ∙ ap (λ n. n + 1) none.0, idle ∙ none.1)
+one_behind start old new none (inr (failures, idle)) = inr (failures ∙ none.0, idle ∙ ap (λ n. n + 1) none.1)
+
+waits_on : (start : Given) (front line : List ℕ) (p q : Progress) → GoesOn start front p → Waits line p q → q.cause ≡ p.cause → GoesOn start front q
+waits_on start front line p q g w same = record {
+  held = omega (arith, g.held, w.sent, ap length w.waiting, length-append p.waiting line);
+  some = subst (λ n. (n ≡ 0) ⊎ (length front < n)) (sym w.sent) g.some;
+  none = none_behind start p.given q.given g.none (ap (λ (x : Given). x.failures) w.given) (ap (λ (x : Given). x.idle) w.given);
+  cause = same ∙ g.cause;
+}
+
+gone_on : (start : Given) (front line : List ℕ) (p q : Progress) → 0 < length line → GoesOn start front p → HasGone line p q → q.cause ≡ p.cause → GoesOn start front q
+gone_on start front line p q some g w same =
+    let more : length front < q.sent = omega (arith, some, g.held, w.sent, length-append p.waiting line) in
+    record {
+      held = omega (arith, more);
+      some = inr more;
+      none = none_behind start p.given q.given g.none w.failures w.idle;
+      cause = same ∙ g.cause;
+    }
+
+no_more : (xs ys : List ℕ) → xs ≡ xs ++ ys → length ys ≡ 0
+no_more xs ys e = omega (arith, ap length e, length-append xs ys)
+
+-- where memory ran out, nothing more went out
+stuck_at : (start : Given) (front line : List ℕ) (why : ReportCause) (p q : Progress) → GoesOn start front p → HasStuck line why p q → StopsBy front why q.sent start q.given
+stuck_at start front line cause.Write p q g s = one_behind start p.given q.given g.none s.cause
+stuck_at start front line (cause.Act e) p q g s =
+    let same : q.given ≡ p.given = s.cause.1 in
+    let none : length (take s.part (p.waiting ++ line)) ≡ 0 = no_more p.given.bytes (take s.part (p.waiting ++ line)) (ap (λ (x : Given). x.bytes) (sym same) ∙ s.bytes) in
+    let sent : q.sent ≡ p.sent = omega (arith, s.sent, none, length-take-le s.part (p.waiting ++ line) s.within) in
+    (none_behind start p.given q.given g.none (ap (λ (x : Given). x.failures) same) (ap (λ (x : Given). x.idle) same), subst (λ n. (n ≡ 0) ⊎ (length front < n)) (sym sent) g.some)
+
+goes_on : (start : Given) (front line : List ℕ) (p q : Progress) → 0 < length line → GoesOn start front p → Takes line p true q → GoesOn start front q
+goes_on start front line p q some g (inl stays, rows, same) = waits_on start front line p q g stays same
+goes_on start front line p q some g (inr went, rows, same) = gone_on start front line p q some g went same
+
+module _ {S Row N : Type 0} (P : S → Progress) (line : Row → List ℕ) (name : S → N) (some : (row : Row) → 0 < length (line row)) where
+  -- what was handed out so far
+  stands : (rows : List Row) (start : Given) (front : List ℕ) (old new : S) → HandedOut (Took P line (SameName P line name)) rows old new → GoesOn start front (P old) → Stands start front (P new)
+  stands [] start front old new h g = inl (subst (λ (s : S). GoesOn start front (P s)) (sym h) g)
+  stands (row ∷ rows) start front old new (true, mid, took, more) g = stands rows start front mid new more (goes_on start front (line row) (P old) (P mid) (some row) g took.1)
+  stands (row ∷ rows) start front old new (false, mid, took, more) g =
+      let why : ReportCause = took.1.0 in
+      let stop : HasStopped start front (P mid) = record { why = why; cause = took.1.1; stops = stuck_at start front (line row) why (P old) (P mid) g took.1.2 } in
+      inr (subst (λ (s : S). HasStopped start front (P s)) (sym more) stop)
+
+  -- by how the sink ended
+  ended : (start : Given) (front : List ℕ) (read : Result (Unit {0}) ActFault) (r : Result (Unit {0}) ReportFault) (mid new : S)
+      → ((why : ReportCause) → (P mid).cause ≡ Some why → (r ≡ Err (record { sent = (P mid).sent; cause = why })) × (new ≡ mid))
+      → ((P mid).cause ≡ None → IfErr read (λ e. (r ≡ Err (record { sent = (P mid).sent; cause = cause.Act e })) × (new ≡ mid)))
+      → ((P mid).cause ≡ None → OnOk read (Ends (P mid) (P new) r))
+      → Stands start front (P mid) → StopsWriting front start (P new).given r
+  ended start front read r mid new cut unread ends (inr h) =
+      let told = cut h.why h.cause in
+      subst (λ (s : S). StopsWriting front start (P s).given r) (sym told.1) (subst (StopsWriting front start (P mid).given) (sym told.0) h.stops)
+  ended start front (Err e) r mid new cut unread ends (inl g) =
+      let told = unread g.cause in
+      subst (λ (s : S). StopsWriting front start (P s).given r) (sym told.1) (subst (StopsWriting front start (P mid).given) (sym told.0) (g.none, g.some))
+  ended start front (Ok x) (Ok y) mid new cut unread ends (inl g) = let went = ends g.cause in none_behind start (P mid).given (P new).given g.none went.failures went.idle
+  ended start front (Ok x) (Err f) mid new cut unread ends (inl g) =
+      let went = ends g.cause in
+      subst (λ n. StopsBy front f.cause n start (P new).given) (sym went.1) (stuck_at start front (end_line (P mid).rows) f.cause (P mid) (P new) g went.0)
+
+  -- how the writing of a report ends, by how its rows were handed out and how the sink ended
+  pub stops : (read : Result (Unit {0}) ActFault) (r : Result (Unit {0}) ReportFault) (old mid new : S)
+      → (P old).sent ≡ 0 → (P old).cause ≡ None
+      → ((rows : List Row) × HandedOut (Took P line (SameName P line name)) rows old mid)
+      → ((why : ReportCause) → (P mid).cause ≡ Some why → (r ≡ Err (record { sent = (P mid).sent; cause = why })) × (new ≡ mid))
+      → ((P mid).cause ≡ None → IfErr read (λ e. (r ≡ Err (record { sent = (P mid).sent; cause = cause.Act e })) × (new ≡ mid)))
+      → ((P mid).cause ≡ None → OnOk read (Ends (P mid) (P new) r))
+      → StopsWriting (P old).waiting (P old).given (P new).given r
+  stops read r old mid new none_sent no_cause took cut unread ends =
+      let held : length (P old).waiting ≤ (P old).sent + length (P old).waiting = omega arith in
+      let begin : GoesOn (P old).given (P old).waiting (P old) = record { held = held; some = inl none_sent; none = (refl, refl); cause = no_cause } in
+      ended (P old).given (P old).waiting read r mid new cut unread ends (stands took.0 (P old).given (P old).waiting old mid took.1 begin)
