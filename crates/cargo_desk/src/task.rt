@@ -3,13 +3,13 @@
 use crate::files::{make_file, open_file};
 use crate::service::{Service, serve_line};
 use desk_call::{DeskFault, end, run_line};
-use desk_run::{Feed, is_opening};
+use desk_run::{Feed, is_opening, tie};
 use desk_words::{Line, LineCommand};
 use imp_fields::Moment;
 use memory_files::open_pages;
 use sqlite::{Alter, Connection};
 use station_core::Counted;
-use std::io::{BufWriter, Read, Write};
+use std::io::{Read, Write};
 use stock_list::RunFault;
 
 /// What a line does with its station.
@@ -62,7 +62,7 @@ fn run_direct<S: Alter, R: Read + Drop>(
     )
 }
 
-/// Runs a line over a connection. What it writes is gathered, and goes out before the end.
+/// Runs a line over a connection. What it writes is gathered, and goes out before its input is read again, and before the end.
 fn run_gathered<S: Alter, R: Read + Drop>(
     rt: &HostRuntime,
     line: &Line<'_>,
@@ -71,12 +71,12 @@ fn run_gathered<S: Alter, R: Read + Drop>(
     at: Moment,
 ) -> (u8, Connection<S>) {
     let alloc = rt.alloc();
-    let Ok(gathered) = BufWriter::new(alloc, rt.stdout()) else {
+    let Ok((input, gathered)) = tie(alloc, reader, rt.stdout()) else {
         return (faulted(rt, RunFault::Memory), conn);
     };
     let mut output = Counted::new(gathered);
     let mut errors = Counted::new(rt.stderr());
-    let mut feed = Feed::new(reader);
+    let mut feed = Feed::new(input);
     let (status, conn) = run_line(alloc, line, conn, &mut feed, &mut output, &mut errors, at);
     if output.into_inner().flush().is_err() {
         return (failed_late(rt, status, RunFault::Write), conn);

@@ -12,7 +12,7 @@ use station_core::{ByteIn, ByteOut, Keeper};
 use station_tables::{AttachFault, Station};
 use std::alloc::Global;
 use std::io::Read;
-use stock_list::RunFault;
+use stock_list::{RunFault, Watched};
 
 /// Ends a call whose command ran.
 fn end_run<E: ByteOut>(errors: &mut E, ended: Result<bool, RunFault>) -> u8
@@ -29,7 +29,7 @@ fn give_back<S: Alter>(station: Station<S>) -> Connection<S>
 }
 
 /// Runs a line's command over its station, reports how it ended, and gives the connection back.
-fn run_station<S: Alter, I: ByteIn + Read, W: ByteOut, E: ByteOut>(
+fn run_station<S: Alter, I: Watched + Read, W: ByteOut, E: ByteOut>(
     alloc: Global,
     line: &Line<'_>,
     mut station: Station<S>,
@@ -60,7 +60,7 @@ fn refuse_line<S: Alter, I, W, E: ByteOut>(
 }
 
 /// Runs a line over its station, or reports why there is none.
-fn run_opened<S: Alter, I: ByteIn + Read, W: ByteOut, E: ByteOut>(
+fn run_opened<S: Alter, I: Watched + Read, W: ByteOut, E: ByteOut>(
     alloc: Global,
     line: &Line<'_>,
     opened: Result<Station<S>, (Connection<S>, AttachFault)>,
@@ -81,7 +81,7 @@ fn run_opened<S: Alter, I: ByteIn + Read, W: ByteOut, E: ByteOut>(
 /// Runs a line over a connection, at a moment: every command but `serve`. It returns the exit status and the connection.
 ///
 /// A fault is reported on `errors`: status 3, or 4 where the connection has no station for the line.
-pub fn run_line<S: Alter, I: ByteIn + Read, W: ByteOut, E: ByteOut>(
+pub fn run_line<S: Alter, I: Watched + Read, W: ByteOut, E: ByteOut>(
     alloc: Global,
     line: &Line<'_>,
     conn: Connection<S>,

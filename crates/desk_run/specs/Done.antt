@@ -1,5 +1,5 @@
 -- What a run of a command leaves, by the command.
-use Rattle.std.specs.Prelude.{◌≡◌, ℕ, Bool, true, false, Option, Some, None, Result, Ok, Err, OnOk, OnErr, IfOk, IfErr, IfSome, List, ◌++◌, codes}
+use Rattle.std.specs.Prelude.{◌≡◌, ◌<◌, ℕ, Bool, true, false, Option, Some, None, Result, Ok, Err, OnOk, OnErr, IfOk, IfErr, IfSome, List, ◌++◌, codes}
 use Rattle.imp_fields.specs.Date.{LocalMinute}
 use Rattle.station_core.specs.Ends.{HasCause}
 use Rattle.station_core.specs.Given.{Given}
@@ -40,15 +40,17 @@ pub record HasToldMade {K : Type 0} (here : List ℕ) (old new : K) (sent_old se
   pub why : IfErr result (λ e. e ≡ fault.Write)
   pub cause : OnErr result (HasCause sent_old sent_new)
 
--- The rows of a stock list were answered, all of them or up to a fault; a writer is named only where it failed. A station that has to be
--- opened again is asked nothing. `left` is the list, where it is known.
+-- The rows of a stock list were answered, all of them or up to a fault; a reader or a writer is named only where it failed, and the end of a
+-- list taken only where no read has. A station that has to be opened again is asked nothing. `left` is the list, where it is known.
 pub record HasAnsweredRows {K : Type 0} (keeps : K → State → Type 0) (is_sound : K → Type 0) (is_broken : K → Bool) (may_find : K → Option State → Type 0)
-    (left : Option (List ℕ)) (at : LocalMinute) (old new : K) (sent_old sent_new : Given) (result : Result Bool RunFault) : Type 0 where
+    (left : Option (List ℕ)) (at : LocalMinute) (old new : K) (read_new sent_old sent_new : Given) (result : Result Bool RunFault) : Type 0 where
   pub ran : (s : State) → keeps old s → is_broken old ≡ false → is_sound new
       → IfOk result (λ good. (rows : List Row) × IfSome left (λ bytes. rows ≡ stock_rows bytes) × HasRunRows s rows at good sent_old.bytes sent_new.bytes (keeps new))
   pub stopped : (s : State) → keeps old s → is_broken old ≡ false → is_sound new
       → IfErr result (λ e. (rows : List Row) × ((next : Option Row) × (IfSome left (AreFirst (rows_read rows next))
       × HasStopped s rows next at e sent_old.bytes sent_new.bytes (keeps new) (may_find new))))
+  pub read_cause : result ≡ Err fault.Read → 0 < read_new.failures
+  pub no_failure : OnOk result (read_new.failures ≡ 0)
   pub write_cause : result ≡ Err fault.Write → HasCause sent_old sent_new
   pub same : is_broken old ≡ true → new ≡ old
   pub reopen : is_broken old ≡ true → HasRunRowsShut left sent_old.bytes sent_new.bytes result
@@ -96,7 +98,7 @@ abbrev pub HasDone : {K : Type 0} → LineCommand → List ℕ → (K → State 
     → Option (List ℕ) → Given → Given → Given → Given → Result Bool RunFault → Type 0
 HasDone command.Init here keeps is_sound is_broken may_find at old new left read_old read_new sent_old sent_new r = HasToldMade here old new sent_old sent_new r
 HasDone command.Stock here keeps is_sound is_broken may_find at old new left read_old read_new sent_old sent_new r =
-    HasAnsweredRows keeps is_sound is_broken may_find left at old new sent_old sent_new r
+    HasAnsweredRows keeps is_sound is_broken may_find left at old new read_new sent_old sent_new r
 HasDone (command.Take path) here keeps is_sound is_broken may_find at old new left read_old read_new sent_old sent_new r =
     HasAnsweredAsked IsTelegramAsked keeps is_sound is_broken may_find at old new read_old read_new sent_old sent_new r
 HasDone (command.Act verb key) here keeps is_sound is_broken may_find at old new left read_old read_new sent_old sent_new r =

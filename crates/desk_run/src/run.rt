@@ -14,7 +14,7 @@ use imp_fields::{Airport, Moment};
 use station_core::{ByteIn, ByteOut, Keeper, Key};
 use std::alloc::Global;
 use std::io::Read;
-use stock_list::{RunFault, run_stock};
+use stock_list::{RunFault, Watched, run_stock};
 
 /// `init`: the line of a station that was made.
 fn do_init<K: Keeper, W: ByteOut>(
@@ -31,7 +31,7 @@ fn do_init<K: Keeper, W: ByteOut>(
 }
 
 /// `stock`: the answers of a stock list.
-fn do_stock<K: Keeper, I: Read, W: ByteOut>(
+fn do_stock<K: Keeper, I: Watched + Read, W: ByteOut>(
     alloc: Global,
     keeper: &mut K,
     reader: &mut I,
@@ -40,7 +40,8 @@ fn do_stock<K: Keeper, I: Read, W: ByteOut>(
 ) -> Result<bool, RunFault>
     ensures sound { K.is_sound keeper.new → K.is_sound keeper.old }
     ensures works { K.is_broken keeper.old ≡ false → OnOk result (K.is_broken keeper.new ≡ false) }
-    ensures answered { HasAnsweredRows K.keeps K.is_sound K.is_broken K.may_find (I.remaining reader.old) at keeper.old keeper.new (W.taken output.old) (W.taken output.new) result }
+    ensures answered { HasAnsweredRows K.keeps K.is_sound K.is_broken K.may_find (I.remaining reader.old) at keeper.old keeper.new
+        (I.given reader.new) (W.taken output.old) (W.taken output.new) result }
 {
     run_stock(alloc, keeper, reader, output, at)
 }
@@ -83,7 +84,7 @@ fn do_act<K: Keeper, I: ByteIn, W: ByteOut>(
 ///
 /// `Ok` says whether all was accepted. Returns [`RunFault::Read`], [`RunFault::Write`], [`RunFault::Memory`] or
 /// [`RunFault::Store`] where the run stopped, as its command's own call says.
-pub fn run_over<K: Keeper, I: ByteIn + Read, W: ByteOut>(
+pub fn run_over<K: Keeper, I: Watched + Read, W: ByteOut>(
     alloc: Global,
     keeper: &mut K,
     line: &Line<'_>,

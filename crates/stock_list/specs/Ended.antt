@@ -1,5 +1,5 @@
 -- What a row leaves behind it, whether it was answered or not.
-use Rattle.std.specs.Prelude.{◌≡◌, ◌⊎◌, ℕ, ◌+◌, Bool, Option, Some, None, List, [], ◌∷◌, ◌++◌, length, take}
+use Rattle.std.specs.Prelude.{◌≡◌, ◌⊎◌, ℕ, ◌+◌, Bool, if◌then◌else◌, Result, Ok, Err, Option, Some, None, List, [], ◌∷◌, ◌++◌, length, take}
 use Rattle.csv.specs.declared.error.ErrorKind.{ErrorKind}
 use Rattle.csv.specs.declared.error.ErrorKind.TheVariants as kind
 use Rattle.imp_fields.specs.Date.{LocalMinute}
@@ -50,6 +50,12 @@ IsStopped number s row at e before after keeps may_find = HasActed number s row 
 abbrev pub reader_fault : ErrorKind → RunFault
 reader_fault (kind.Io e) = fault.Read
 reader_fault _ = fault.Memory
+
+-- how a run is told, once it is known whether the reader has failed
+abbrev pub told_by : Result Bool RunFault → Bool → Result Bool RunFault
+told_by (Ok good) failed = if failed then Err fault.Read else Ok good
+told_by (Err fault.Read) failed = if failed then Err fault.Read else Err fault.Memory
+told_by (Err e) failed = Err e
 
 abbrev pub IsReadersFault : RunFault → Type 0
 IsReadersFault e = (e ≡ fault.Read) ⊎ (e ≡ fault.Memory)

@@ -2,3 +2,4 @@ pub mod Row
 pub mod Lines
 pub mod Ended
 pub mod Shut
+pub mod Law

@@ -70,7 +70,3 @@ rows_after s (row ∷ rows) at = rows_after (row_after s row at) rows at
 -- the records of a text, as the crate `csv` defines them
 abbrev pub stock_rows : List ℕ → List Row
 stock_rows bytes = records default_config (strip_bom bytes)
-
--- the output of `stock` for a text
-abbrev pub stock_lines : List ℕ → State → LocalMinute → List ℕ
-stock_lines bytes s at = lines_from 1 s (stock_rows bytes) at

@@ -2,9 +2,13 @@
 #![tactic(auto)]
 
 mod answer;
+mod law;
 mod row;
 mod run;
+mod watched;
 
 pub use answer::{RunFault, answer_row, answer_text, keeper_fault, send_line};
+pub use law::list_law;
 pub use row::read_row;
 pub use run::run_stock;
+pub use watched::Watched;

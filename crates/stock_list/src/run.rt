@@ -1,12 +1,13 @@
-ghost use Rattle.std.specs.Prelude.{◌≡◌, true, false, Err, List, Option, OnOk, IfOk, IfErr, IfSome};
+ghost use Rattle.std.specs.Prelude.{◌≡◌, ◌<◌, true, false, Err, List, Option, OnOk, IfOk, IfErr, IfSome};
 ghost use Rattle.csv.specs.Reading.{error_kind};
 ghost use Rattle.station_core.specs.Ends.{HasCause};
 ghost use Rattle.station_core.specs.Step.{State};
-ghost use Rattle.stock_list.specs.Ended.{reader_fault, HasRun, HasStopped, rows_read, AreFirst};
+ghost use Rattle.stock_list.specs.Ended.{reader_fault, told_by, HasRun, HasStopped, rows_read, AreFirst};
 ghost use Rattle.stock_list.specs.Lines.{Row, stock_rows};
 ghost use Rattle.stock_list.specs.Shut.{HasRunShut};
 
 use crate::answer::{RunFault, answer_row};
+use crate::watched::Watched;
 use csv::{Error, ErrorKind, ReaderBuilder};
 use imp_fields::Moment;
 use station_core::{ByteOut, Keeper};
@@ -23,8 +24,8 @@ fn reader_fault(e: Error) -> RunFault
     }
 }
 
-/// Answers the rows of a stock list, each after what it asks was done, all at one moment. `Ok` says whether all were accepted.
-pub fn run_stock<K: Keeper, R: Read + Drop, W: ByteOut>(
+/// Answers the rows that a reader gives up to its end, or up to an error.
+fn run_rows<K: Keeper, R: Read + Drop, W: ByteOut>(
     alloc: Global,
     keeper: &mut K,
     reader: R,
@@ -33,21 +34,13 @@ pub fn run_stock<K: Keeper, R: Read + Drop, W: ByteOut>(
 ) -> Result<bool, RunFault>
     ensures sound { K.is_sound keeper.new → K.is_sound keeper.old }
     ensures works { K.is_broken keeper.old ≡ false → OnOk result (K.is_broken keeper.new ≡ false) }
-
-    // Every row that was read, and of a known reader that is every row of its text, has its line, in their
-    // order, and the state is the one after them all.
     ensures ran { (s : State) → K.keeps keeper.old s → K.is_broken keeper.old ≡ false → K.is_sound keeper.new
         → IfOk result (λ good. (rows : List Row) × IfSome (R.remaining reader) (λ bytes. rows ≡ stock_rows bytes)
         × HasRun s rows at good (W.taken writer.old).bytes (W.taken writer.new).bytes (K.keeps keeper.new)) }
-
-    // At a fault each row before the last that was read has its line. The last one acted, and a beginning of its line
-    // was written, or it did not, or the store failed within it, and nothing of its line was written.
     ensures stopped { (s : State) → K.keeps keeper.old s → K.is_broken keeper.old ≡ false → K.is_sound keeper.new
         → IfErr result (λ e. (rows : List Row) × ((next : Option Row) × (IfSome (R.remaining reader) (AreFirst (rows_read rows next))
         × HasStopped s rows next at e (W.taken writer.old).bytes (W.taken writer.new).bytes (K.keeps keeper.new) (K.may_find keeper.new)))) }
     ensures write_cause { result ≡ Err RunFault.Write → HasCause (W.taken writer.old) (W.taken writer.new) }
-
-    // A station that has to be opened again stays as it is. The first row that asks anything of it ends the run.
     ensures same { K.is_broken keeper.old ≡ true → keeper.new ≡ keeper.old }
     ensures reopen { K.is_broken keeper.old ≡ true
         → HasRunShut (R.remaining reader) (W.taken writer.old).bytes (W.taken writer.new).bytes result }
@@ -69,4 +62,64 @@ pub fn run_stock<K: Keeper, R: Read + Drop, W: ByteOut>(
         }
     }
     Ok(good)
+}
+
+/// How a run is told, once it is known whether its reader has failed.
+fn told_by(ended: Result<bool, RunFault>, failed: bool) -> Result<bool, RunFault>
+    ensures { result ≡ told_by ended failed }
+{
+    match ended {
+        Ok(good) => {
+            if failed {
+                Err(RunFault::Read)
+            } else {
+                Ok(good)
+            }
+        }
+        Err(RunFault::Read) => {
+            if failed {
+                Err(RunFault::Read)
+            } else {
+                Err(RunFault::Memory)
+            }
+        }
+        Err(fault) => Err(fault),
+    }
+}
+
+/// Answers the rows of a stock list, each after what it asks was done, all at one moment. `Ok` says whether all were accepted.
+pub fn run_stock<K: Keeper, R: Watched + Read, W: ByteOut>(
+    alloc: Global,
+    keeper: &mut K,
+    reader: &mut R,
+    writer: &mut W,
+    at: Moment,
+) -> Result<bool, RunFault>
+    ensures sound { K.is_sound keeper.new → K.is_sound keeper.old }
+    ensures works { K.is_broken keeper.old ≡ false → OnOk result (K.is_broken keeper.new ≡ false) }
+
+    // Every row that was read, and of a known reader that is every row of its text, has its line, in their
+    // order, and the state is the one after them all.
+    ensures ran { (s : State) → K.keeps keeper.old s → K.is_broken keeper.old ≡ false → K.is_sound keeper.new
+        → IfOk result (λ good. (rows : List Row) × IfSome (R.remaining reader.old) (λ bytes. rows ≡ stock_rows bytes)
+        × HasRun s rows at good (W.taken writer.old).bytes (W.taken writer.new).bytes (K.keeps keeper.new)) }
+
+    // At a fault each row before the last that was read has its line. The last one acted, and a beginning of its line
+    // was written, or it did not, or the store failed within it, and nothing of its line was written.
+    ensures stopped { (s : State) → K.keeps keeper.old s → K.is_broken keeper.old ≡ false → K.is_sound keeper.new
+        → IfErr result (λ e. (rows : List Row) × ((next : Option Row) × (IfSome (R.remaining reader.old) (AreFirst (rows_read rows next))
+        × HasStopped s rows next at e (W.taken writer.old).bytes (W.taken writer.new).bytes (K.keeps keeper.new) (K.may_find keeper.new)))) }
+
+    // `Read` comes only where the reader has failed, and a list that was read to its end only where it has not.
+    ensures read_cause { result ≡ Err RunFault.Read → 0 < (R.given reader.new).failures }
+    ensures no_failure { OnOk result ((R.given reader.new).failures ≡ 0) }
+    ensures write_cause { result ≡ Err RunFault.Write → HasCause (W.taken writer.old) (W.taken writer.new) }
+
+    // A station that has to be opened again stays as it is. The first row that asks anything of it ends the run.
+    ensures same { K.is_broken keeper.old ≡ true → keeper.new ≡ keeper.old }
+    ensures reopen { K.is_broken keeper.old ≡ true
+        → HasRunShut (R.remaining reader.old) (W.taken writer.old).bytes (W.taken writer.new).bytes result }
+{
+    let ended = run_rows(alloc, keeper, &mut *reader, writer, at);
+    told_by(ended, reader.has_failed())
 }

@@ -6,7 +6,7 @@ use Rattle.stock_list.specs.Lines.{Row}
 use Rattle.stock_list.specs.Ended.{HasRun, IsUntroubled}
 use Rattle.stock_list.proofs.More.{Known}
 use Rattle.stock_list.proofs.Shut.{IsShut}
-use Rattle.stock_list.proofs.run.run_stock.Given as goal
+use Rattle.stock_list.proofs.run.run_rows.Given as goal
 
 -- the rows so far were answered, and take the text to what the reader has left
 abbrev pub invariant-loop-row : goal.invariant-loop-row

@@ -1,0 +1,198 @@
+use Rattle.std.proofs.Common.{rules, arith, ◌∙◌, sym, refl, inl, inr, ap, ◌+◌, ◌<◌, ◌≤◌, List, [], ◌∷◌, ◌++◌, Some, None, Err, subst, Fits, w64}
+use Rattle.station_core.specs.Ends.{HasCause}
+use Rattle.stock_list.specs.Ended.{IsReadersFault}
+use Rattle.csv.specs.Records.{fields_of}
+use Rattle.stock_list.specs.Lines.{Row, rows_after}
+use Rattle.stock_list.proofs.More.{append_nil, known_start, known_more, known_end, known_first, counted_more, run_more, readers_fault, stops_more}
+use Rattle.stock_list.proofs.Shut.{untroubled_more, cause_behind, passed_cause, no_write, shut_start, shut_more, shut_stops, passed_shut}
+use Rattle.stock_list.proofs.Unanswered.{passed_on}
+use Rattle.stock_list.proofs.run.run_rows.Goals as goal
+
+pub loop-row-init : goal.loop-row-init
+loop-row-init g c =
+    let fr = c.from_reader-rdr.ensures in
+    let start = c.into_iter-row-iterator.ensures.into_iter_gives ∙ refl in
+    let rdr = c.into_byte_records-row-items.ensures.rdr in
+    let left = c.into_byte_records-row-items.ensures.left in
+    let flexible = c.flexible.ensures in
+    let headers = c.has_headers.ensures in
+    let known = known_start g.R.Read.remaining c.from_reader-rdr.result (g.R.Read.remaining c.args.reader) fr.source fr.state in
+    let fits : Fits w64 c.into_iter-row-iterator.result.left = search rules in
+    record {
+      trim = rw (start, rdr) (rw (flexible, headers) at fr.trim ∙ c.new.ensures.trim);
+      ready = rw (start, rdr) (inr (inr (rw (flexible, headers) at fr.has_headers, fr.headers)));
+      left = rw (start) left;
+      config = rw (start, rdr) (rw (flexible, headers) at fr.config ∙ c.new.ensures.config);
+      counted = omega (arith, fits);
+      sound = λ sound. sound;
+      works = λ works. works;
+      untroubled = record { failures = refl; idle = refl };
+      same = λ broken. refl;
+      rows = (
+        [],
+        refl,
+        rw (start, rdr) known,
+        λ s keeps works sound. record { lines = sym (append_nil (g.W.ByteOut.taken c.args.writer.now).bytes); good_is = refl; state = keeps },
+        λ broken. shut_start (g.W.ByteOut.taken c.args.writer.now).bytes,
+      );
+    }
+
+pub overflow_add-number : goal.overflow_add-number
+overflow_add-number g c =
+    let inv = c.loop-row.invariant in
+    let bound : c.loop-row.number + c.loop-row.row-iterator.left ≤ 18446744073709551615 = inv.counted in
+    let left : 0 < c.loop-row.row-iterator.left = inv.left in
+    omega (arith, bound, left)
+
+pub returns-in_err-accepted-in-Ok-clause-sound : goal.returns-in_err-accepted-in-Ok-clause-sound
+returns-in_err-accepted-in-Ok-clause-sound g c = λ sound. c.loop-row.invariant.sound (c.answer_row.ensures.sound sound)
+
+pub loop-row-preserved : goal.loop-row-preserved
+loop-row-preserved g c =
+    let inv = c.loop-row.invariant in
+    let step = rw (c.in-Some.is, c.in-Ok.is) at ((c.next.ensures.steps inv.left inv.trim).0 inv.ready) in
+    let rows : List Row = inv.rows.0 in
+    let f : Row = fields_of c.in-Ok.row in
+    let bound : c.loop-row.number + c.loop-row.row-iterator.left ≤ 18446744073709551615 = inv.counted in
+    let goes = rw (c.in-Some.is) at c.next.ensures.goes.on tt in
+    let fewer : c.next.new.self.left < c.loop-row.row-iterator.left = goes.2 in
+    record {
+      trim = step.0.3 ∙ inv.trim;
+      ready = inl step.1;
+      left = step.2;
+      config = step.0.2 ∙ inv.config;
+      counted = omega (arith, bound, fewer);
+      sound = λ sound. inv.sound (c.answer_row.ensures.sound sound);
+      works = λ works. c.in_ok-accepted-in-Ok.ensures.works (inv.works works);
+      untroubled = untroubled_more (g.W.ByteOut.taken c.args.writer.now) (g.W.ByteOut.taken c.loop-row.writer) (g.W.ByteOut.taken c.answer_row.new.writer)
+          inv.untroubled c.in_ok-accepted-in-Ok.ensures.untroubled;
+      same = λ broken. c.answer_row.ensures.same (ap g.K.Keeper.is_broken (inv.same broken) ∙ broken) ∙ inv.same broken;
+      rows = (
+        rows ++ f ∷ [],
+        counted_more c.loop-row.number rows f inv.rows.1,
+        known_more g.R.Read.remaining c.loop-row.row-iterator.rdr c.next.new.self.rdr f rows (g.R.Read.remaining c.args.reader) inv.config step.0 inv.rows.2,
+        λ s keeps works sound.
+            let run = inv.rows.3 s keeps works (c.answer_row.ensures.sound sound) in
+            run_more s rows f c.args.at c.loop-row.number c.loop-row.good c.in_ok-accepted-in-Ok.accepted _ _ _ _ _ inv.rows.1 run
+            (c.in_ok-accepted-in-Ok.ensures.answered (rows_after s rows c.args.at) run.state (inv.works works) sound),
+        λ broken. shut_more rows f c.loop-row.number c.loop-row.good c.in_ok-accepted-in-Ok.accepted (g.W.ByteOut.taken c.args.writer.now).bytes
+            (g.W.ByteOut.taken c.loop-row.writer) (g.W.ByteOut.taken c.answer_row.new.writer) inv.rows.1 (inv.rows.4 broken)
+            (c.in_ok-accepted-in-Ok.ensures.reopen (ap g.K.Keeper.is_broken (inv.same broken) ∙ broken)),
+      );
+    }
+
+pub returns-in-Err-clause-sound : goal.returns-in-Err-clause-sound
+returns-in-Err-clause-sound g c = c.loop-row.invariant.sound
+
+pub returns-clause-sound : goal.returns-clause-sound
+returns-clause-sound g c = c.loop-row.invariant.sound
+
+pub returns-clause-works : goal.returns-clause-works
+returns-clause-works g c = c.loop-row.invariant.works
+
+pub returns-clause-ran : goal.returns-clause-ran
+returns-clause-ran g c = λ s keeps works sound.
+    let inv = c.loop-row.invariant in
+    let step = rw c.in-None.is at ((c.next.ensures.steps inv.left inv.trim).0 inv.ready) in
+    let all = known_end g.R.Read.remaining c.loop-row.row-iterator.rdr c.next.new.self.rdr [] inv.rows.0 (g.R.Read.remaining c.args.reader) inv.config step inv.rows.2 in
+    (inv.rows.0, all, inv.rows.3 s keeps works sound)
+
+pub returns-in-Err-clause-stopped : goal.returns-in-Err-clause-stopped
+returns-in-Err-clause-stopped g c = λ s keeps works sound.
+    let inv = c.loop-row.invariant in
+    let run = inv.rows.3 s keeps works sound in (
+      inv.rows.0,
+      (
+        None,
+        (
+          known_first g.R.Read.remaining c.loop-row.row-iterator.rdr inv.rows.0 (g.R.Read.remaining c.args.reader) inv.rows.2,
+          (subst IsReadersFault (sym c.reader_fault.ensures) (readers_fault _), run.lines, run.state),
+        ),
+      ),
+    )
+
+pub returns-in_err-accepted-in-Ok-clause-stopped : goal.returns-in_err-accepted-in-Ok-clause-stopped
+returns-in_err-accepted-in-Ok-clause-stopped g c = λ s keeps works sound.
+    let inv = c.loop-row.invariant in
+    let rows : List Row = inv.rows.0 in
+    let f : Row = fields_of c.in-Ok.row in
+    let step = rw (c.in-Some.is, c.in-Ok.is) at ((c.next.ensures.steps inv.left inv.trim).0 inv.ready) in
+    let run = inv.rows.3 s keeps works (c.answer_row.ensures.sound sound) in
+    let known = known_more g.R.Read.remaining c.loop-row.row-iterator.rdr c.next.new.self.rdr f rows (g.R.Read.remaining c.args.reader) inv.config step.0 inv.rows.2 in
+    let stopped = c.in_err-accepted-in-Ok.ensures.stopped (rows_after s rows c.args.at) run.state (inv.works works) sound in
+    passed_on c.from_residual.result c.in_err-accepted-in-Ok.field-0.0 _ c.from_residual.ensures.1 (
+      rows,
+      (
+        Some f,
+        (
+          known_first g.R.Read.remaining c.next.new.self.rdr (rows ++ f ∷ []) (g.R.Read.remaining c.args.reader) known,
+          stops_more s rows f c.args.at c.loop-row.number c.loop-row.good _ _ _ _ _ _ _ inv.rows.1 run stopped,
+        ),
+      ),
+    )
+
+pub returns-in-Err-clause-write_cause : goal.returns-in-Err-clause-write_cause
+returns-in-Err-clause-write_cause g c = λ is. no_write _ c.reader_fault.result _ c.reader_fault.ensures is
+
+pub returns-in_err-accepted-in-Ok-clause-write_cause : goal.returns-in_err-accepted-in-Ok-clause-write_cause
+returns-in_err-accepted-in-Ok-clause-write_cause g c = λ is.
+    let old = g.W.ByteOut.taken c.args.writer.now in
+    let new = g.W.ByteOut.taken c.answer_row.new.writer in
+    passed_cause c.from_residual.result c.in_err-accepted-in-Ok.field-0.0 (HasCause old new) c.from_residual.ensures.1
+    (λ write. cause_behind old (g.W.ByteOut.taken c.loop-row.writer) new c.loop-row.invariant.untroubled (c.in_err-accepted-in-Ok.ensures.write_cause (ap Err write))) is
+
+pub returns-in-Err-clause-same : goal.returns-in-Err-clause-same
+returns-in-Err-clause-same g c = c.loop-row.invariant.same
+
+pub returns-clause-same : goal.returns-clause-same
+returns-clause-same g c = c.loop-row.invariant.same
+
+pub returns-in_err-accepted-in-Ok-clause-same : goal.returns-in_err-accepted-in-Ok-clause-same
+returns-in_err-accepted-in-Ok-clause-same g c = λ broken.
+    let same = c.loop-row.invariant.same broken in
+    c.answer_row.ensures.same (ap g.K.Keeper.is_broken same ∙ broken) ∙ same
+
+pub returns-clause-reopen : goal.returns-clause-reopen
+returns-clause-reopen g c = λ broken.
+    let inv = c.loop-row.invariant in
+    let step = rw c.in-None.is at ((c.next.ensures.steps inv.left inv.trim).0 inv.ready) in
+    let all = known_end g.R.Read.remaining c.loop-row.row-iterator.rdr c.next.new.self.rdr [] inv.rows.0 (g.R.Read.remaining c.args.reader) inv.config step inv.rows.2 in
+    let shut = inv.rows.4 broken in
+    (inv.rows.0, (all, (shut.good_is, shut.have)))
+
+pub returns-in-Err-clause-reopen : goal.returns-in-Err-clause-reopen
+returns-in-Err-clause-reopen g c = λ broken.
+    let inv = c.loop-row.invariant in
+    let shut = inv.rows.4 broken in (
+      inv.rows.0,
+      (
+        None,
+        (
+          known_first g.R.Read.remaining c.loop-row.row-iterator.rdr inv.rows.0 (g.R.Read.remaining c.args.reader) inv.rows.2,
+          (shut.have.ask, (subst IsReadersFault (sym c.reader_fault.ensures) (readers_fault _), shut.have.lines)),
+        ),
+      ),
+    )
+
+pub returns-in_err-accepted-in-Ok-clause-reopen : goal.returns-in_err-accepted-in-Ok-clause-reopen
+returns-in_err-accepted-in-Ok-clause-reopen g c = λ broken.
+    let inv = c.loop-row.invariant in
+    let rows : List Row = inv.rows.0 in
+    let f : Row = fields_of c.in-Ok.row in
+    let step = rw (c.in-Some.is, c.in-Ok.is) at ((c.next.ensures.steps inv.left inv.trim).0 inv.ready) in
+    let known = known_more g.R.Read.remaining c.loop-row.row-iterator.rdr c.next.new.self.rdr f rows (g.R.Read.remaining c.args.reader) inv.config step.0 inv.rows.2 in
+    let old = g.W.ByteOut.taken c.args.writer.now in
+    let mid = g.W.ByteOut.taken c.loop-row.writer in
+    let new = g.W.ByteOut.taken c.answer_row.new.writer in
+    let shut = inv.rows.4 broken in
+    let told = c.in_err-accepted-in-Ok.ensures.reopen (ap g.K.Keeper.is_broken (inv.same broken) ∙ broken) in
+    passed_shut (g.R.Read.remaining c.args.reader) old.bytes new.bytes c.from_residual.result c.in_err-accepted-in-Ok.field-0.0 c.from_residual.ensures.1 (
+      rows,
+      (
+        Some f,
+        (
+          known_first g.R.Read.remaining c.next.new.self.rdr (rows ++ f ∷ []) (g.R.Read.remaining c.args.reader) known,
+          (shut.have.ask, shut_stops rows f c.loop-row.number c.loop-row.good c.in_err-accepted-in-Ok.field-0.0 old.bytes mid new inv.rows.1 shut told),
+        ),
+      ),
+    )
