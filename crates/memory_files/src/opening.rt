@@ -1,5 +1,5 @@
 //! A database over files in memory.
-ghost use Rattle.std.specs.Prelude.{◌≡◌, ◌↔◌, [], IfOk, IsTrue};
+ghost use Rattle.std.specs.Prelude.{◌≡◌, [], IfOk, IsTrue};
 ghost use Rattle.sqlite.specs.Files.{file_state, IsOpened};
 ghost use Rattle.sqlite.specs.Held.{IsNew};
 ghost use Rattle.sqlite.specs.State.{HasCleanDisk};
@@ -7,6 +7,7 @@ ghost use Rattle.sqlite.specs.State.{HasCleanDisk};
 use crate::blank::blank_database;
 use crate::file::MemoryFile;
 use sqlite::{Connection, Error, ErrorCode, FileStore, Files, Options};
+use sqlite_disk::Disk;
 use std::alloc::{AllocError, Global};
 
 /// The pages of a database in memory, and their log.
@@ -23,23 +24,28 @@ fn blank_files(alloc: Global) -> Result<Files<MemoryFile>, AllocError> {
     })
 }
 
-/// A connection to the files of a database with no table.
-fn open_blank(alloc: Global) -> Result<Connection<MemoryPages>, Error>
-    ensures opened { IfOk result IsOpened }
+/// A connection to files that have a database with no table, index or view. It fails where the library reads them otherwise.
+fn open_vacant<D: Disk + Drop>(
+    alloc: Global,
+    files: Files<D>,
+) -> Result<Connection<FileStore<D>>, Error>
+    requires log { IsTrue (D.Disk.is_usable files.log) }
+    requires db { IsTrue (D.Disk.is_usable files.db) }
+    ensures opened { IfOk result (λ c. HasCleanDisk (file_state c) → IsOpened c) }
+    ensures vacant { IfOk result (λ c. (file_state c).now.schema ≡ record { tables = []; indexes = []; views = [] }) }
     ensures fresh { IfOk result IsNew }
 {
-    match Connection::open_files(alloc, blank_files(alloc)?, Options::new(SEED)) {
-        Ok(conn) => Ok(conn),
-        Err((error, _files)) => Err(error),
-    }
-}
-
-/// Whether a connection has no table, index or view.
-fn is_vacant(conn: &Connection<MemoryPages>) -> bool
-    ensures { IsTrue result ↔ ((file_state conn.now).now.schema ≡ record { tables = []; indexes = []; views = [] }) }
-{
+    let conn = match Connection::open_files(alloc, files, Options::new(SEED)) {
+        Ok(conn) => conn,
+        Err((error, _files)) => return Err(error),
+    };
+    // No proof says what the library makes of the first page.
     let schema = conn.schema();
-    schema.tables.is_empty() && schema.indexes.is_empty() && schema.views.is_empty()
+    if schema.tables.is_empty() && schema.indexes.is_empty() && schema.views.is_empty() {
+        Ok(conn)
+    } else {
+        Err(Error::SqliteFailure(ErrorCode::DatabaseCorrupt))
+    }
 }
 
 /// A connection to a database in memory that has no table. It fails where memory runs out. No proof rules out that the library reads
@@ -49,12 +55,7 @@ pub fn open_pages(alloc: Global) -> Result<Connection<MemoryPages>, Error>
     ensures vacant { IfOk result (λ c. (file_state c).now.schema ≡ record { tables = []; indexes = []; views = [] }) }
     ensures fresh { IfOk result IsNew }
 {
-    let conn = open_blank(alloc)?;
-    // No proof says what the library makes of the first page.
-    if !is_vacant(&conn) {
-        return Err(Error::SqliteFailure(ErrorCode::DatabaseCorrupt));
-    }
-    Ok(conn)
+    open_vacant(alloc, blank_files(alloc)?)
 }
 
 /// The law that files in memory return what was written: what is claimed where the disk is clean holds of any connection over them.
