@@ -1,16 +1,33 @@
-//! Databases that were found: a station's tables, right or damaged, that no rule of the database guards, and stations that go on.
+//! Databases that were found: a station's tables, right or damaged, that no rule of the database
+//! guards, and stations that go on.
+use crate::disks::{FileBytes, found_in};
 use crate::faults::fault_said;
-use crate::listing::all_rows;
+use crate::listing::{all_rows, columns_of, rows_of};
+use crate::readers::{book, pending, trail};
 use case_words::{answered, holder, keyed, say, shown, stock, waybill};
 use imp_fields::Airport;
 use sqlite::{Connection, MemStore};
-use station_core::Input;
+use station_core::{Input, Keeper};
 use station_rows::open_memory;
 use station_tables::{AttachFault, Station, attach, create};
 use std::alloc::Global;
 use telegrams::read_telegram;
 
-/// What the calls of a file are about: the tables of a day, and a station or the connection that was left of one.
+/// What is asked of the readers of a station that tells what the day's does.
+const ASKED: [(&str, &str); 9] = [
+    ("waybill", "055-00000114"),
+    ("waybill", "020-12345675"),
+    ("waybill", "125-00000022"),
+    ("holder", "055-00000103"),
+    ("holder", "055-00000125"),
+    ("stock", "100"),
+    ("book", "100"),
+    ("pending", "100"),
+    ("trail", "100"),
+];
+
+/// What the calls of a file are about: the tables of a day, and a station or the connection that
+/// was left of one.
 #[derive(Drop)]
 pub struct FoundAnswers {
     alloc: Global,
@@ -31,7 +48,7 @@ impl FoundAnswers {
         }
     }
 
-    /// What comes of what is asked. A word of no call names a damage of the day's tables.
+    /// What comes of what is asked of a database.
     pub fn answer(&mut self, asked: &str, text: &[u8]) -> Option<String> {
         let alloc = self.alloc;
         match asked {
@@ -43,7 +60,9 @@ impl FoundAnswers {
                 self.keep(conn)
             }
             "bare" => found(alloc, database(alloc, statements(alloc, text)?.as_str())?),
+            "file" => found_in_file(alloc, text),
             "sql" => self.execute(shown(text)),
+            "declared" => self.declare(shown(text)),
             "attach" => self.go_on(),
             "create" => {
                 let conn = self.connection()?;
@@ -53,12 +72,26 @@ impl FoundAnswers {
                 let conn = self.connection()?;
                 self.keep(conn)
             }
-            "count" => self.count(shown(text)),
+            "query" => self.query(text),
             "same-as-day" => self.compare(),
-            "act" => self.act(shown(text)),
-            "take" => self.take(text),
-            "waybill" | "holder" | "stock" => told(alloc, self.station.as_mut()?, asked, text),
-            _ => found(alloc, self.damaged(text)?),
+            _ => self.ask(asked, text),
+        }
+    }
+
+    /// What comes of what is asked of a station. A word of no call names a damage of the day's
+    /// tables.
+    fn ask(&mut self, asked: &str, text: &[u8]) -> Option<String> {
+        match asked {
+            "act" => {
+                let (key, command) = shown(text).split_once(' ')?;
+                self.give(&keyed(key, command)?)
+            }
+            "take" => self.give(&Input::Wire(read_telegram(self.alloc, text).ok()?)),
+            "waybill" | "holder" | "stock" | "book" | "pending" | "trail" => {
+                told(self.alloc, self.station.as_mut()?, asked, text)
+            }
+            "told-as-day" => self.tell_as_day(),
+            _ => found(self.alloc, self.damaged(text)?),
         }
     }
 
@@ -95,10 +128,27 @@ impl FoundAnswers {
         say(self.alloc, "ok")
     }
 
-    /// How many rows a table has. The station ends.
-    fn count(&mut self, table: &str) -> Option<String> {
+    /// Declares a table otherwise. Its rows stay.
+    fn declare(&mut self, text: &str) -> Option<String> {
+        let (table, declared) = text.split_once(' ')?;
+        let columns = columns_of(table)?;
+        let batch = format!(in self.alloc;
+            "CREATE TABLE copied ({columns}); INSERT INTO copied SELECT {columns} FROM {table};
+            DROP TABLE {table}; CREATE TABLE {table} {declared};
+            INSERT INTO {table} ({columns}) SELECT {columns} FROM copied; DROP TABLE copied"
+        );
+        self.conn
+            .as_mut()?
+            .execute_batch(batch.ok()?.as_str())
+            .ok()?;
+        say(self.alloc, "ok")
+    }
+
+    /// The rows that a query gives. The station ends.
+    fn query(&mut self, text: &[u8]) -> Option<String> {
+        let query = statements(self.alloc, text)?;
         let mut conn = self.connection()?;
-        let said = rows_said(self.alloc, &mut conn, table);
+        let said = rows_of(self.alloc, &mut conn, query.as_str());
         self.conn = Some(conn);
         said
     }
@@ -155,22 +205,28 @@ impl FoundAnswers {
         }
     }
 
-    /// The answer to a command: its key, a blank and its text.
-    fn act(&mut self, text: &str) -> Option<String> {
-        let (key, command) = text.split_once(' ')?;
-        let input = keyed(key, command)?;
-        answered(self.alloc, self.station.as_mut()?, &input)
+    /// The answer to an input.
+    fn give(&mut self, input: &Input<'_>) -> Option<String> {
+        answered(self.alloc, self.station.as_mut()?, input)
     }
 
-    /// The answer to a telegram.
-    fn take(&mut self, text: &[u8]) -> Option<String> {
-        let telegram = read_telegram(self.alloc, text).ok()?;
-        answered(self.alloc, self.station.as_mut()?, &Input::Wire(telegram))
+    /// Whether the readers of the station tell what they tell over the day's tables.
+    fn tell_as_day(&mut self) -> Option<String> {
+        let Ok(mut day) = attach(self.alloc, self.day_tables()?) else {
+            return None;
+        };
+        let wanted = all_told(self.alloc, &mut day)?;
+        let came = all_told(self.alloc, self.station.as_mut()?)?;
+        if came.as_str() == wanted.as_str() {
+            say(self.alloc, "the same")
+        } else {
+            Some(came)
+        }
     }
 }
 
 /// The statements of a case, whose texts stand between double quotes.
-fn statements(alloc: Global, text: &[u8]) -> Option<String> {
+pub fn statements(alloc: Global, text: &[u8]) -> Option<String> {
     shown(text).replace(alloc, '"', "'").ok()
 }
 
@@ -179,13 +235,6 @@ fn database(alloc: Global, statements: &str) -> Option<Connection<MemStore>> {
     let mut conn = open_memory(alloc).ok()?;
     conn.execute_batch(statements).ok()?;
     Some(conn)
-}
-
-/// How many rows a table has.
-fn rows_said(alloc: Global, conn: &mut Connection<MemStore>, table: &str) -> Option<String> {
-    let text = format!(in alloc; "SELECT count(*) FROM {table}").ok()?;
-    let count: i64 = conn.query_row(text.as_str(), &[]).ok()?.get(0).ok()?;
-    format!(in alloc; "{count}").ok()
 }
 
 /// Why there is no station, and whether the connection came back inside a transaction.
@@ -206,16 +255,32 @@ fn found(alloc: Global, conn: Connection<MemStore>) -> Option<String> {
     }
 }
 
-/// What a reader returns of a number, or of the stock.
-fn told(
-    alloc: Global,
-    station: &mut Station<MemStore>,
-    asked: &str,
-    text: &[u8],
-) -> Option<String> {
+/// What is found in a database file, with no log beside it.
+fn found_in_file(alloc: Global, bytes: &[u8]) -> Option<String> {
+    let mut files = FileBytes::new(alloc);
+    files.db.extend_from_slice(bytes).ok()?;
+    found_in(alloc, &files, &[])
+}
+
+/// What a reader tells of a number, or hands out to a sink of so many rows.
+fn told<K: Keeper>(alloc: Global, station: &mut K, asked: &str, text: &[u8]) -> Option<String> {
     match asked {
-        "stock" => stock(alloc, station, shown(text)),
+        "waybill" => waybill(alloc, station, text),
         "holder" => holder(alloc, station, text),
-        _ => waybill(alloc, station, text),
+        "stock" => stock(alloc, station, shown(text)),
+        "book" => book(alloc, station, shown(text).parse::<usize>().ok()?),
+        "pending" => pending(alloc, station, shown(text).parse::<usize>().ok()?),
+        _ => trail(alloc, station, shown(text).parse::<usize>().ok()?),
     }
+}
+
+/// What the readers tell of the day's waybills and numbers, and hand out.
+fn all_told<K: Keeper>(alloc: Global, station: &mut K) -> Option<String> {
+    let mut said = String::new(alloc);
+    for (asked, text) in ASKED {
+        let text = told(alloc, station, asked, text.as_bytes())?;
+        said.push_str(text.as_str()).ok()?;
+        said.push_str("\n").ok()?;
+    }
+    Some(said)
 }

@@ -3,7 +3,8 @@ use case_words::say;
 use station_tables::AttachFault;
 use std::alloc::Global;
 
-/// Why there is no station: `601` with the table that isn't good, `602` where there is none, `603` with the version, or a word.
+/// Why there is no station: `601` with the table that isn't good, `602` where there is none, `603`
+/// with the version, or a word.
 pub fn fault_said(alloc: Global, fault: &AttachFault) -> Option<String> {
     match fault {
         AttachFault::Unlawful(table) => format!(in alloc; "601 {}", table.as_str()).ok(),

@@ -24,6 +24,11 @@ impl<S: StateStore> Fused<S> {
         Fused { store, calls }
     }
 
+    /// How many calls are left.
+    pub fn left(&self) -> u32 {
+        self.calls
+    }
+
     /// The store comes back.
     pub fn into_store(self) -> S {
         let Fused { store, calls: _ } = self;

@@ -2,22 +2,52 @@
 use sqlite::{Alter, Connection, Row};
 use std::alloc::Global;
 
-/// The tables of a station, each with the places of the columns that its key is made of.
-const TABLES: [(&str, &str); 13] = [
-    ("station", "1"),
-    ("waybill", "1"),
-    ("stock", "1, 2"),
-    ("flight", "1, 2"),
-    ("moves", "1"),
-    ("expected", "1, 2, 3"),
-    ("part", "1, 2, 3, 4"),
-    ("trail", "1"),
-    ("outbox", "1"),
-    ("kept_key", "1"),
-    ("kept_text", "1"),
-    ("counts", "1, 2"),
-    ("build", "1, 2, 3"),
+/// The tables of a station, each with its columns, and with those that its key is made of.
+const TABLES: [(&str, &str, &str); 13] = [
+    ("station", "id, airport, version, confirmed", "id"),
+    (
+        "waybill",
+        "awb, origin, destination, pieces, tenths, goods, notified",
+        "awb",
+    ),
+    ("stock", "prefix, low, high, holder, agent", "prefix, low"),
+    ("flight", "flight, day, unload, closed", "flight, day"),
+    (
+        "moves",
+        "number, awb, src, dst, pieces, tenths, flight, fday, day, minute",
+        "number",
+    ),
+    (
+        "expected",
+        "flight, day, awb, pieces, tenths, checked",
+        "flight, day, awb",
+    ),
+    (
+        "part",
+        "flight, day, airport, seq, body",
+        "flight, day, airport, seq",
+    ),
+    ("trail", "number, awb, line", "number"),
+    ("outbox", "number, body", "number"),
+    ("kept_key", "id, command, count", "id"),
+    ("kept_text", "body, count", "body"),
+    ("counts", "awb, place, pieces, tenths", "awb, place"),
+    (
+        "build",
+        "flight, day, awb, pieces, tenths",
+        "flight, day, awb",
+    ),
 ];
+
+/// The columns of a station's table.
+pub fn columns_of(table: &str) -> Option<&'static str> {
+    for (name, columns, _) in TABLES {
+        if name == table {
+            return Some(columns);
+        }
+    }
+    None
+}
 
 /// A whole number, or a text between brackets.
 fn value_said(alloc: Global, row: &Row, at: usize) -> Option<String> {
@@ -28,27 +58,43 @@ fn value_said(alloc: Global, row: &Row, at: usize) -> Option<String> {
     format!(in alloc; "[{text}]").ok()
 }
 
-/// Appends the values of a row.
-fn push_row(alloc: Global, said: &mut String, row: &Row) -> Option<()> {
+/// The values of a row.
+fn row_said(alloc: Global, row: &Row) -> Option<String> {
+    let mut said = String::new(alloc);
     for at in 0..row.column_count() {
+        if at > 0 {
+            said.push_str(" ").ok()?;
+        }
         let value = value_said(alloc, row, at)?;
         said.push_str(value.as_str()).ok()?;
-        said.push_str(" ").ok()?;
     }
-    said.push_str("; ").ok()
+    Some(said)
+}
+
+/// The rows that a query gives.
+pub fn rows_of<S: Alter>(alloc: Global, conn: &mut Connection<S>, query: &str) -> Option<String> {
+    let mut said = String::new(alloc);
+    let rows = conn.query_all(query, &[]).ok()?;
+    for (place, row) in rows.iter().enumerate() {
+        if place > 0 {
+            said.push_str("; ").ok()?;
+        }
+        let text = row_said(alloc, row)?;
+        said.push_str(text.as_str()).ok()?;
+    }
+    Some(said)
 }
 
 /// The rows of each table of a station in the order of their keys, if there are all the tables.
 pub fn all_rows<S: Alter>(alloc: Global, conn: &mut Connection<S>) -> Option<String> {
     let mut said = String::new(alloc);
-    for (table, key) in TABLES {
+    for (table, columns, key) in TABLES {
         said.push_str(table).ok()?;
         said.push_str(": ").ok()?;
-        let text = format!(in alloc; "SELECT * FROM {table} ORDER BY {key}").ok()?;
-        let rows = conn.query_all(text.as_str(), &[]).ok()?;
-        for row in &rows {
-            push_row(alloc, &mut said, row)?;
-        }
+        let query = format!(in alloc; "SELECT {columns} FROM {table} ORDER BY {key}").ok()?;
+        let rows = rows_of(alloc, conn, query.as_str())?;
+        said.push_str(rows.as_str()).ok()?;
+        said.push_str("\n").ok()?;
     }
     Some(said)
 }

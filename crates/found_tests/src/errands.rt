@@ -1,0 +1,114 @@
+//! What a station is asked for once it is there, and what comes of it.
+use crate::readers::pending;
+use awb_number::Awb;
+use case_words::{answer_said, is_done, keyed, noon, say};
+use imp_fields::Moment;
+use station_core::{ActFault, Input, Keeper, answer_one};
+use std::alloc::Global;
+
+/// The commands of a day, each with its key: numbers are taken in, and four of ten pieces that
+/// were received depart.
+const DAY: [(&str, &str); 5] = [
+    ("t1", "take-in\n055\n0000010\n10"),
+    ("b1", "book\n020-12345675\nFRA\nJFK\n10\n1000\nCARGO"),
+    ("r1", "receive\n020-12345675\n10\n1000\nACME"),
+    ("m1", "manifest\n020-12345675\nLH400\n2026-01-12\nJFK\n4"),
+    ("d1", "depart\nLH400\n2026-01-12"),
+];
+
+/// What a station is asked for.
+#[derive(Clone, Copy)]
+pub enum Errand {
+    /// Nothing.
+    Nothing,
+    /// The first commands of the day, up to so many.
+    Day(usize),
+    /// That two of three pieces of each of so many waybills are built on a flight.
+    BuildUp(u32),
+    /// How many messages aren't confirmed, and which.
+    Outbox,
+}
+
+/// What came of work.
+#[derive(Drop)]
+pub enum Came {
+    /// The files couldn't be opened, or the station in them couldn't be read.
+    NotBegun,
+    /// The store failed.
+    Stopped,
+    /// So many commands of the day were accepted.
+    Played(usize),
+    /// All was done, and this is what there is to say.
+    Done(String),
+}
+
+impl Errand {
+    /// What comes of it. Nothing where memory is out, or where what is asked can't be.
+    pub fn run<K: Keeper>(&self, alloc: Global, station: &mut K) -> Option<Came> {
+        match self {
+            Errand::Nothing => Some(Came::Done(say(alloc, "ok")?)),
+            Errand::Day(commands) => Some(Came::Played(act_on_day(station, *commands))),
+            Errand::BuildUp(waybills) => {
+                build_up_all(alloc, station, *waybills)?;
+                Some(Came::Done(say(alloc, "ok")?))
+            }
+            Errand::Outbox => Some(Came::Done(pending(alloc, station, usize::MAX)?)),
+        }
+    }
+}
+
+/// Whether a command is accepted at noon of 12 January 2026.
+fn accepts<K: Keeper>(station: &mut K, key: &str, command: &str) -> bool {
+    let (Some(input), Some(noon)) = (keyed(key, command), noon()) else {
+        return false;
+    };
+    is_done(station, &input, noon)
+}
+
+/// How many of the day's first commands were accepted, one after another.
+fn act_on_day<K: Keeper>(station: &mut K, wanted: usize) -> usize {
+    for (done, (key, text)) in DAY.iter().take(wanted).enumerate() {
+        if !accepts(station, key, text) {
+            return done;
+        }
+    }
+    wanted.min(DAY.len())
+}
+
+/// The answer to an input at a moment. A failure that isn't the store's gives nothing.
+pub fn give<K: Keeper>(
+    alloc: Global,
+    station: &mut K,
+    input: &Input<'_>,
+    at: Moment,
+) -> Option<Came> {
+    match answer_one(station, input, at) {
+        Ok(answer) => Some(Came::Done(answer_said(alloc, &answer)?)),
+        Err(ActFault::Store) => Some(Came::Stopped),
+        Err(_) => None,
+    }
+}
+
+/// Books, receives and builds a waybill on the flight LH400 of 12 January 2026.
+fn build_up<K: Keeper>(alloc: Global, station: &mut K, awb: Awb) -> Option<()> {
+    let steps = [
+        format!(in alloc; "book\n{awb}\nFRA\nJFK\n3\n100\nCARGO").ok()?,
+        format!(in alloc; "receive\n{awb}\n3\n100\nACME").ok()?,
+        format!(in alloc; "manifest\n{awb}\nLH400\n2026-01-12\nJFK\n2").ok()?,
+    ];
+    for (at, text) in steps.iter().enumerate() {
+        let key = format!(in alloc; "{}-{at}", awb.serial()).ok()?;
+        if !accepts(station, key.as_str(), text.as_str()) {
+            return None;
+        }
+    }
+    Some(())
+}
+
+/// Builds the first so many waybills of the prefix 020.
+pub fn build_up_all<K: Keeper>(alloc: Global, station: &mut K, waybills: u32) -> Option<()> {
+    for serial in 1..=waybills {
+        build_up(alloc, station, Awb::new(20, serial)?)?;
+    }
+    Some(())
+}

@@ -1,0 +1,137 @@
+//! A station over files in memory that are opened again for each call, as after a crash.
+use crate::databases::statements;
+use crate::disks::{FileBytes, found_in, said_of};
+use crate::errands::Errand;
+use crate::stopping::{Before, stops};
+use crate::work::{InputForm, Work};
+use awb_number::Awb;
+use case_words::{say, shown};
+use imp_fields::{Airport, Moment};
+use std::alloc::Global;
+
+/// The day of the calls: 12 January 2026.
+const DAY: u32 = 20_465;
+
+/// The minute of a call, 10:30, and that of one that is repeated, 10:45.
+const CALLED: u16 = 630;
+
+const REPEATED: u16 = 645;
+
+/// The files of a station, between the calls of a file of cases, and the waybills whose state is
+/// compared.
+#[derive(Drop)]
+pub struct RepeatAnswers {
+    alloc: Global,
+    before: Before,
+}
+
+/// Files with nothing in them, and no waybill to compare.
+fn nothing(alloc: Global) -> Before {
+    Before {
+        bytes: FileBytes::new(alloc),
+        numbers: Vec::new(alloc),
+    }
+}
+
+impl RepeatAnswers {
+    /// Files with nothing in them.
+    pub fn new(alloc: Global) -> RepeatAnswers {
+        RepeatAnswers {
+            alloc,
+            before: nothing(alloc),
+        }
+    }
+
+    /// What comes of what is asked.
+    pub fn answer(&mut self, asked: &str, text: &[u8]) -> Option<String> {
+        match asked {
+            "empty" => self.forget(),
+            "new" => {
+                self.forget()?;
+                self.work_on(&Work::Make(here()?, Errand::Nothing))
+            }
+            "sql" => self.execute(text),
+            "created" => self.stop(&Work::Make(here()?, Errand::Nothing)),
+            "waybill" => self.note(text),
+            "built-up" => self.build_up(shown(text).parse::<u32>().ok()?),
+            "outbox" => self.work_on(&Work::Open(Errand::Outbox)),
+            _ => self.ask(asked, text),
+        }
+    }
+
+    /// Executes statements.
+    fn execute(&mut self, text: &[u8]) -> Option<String> {
+        let statements = statements(self.alloc, text)?;
+        self.work_on(&Work::Execute(statements.as_str()))
+    }
+
+    /// An input that is given, stopped or repeated.
+    fn ask(&mut self, asked: &str, text: &[u8]) -> Option<String> {
+        let (word, form) = match asked.strip_suffix("-take") {
+            Some(word) => (word, InputForm::Telegram),
+            None => (asked, InputForm::Command),
+        };
+        match word {
+            "give" => self.work_on(&Work::Give(form, text, moment(CALLED)?)),
+            "stopped" => self.stop(&Work::Give(form, text, moment(CALLED)?)),
+            "repeat" => self.repeat(form, text),
+            _ => None,
+        }
+    }
+
+    /// Files with nothing in them, and no waybill to compare.
+    fn forget(&mut self) -> Option<String> {
+        self.before = nothing(self.alloc);
+        say(self.alloc, "ok")
+    }
+
+    /// Does work over the files, which stay as it leaves them.
+    fn work_on(&mut self, work: &Work<'_>) -> Option<String> {
+        let (said, left) = said_of(self.alloc, &self.before.bytes, work, &self.before.numbers)?;
+        self.before.bytes = left;
+        Some(said)
+    }
+
+    /// Does work that is stopped at each call of a file. The files stay as they were.
+    fn stop(&self, work: &Work<'_>) -> Option<String> {
+        stops(self.alloc, &self.before, work)
+    }
+
+    /// The answer to an input that comes again through an opening, a quarter of an hour later, and
+    /// whether that changed anything.
+    fn repeat(&mut self, form: InputForm, text: &[u8]) -> Option<String> {
+        let alloc = self.alloc;
+        let before = found_in(alloc, &self.before.bytes, &self.before.numbers)?;
+        let said = self.work_on(&Work::Repeat(form, text, moment(REPEATED)?))?;
+        let after = found_in(alloc, &self.before.bytes, &self.before.numbers)?;
+        if before.as_str() == after.as_str() {
+            format!(in alloc; "{said}, nothing changed").ok()
+        } else {
+            Some(said)
+        }
+    }
+
+    /// Notes a waybill whose state is compared.
+    fn note(&mut self, text: &[u8]) -> Option<String> {
+        let number = Awb::read(text.first_chunk()?).ok()?;
+        self.before.numbers.push(number).ok()?;
+        say(self.alloc, "noted")
+    }
+
+    /// Builds two of three pieces of so many waybills on a flight, and notes them.
+    fn build_up(&mut self, waybills: u32) -> Option<String> {
+        for serial in 1..=waybills {
+            self.before.numbers.push(Awb::new(20, serial)?).ok()?;
+        }
+        self.work_on(&Work::Open(Errand::BuildUp(waybills)))
+    }
+}
+
+/// The station's airport.
+fn here() -> Option<Airport> {
+    Airport::read(b"FRA")
+}
+
+fn moment(minute: u16) -> Option<Moment> {
+    Moment::new(DAY, minute)
+}

@@ -1,0 +1,221 @@
+//! A call that is stopped at each call of a file: what is found afterwards is the station before
+//! it or after it, and its repeat has the reply that it has where nothing stops it.
+use crate::disks::{Calls, FailingFile, FileBytes, Visited, found_in, said_of, visit};
+use crate::errands::Came;
+use crate::work::Work;
+use awb_number::Awb;
+use std::alloc::Global;
+
+/// The last count of calls that is tried.
+const MOST_CALLS: u64 = 5_000;
+
+/// What there is before the work: the files, and the waybills whose state is compared.
+#[derive(Drop)]
+pub struct Before {
+    pub bytes: FileBytes,
+    pub numbers: Vec<Awb>,
+}
+
+/// How far it came.
+#[derive(Clone, Copy, Debug, PartialEq, Eq)]
+enum Attempt {
+    /// The files couldn't be opened, or the station in them couldn't be read.
+    NotBegun,
+    /// It failed.
+    Stopped,
+    /// It was acknowledged, and the log couldn't be copied into the database file.
+    Done,
+    /// Nothing failed.
+    Closed,
+}
+
+/// An attempt, its reply if there was one, and what a crash leaves then.
+#[derive(Drop)]
+struct Ended {
+    attempt: Attempt,
+    reply: String,
+    bytes: FileBytes,
+}
+
+/// What an attempt left.
+#[derive(Clone, Copy, Debug, PartialEq, Eq)]
+enum Remains {
+    Before,
+    After,
+    Other,
+}
+
+/// What comes of work that nothing stops: what is found before it and after it, and its reply.
+#[derive(Drop)]
+struct Whole {
+    before: String,
+    after: String,
+    reply: String,
+}
+
+/// What a stop left: the files, what is found in them, and whether the work that is repeated over
+/// them has its one reply.
+#[derive(Drop)]
+struct Left {
+    bytes: FileBytes,
+    remains: Remains,
+    is_repeated: bool,
+}
+
+/// Opens the files, and does the work.
+fn try_work(alloc: Global, before: &Before, work: &Work<'_>, calls: Calls) -> Option<Ended> {
+    let Visited {
+        came,
+        is_closed,
+        bytes,
+    } = visit(alloc, &before.bytes, calls, work, &before.numbers)?;
+    let (attempt, reply) = match came {
+        Came::NotBegun => (Attempt::NotBegun, String::new(alloc)),
+        Came::Stopped => (Attempt::Stopped, String::new(alloc)),
+        Came::Done(reply) if is_closed => (Attempt::Closed, reply),
+        Came::Done(reply) => (Attempt::Done, reply),
+        Came::Played(_) => return None,
+    };
+    Some(Ended {
+        attempt,
+        reply,
+        bytes,
+    })
+}
+
+/// Does the work where nothing stops it.
+fn undisturbed(alloc: Global, before: &Before, work: &Work<'_>) -> Option<Whole> {
+    let first = found_in(alloc, &before.bytes, &before.numbers)?;
+    let ended = try_work(alloc, before, work, Calls::all())?;
+    let after = found_in(alloc, &ended.bytes, &before.numbers)?;
+    if ended.attempt != Attempt::Closed || first.as_str() == after.as_str() {
+        return None;
+    }
+    Some(Whole {
+        before: first,
+        after,
+        reply: ended.reply,
+    })
+}
+
+/// What this is that was found.
+fn remains_of(whole: &Whole, found: &str) -> Remains {
+    if found == whole.before.as_str() {
+        Remains::Before
+    } else if found == whole.after.as_str() {
+        Remains::After
+    } else {
+        Remains::Other
+    }
+}
+
+/// Whether an attempt may leave this.
+fn may_remain(attempt: Attempt, remains: Remains) -> bool {
+    match attempt {
+        Attempt::NotBegun => remains == Remains::Before,
+        Attempt::Stopped => remains != Remains::Other,
+        Attempt::Done | Attempt::Closed => remains == Remains::After,
+    }
+}
+
+/// Whether the work that is repeated has its one reply, and leaves what it leaves where nothing
+/// stops it. A station is made once.
+fn is_repeated(
+    alloc: Global,
+    before: &Before,
+    work: &Work<'_>,
+    whole: &Whole,
+    left: &FileBytes,
+) -> Option<bool> {
+    let Work::Give(form, text, at) = work else {
+        return Some(true);
+    };
+    let (said, bytes) = said_of(
+        alloc,
+        left,
+        &Work::Repeat(*form, text, *at),
+        &before.numbers,
+    )?;
+    let found = found_in(alloc, &bytes, &before.numbers)?;
+    Some(said.as_str() == whole.reply.as_str() && found.as_str() == whole.after.as_str())
+}
+
+/// What a stop left. Files that are as the last stop left them aren't opened again.
+fn looked_at(
+    alloc: Global,
+    before: &Before,
+    work: &Work<'_>,
+    whole: &Whole,
+    last: Option<Left>,
+    bytes: FileBytes,
+) -> Option<Left> {
+    if let Some(last) = last {
+        if last.bytes.is_same(&bytes) {
+            return Some(last);
+        }
+    }
+    let found = found_in(alloc, &bytes, &before.numbers)?;
+    let is_repeated = is_repeated(alloc, before, work, whole, &bytes)?;
+    Some(Left {
+        bytes,
+        remains: remains_of(whole, found.as_str()),
+        is_repeated,
+    })
+}
+
+/// What is otherwise than it must be after a stop, if anything is.
+fn difference(whole: &Whole, attempt: Attempt, reply: &str, left: &Left) -> Option<&'static str> {
+    let is_answered = matches!(attempt, Attempt::Done | Attempt::Closed);
+    if is_answered && reply != whole.reply.as_str() {
+        Some("answered otherwise")
+    } else if !may_remain(attempt, left.remains) {
+        Some("not before or after")
+    } else if !left.is_repeated {
+        Some("repeated otherwise")
+    } else {
+        None
+    }
+}
+
+/// One stop of a file after another, up to the first attempt that isn't stopped. What is otherwise
+/// than it must be, if anything is.
+fn stops_of(
+    alloc: Global,
+    before: &Before,
+    work: &Work<'_>,
+    whole: &Whole,
+    file: FailingFile,
+) -> Option<Option<String>> {
+    let mut last = None;
+    for calls in 0..MOST_CALLS {
+        let ended = try_work(alloc, before, work, Calls::of(file, calls))?;
+        let (attempt, reply) = (ended.attempt, ended.reply);
+        let left = looked_at(alloc, before, work, whole, last, ended.bytes)?;
+        if let Some(told) = difference(whole, attempt, reply.as_str(), &left) {
+            let remains = left.remains;
+            let told = format!(in alloc;
+                "{file:?}, {calls} calls, {attempt:?}, {remains:?}: {told}"
+            );
+            return Some(Some(told.ok()?));
+        }
+        if attempt == Attempt::Closed {
+            return Some(None);
+        }
+        last = Some(left);
+    }
+    Some(Some(format!(in alloc; "{file:?}: it never came to its end").ok()?))
+}
+
+/// The stops of both files. The reply of the work that isn't stopped, where all is as it must be.
+pub fn stops(alloc: Global, before: &Before, work: &Work<'_>) -> Option<String> {
+    let whole = undisturbed(alloc, before, work)?;
+    if !is_repeated(alloc, before, work, &whole, &before.bytes)? {
+        return String::from_str(alloc, "otherwise at its first coming").ok();
+    }
+    for file in [FailingFile::Log, FailingFile::Database] {
+        if let Some(told) = stops_of(alloc, before, work, &whole, file)? {
+            return Some(told);
+        }
+    }
+    Some(whole.reply)
+}
