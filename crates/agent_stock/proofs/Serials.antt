@@ -33,13 +33,13 @@ given_as (Some j) k there is = ap Some is
 given_as None k there is = cc
 
 -- a run ends among the numbers
-pub IsNumber-covered : (first count k : ℕ) → IsNumber first → (nat_lt 0 count && nat_le count 10_000 && nat_le (first % 10_000_000 + count) 10_000_000) ≡ true → k < first + count → IsNumber k
+pub IsNumber-covered : (first count k : ℕ) → IsNumber first → (nat_lt 0 count && nat_le count 1_000_000 && nat_le (first % 10_000_000 + count) 10_000_000) ≡ true → k < first + count → IsNumber k
 IsNumber-covered first count k number run within = grind (arith, nat_tests)
 
 -- a number of a run has the run's prefix, and its serial counts on from the first
-module _ (first count n : ℕ) (run : (nat_lt 0 count && nat_le count 10_000 && nat_le (first % 10_000_000 + count) 10_000_000) ≡ true) (from : first ≤ n) (below : n < first + count) where
+module _ (first count n : ℕ) (run : (nat_lt 0 count && nat_le count 1_000_000 && nat_le (first % 10_000_000 + count) 10_000_000) ≡ true) (from : first ≤ n) (below : n < first + count) where
   fits : first % 10_000_000 + count ≤ 10_000_000
-  fits = last count (nat_lt 0 count && nat_le count 10_000) run
+  fits = last count (nat_lt 0 count && nat_le count 1_000_000) run
     where
       last : (c : ℕ) (b : Bool) → (b && nat_le (first % 10_000_000 + c) 10_000_000) ≡ true → first % 10_000_000 + c ≤ 10_000_000
       last c true h = grind (arith, nat_tests)

@@ -25,9 +25,9 @@ is_among first count q = nat_le first q && nat_lt q (first + count)
 abbrev pub covers : Run → ℕ → Bool
 covers run q = is_among run.first run.count q
 
--- whether a run has 1 to 10,000 numbers and stays within its prefix
+-- whether a run has 1 to 1,000,000 numbers and stays within its prefix
 abbrev pub is_run : Run → Bool
-is_run run = nat_lt 0 run.count && nat_le run.count 10_000 && nat_le (serial_of run.first + run.count) 10_000_000
+is_run run = nat_lt 0 run.count && nat_le run.count 1_000_000 && nat_le (serial_of run.first + run.count) 10_000_000
 
 -- whether a holder passes a test
 abbrev pub passes : Test → Option Holder → Bool

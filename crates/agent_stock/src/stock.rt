@@ -7,7 +7,7 @@ use awb_number::Awb;
 use std::marker::Model;
 
 /// The most numbers that one order is for.
-const LARGEST_RUN: u32 = 10_000;
+const LARGEST_RUN: u32 = 1_000_000;
 
 /// The number of serials that a prefix has.
 const SERIALS: u32 = 10_000_000;
@@ -104,7 +104,7 @@ impl Run {
         }
     }
 
-    /// Whether it has 1 to 10,000 numbers and stays within its prefix.
+    /// Whether it has 1 to 1,000,000 numbers and stays within its prefix.
     pub fn is_run(&self) -> bool
         ensures { result ≡ is_run self.now }
     {
@@ -159,7 +159,7 @@ pub enum Order {
 pub enum StockFault<F> {
     /// Nothing changed. The refusal's number, and the lowest number of the run that failed:
     /// 101 in stock already, 102 not at the desk, 103 not with that agent, 104 Used, Void or not in stock.
-    /// 105, with no number: the count isn't 1 to 10,000, or the run ends past its prefix.
+    /// 105, with no number: the count isn't 1 to 1,000,000, or the run ends past its prefix.
     Refused(u16, Option<Awb>),
     /// The rows failed. Nothing is said of what they hold.
     Rows(F),

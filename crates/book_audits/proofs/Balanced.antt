@@ -14,7 +14,7 @@ use Rattle.sqlite_typed.specs.Tests.{bytes_cmp}
 use Rattle.shipment_machine.specs.declared.flight.FlightDate.{FlightDate}
 use Rattle.shipment_machine.specs.declared.moves.Move.{Move}
 use Rattle.shipment_machine.specs.declared.moves.Place.{Place}
-use Rattle.shipment_machine.specs.declared.moves.Place.TheVariants.{Hand, Surplus, Free, Built, Departed, Delivered, Missing}
+use Rattle.shipment_machine.specs.declared.moves.Place.TheVariants.{Hand, Surplus, Free, Built, Departed, Delivered, Missing, Transferred}
 use Rattle.shipment_machine.specs.Amount.{plus, fits}
 use Rattle.shipment_machine.specs.Book.{built, taken_and_found, waybills_on}
 use Rattle.shipment_machine.specs.Effect.{is_closed}
@@ -95,6 +95,7 @@ high_code (Built f) h k = absurd (true≢false k)
 high_code Departed h k = refl
 high_code Delivered h k = refl
 high_code Missing h k = refl
+high_code Transferred h k = refl
 
 unbuilt : (code : ℤ) (p : Place) → plain_place code ≡ Some p → is_built p ≡ false
 unbuilt code Hand h = refl
@@ -104,6 +105,7 @@ unbuilt code (Built f) h = absurd (true≢false (sym (none_is (Built f) (ap plai
 unbuilt code Departed h = refl
 unbuilt code Delivered h = refl
 unbuilt code Missing h = refl
+unbuilt code Transferred h = refl
 
 -- ---- rows of `flight`
 
@@ -184,6 +186,7 @@ module _ (t : Tables) (flights : List FlightDate) (of : AreFlightsOf flights (en
       lawful_at w Departed v plain is = left_at w Departed v refl refl is
       lawful_at w Delivered v plain is = left_at w Delivered v refl refl is
       lawful_at w Missing v plain is = left_at w Missing v refl refl is
+      lawful_at w Transferred v plain is = left_at w Transferred v refl refl is
 
       -- of which place a sum is
       count_due : (awb place : ℤ) (c : Count) → Some c ≡ count_in (running book) (awb, place) → (w : ℕ) × (p : Place) × (awb ≡ pos w) × (plain_place place ≡ Some p)
@@ -246,6 +249,7 @@ module _ (t : Tables) (flights : List FlightDate) (of : AreFlightsOf flights (en
         all_stocked w Departed inside = stocked_plain w Departed refl refl
         all_stocked w Delivered inside = stocked_plain w Delivered refl refl
         all_stocked w Missing inside = stocked_plain w Missing refl refl
+        all_stocked w Transferred inside = stocked_plain w Transferred refl refl
 
         all_within : (w : ℕ) → fits (taken_and_found book w) ≡ true
         all_within w = ap fits (sym (same_drawn w)) ∙ go (count_told_at w Hand) (count_told_at w Surplus) refl refl

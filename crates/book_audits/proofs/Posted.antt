@@ -9,7 +9,7 @@ use Rattle.shipment_machine.specs.Flights.{same_flight_date}
 use Rattle.shipment_machine.specs.declared.flight.FlightDate.{FlightDate}
 use Rattle.shipment_machine.specs.declared.moves.Move.{Move}
 use Rattle.shipment_machine.specs.declared.moves.Place.{Place}
-use Rattle.shipment_machine.specs.declared.moves.Place.TheVariants.{Hand, Surplus, Free, Built, Departed, Delivered, Missing}
+use Rattle.shipment_machine.specs.declared.moves.Place.TheVariants.{Hand, Surplus, Free, Built, Departed, Delivered, Missing, Transferred}
 use Rattle.shipment_machine.proofs.FlightKeys.{same-is, same-refl}
 use Rattle.row_laws.proofs.Keys.{pair_eq, int_tied, first_true, second_true}
 use Rattle.row_schema.specs.Tables.{Count, CountKey, count_cmp, Build}
@@ -94,6 +94,7 @@ off f (Built g) h = absurd (true≢false h)
 off f Departed h = refl
 off f Delivered h = refl
 off f Missing h = refl
+off f Transferred h = refl
 
 not_posted : (s : Sums) (a : ℕ) (p : Place) (r : Running) (w : ℕ) (at : Place) → same_place at p ≡ false → posting a p r s w at ≡ s w at
 not_posted s a p r w at h = ap (λ b. cond b (plus (s w at) r) (s w at)) (ap (λ b. (a == w) && b) h ∙ and_no (a == w))

@@ -63,8 +63,9 @@ fn waybill_said(alloc: Global, waybill: &Waybill) -> Option<String> {
     let departed = amount_said(alloc, &waybill.departed)?;
     let delivered = amount_said(alloc, &waybill.delivered)?;
     let missing = amount_said(alloc, &waybill.missing)?;
+    let transferred = amount_said(alloc, &waybill.transferred)?;
     format!(in alloc;
-        "taken {taken}, found {found}, store {store}, departed {departed}, delivered {delivered}, missing {missing}"
+        "taken {taken}, found {found}, store {store}, departed {departed}, delivered {delivered}, missing {missing}, transferred {transferred}"
     ).ok()
 }
 

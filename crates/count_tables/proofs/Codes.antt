@@ -4,7 +4,7 @@ use Rattle.std.specs.Ordering.{eq_by_cmp}
 use Rattle.shipment_machine.specs.Book.{same_place}
 use Rattle.shipment_machine.specs.declared.flight.FlightDate.{FlightDate}
 use Rattle.shipment_machine.specs.declared.moves.Place.{Place}
-use Rattle.shipment_machine.specs.declared.moves.Place.TheVariants.{Hand, Surplus, Free, Built, Departed, Delivered, Missing}
+use Rattle.shipment_machine.specs.declared.moves.Place.TheVariants.{Hand, Surplus, Free, Built, Departed, Delivered, Missing, Transferred}
 use Rattle.shipment_machine.proofs.FlightKeys.{same-is, same-refl}
 use Rattle.row_laws.proofs.Keys.{pair_eq, int_tied, first_true, second_true}
 use Rattle.row_schema.specs.Tables.{CountKey, count_cmp}
@@ -21,6 +21,7 @@ same_is (Built a) (Built b) e = ap Built (same-is a b e)
 same_is Departed Departed e = refl
 same_is Delivered Delivered e = refl
 same_is Missing Missing e = refl
+same_is Transferred Transferred e = refl
 same_is _ _ e = absurd (true≢false (sym e))
 
 pub same_itself : (p : Place) → same_place p p ≡ true
@@ -31,6 +32,7 @@ same_itself (Built a) = same-refl a
 same_itself Departed = refl
 same_itself Delivered = refl
 same_itself Missing = refl
+same_itself Transferred = refl
 
 -- a place that isn't built is the one of its code
 pub plain_again : (p : Place) → is_built p ≡ false → plain_place (pos (place_code p)) ≡ Some p
@@ -41,6 +43,7 @@ plain_again (Built f) h = absurd (true≢false h)
 plain_again Departed h = refl
 plain_again Delivered h = refl
 plain_again Missing h = refl
+plain_again Transferred h = refl
 
 either : {G : Type 0} (b : Bool) (x p : Place) (o : Option Place) → cond b (Some x) o ≡ Some p → (b ≡ true → x ≡ p → G) → (o ≡ Some p → G) → G
 either true x p o h f g = f refl (some_is x p h)
@@ -56,7 +59,8 @@ plain_code code p h =
     either (int_eq code (pos 2)) Free p _ h2 (at_code code Free p) (λ h4.
     either (int_eq code (pos 4)) Departed p _ h4 (at_code code Departed p) (λ h5.
     either (int_eq code (pos 5)) Delivered p _ h5 (at_code code Delivered p) (λ h6.
-    either (int_eq code (pos 6)) Missing p None h6 (at_code code Missing p) (λ no. absurd (true≢false (sym (none_is p no)))))))))
+    either (int_eq code (pos 6)) Missing p _ h6 (at_code code Missing p) (λ h7.
+    either (int_eq code (pos 7)) Transferred p None h7 (at_code code Transferred p) (λ no. absurd (true≢false (sym (none_is p no))))))))))
 
 pub count_eq : (w a : ℕ) (code c : ℤ) → eq_by_cmp count_cmp (pos w, code) (pos a, c) ≡ ((a == w) && int_eq code c)
 count_eq w a code c = pair_eq int_cmp int_cmp (pos w, code) (pos a, c) ∙ ap₂ ◌&&◌ (int_tied (pos w) (pos a) ∙ int_pos w a) (int_tied code c)
@@ -105,6 +109,7 @@ not_built code (Built f) h = sym (none_is (Built f) (sym (ap plain_place (plain_
 not_built code Departed h = refl
 not_built code Delivered h = refl
 not_built code Missing h = refl
+not_built code Transferred h = refl
 
 pub plain_by : (p : Place) → ((f : FlightDate) → p ≡ Built f → ⊥) → is_built p ≡ false
 plain_by Hand h = refl
@@ -114,6 +119,7 @@ plain_by (Built f) h = absurd (h f refl)
 plain_by Departed h = refl
 plain_by Delivered h = refl
 plain_by Missing h = refl
+plain_by Transferred h = refl
 
 apart : (f : FlightDate) (p : Place) → is_built p ≡ false → same_place p (Built f) ≡ false
 apart f Hand h = refl
@@ -123,6 +129,7 @@ apart f (Built g) h = absurd (true≢false h)
 apart f Departed h = refl
 apart f Delivered h = refl
 apart f Missing h = refl
+apart f Transferred h = refl
 
 -- what comes to a flight leaves the counts as they are
 pub counts_stay : (sums : Sums) (a : ℕ) (f : FlightDate) (by : Running) (q : CountKey) → count_in (posting a (Built f) by sums) q ≡ count_in sums q

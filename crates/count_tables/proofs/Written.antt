@@ -12,7 +12,7 @@ use Rattle.imp_fields.proofs.SameFlight.{bytes_eq-refl, bytes_eq-true, one_by_fi
 use Rattle.shipment_machine.specs.Book.{same_place}
 use Rattle.shipment_machine.specs.declared.flight.FlightDate.{FlightDate}
 use Rattle.shipment_machine.specs.declared.moves.Place.{Place}
-use Rattle.shipment_machine.specs.declared.moves.Place.TheVariants.{Hand, Surplus, Free, Built, Departed, Delivered, Missing}
+use Rattle.shipment_machine.specs.declared.moves.Place.TheVariants.{Hand, Surplus, Free, Built, Departed, Delivered, Missing, Transferred}
 use Rattle.row_laws.proofs.Keys.{pair_eq, int_tied, texts_total, texts_same, first_true, second_true}
 use Rattle.row_schema.specs.Tables.{BuildKey, build_cmp}
 use Rattle.row_values.specs.Counts.{Running, unless_nothing, build_row, written_flight}
@@ -123,6 +123,7 @@ off g (Built f) h = absurd (true≢false h)
 off g Departed h = refl
 off g Delivered h = refl
 off g Missing h = refl
+off g Transferred h = refl
 
 -- what comes to another place leaves the flights as they are
 pub builds_stay : (sums : Sums) (a : ℕ) (place : Place) (by : Running) → is_built place ≡ false → (q : BuildKey) → build_in (posting a place by sums) q ≡ build_in sums q

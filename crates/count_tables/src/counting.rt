@@ -128,6 +128,7 @@ fn balances_by(rows: &[CountRow]) -> Result<Balances, StoreFault>
     let missing = held(rows, &Place::Missing)?;
     let departed = held(rows, &Place::Departed)?;
     let delivered = held(rows, &Place::Delivered)?;
+    let transferred = held(rows, &Place::Transferred)?;
     Ok(Balances {
         taken,
         found,
@@ -135,6 +136,7 @@ fn balances_by(rows: &[CountRow]) -> Result<Balances, StoreFault>
         missing,
         departed,
         delivered,
+        transferred,
     })
 }
 

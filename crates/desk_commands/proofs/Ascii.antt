@@ -10,7 +10,7 @@ use Rattle.awb_number.specs.Digits.{is_letter, is_letter_or_digit, padded}
 use Rattle.imp_fields.specs.Airport.{is_airport}
 use Rattle.imp_fields.specs.Characters.{is_printable}
 use Rattle.imp_fields.specs.Date.{day_text, year_of, date_on}
-use Rattle.imp_fields.specs.Flight.{Designator, IsDesignator, flight_text}
+use Rattle.imp_fields.specs.Flight.{Designator, IsDesignator, flight_text, is_carrier}
 use Rattle.imp_fields.specs.Name.{is_name, is_goods}
 use Rattle.imp_fields.proofs.FieldLaws.{flight_code}
 
@@ -22,6 +22,9 @@ ascii-printable b h = grind (arith, nat_tests)
 
 pub IsAscii-airport : (code : List ℕ) → is_airport code ≡ true → IsAscii code
 IsAscii-airport code h = IsAscii-tested is_letter ascii-letter code (and_parts _ _ h).1
+
+pub IsAscii-carrier : (code : List ℕ) → is_carrier code ≡ true → IsAscii code
+IsAscii-carrier code h = IsAscii-tested is_letter_or_digit ascii-letter_or_digit code (and_parts _ _ (and_parts _ _ h).0).1
 
 pub IsAscii-name : (text : List ℕ) → is_name text ≡ true → IsAscii text
 IsAscii-name text h = IsAscii-tested is_printable ascii-printable text (and_parts _ _ (and_parts _ _ h).0).1

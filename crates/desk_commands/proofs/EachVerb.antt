@@ -2,7 +2,7 @@
 use Rattle.std.proofs.Common.{◌≡◌, List, [], ◌∷◌, length, Some, None, refl, take, subst}
 use Rattle.awb_number.specs.Number.{prefix_of, serial_of}
 use Rattle.agent_stock.specs.declared.stock.Order.TheVariants.{TakeIn, Issue, GiveBack, Void}
-use Rattle.shipment_machine.specs.declared.command.DeskCommand.TheVariants.{Book, Receive, Manifest, Offload, Depart, CheckIn, Notify, Deliver, Missing, Found, Confirm}
+use Rattle.shipment_machine.specs.declared.command.DeskCommand.TheVariants.{Book, Receive, Manifest, Offload, Depart, CheckIn, Notify, Deliver, Transfer, Missing, Found, Confirm}
 use Rattle.desk_commands.specs.declared.command.Command.{Command}
 use Rattle.desk_commands.specs.declared.command.Command.TheVariants.{Stock, Cargo}
 use Rattle.desk_commands.specs.declared.verb.Verb.{Verb}
@@ -11,9 +11,9 @@ use Rattle.desk_commands.specs.declared.field_value.FieldValue.{FieldValue}
 use Rattle.desk_commands.specs.declared.field_value.FieldValue.TheVariants.{Text, Number}
 use Rattle.desk_commands.specs.Command.{verb_of, values_of, IsCommand, flight_if_any, day_if_any, command_in, command_of, prefix_text, serial_text, number, flight, day}
 use Rattle.desk_commands.specs.Verb.{row, word, verb_called}
-use Rattle.desk_commands.proofs.Free.{free_padded, free_number, free_day, free_airport, free_name, free_goods, free_agent}
-use Rattle.desk_commands.specs.FieldValue.{awb_in, airport_in, pieces_in, tenths_in, name_in, goods_in, agent_in, counted_in, number_in, run_in, flight_date_in, flight_if_any_in}
-use Rattle.desk_commands.proofs.Fields.{awb_is, airport_is, pieces_is, tenths_is, name_is, goods_is, agent_is, counted_is, number_is, run_is, flight_date_is, awb_again, airport_again, pieces_again, tenths_again, name_again, goods_again, agent_again, counted_again, run_again, flight_date_again, flight_if_any_again}
+use Rattle.desk_commands.proofs.Free.{free_padded, free_number, free_day, free_airport, free_carrier, free_name, free_goods, free_agent}
+use Rattle.desk_commands.specs.FieldValue.{awb_in, airport_in, airline_in, pieces_in, tenths_in, name_in, goods_in, agent_in, counted_in, number_in, run_in, flight_date_in, flight_if_any_in}
+use Rattle.desk_commands.proofs.Fields.{awb_is, airport_is, airline_is, pieces_is, tenths_is, name_is, goods_is, agent_is, counted_is, number_is, run_is, flight_date_is, awb_again, airport_again, airline_again, pieces_again, tenths_again, name_again, goods_again, agent_again, counted_again, run_again, flight_date_again, flight_if_any_again}
 use Rattle.desk_commands.proofs.Steps.{made1, made2, made3, made4, made6, again1, again2, again3, again4, again6}
 use Rattle.desk_commands.proofs.Fit.{AreFit, pieces_fit, tenths_fit, counted_fit, count_fits, day_long, values_in_places}
 use Rattle.desk_commands.proofs.Made.{IsTyped, AreTyped, date_range, flight_if_any_is}
@@ -33,6 +33,7 @@ called_again verb.Depart = refl
 called_again verb.CheckIn = refl
 called_again verb.Notify = refl
 called_again verb.Deliver = refl
+called_again verb.Transfer = refl
 called_again verb.Missing = refl
 called_again verb.Found = refl
 called_again verb.Confirm = refl
@@ -52,6 +53,7 @@ fits (Cargo (Depart f)) h = (h.0, (free_day f.day, tt))
 fits (Cargo (CheckIn w f k)) h = (free_number w, (h.1.0, (free_day f.day, (counted_fit k h.2, tt))))
 fits (Cargo (Notify w n)) h = (free_number w, (free_name n h.1, tt))
 fits (Cargo (Deliver w p n)) h = (free_number w, (pieces_fit p h.1, (free_name n h.2, tt)))
+fits (Cargo (Transfer w p a)) h = (free_number w, (pieces_fit p h.1, (free_carrier a h.2, tt)))
 fits (Cargo (Missing w p None)) h = (free_number w, (pieces_fit p h.1, (tt, (tt, tt))))
 fits (Cargo (Missing w p (Some f))) h = (free_number w, (pieces_fit p h.1, (h.2.0, ((free_day f.day, day_long f.day), tt))))
 fits (Cargo (Found w p t None)) h = (free_number w, (pieces_fit p h.1, (tenths_fit t h.2, (tt, (tt, tt)))))
@@ -97,6 +99,9 @@ made_again (Cargo (Notify w n)) h =
 made_again (Cargo (Deliver w p n)) h =
     again3 (awb_in (number w)) (pieces_in (Number p)) (name_in (Text n)) (λ w p n. Cargo (Deliver w p n)) w p n
     (awb_again w h.0) (pieces_again p h.1) (name_again n h.2)
+made_again (Cargo (Transfer w p a)) h =
+    again3 (awb_in (number w)) (pieces_in (Number p)) (airline_in (Text a)) (λ w p a. Cargo (Transfer w p a)) w p a
+    (awb_again w h.0) (pieces_again p h.1) (airline_again a h.2)
 made_again (Cargo (Missing w p f)) h =
     again3 (awb_in (number w)) (pieces_in (Number p)) (flight_if_any_in (flight_if_any f) (day_if_any f)) (λ w p f. Cargo (Missing w p f)) w p f
     (awb_again w h.0) (pieces_again p h.1) (flight_if_any_again f h.2)
@@ -182,6 +187,12 @@ made_of verb.Deliver a b c d e f cmd ha hb hc hd h =
     let x2 = pieces_is b r.b r.is_b in
     let x3 = name_is c r.c r.is_c in
     subst (IsMadeOf verb.Deliver (a ∷ b ∷ c ∷ d ∷ e ∷ f ∷ [])) r.same (record { in_range = (x1.0, x2.0, x3.0); verb_is = refl; front = λ i. x1.1 i ∷ x2.1 i ∷ x3.1 i ∷ [] })
+made_of verb.Transfer a b c d e f cmd ha hb hc hd h =
+    let r = made3 (awb_in a) (pieces_in b) (airline_in c) (λ y1 y2 y3. Cargo (Transfer y1 y2 y3)) cmd h in
+    let x1 = awb_is a r.a r.is_a in
+    let x2 = pieces_is b r.b r.is_b in
+    let x3 = airline_is c r.c r.is_c in
+    subst (IsMadeOf verb.Transfer (a ∷ b ∷ c ∷ d ∷ e ∷ f ∷ [])) r.same (record { in_range = (x1.0, x2.0, x3.0); verb_is = refl; front = λ i. x1.1 i ∷ x2.1 i ∷ x3.1 i ∷ [] })
 made_of verb.Missing a b c d e f cmd ha hb hc hd h =
     let r = made3 (awb_in a) (pieces_in b) (flight_if_any_in c d) (λ y1 y2 y3. Cargo (Missing y1 y2 y3)) cmd h in
     let x1 = awb_is a r.a r.is_a in

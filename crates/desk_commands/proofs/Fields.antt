@@ -12,6 +12,7 @@ use Rattle.awb_number.proofs.Keys.{prefix_of-key, serial_of-key, key_of-parts, k
 use Rattle.awb_number.proofs.NumberLaws.{number_again, number_takes}
 use Rattle.awb_number.proofs.Padded.{digits-padded, decimal_value-padded, padded-decimal_value, decimal_value_bound}
 use Rattle.imp_fields.specs.Airport.{is_airport}
+use Rattle.imp_fields.specs.Flight.{is_carrier}
 use Rattle.imp_fields.specs.Amount.{IsPieces, IsTenths}
 use Rattle.imp_fields.specs.Date.{IsMomentDay}
 use Rattle.imp_fields.specs.Flight.{Designator}
@@ -25,7 +26,7 @@ use Rattle.desk_commands.specs.declared.field_value.FieldValue.{FieldValue}
 use Rattle.desk_commands.specs.declared.field_value.FieldValue.TheVariants.{Text, Number, Flight, Absent}
 use Rattle.desk_commands.specs.Command.{prefix_text, serial_text, number, flight, day, flight_if_any, day_if_any, IsRun, IsFlightDate, IsAirport}
 use Rattle.desk_commands.specs.Day.{day_of}
-use Rattle.desk_commands.specs.FieldValue.{text_in, number_in, flight_in, digits_of, digits_in, awb_of, awb_in, airport_in, name_in, goods_in, agent_in, day_in, pieces_in, tenths_in, counted_in, count_in, run_in, flight_date_in, flight_if_any_in}
+use Rattle.desk_commands.specs.FieldValue.{text_in, number_in, flight_in, digits_of, digits_in, awb_of, awb_in, airport_in, airline_in, name_in, goods_in, agent_in, day_in, pieces_in, tenths_in, counted_in, count_in, run_in, flight_date_in, flight_if_any_in}
 use Rattle.desk_commands.proofs.Days.{day_is, day_again}
 use Rattle.desk_commands.proofs.Steps.{some_is, passed, passes, made2, made3, go_on}
 
@@ -74,6 +75,9 @@ tested test g t h =
 
 pub airport_is : (g : FieldValue) (t : List ℕ) → airport_in g ≡ Some t → IsAirport t × (g ≡ Text t)
 airport_is g t h = tested is_airport g t h
+
+pub airline_is : (g : FieldValue) (t : List ℕ) → airline_in g ≡ Some t → IsTrue (is_carrier t) × (g ≡ Text t)
+airline_is g t h = tested is_carrier g t h
 
 pub name_is : (g : FieldValue) (t : List ℕ) → name_in g ≡ Some t → IsTrue (is_name t) × (g ≡ Text t)
 name_is g t h = tested is_name g t h
@@ -169,6 +173,9 @@ awb_again w h = ap (λ (r : Result ℕ AwbFault). result_ok r) (number_again w h
 
 pub airport_again : (t : List ℕ) → IsAirport t → airport_in (Text t) ≡ Some t
 airport_again t h = passes (is_airport t) t h
+
+pub airline_again : (t : List ℕ) → IsTrue (is_carrier t) → airline_in (Text t) ≡ Some t
+airline_again t h = passes (is_carrier t) t h
 
 pub name_again : (t : List ℕ) → IsTrue (is_name t) → name_in (Text t) ≡ Some t
 name_again t h = passes (is_name t) t h

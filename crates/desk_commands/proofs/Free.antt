@@ -10,7 +10,7 @@ use Rattle.awb_number.proofs.Padded.{digits-padded}
 use Rattle.imp_fields.specs.Airport.{is_airport}
 use Rattle.imp_fields.specs.Characters.{is_printable}
 use Rattle.imp_fields.specs.Date.{year_of, date_on}
-use Rattle.imp_fields.specs.Flight.{Designator, IsDesignator, flight_text}
+use Rattle.imp_fields.specs.Flight.{Designator, IsDesignator, flight_text, is_carrier}
 use Rattle.imp_fields.specs.Name.{is_name, is_goods}
 use Rattle.imp_fields.proofs.FieldLaws.{flight_code}
 use Rattle.imp_fields.proofs.WrittenLaws.{all_weaker, decimal_digits}
@@ -51,6 +51,9 @@ free_day day =
 
 pub free_airport : (code : List ℕ) → is_airport code ≡ true → free code ≡ true
 free_airport code h = free_tested is_letter refl code (and_parts _ _ h).1
+
+pub free_carrier : (code : List ℕ) → is_carrier code ≡ true → free code ≡ true
+free_carrier code h = free_tested is_letter_or_digit refl code (and_parts _ _ (and_parts _ _ h).0).1
 
 pub free_name : (text : List ℕ) → is_name text ≡ true → free text ≡ true
 free_name text h = free_tested is_printable refl text (and_parts _ _ (and_parts _ _ h).0).1

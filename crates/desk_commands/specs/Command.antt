@@ -7,7 +7,7 @@ use Rattle.awb_number.specs.Number.{IsNumber, number_text, prefix_of, serial_of}
 use Rattle.imp_fields.specs.Airport.{is_airport}
 use Rattle.imp_fields.specs.Amount.{IsPieces, IsTenths}
 use Rattle.imp_fields.specs.Date.{IsMomentDay}
-use Rattle.imp_fields.specs.Flight.{IsDesignator}
+use Rattle.imp_fields.specs.Flight.{IsDesignator, is_carrier}
 use Rattle.imp_fields.specs.Name.{is_name, is_goods}
 use Rattle.imp_fields.specs.Steps.{◌>>=◌}
 use Rattle.agent_stock.specs.Code.{is_agent_code}
@@ -19,7 +19,7 @@ use Rattle.agent_stock.specs.declared.stock.Order.{Order}
 use Rattle.agent_stock.specs.declared.stock.Order.TheVariants.{TakeIn, Issue, GiveBack, Void}
 use Rattle.shipment_machine.specs.declared.flight.FlightDate.{FlightDate}
 use Rattle.shipment_machine.specs.declared.command.DeskCommand.{DeskCommand}
-use Rattle.shipment_machine.specs.declared.command.DeskCommand.TheVariants.{Book, Receive, Manifest, Offload, Depart, CheckIn, Notify, Deliver, Missing, Found, Confirm}
+use Rattle.shipment_machine.specs.declared.command.DeskCommand.TheVariants.{Book, Receive, Manifest, Offload, Depart, CheckIn, Notify, Deliver, Transfer, Missing, Found, Confirm}
 use Rattle.desk_commands.specs.declared.command.Command.{Command}
 use Rattle.desk_commands.specs.declared.command.Command.TheVariants.{Stock, Cargo}
 use Rattle.desk_commands.specs.declared.verb.Verb.{Verb}
@@ -27,7 +27,7 @@ use Rattle.desk_commands.specs.declared.verb.Verb.TheVariants as verb
 use Rattle.desk_commands.specs.declared.field_value.FieldValue.{FieldValue}
 use Rattle.desk_commands.specs.declared.field_value.FieldValue.TheVariants.{Text, Number, Flight, Absent}
 use Rattle.desk_commands.specs.Verb.{word}
-use Rattle.desk_commands.specs.FieldValue.{line_of, awb_in, airport_in, name_in, goods_in, agent_in, pieces_in, tenths_in, counted_in, number_in, run_in, flight_date_in, flight_if_any_in}
+use Rattle.desk_commands.specs.FieldValue.{line_of, awb_in, airport_in, airline_in, name_in, goods_in, agent_in, pieces_in, tenths_in, counted_in, number_in, run_in, flight_date_in, flight_if_any_in}
 
 -- ---- the verb and the fields
 
@@ -46,6 +46,7 @@ desk_verb (Depart flight) = verb.Depart
 desk_verb (CheckIn w flight counted) = verb.CheckIn
 desk_verb (Notify w name) = verb.Notify
 desk_verb (Deliver w pieces name) = verb.Deliver
+desk_verb (Transfer w pieces airline) = verb.Transfer
 desk_verb (Missing w pieces flight) = verb.Missing
 desk_verb (Found w pieces tenths flight) = verb.Found
 desk_verb (Confirm upto) = verb.Confirm
@@ -99,6 +100,7 @@ desk_values (Depart f) = flight f ∷ day f ∷ []
 desk_values (CheckIn w f counted) = number w ∷ flight f ∷ day f ∷ Number counted ∷ []
 desk_values (Notify w name) = number w ∷ Text name ∷ []
 desk_values (Deliver w pieces name) = number w ∷ Number pieces ∷ Text name ∷ []
+desk_values (Transfer w pieces airline) = number w ∷ Number pieces ∷ Text airline ∷ []
 desk_values (Missing w pieces f) = number w ∷ Number pieces ∷ flight_if_any f ∷ day_if_any f ∷ []
 desk_values (Found w pieces tenths f) =
     number w ∷ Number pieces ∷ Number tenths ∷ flight_if_any f ∷ day_if_any f ∷ []
@@ -139,6 +141,8 @@ IsDeskCommand (Depart flight) = IsFlightDate flight
 IsDeskCommand (CheckIn w flight counted) = IsNumber w × IsFlightDate flight × IsCount counted
 IsDeskCommand (Notify w name) = IsNumber w × IsTrue (is_name name)
 IsDeskCommand (Deliver w pieces name) = IsNumber w × IsPieces pieces × IsTrue (is_name name)
+IsDeskCommand (Transfer w pieces airline) =
+    IsNumber w × IsPieces pieces × IsTrue (is_carrier airline)
 IsDeskCommand (Missing w pieces flight) = IsNumber w × IsPieces pieces × IfSome flight IsFlightDate
 IsDeskCommand (Found w pieces tenths flight) =
     IsNumber w × IsPieces pieces × IsTenths tenths × IfSome flight IsFlightDate
@@ -232,6 +236,11 @@ command_in verb.Deliver awb pieces name _ _ _ = do
   p ← pieces_in pieces
   n ← name_in name
   Some (Cargo (Deliver w p n))
+command_in verb.Transfer awb pieces airline _ _ _ = do
+  w ← awb_in awb
+  p ← pieces_in pieces
+  a ← airline_in airline
+  Some (Cargo (Transfer w p a))
 command_in verb.Missing awb pieces flight day _ _ = do
   w ← awb_in awb
   p ← pieces_in pieces

@@ -10,6 +10,7 @@ use Rattle.imp_fields.specs.Name.{is_name, is_goods}
 use Rattle.imp_fields.specs.Steps.{◌>>=◌, where_true}
 use Rattle.agent_stock.specs.Code.{is_agent_code}
 use Rattle.agent_stock.specs.declared.stock.Run.{Run}
+use Rattle.shipment_machine.specs.Airline.{airline_of}
 use Rattle.shipment_machine.specs.declared.flight.FlightDate.{FlightDate}
 use Rattle.desk_commands.specs.Day.{day_of}
 use Rattle.desk_commands.specs.declared.field_value.FieldValue.{FieldValue}
@@ -65,6 +66,9 @@ awb_in value = text_in value >>= awb_of
 
 abbrev pub airport_in : FieldValue → Option (List ℕ)
 airport_in value = text_in value >>= airport_of
+
+abbrev pub airline_in : FieldValue → Option (List ℕ)
+airline_in value = text_in value >>= airline_of
 
 abbrev pub name_in : FieldValue → Option (List ℕ)
 name_in value = text_in value >>= λ text. where_true (is_name text) text

@@ -22,6 +22,7 @@ word verb.Depart = codes "depart"
 word verb.CheckIn = codes "check-in"
 word verb.Notify = codes "notify"
 word verb.Deliver = codes "deliver"
+word verb.Transfer = codes "transfer"
 word verb.Missing = codes "missing"
 word verb.Found = codes "found"
 word verb.Confirm = codes "confirm"
@@ -41,6 +42,7 @@ row verb.Depart = field.Flight ∷ field.Date ∷ []
 row verb.CheckIn = field.Awb ∷ field.Flight ∷ field.Date ∷ field.Counted ∷ []
 row verb.Notify = field.Awb ∷ field.Name ∷ []
 row verb.Deliver = field.Awb ∷ field.Pieces ∷ field.Name ∷ []
+row verb.Transfer = field.Awb ∷ field.Pieces ∷ field.Airline ∷ []
 row verb.Missing = field.Awb ∷ field.Pieces ∷ field.FlightIfAny ∷ field.DateIfAny ∷ []
 row verb.Found = field.Awb ∷ field.Pieces ∷ field.Tenths ∷ field.FlightIfAny ∷ field.DateIfAny ∷ []
 row verb.Confirm = field.Upto ∷ []
@@ -64,6 +66,7 @@ name field.FlightIfAny = codes "flight"
 name field.DateIfAny = codes "date"
 name field.Unload = codes "unload"
 name field.Counted = codes "counted"
+name field.Airline = codes "airline"
 name field.Upto = codes "upto"
 
 -- what a field is
@@ -85,6 +88,7 @@ kind_of field.FlightIfAny = kind.FlightIfAny
 kind_of field.DateIfAny = kind.TextIfAny
 kind_of field.Unload = kind.Text
 kind_of field.Counted = kind.Number
+kind_of field.Airline = kind.Text
 kind_of field.Upto = kind.Number
 
 -- the row as six places, of which the last may be empty
@@ -94,8 +98,8 @@ places verb = map (slice_get (row verb)) (0 ∷ 1 ∷ 2 ∷ 3 ∷ 4 ∷ 5 ∷ []
 abbrev pub verbs : List Verb
 verbs =
     verb.TakeIn ∷ verb.Issue ∷ verb.Return ∷ verb.Void ∷ verb.Book ∷ verb.Receive ∷ verb.Manifest
-    ∷ verb.Offload ∷ verb.Depart ∷ verb.CheckIn ∷ verb.Notify ∷ verb.Deliver ∷ verb.Missing
-    ∷ verb.Found ∷ verb.Confirm ∷ []
+    ∷ verb.Offload ∷ verb.Depart ∷ verb.CheckIn ∷ verb.Notify ∷ verb.Deliver ∷ verb.Transfer
+    ∷ verb.Missing ∷ verb.Found ∷ verb.Confirm ∷ []
 
 abbrev pub is_word : List ℕ → Verb → Bool
 is_word text verb = bytes_eq (word verb) text

@@ -6,6 +6,7 @@ ghost use Rattle.agent_stock.specs.Code.{is_agent_code};
 ghost use Rattle.awb_number.specs.Number.{IsNumber};
 ghost use Rattle.imp_fields.specs.Airport.{is_airport};
 ghost use Rattle.imp_fields.specs.Amount.{IsPieces, IsTenths};
+ghost use Rattle.imp_fields.specs.Flight.{is_carrier};
 ghost use Rattle.imp_fields.specs.Name.{is_name, is_goods};
 ghost use Rattle.shipment_machine.specs.Amount.{IsCount};
 ghost use Rattle.desk_commands.specs.Command.{command_of, IsRun, IsOrder, IsFlightDate, IsDeskCommand, IsCommand};
@@ -15,7 +16,7 @@ use crate::verb::Verb;
 use agent_stock::{AgentCode, Order, Run};
 use awb_number::Awb;
 use imp_fields::{Airport, Goods, Name, Pieces, Tenths};
-use shipment_machine::{DeskCommand, FlightDate, PieceCount};
+use shipment_machine::{Airline, DeskCommand, FlightDate, PieceCount};
 
 /// What a caller asks of a station.
 #[derive(Clone, Copy, Debug, PartialEq, Eq)]
@@ -43,6 +44,7 @@ pub(crate) fn command_of(verb: Verb, values: &[FieldValue<'_>; 6]) -> Option<Com
         Verb::CheckIn => check_in(values),
         Verb::Notify => notify(values),
         Verb::Deliver => deliver(values),
+        Verb::Transfer => transfer(values),
         Verb::Missing => missing(values),
         Verb::Found => found(values),
         Verb::Confirm => confirm(values),
@@ -170,6 +172,17 @@ fn deliver(values: &[FieldValue<'_>; 6]) -> Option<Command>
     }))
 }
 
+fn transfer(values: &[FieldValue<'_>; 6]) -> Option<Command>
+    ensures { result ≡ command_of Verb.Transfer values.now }
+{
+    let [awb, pieces, airline, ..] = values;
+    Some(Command::Cargo(DeskCommand::Transfer {
+        awb: awb.awb()?,
+        pieces: pieces.pieces()?,
+        airline: airline.airline()?,
+    }))
+}
+
 fn missing(values: &[FieldValue<'_>; 6]) -> Option<Command>
     ensures { result ≡ command_of Verb.Missing values.now }
 {
@@ -291,6 +304,12 @@ fn airport_range(airport: &Airport)
     let _letters = airport.letters();
 }
 
+fn airline_range(airline: &Airline)
+    ensures { IsTrue (is_carrier airline.now) }
+{
+    let _designator = airline.designator();
+}
+
 fn number_range(number: u32)
     ensures { number < 4_294_967_296 }
 {
@@ -363,6 +382,15 @@ fn desk_range(command: &DeskCommand)
             waybill_range(awb);
             pieces_range(*pieces);
             name_range(name);
+        }
+        DeskCommand::Transfer {
+            awb,
+            pieces,
+            airline,
+        } => {
+            waybill_range(awb);
+            pieces_range(*pieces);
+            airline_range(airline);
         }
         DeskCommand::Missing {
             awb,

@@ -3,14 +3,14 @@
 ghost use Rattle.std.specs.Prelude.{◌≡◌, ◌≤◌, ◌<◌, ◌^◌, IfSome, option_map};
 ghost use Rattle.std.specs.Result.{result_ok};
 ghost use Rattle.awb_number.specs.Number.{number_of};
-ghost use Rattle.desk_commands.specs.FieldValue.{text_in, number_in, digits_of, digits_in, awb_of, awb_in, airport_in, pieces_in, tenths_in, name_in, goods_in, agent_in, counted_in, count_in, flight_in, day_in, flight_date_in, flight_if_any_in, run_in};
+ghost use Rattle.desk_commands.specs.FieldValue.{text_in, number_in, digits_of, digits_in, awb_of, awb_in, airport_in, airline_in, pieces_in, tenths_in, name_in, goods_in, agent_in, counted_in, count_in, flight_in, day_in, flight_date_in, flight_if_any_in, run_in};
 
 use crate::day::read_day;
 use crate::text::Text;
 use agent_stock::{AgentCode, Run, RunCount};
 use awb_number::{Awb, decimal};
 use imp_fields::{Airport, Flight, Goods, LocalDay, Name, Pieces, Tenths};
-use shipment_machine::{FlightDate, PieceCount};
+use shipment_machine::{Airline, FlightDate, PieceCount};
 
 /// What a field holds.
 #[derive(Drop)]
@@ -113,6 +113,12 @@ impl FieldValue<'_> {
         ensures { result ≡ airport_in self.now }
     {
         Airport::read(self.text()?)
+    }
+
+    pub(crate) fn airline(&self) -> Option<Airline>
+        ensures { result ≡ airline_in self.now }
+    {
+        Airline::read(self.text()?)
     }
 
     pub(crate) fn name(&self) -> Option<Name>

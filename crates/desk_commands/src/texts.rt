@@ -10,7 +10,7 @@ use crate::day::day_text;
 use agent_stock::{AgentCode, Order, Run};
 use awb_number::{Awb, ascii_text};
 use imp_fields::{Airport, Goods, Name, Pieces, Tenths};
-use shipment_machine::{DeskCommand, FlightDate, PieceCount};
+use shipment_machine::{Airline, DeskCommand, FlightDate, PieceCount};
 use std::alloc::{AllocError, Global};
 
 /// A command as a text: its verb and its fields, one a line, numbers without leading zeros, flights
@@ -78,6 +78,11 @@ fn desk_text(alloc: Global, command: &DeskCommand) -> Result<String, AllocError>
         } => check_in_text(alloc, awb, flight, *counted),
         DeskCommand::Notify { awb, name } => notify_text(alloc, awb, name),
         DeskCommand::Deliver { awb, pieces, name } => deliver_text(alloc, awb, *pieces, name),
+        DeskCommand::Transfer {
+            awb,
+            pieces,
+            airline,
+        } => transfer_text(alloc, awb, *pieces, airline),
         DeskCommand::Missing {
             awb,
             pieces,
@@ -262,6 +267,20 @@ fn deliver_text(alloc: Global, awb: &Awb, pieces: Pieces, name: &Name) -> Result
     let pieces = pieces.number();
     let name = name_str(name);
     format!(in alloc; "deliver\n{awb}\n{pieces}\n{name}")
+}
+
+fn transfer_text(
+    alloc: Global,
+    awb: &Awb,
+    pieces: Pieces,
+    airline: &Airline,
+) -> Result<String, AllocError>
+    ensures { Writes result (desk_text (DeskCommand.Transfer awb.now pieces airline.now)) }
+{
+    let pieces = pieces.number();
+    let airline = airline.designator();
+    let airline = ascii_text(&airline);
+    format!(in alloc; "transfer\n{awb}\n{pieces}\n{airline}")
 }
 
 fn missing_text(

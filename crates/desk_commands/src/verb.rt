@@ -6,8 +6,8 @@ ghost use Rattle.desk_commands.specs.Verb.{is_word, kind_of, name, places, row, 
 ghost use Rattle.desk_commands.specs.declared.verb.Verb.{Verb};
 
 use Field::{
-    Agent, Awb, Count, Counted, Date, DateIfAny, Destination, Flight, FlightIfAny, Goods, Name,
-    Origin, Pieces, Prefix, Serial, Tenths, Unload, Upto,
+    Agent, Airline, Awb, Count, Counted, Date, DateIfAny, Destination, Flight, FlightIfAny, Goods,
+    Name, Origin, Pieces, Prefix, Serial, Tenths, Unload, Upto,
 };
 
 /// The first word of a command's text.
@@ -25,13 +25,14 @@ pub enum Verb {
     CheckIn,
     Notify,
     Deliver,
+    Transfer,
     Missing,
     Found,
     Confirm,
 }
 
 /// Each verb.
-const VERBS: [Verb; 15] = [
+const VERBS: [Verb; 16] = [
     Verb::TakeIn,
     Verb::Issue,
     Verb::Return,
@@ -44,6 +45,7 @@ const VERBS: [Verb; 15] = [
     Verb::CheckIn,
     Verb::Notify,
     Verb::Deliver,
+    Verb::Transfer,
     Verb::Missing,
     Verb::Found,
     Verb::Confirm,
@@ -75,6 +77,7 @@ impl Verb {
             Verb::CheckIn => "check-in",
             Verb::Notify => "notify",
             Verb::Deliver => "deliver",
+            Verb::Transfer => "transfer",
             Verb::Missing => "missing",
             Verb::Found => "found",
             Verb::Confirm => "confirm",
@@ -126,6 +129,7 @@ pub(crate) enum Field {
     DateIfAny,
     Unload,
     Counted,
+    Airline,
     Upto,
 }
 
@@ -160,6 +164,7 @@ impl Field {
             Field::Date | Field::DateIfAny => "date",
             Field::Unload => "unload",
             Field::Counted => "counted",
+            Field::Airline => "airline",
             Field::Upto => "upto",
         }
     }
@@ -183,7 +188,8 @@ impl Field {
             | Field::Goods
             | Field::Name
             | Field::Date
-            | Field::Unload => Kind::Text,
+            | Field::Unload
+            | Field::Airline => Kind::Text,
         }
     }
 }
@@ -203,6 +209,7 @@ fn row(verb: Verb) -> &'static [Field]
         Verb::CheckIn => &[Awb, Flight, Date, Counted],
         Verb::Notify => &[Awb, Name],
         Verb::Deliver => &[Awb, Pieces, Name],
+        Verb::Transfer => &[Awb, Pieces, Airline],
         Verb::Missing => &[Awb, Pieces, FlightIfAny, DateIfAny],
         Verb::Found => &[Awb, Pieces, Tenths, FlightIfAny, DateIfAny],
         Verb::Confirm => &[Upto],

@@ -78,7 +78,8 @@ pub fn waybill_object(alloc: Global, awb: &Awb, waybill: &Waybill) -> Result<Str
     let store = pair(alloc, &waybill.store)?;
     let taken = pair(alloc, &waybill.taken)?;
     let tenths = waybill.declared.tenths.number();
+    let transferred = pair(alloc, &waybill.transferred)?;
     format!(in alloc;
-        "{{\"awb\":\"{awb}\",{left},{route},\"store\":{store},\"taken\":{taken},\"tenths\":{tenths}}}"
+        "{{\"awb\":\"{awb}\",{left},{route},\"store\":{store},\"taken\":{taken},\"tenths\":{tenths},\"transferred\":{transferred}}}"
     )
 }

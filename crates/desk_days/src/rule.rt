@@ -81,14 +81,15 @@ fn booking_text(alloc: Global, awb: Awb) -> Option<String> {
     }
 }
 
-/// The text of a command on an outbound flight or on what goes out by it.
+/// The text of a command on an outbound flight or on what goes out, by it or with another airline.
 fn outbound_text(alloc: Global, rule: &mut Rule, awb: Awb) -> Option<String> {
     let pieces = rule.between(1, 5);
     let day = rule.between(12, 13);
-    match rule.between(0, 5) {
+    match rule.between(0, 6) {
         0 | 1 => format!(in alloc; "receive\n{awb}\n{pieces}\n250\nACME").ok(),
         2 | 3 => { format!(in alloc; "manifest\n{awb}\nLH400\n2026-01-{day}\nJFK\n{pieces}").ok() }
         4 => format!(in alloc; "offload\n{awb}\nLH400\n2026-01-{day}\n{pieces}").ok(),
+        5 => format!(in alloc; "transfer\n{awb}\n{pieces}\nBA").ok(),
         _ => format!(in alloc; "depart\nLH400\n2026-01-{day}").ok(),
     }
 }

@@ -3,9 +3,9 @@ use Rattle.std.proofs.Common.{arith, ◌≡◌, ◌∙◌, ap, subst, refl, inl,
 use Rattle.std.specs.Prelude.{◌⊎◌}
 use Rattle.std.proofs.lemmas.List.{length-take-le}
 use Rattle.station_core.specs.Given.{Given}
-use Rattle.station_core.specs.Ends.{Sent, HasCause}
+use Rattle.station_core.specs.Ends.{Sent, HasCause, NoneFailed, OneFailed}
 use Rattle.station_core.specs.Step.{State}
-use Rattle.reports.specs.Ended.{HasTold, HaveGone, IsBegun, IsCause, NoneFailed, OneFailed, StopsBy}
+use Rattle.reports.specs.Ended.{HasTold, HaveGone, IsBegun, IsCause, StopsBy}
 use Rattle.reports.specs.declared.fault.ReportCause.{ReportCause}
 use Rattle.reports.specs.declared.fault.ReportCause.TheVariants as cause
 use Rattle.reports.specs.declared.fault.ReportFault.{ReportFault}

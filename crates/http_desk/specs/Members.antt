@@ -16,4 +16,4 @@ abbrev pub third_members : Waybill → List ℕ
 third_members known = codes "\"missing\":" ++ (compact_text (pair_data known.missing) ++ (codes ",\"notified\":" ++ (compact_text (boolean known.declared.notified) ++ (codes ",\"origin\":" ++ (compact_text (string known.declared.origin) ++ codes ",")))))
 
 abbrev pub last_members : Waybill → List ℕ
-last_members known = codes "\"pieces\":" ++ (decimal known.declared.pieces ++ (codes ",\"store\":" ++ (compact_text (pair_data known.store) ++ (codes ",\"taken\":" ++ (compact_text (pair_data known.taken) ++ (codes ",\"tenths\":" ++ (decimal known.declared.tenths ++ codes "}")))))))
+last_members known = codes "\"pieces\":" ++ (decimal known.declared.pieces ++ (codes ",\"store\":" ++ (compact_text (pair_data known.store) ++ (codes ",\"taken\":" ++ (compact_text (pair_data known.taken) ++ (codes ",\"tenths\":" ++ (decimal known.declared.tenths ++ (codes ",\"transferred\":" ++ (compact_text (pair_data known.transferred) ++ codes "}")))))))))

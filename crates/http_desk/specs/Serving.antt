@@ -3,10 +3,9 @@ use Rattle.std.specs.Prelude.{◌≡◌, ◌⊎◌, ℕ, ◌<◌, ◌≤◌, Boo
 use Rattle.serde_json.specs.Written.{compact_text}
 use Rattle.imp_fields.specs.Date.{LocalMinute}
 use Rattle.station_core.specs.Given.{Given}
-use Rattle.station_core.specs.Ends.{Sent, HasCause}
+use Rattle.station_core.specs.Ends.{Sent, HasCause, NoneFailed, OneFailed}
 use Rattle.station_core.specs.declared.input.Input.{Input}
 use Rattle.station_core.specs.Step.{State, accepted, step}
-use Rattle.reports.specs.Ended.{NoneFailed, OneFailed}
 use Rattle.http_desk.specs.declared.serve.Served.{Served}
 use Rattle.http_desk.specs.declared.serve.ServeFault.{ServeFault}
 use Rattle.http_desk.specs.declared.serve.ServeFault.TheVariants as serve

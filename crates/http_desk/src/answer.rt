@@ -102,12 +102,10 @@ fn holding_text(alloc: Global, awb: &str, holder: &str, name: &str) -> Result<St
     json!(in alloc; {"awb": awb, "holder": holder, "name": name})?.to_string(alloc)
 }
 
-/// The body that says who holds a number.
-pub(crate) fn holder_text(
-    alloc: Global,
-    number: &Awb,
-    holder: &Holder,
-) -> Result<String, AllocError>
+/// The JSON object that says who holds a number: the body that GET `/v1/stock/{awb}` is answered by.
+///
+/// Returns [`AllocError`] when out of memory.
+pub fn holder_text(alloc: Global, number: &Awb, holder: &Holder) -> Result<String, AllocError>
     ensures { IfOk result (λ text. string_bytes text ≡ compact_text (holder_data number.now holder.now)) }
 {
     let awb = number.write();
@@ -183,7 +181,8 @@ fn third_members(alloc: Global, known: &Waybill) -> Result<String, AllocError>
     format!(in alloc; "\"missing\":{missing},\"notified\":{notified},\"origin\":{origin},")
 }
 
-/// The declared pieces, what is in the store, what was taken over, and the declared tenths.
+/// The declared pieces, what is in the store, what was taken over, the declared tenths, and what was
+/// transferred.
 fn last_members(alloc: Global, known: &Waybill) -> Result<String, AllocError>
     ensures { IfOk result (λ text. string_bytes text ≡ last_members known.now) }
 {
@@ -191,17 +190,16 @@ fn last_members(alloc: Global, known: &Waybill) -> Result<String, AllocError>
     let store = pair_text(alloc, &known.store)?;
     let taken = pair_text(alloc, &known.taken)?;
     let tenths = known.declared.tenths.number();
+    let transferred = pair_text(alloc, &known.transferred)?;
     format!(in alloc;
-        "\"pieces\":{pieces},\"store\":{store},\"taken\":{taken},\"tenths\":{tenths}}}"
+        "\"pieces\":{pieces},\"store\":{store},\"taken\":{taken},\"tenths\":{tenths},\"transferred\":{transferred}}}"
     )
 }
 
-/// The body that says what is known of a waybill.
-pub(crate) fn waybill_text(
-    alloc: Global,
-    number: &Awb,
-    known: &Waybill,
-) -> Result<String, AllocError>
+/// The JSON object that says what is known of a waybill: the body that GET `/v1/waybills/{awb}` is answered by.
+///
+/// Returns [`AllocError`] when out of memory.
+pub fn waybill_text(alloc: Global, number: &Awb, known: &Waybill) -> Result<String, AllocError>
     ensures { IfOk result (λ text. string_bytes text ≡ compact_text (waybill_data number.now known.now)) }
 {
     let first = first_members(alloc, number, known)?;

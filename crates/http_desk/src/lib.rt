@@ -16,6 +16,7 @@ mod serve;
 mod wanted;
 mod writing;
 
+pub use answer::{holder_text, waybill_text};
 pub use law::routes_law;
 pub use route::{Page, Report, Route};
 pub use serve::{ServeFault, Served, serve_one};

@@ -15,9 +15,9 @@ use crate::route::Report;
 use crate::serve::{ServeFault, Served};
 use reports::{
     ReportCause, ReportFault, irregularity_report_behind, movement_book_behind,
-    pending_report_behind, send_whole, stock_report_behind, trail_report_behind,
+    pending_report_behind, stock_report_behind, trail_report_behind,
 };
-use station_core::{ActFault, ByteOut, Keeper};
+use station_core::{ActFault, ByteOut, Keeper, send};
 use std::alloc::Global;
 
 /// The answer of a station that can't answer. It wants no memory.
@@ -42,7 +42,7 @@ fn send_answer<O: ByteOut>(
     ensures sent { HasSent status reopen bytes.now (O.taken writer.old) (O.taken writer.new) result }
     ensures writes { StopsServing (O.taken writer.old) (O.taken writer.new) result }
 {
-    match send_whole(writer, bytes) {
+    match send(writer, bytes) {
         Ok(()) => Ok(Served { status, reopen }),
         Err(sent) => Err(ServeFault::Write { sent: sent as u64 }),
     }

@@ -4,7 +4,7 @@ use agent_stock::{AgentCode, Order, Run, RunCount};
 use awb_number::Awb;
 use desk_commands::{Command, Verb, command_text, read_command_text};
 use imp_fields::{Airport, Flight, Goods, LocalDay, Name, Pieces, Tenths};
-use shipment_machine::{DeskCommand, FlightDate, PieceCount};
+use shipment_machine::{Airline, DeskCommand, FlightDate, PieceCount};
 use std::alloc::Global;
 use std::str::SplitWhitespace;
 
@@ -85,7 +85,11 @@ fn tenths(words: &mut SplitWhitespace<'_>) -> Option<Tenths> {
 
 fn command(asked: &str, words: &mut SplitWhitespace<'_>, last: &str) -> Option<DeskCommand> {
     match asked {
-        "book" | "receive" | "notify" | "deliver" => at_the_desk(asked, words, last.as_bytes()),
+        "book" | "receive" | "notify" | "deliver" | "transfer" => at_the_desk(
+            asked,
+            words,
+            last.as_bytes(),
+        ),
         "missing" | "found" => irregular(asked, words),
         "confirm" => Some(DeskCommand::Confirm {
             upto: next_number(words)?,
@@ -94,7 +98,7 @@ fn command(asked: &str, words: &mut SplitWhitespace<'_>, last: &str) -> Option<D
     }
 }
 
-/// Commands whose last field is a name or goods.
+/// Commands whose last field is a name, goods or an airline.
 fn at_the_desk(asked: &str, words: &mut SplitWhitespace<'_>, last: &[u8]) -> Option<DeskCommand> {
     let awb = number(words)?;
     match asked {
@@ -116,10 +120,15 @@ fn at_the_desk(asked: &str, words: &mut SplitWhitespace<'_>, last: &[u8]) -> Opt
             awb,
             name: Name::read(last)?,
         }),
-        _ => Some(DeskCommand::Deliver {
+        "deliver" => Some(DeskCommand::Deliver {
             awb,
             pieces: pieces(words)?,
             name: Name::read(last)?,
+        }),
+        _ => Some(DeskCommand::Transfer {
+            awb,
+            pieces: pieces(words)?,
+            airline: Airline::read(last)?,
         }),
     }
 }

@@ -8,7 +8,7 @@ use Rattle.shipment_machine.specs.Flights.{same_flight_date}
 use Rattle.shipment_machine.specs.declared.flight.FlightDate.{FlightDate}
 use Rattle.shipment_machine.specs.declared.moves.Move.{Move}
 use Rattle.shipment_machine.specs.declared.moves.Place.{Place}
-use Rattle.shipment_machine.specs.declared.moves.Place.TheVariants.{Hand, Surplus, Free, Built, Departed, Delivered, Missing}
+use Rattle.shipment_machine.specs.declared.moves.Place.TheVariants.{Hand, Surplus, Free, Built, Departed, Delivered, Missing, Transferred}
 use Rattle.shipment_machine.specs.Lawful.{departs_with, builds_on, StaysDeparted}
 use Rattle.shipment_machine.proofs.FlightKeys.{same-is, same-refl}
 use Rattle.row_values.specs.Moves.{place_code}
@@ -52,6 +52,7 @@ plain_off (Built g) f h = absurd (true≢false h)
 plain_off Departed f h = refl
 plain_off Delivered f h = refl
 plain_off Missing f h = refl
+plain_off Transferred f h = refl
 
 and_no : (b : Bool) → (b && false) ≡ false
 and_no true = refl
@@ -69,6 +70,7 @@ departed_code (Built f) code is = ap (λ c. int_eq c (pos 4)) is
 departed_code Departed code is = ap (λ c. int_eq c (pos 4)) is
 departed_code Delivered code is = ap (λ c. int_eq c (pos 4)) is
 departed_code Missing code is = ap (λ c. int_eq c (pos 4)) is
+departed_code Transferred code is = ap (λ c. int_eq c (pos 4)) is
 
 -- ---- marks
 

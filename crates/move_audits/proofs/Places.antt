@@ -2,7 +2,7 @@
 use Rattle.std.proofs.Common.{◌≡◌, ℤ, pos, Bool, true, false, cond, Option, Some, None, option_map, refl, sym, ap, ap₂, ◌∙◌, true≢false, int_eq}
 use Rattle.shipment_machine.specs.declared.flight.FlightDate.{FlightDate}
 use Rattle.shipment_machine.specs.declared.moves.Place.{Place}
-use Rattle.shipment_machine.specs.declared.moves.Place.TheVariants.{Hand, Surplus, Free, Built, Departed, Delivered, Missing}
+use Rattle.shipment_machine.specs.declared.moves.Place.TheVariants.{Hand, Surplus, Free, Built, Departed, Delivered, Missing, Transferred}
 use Rattle.shipment_machine.specs.Lawful.{is_pair, NamesFlight}
 use Rattle.row_values.specs.Moves.{place_code, plain_place, place_of}
 use Rattle.count_tables.specs.Sums.{is_built}
@@ -19,6 +19,7 @@ pairs Hand (Built g) = refl
 pairs Hand Departed = refl
 pairs Hand Delivered = refl
 pairs Hand Missing = refl
+pairs Hand Transferred = refl
 pairs Surplus Hand = refl
 pairs Surplus Surplus = refl
 pairs Surplus Free = refl
@@ -26,6 +27,7 @@ pairs Surplus (Built g) = refl
 pairs Surplus Departed = refl
 pairs Surplus Delivered = refl
 pairs Surplus Missing = refl
+pairs Surplus Transferred = refl
 pairs Free Hand = refl
 pairs Free Surplus = refl
 pairs Free Free = refl
@@ -33,6 +35,7 @@ pairs Free (Built g) = refl
 pairs Free Departed = refl
 pairs Free Delivered = refl
 pairs Free Missing = refl
+pairs Free Transferred = refl
 pairs (Built f) Hand = refl
 pairs (Built f) Surplus = refl
 pairs (Built f) Free = refl
@@ -40,6 +43,7 @@ pairs (Built f) (Built g) = refl
 pairs (Built f) Departed = refl
 pairs (Built f) Delivered = refl
 pairs (Built f) Missing = refl
+pairs (Built f) Transferred = refl
 pairs Departed Hand = refl
 pairs Departed Surplus = refl
 pairs Departed Free = refl
@@ -47,6 +51,7 @@ pairs Departed (Built g) = refl
 pairs Departed Departed = refl
 pairs Departed Delivered = refl
 pairs Departed Missing = refl
+pairs Departed Transferred = refl
 pairs Delivered Hand = refl
 pairs Delivered Surplus = refl
 pairs Delivered Free = refl
@@ -54,6 +59,7 @@ pairs Delivered (Built g) = refl
 pairs Delivered Departed = refl
 pairs Delivered Delivered = refl
 pairs Delivered Missing = refl
+pairs Delivered Transferred = refl
 pairs Missing Hand = refl
 pairs Missing Surplus = refl
 pairs Missing Free = refl
@@ -61,6 +67,15 @@ pairs Missing (Built g) = refl
 pairs Missing Departed = refl
 pairs Missing Delivered = refl
 pairs Missing Missing = refl
+pairs Missing Transferred = refl
+pairs Transferred Hand = refl
+pairs Transferred Surplus = refl
+pairs Transferred Free = refl
+pairs Transferred (Built g) = refl
+pairs Transferred Departed = refl
+pairs Transferred Delivered = refl
+pairs Transferred Missing = refl
+pairs Transferred Transferred = refl
 
 -- a place has its code, and its flight where it is built
 record IsCoded (code : ℤ) (flight : Option FlightDate) (p : Place) : Type 0 where
@@ -76,6 +91,7 @@ built_code code three (Some f) (Built g) is = record { code_is = is_int code (po
 built_code code three (Some f) Departed is = absurd (cc)
 built_code code three (Some f) Delivered is = absurd (cc)
 built_code code three (Some f) Missing is = absurd (cc)
+built_code code three (Some f) Transferred is = absurd (cc)
 
 plain_names : (code : ℤ) → int_eq code (pos 3) ≡ false → (flight : Option FlightDate) (p : Place) → code ≡ pos (place_code p) → NamesFlight p flight
 plain_names code other flight Hand is = tt
@@ -85,6 +101,7 @@ plain_names code other flight (Built g) is = absurd (true≢false (sym (ap (λ c
 plain_names code other flight Departed is = tt
 plain_names code other flight Delivered is = tt
 plain_names code other flight Missing is = tt
+plain_names code other flight Transferred is = tt
 
 coded : (code : ℤ) (flight : Option FlightDate) (p : Place) → place_of code flight ≡ Some p → IsCoded code flight p
 coded code flight p is = go (int_eq code (pos 3)) refl is
@@ -114,3 +131,4 @@ not_built code (Built g) other is = absurd (true≢false (sym (ap (λ c. int_eq 
 not_built code Departed other is = refl
 not_built code Delivered other is = refl
 not_built code Missing other is = refl
+not_built code Transferred other is = refl

@@ -11,7 +11,7 @@ use Rattle.shipment_machine.specs.Cargo.{Cargo}
 use Rattle.shipment_machine.specs.declared.flight.FlightDate.{FlightDate}
 use Rattle.shipment_machine.specs.declared.moves.Outbound.{Outbound}
 use Rattle.shipment_machine.specs.declared.moves.Place.{Place}
-use Rattle.shipment_machine.specs.declared.moves.Place.TheVariants.{Hand, Surplus, Free, Built, Departed, Delivered, Missing}
+use Rattle.shipment_machine.specs.declared.moves.Place.TheVariants.{Hand, Surplus, Free, Built, Departed, Delivered, Missing, Transferred}
 use Rattle.shipment_machine.specs.Lawful.{is_pair, IsNoted, NamesFlight}
 use Rattle.row_schema.specs.Tables as table
 use Rattle.row_schema.specs.Tables.{Flight, FlightKey, Waybill, flight_cmp}
@@ -93,6 +93,7 @@ noted_plain s (Built f) h = absurd (true≢false h)
 noted_plain s Departed h = tt
 noted_plain s Delivered h = tt
 noted_plain s Missing h = tt
+noted_plain s Transferred h = tt
 
 pub plain_spot : (t : table.Tables) (row : table.Move) (code : ℤ) → int_eq code (pos 3) ≡ false → is_some (plain_place code) ≡ true → IsSpotOf t row code (Plain code)
 plain_spot t row code other some = go (plain_place code) refl some

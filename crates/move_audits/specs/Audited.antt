@@ -47,7 +47,7 @@ abbrev pub is_code_pair : ℤ → ℤ → Bool
 is_code_pair src dst =
     if int_eq src (pos 0) then int_eq dst (pos 2) || int_eq dst (pos 6)
     else if int_eq src (pos 1) then int_eq dst (pos 2)
-    else if int_eq src (pos 2) then int_eq dst (pos 3) || int_eq dst (pos 5) || int_eq dst (pos 6)
+    else if int_eq src (pos 2) then int_eq dst (pos 3) || int_eq dst (pos 5) || int_eq dst (pos 6) || int_eq dst (pos 7)
     else if int_eq src (pos 3) then int_eq dst (pos 2) || int_eq dst (pos 4)
     else if int_eq src (pos 6) then int_eq dst (pos 2) else false
 

@@ -52,7 +52,7 @@ fn is_code_pair(row: &MoveRow) -> bool
     match row.src {
         0 => row.dst == 2 || row.dst == 6,
         1 => row.dst == 2,
-        2 => row.dst == 3 || row.dst == 5 || row.dst == 6,
+        2 => row.dst == 3 || row.dst == 5 || row.dst == 6 || row.dst == 7,
         3 => row.dst == 2 || row.dst == 4,
         6 => row.dst == 2,
         _ => false,

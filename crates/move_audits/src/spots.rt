@@ -22,7 +22,7 @@ fn is_built(code: &i64) -> bool
 fn is_plain(code: &i64) -> bool
     ensures { result ≡ is_some (plain_place code.now) }
 {
-    *code == 0 || *code == 1 || *code == 2 || *code == 4 || *code == 5 || *code == 6
+    *code == 0 || *code == 1 || *code == 2 || *code == 4 || *code == 5 || *code == 6 || *code == 7
 }
 
 /// The row's flight, by the place of its row in the table.

@@ -3,7 +3,7 @@ use Rattle.std.proofs.Common.{◌≡◌, ℕ, ◌+◌, ◌≤◌, true, nat_le, 
 use Rattle.std.proofs.lemmas.Bool.{and_parts, leb-true}
 use Rattle.shipment_machine.specs.declared.amount.Amount.{Amount}
 use Rattle.shipment_machine.specs.Amount.{IsHeld, amount, plus, fits}
-use Rattle.shipment_machine.specs.Book.{taken, found, taken_and_found, store, departed, delivered, missing}
+use Rattle.shipment_machine.specs.Book.{taken, found, taken_and_found, store, departed, delivered, missing, transferred}
 use Rattle.shipment_machine.specs.Cargo.{Cargo}
 use Rattle.shipment_machine.specs.Lawful.{IsLawful}
 use Rattle.shipment_machine.proofs.Conserved.{is_conserved}
@@ -31,20 +31,21 @@ within_found s w law =
     record { pieces = omega (arith, p); tenths = omega (arith, t) }
 
 -- What came in is somewhere.
-abbrev IsEachWithin : (a b c d : Amount) → Type 0
-IsEachWithin a b c d = IsWithin a × IsWithin b × IsWithin c × IsWithin d
+abbrev IsEachWithin : (a b c d e : Amount) → Type 0
+IsEachWithin a b c d e = IsWithin a × IsWithin b × IsWithin c × IsWithin d × IsWithin e
 
-parts : (whole a b c d : Amount) → IsWithin whole → whole ≡ plus a (plus d (plus b (plus c (amount 0 0)))) → IsEachWithin a b c d
-parts whole a b c d h e =
-    let p : whole.pieces ≡ a.pieces + (d.pieces + (b.pieces + (c.pieces + 0))) = ap (λ (x : Amount). x.pieces) e in
-    let t : whole.tenths ≡ a.tenths + (d.tenths + (b.tenths + (c.tenths + 0))) = ap (λ (x : Amount). x.tenths) e in
+parts : (whole a b c d e : Amount) → IsWithin whole → whole ≡ plus a (plus d (plus b (plus c (plus e (amount 0 0))))) → IsEachWithin a b c d e
+parts whole a b c d e h is =
+    let p : whole.pieces ≡ a.pieces + (d.pieces + (b.pieces + (c.pieces + (e.pieces + 0)))) = ap (λ (x : Amount). x.pieces) is in
+    let t : whole.tenths ≡ a.tenths + (d.tenths + (b.tenths + (c.tenths + (e.tenths + 0)))) = ap (λ (x : Amount). x.tenths) is in
     let hp : whole.pieces ≤ 9999 = h.pieces in
     let ht : whole.tenths ≤ 999999 = h.tenths in (
       record { pieces = omega (arith, p, hp); tenths = omega (arith, t, ht) },
       record { pieces = omega (arith, p, hp); tenths = omega (arith, t, ht) },
       record { pieces = omega (arith, p, hp); tenths = omega (arith, t, ht) },
       record { pieces = omega (arith, p, hp); tenths = omega (arith, t, ht) },
+      record { pieces = omega (arith, p, hp); tenths = omega (arith, t, ht) },
     )
 
-pub within_places : (s : Cargo) (w : ℕ) → IsLawful s → IsEachWithin (store s.book w) (departed s.book w) (delivered s.book w) (missing s.book w)
-within_places s w law = parts (taken_and_found s.book w) (store s.book w) (departed s.book w) (delivered s.book w) (missing s.book w) (within_both s w law) (is_conserved s w law)
+pub within_places : (s : Cargo) (w : ℕ) → IsLawful s → IsEachWithin (store s.book w) (departed s.book w) (delivered s.book w) (missing s.book w) (transferred s.book w)
+within_places s w law = parts (taken_and_found s.book w) (store s.book w) (departed s.book w) (delivered s.book w) (missing s.book w) (transferred s.book w) (within_both s w law) (is_conserved s w law)

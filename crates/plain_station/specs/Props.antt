@@ -4,7 +4,7 @@ use Rattle.std.proofs.Props.{props}
 use Rattle.shipment_machine.specs.declared.flight.FlightDate.{FlightDate}
 use Rattle.shipment_machine.specs.declared.moves.Move.{Move}
 use Rattle.shipment_machine.specs.declared.moves.Place.{Place}
-use Rattle.shipment_machine.specs.declared.moves.Place.TheVariants.{Hand, Surplus, Free, Built, Departed, Delivered, Missing}
+use Rattle.shipment_machine.specs.declared.moves.Place.TheVariants.{Hand, Surplus, Free, Built, Departed, Delivered, Missing, Transferred}
 use Rattle.shipment_machine.specs.Cargo.{Cargo}
 use Rattle.shipment_machine.specs.Lawful.{IsNoted, NamesFlight, StaysDeparted}
 
@@ -16,6 +16,7 @@ noted_prop s (Built flight) = Prim.hlevel (props)
 noted_prop s Departed = Prim.hlevel (props)
 noted_prop s Delivered = Prim.hlevel (props)
 noted_prop s Missing = Prim.hlevel (props)
+noted_prop s Transferred = Prim.hlevel (props)
 
 pub departed_prop : (flight : FlightDate) (book : List Move) → IsProp (StaysDeparted flight book)
 departed_prop flight [] = Prim.hlevel (props)
@@ -29,3 +30,4 @@ names_prop (Built flight) named = Prim.hlevel (props)
 names_prop Departed named = Prim.hlevel (props)
 names_prop Delivered named = Prim.hlevel (props)
 names_prop Missing named = Prim.hlevel (props)
+names_prop Transferred named = Prim.hlevel (props)

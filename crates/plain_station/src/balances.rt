@@ -27,6 +27,7 @@ fn is_place(a: &Place, b: &Place) -> bool
         (Place::Departed, Place::Departed) => true,
         (Place::Delivered, Place::Delivered) => true,
         (Place::Missing, Place::Missing) => true,
+        (Place::Transferred, Place::Transferred) => true,
         _ => false,
     }
 }

@@ -44,6 +44,7 @@ impl PlainCargo {
             missing: held(book, awb, &Place::Missing),
             departed: held(book, awb, &Place::Departed),
             delivered: held(book, awb, &Place::Delivered),
+            transferred: held(book, awb, &Place::Transferred),
         }
     }
 }

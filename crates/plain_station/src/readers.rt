@@ -53,6 +53,7 @@ impl PlainCargo {
             departed: balances.departed,
             delivered: balances.delivered,
             missing: balances.missing,
+            transferred: balances.transferred,
         }
     }
 

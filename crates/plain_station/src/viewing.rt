@@ -7,7 +7,7 @@ ghost use Rattle.imp_fields.specs.Date.{resolved};
 ghost use Rattle.shipment_machine.specs.Agreement.{rows_for, view_of};
 ghost use Rattle.shipment_machine.specs.Book.{built, waybills_on};
 ghost use Rattle.shipment_machine.specs.Effect.{lines_for, is_day};
-ghost use Rattle.shipment_machine.specs.Views.{declaration_view, waybill_view, loads_of, flight_view, line_view_of};
+ghost use Rattle.shipment_machine.specs.Views.{declaration_view, waybill_view, loads_of, flight_view, line_view_of, rows_of};
 ghost use Rattle.plain_station.specs.Aboard.{is_built_on, is_onto, aboard_of};
 ghost use Rattle.plain_station.specs.Lists.{cargo_of};
 
@@ -16,8 +16,8 @@ use crate::cargo::PlainCargo;
 use awb_number::Awb;
 use imp_fields::{DayMonth, LocalDay, Moment, resolve};
 use shipment_machine::{
-    Amount, DeclarationView, DeskCommand, FlightDate, FlightLoad, FlightView, InboundLine,
-    InboundPart, LineView, LineViews, Loads, Move, Part, Place, Rows, ShipmentCommand, View,
+    Amount, DeclarationView, FlightDate, FlightLoad, FlightView, InboundLine, InboundPart,
+    LineView, LineViews, Loads, Move, Part, Place, Rows, RowsKey, ShipmentCommand, View,
     WaybillView, waybills_of,
 };
 use std::alloc::AllocError;
@@ -244,28 +244,24 @@ impl PlainCargo {
         })
     }
 
-    /// What a command of the desk is planned from.
-    fn desk_rows(&self, command: &DeskCommand, at: Moment) -> Result<Rows, AllocError>
-        ensures { IfOk result (λ made. made ≡ rows_for (cargo_of self.now.lists) (order.Desk command.now) at) }
+    /// The rows with this key, as a command of the desk reads them.
+    fn desk_rows(&self, key: &RowsKey) -> Result<Rows, AllocError>
+        ensures { IfOk result (λ made. made ≡ rows_of (cargo_of self.now.lists) key.now) }
     {
-        match command {
-            DeskCommand::Depart { flight } => Ok(Rows::Departure {
+        match key {
+            RowsKey::Declaration(awb) => Ok(self.declaration_rows(awb)),
+            RowsKey::Waybill(awb) => Ok(self.waybill_rows(awb)),
+            RowsKey::Manifest(awb, flight) => self.manifest_rows(awb, flight),
+            RowsKey::Offload(awb, flight) => Ok(self.offload_rows(awb, flight)),
+            RowsKey::Departure(flight) => Ok(Rows::Departure {
                 outbound: self.lists.outbound_of(flight),
                 loads: self.loads(flight)?,
             }),
-            DeskCommand::Confirm { .. } => Ok(Rows::Messages {
+            RowsKey::CheckIn(awb, flight) => Ok(self.check_in_rows(awb, flight)),
+            RowsKey::Messages => Ok(Rows::Messages {
                 confirmed: self.lists.confirmed,
                 last: self.lists.outbox.len() as u32,
             }),
-            DeskCommand::Manifest { awb, flight, .. } => self.manifest_rows(awb, flight),
-            DeskCommand::Offload { awb, flight, .. } => Ok(self.offload_rows(awb, flight)),
-            DeskCommand::CheckIn { awb, flight, .. } => Ok(self.check_in_rows(awb, flight)),
-            DeskCommand::Book { awb, .. } => Ok(self.declaration_rows(awb)),
-            DeskCommand::Receive { awb, .. } => Ok(self.waybill_rows(awb)),
-            DeskCommand::Notify { awb, .. } => Ok(self.waybill_rows(awb)),
-            DeskCommand::Deliver { awb, .. } => Ok(self.waybill_rows(awb)),
-            DeskCommand::Missing { awb, .. } => Ok(self.waybill_rows(awb)),
-            DeskCommand::Found { awb, .. } => Ok(self.waybill_rows(awb)),
         }
     }
 
@@ -274,7 +270,7 @@ impl PlainCargo {
         ensures { IfOk result (λ view. view ≡ view_of (cargo_of self.now.lists) command.now at) }
     {
         let rows = match command {
-            ShipmentCommand::Desk(desk) => self.desk_rows(desk.get(), at)?,
+            ShipmentCommand::Desk(desk) => self.desk_rows(&desk.get().reads())?,
             ShipmentCommand::Fwb(line) => self.declaration_rows(&line.get().awb),
             ShipmentCommand::Ffm(part) => self.part_rows(part, at)?,
             ShipmentCommand::Fsu(status) => self.status_rows(&status.awb),

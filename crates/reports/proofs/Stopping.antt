@@ -16,7 +16,8 @@ use Rattle.row_sinks.specs.Handed.{HandedOut}
 use Rattle.reports.specs.declared.fault.ReportCause.{ReportCause}
 use Rattle.reports.specs.declared.fault.ReportCause.TheVariants as cause
 use Rattle.reports.specs.declared.fault.ReportFault.{ReportFault}
-use Rattle.reports.specs.Ended.{NoneFailed, OneFailed, StopsBy, StopsWriting}
+use Rattle.station_core.specs.Ends.{NoneFailed, OneFailed}
+use Rattle.reports.specs.Ended.{StopsBy, StopsWriting}
 use Rattle.reports.specs.Layout.{right}
 use Rattle.reports.specs.Lines.{line, holder_text, amount_text, moment_text, places_text, flight_or_none, stock_line, irregular_line, book_line, message_lines, trail_line, end_line}
 use Rattle.reports.specs.Progress.{Progress, IsWhy, Waits, HasGone, HasStuck, Takes, Ends}

@@ -2,7 +2,7 @@
 use Rattle.std.specs.Prelude.{◌≡◌, ◌⊎◌, ℕ, ◌+◌, ◌<◌, Result, Ok, Err, List, ◌++◌, length}
 use Rattle.agent_stock.specs.Stock.{Holders}
 use Rattle.station_core.specs.Given.{Given}
-use Rattle.station_core.specs.Ends.{Sent, HasCause}
+use Rattle.station_core.specs.Ends.{Sent, HasCause, NoneFailed, OneFailed}
 use Rattle.station_core.specs.Keeping.{IsReadersFault}
 use Rattle.station_core.specs.declared.answer.ActFault.TheVariants as act
 use Rattle.reports.specs.declared.fault.ReportCause.{ReportCause}
@@ -26,14 +26,6 @@ IsFault e = IsCause e.cause
 abbrev pub HasTold : ReportCause → Given → Given → Type 0
 HasTold cause.Write old new = HasCause old new
 HasTold (cause.Act e) old new = (new.failures ≡ old.failures) × (new.idle ≡ old.idle)
-
--- no write failed or took no byte
-abbrev pub NoneFailed : Given → Given → Type 0
-NoneFailed old new = (new.failures ≡ old.failures) × (new.idle ≡ old.idle)
-
--- one write failed or took no byte, and no second one
-abbrev pub OneFailed : Given → Given → Type 0
-OneFailed old new = ((new.failures ≡ old.failures + 1) × (new.idle ≡ old.idle)) ⊎ ((new.failures ≡ old.failures) × (new.idle ≡ old.idle + 1))
 
 -- At a fault of the writer one write failed. At another none did, and nothing went out, or all that stands in front and a byte of the
 -- report at least.

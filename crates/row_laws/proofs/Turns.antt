@@ -14,13 +14,13 @@ use Rattle.sqlite_trees.specs.declared.error.StoreError.{StoreError}
 use Rattle.sqlite_trees.specs.declared.error.StoreError.TheVariants.{OutOfMemory, Io, Corrupt, Full, Broken, Unstorable}
 use Rattle.sqlite.specs.State.{State, Survives, store_error, IsUnchanged, IsRolledBack, Executes, ExecutesIn, IsNotRun, IsNoStatement, IsMisplaced, MayChange, MayWrite, RunsCommand, CommitsBy, RunsAlone, shows_rows}
 use Rattle.sqlite.specs.Calls.{IsWrite}
-use Rattle.std.specs.Prelude.{MatchBool, IsSome, IfOk, IfErr}
+use Rattle.std.specs.Prelude.{MatchBool, IsSome}
 use Rattle.sqlite.specs.declared.error.Error.TheVariants.{ExecuteReturnedResults, SqliteFailure}
 use Rattle.sqlite.specs.declared.error.ErrorCode.TheVariants as code
 use Rattle.sqlite.proofs.StateLemmas.{survives_weaker}
 use Rattle.sqlite.proofs.Callers.{IsPlain, command_of, runs_as}
 use Rattle.row_laws.specs.Calls.{Begins, Commits, Stops, IsUndone}
-use Rattle.row_laws.proofs.Inside.{execute_stops, not_run}
+use Rattle.row_laws.proofs.Inside.{execute_stops}
 use Rattle.row_laws.proofs.Texts.{begin_text, begin_is, commit_text, commit_is, rollback_text, rollback_is}
 
 pub begins : (old new : State) (r : Result ℕ Error) → Executes begin_text [] old new r → Begins old new r

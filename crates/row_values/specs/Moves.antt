@@ -6,7 +6,7 @@ use Rattle.imp_fields.specs.Flight.{flight_text}
 use Rattle.shipment_machine.specs.declared.flight.FlightDate.{FlightDate}
 use Rattle.shipment_machine.specs.declared.moves.Move.{Move}
 use Rattle.shipment_machine.specs.declared.moves.Place.{Place}
-use Rattle.shipment_machine.specs.declared.moves.Place.TheVariants.{Hand, Surplus, Free, Built, Departed, Delivered, Missing}
+use Rattle.shipment_machine.specs.declared.moves.Place.TheVariants.{Hand, Surplus, Free, Built, Departed, Delivered, Missing, Transferred}
 use Rattle.row_schema.specs.Tables as table
 use Rattle.row_values.specs.Numbers.{natural, is_within, is_number, is_day}
 use Rattle.row_values.specs.Flights.{is_flight_text, flight_date_of}
@@ -20,12 +20,14 @@ place_code (Built _) = 3
 place_code Departed = 4
 place_code Delivered = 5
 place_code Missing = 6
+place_code Transferred = 7
 
 -- a place that isn't built, by its code
 abbrev pub plain_place : ℤ → Option Place
 plain_place code =
     if int_eq code (pos 0) then Some Hand else if int_eq code (pos 1) then Some Surplus else if int_eq code (pos 2) then Some Free
-    else if int_eq code (pos 4) then Some Departed else if int_eq code (pos 5) then Some Delivered else if int_eq code (pos 6) then Some Missing else None
+    else if int_eq code (pos 4) then Some Departed else if int_eq code (pos 5) then Some Delivered else if int_eq code (pos 6) then Some Missing
+    else if int_eq code (pos 7) then Some Transferred else None
 
 -- the place of a code, where a built one is on this flight
 abbrev pub place_of : ℤ → Option FlightDate → Option Place

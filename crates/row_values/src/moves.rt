@@ -50,6 +50,7 @@ fn place_by(code: i64, flight: Option<FlightDate>) -> Option<Place>
         4 => Some(Place::Departed),
         5 => Some(Place::Delivered),
         6 => Some(Place::Missing),
+        7 => Some(Place::Transferred),
         _ => None,
     }
 }
@@ -80,7 +81,7 @@ pub fn book_row_by(row: &MoveRow) -> Option<BookRow>
     })
 }
 
-/// The code of a place, as the columns of `moves` and `counts` have it: 0 to 6.
+/// The code of a place, as the columns of `moves` and `counts` have it: 0 to 7.
 pub fn place_code(place: &Place) -> i64
     ensures { result ≡ pos (place_code place.now) }
 {
@@ -92,6 +93,7 @@ pub fn place_code(place: &Place) -> i64
         Place::Departed => 4,
         Place::Delivered => 5,
         Place::Missing => 6,
+        Place::Transferred => 7,
     }
 }
 
@@ -118,6 +120,7 @@ fn is_named(place: &Place, flight: &Option<FlightDate>) -> bool
         Place::Departed => true,
         Place::Delivered => true,
         Place::Missing => true,
+        Place::Transferred => true,
     }
 }
 

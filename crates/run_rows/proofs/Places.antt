@@ -285,7 +285,7 @@ module _ (run : Run) (to : Holder) (near : List StockRun) (left right : Option S
           each_join IsRunRow before (new ++ after) olds.0 (each_join IsRunRow new after each_new (each_split IsRunRow near after olds.1).1);
     }
 
-pub run_parts : (count serial : ℕ) → (nat_lt 0 count && nat_le count 10_000 && nat_le (serial + count) 10_000_000) ≡ true → (0 < count) × (serial + count ≤ 10_000_000)
+pub run_parts : (count serial : ℕ) → (nat_lt 0 count && nat_le count 1_000_000 && nat_le (serial + count) 10_000_000) ≡ true → (0 < count) × (serial + count ≤ 10_000_000)
 run_parts count serial h =
     let parts = and_parts _ _ h in
     let more = and_parts _ _ parts.0 in

@@ -9,7 +9,7 @@ use Rattle.shipment_machine.specs.declared.flight.FlightDate.{FlightDate}
 use Rattle.imp_fields.specs.Date.{LocalMinute}
 use Rattle.imp_fields.specs.declared.fault.Why.TheVariants as why
 use Rattle.shipment_machine.specs.declared.moves.Place.{Place}
-use Rattle.shipment_machine.specs.declared.moves.Place.TheVariants.{Hand, Surplus, Free, Built, Delivered, Missing}
+use Rattle.shipment_machine.specs.declared.moves.Place.TheVariants.{Hand, Surplus, Free, Built, Delivered, Missing, Transferred}
 use Rattle.shipment_machine.specs.declared.moves.Move.{Move}
 use Rattle.shipment_machine.specs.declared.moves.Declared.{Declared}
 use Rattle.shipment_machine.specs.declared.notice.Notice.{Notice}
@@ -23,7 +23,7 @@ use Rattle.shipment_machine.specs.declared.command.ShipmentCommand.TheVariants a
 use Rattle.shipment_machine.specs.declared.command.DeskCommand.TheVariants as desk
 use Rattle.shipment_machine.specs.declared.plans.Refusal.{Refusal}
 use Rattle.shipment_machine.specs.declared.plans.Detail.TheVariants as detail
-use Rattle.shipment_machine.specs.Book.{taken, found, free, built, missing, store, departed, delivered}
+use Rattle.shipment_machine.specs.Book.{taken, found, free, built, missing, store, departed, delivered, transferred}
 use Rattle.shipment_machine.specs.Cargo.{Cargo, opening_cargo}
 use Rattle.shipment_machine.specs.Effect.{Outcome, effect, carried_out, expected_amount}
 
@@ -274,6 +274,27 @@ example_deliveries = refl
 
 example_no_fourth : reply (after one_left delivering noon) delivering noon ≡ refused_free 0
 example_no_fourth = refl
+
+-- Transfer: free pieces go to another airline, with their share, and no message.
+
+abbrev transferring : ℕ → ShipmentCommand
+transferring p = order.Desk (desk.Transfer w1 p (codes "BA"))
+
+example_transfer : moves received (transferring 3) noon ≡ (Free, Transferred, amount 3 300) ∷ []
+example_transfer = refl
+
+example_transfer_message : events received (transferring 3) noon ≡ []
+example_transfer_message = refl
+
+example_transferred : (transferred (after received (transferring 3) noon).book w1 ∷ store (after received (transferring 3) noon).book w1 ∷ []) ≡ amount 3 300 ∷ amount 7 700 ∷ []
+example_transferred = refl
+
+example_transfer_too_many : reply (after received (transferring 3) noon) (transferring 8) noon ≡ refused_free 7
+example_transfer_too_many = refl
+
+-- a waybill that is for here goes no further
+example_transfer_here : reply three_free (transferring 1) noon ≡ refused_waybill 220 w1
+example_transfer_here = refl
 
 -- Found: what was missing comes back first, the rest is surplus.
 

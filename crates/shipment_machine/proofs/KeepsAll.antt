@@ -7,7 +7,7 @@ use Rattle.imp_fields.specs.Date.{LocalMinute}
 use Rattle.shipment_machine.specs.declared.amount.Amount.{Amount}
 use Rattle.shipment_machine.specs.declared.flight.FlightDate.{FlightDate}
 use Rattle.shipment_machine.specs.declared.moves.Place.{Place}
-use Rattle.shipment_machine.specs.declared.moves.Place.TheVariants.{Hand, Surplus, Free, Built, Delivered, Missing}
+use Rattle.shipment_machine.specs.declared.moves.Place.TheVariants.{Hand, Surplus, Free, Built, Delivered, Missing, Transferred}
 use Rattle.shipment_machine.specs.declared.moves.Move.{Move}
 use Rattle.shipment_machine.specs.declared.command.DeskCommand.{DeskCommand}
 use Rattle.shipment_machine.specs.declared.command.DeskCommand.TheVariants as desk
@@ -53,11 +53,15 @@ keeps_receive s w p t name at text law = by_refusals s (order.Desk (desk.Receive
     heavier : (t p : ℕ) → p ≤ max t p
     heavier t p = omega arith
 
--- Deliver and missing.
+-- Deliver, transfer and missing.
 
 keeps_deliver : (s : Cargo) (w p : ℕ) (name : List ℕ) → Keeps s (desk.Deliver w p name)
 keeps_deliver s w p name at text law = by_refusals s (order.Desk (desk.Deliver w p name)) at _ (λ none.
     free_to s w p Delivered None at refl refl tt tt (is_known (s.declared w) none.0) (ltb-false _ _ none.1.1.1.0) law)
+
+keeps_transfer : (s : Cargo) (w p : ℕ) (airline : List ℕ) → Keeps s (desk.Transfer w p airline)
+keeps_transfer s w p airline at text law = by_refusals s (order.Desk (desk.Transfer w p airline)) at _ (λ none.
+    free_to s w p Transferred None at refl refl tt tt (is_known (s.declared w) none.0) (ltb-false _ _ none.1.1.0) law)
 
 keeps_missing : (s : Cargo) (w p : ℕ) (flight : Option FlightDate) → Keeps s (desk.Missing w p flight)
 keeps_missing s w p flight at text law = by_refusals s (order.Desk (desk.Missing w p flight)) at _ (λ none.
@@ -109,6 +113,7 @@ keeps_lawful s (order.Desk (desk.Depart flight)) at text law proper = keeps_depa
 keeps_lawful s (order.Desk (desk.CheckIn w flight counted)) at text law proper = keeps_check_in s w flight counted at text law
 keeps_lawful s (order.Desk (desk.Notify w name)) at text law proper = keeps_notify s w name at text law
 keeps_lawful s (order.Desk (desk.Deliver w p name)) at text law proper = keeps_deliver s w p name at text law
+keeps_lawful s (order.Desk (desk.Transfer w p airline)) at text law proper = keeps_transfer s w p airline at text law
 keeps_lawful s (order.Desk (desk.Missing w p flight)) at text law proper = keeps_missing s w p flight at text law
 keeps_lawful s (order.Desk (desk.Found w p t flight)) at text law proper = keeps_found s w p t flight at text law
 keeps_lawful s (order.Desk (desk.Confirm upto)) at text law proper = keeps_confirm s upto at text law

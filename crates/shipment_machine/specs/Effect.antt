@@ -450,6 +450,17 @@ delivering here view w p name at =
           (status_of here w d (event.Delivered name at) a) [] p;
     }
 
+-- Transfer: free pieces go to another airline, where the waybill isn't for here.
+abbrev pub transferring : List ℕ → WaybillView → ℕ → ℕ → LocalMinute → Rule
+transferring here view w p at =
+    let free = view.balances.free in
+    record {
+      refusals = (is_none view.declared, about 201 w)
+          ∷ (bytes_eq (declared_as view.declared).destination here, about 220 w)
+          ∷ (nat_lt free.pieces p, only_free free.pieces) ∷ [];
+      outcome = does (move_of w place.Free place.Transferred (part free p) None at) [] [] p;
+    }
+
 -- Missing: free pieces are missing.
 abbrev pub recording_missing : List ℕ → WaybillView → ℕ → ℕ → Option FlightDate → LocalMinute → Rule
 recording_missing here view w p flight at =
@@ -530,6 +541,7 @@ reads (desk.Depart flight) = key.Departure flight
 reads (desk.CheckIn w flight counted) = key.CheckIn w flight
 reads (desk.Notify w name) = key.Waybill w
 reads (desk.Deliver w p name) = key.Waybill w
+reads (desk.Transfer w p airline) = key.Waybill w
 reads (desk.Missing w p flight) = key.Waybill w
 reads (desk.Found w p t flight) = key.Waybill w
 reads (desk.Confirm upto) = key.Messages
@@ -548,6 +560,7 @@ desk_rule here (rows.CheckIn view expected) (desk.CheckIn w flight counted) at =
     checking_in here view expected w flight counted at
 desk_rule here (rows.Waybill view) (desk.Notify w name) at = notifying here view w name at
 desk_rule here (rows.Waybill view) (desk.Deliver w p name) at = delivering here view w p name at
+desk_rule here (rows.Waybill view) (desk.Transfer w p airline) at = transferring here view w p at
 desk_rule here (rows.Waybill view) (desk.Missing w p flight) at =
     recording_missing here view w p flight at
 desk_rule here (rows.Waybill view) (desk.Found w p t flight) at =

@@ -11,3 +11,4 @@ pub mod Lawful
 pub mod Announced
 pub mod Agreement
 pub mod Laws
+pub mod Airline

@@ -1,7 +1,7 @@
 -- The places where pieces of a waybill can be.
 use Rattle.std.specs.Prelude.{Bool, true, false, List, [], ◌∷◌}
 use Rattle.shipment_machine.specs.declared.moves.Place.{Place}
-use Rattle.shipment_machine.specs.declared.moves.Place.TheVariants.{Hand, Surplus, Free, Built, Departed, Delivered, Missing}
+use Rattle.shipment_machine.specs.declared.moves.Place.TheVariants.{Hand, Surplus, Free, Built, Departed, Delivered, Missing, Transferred}
 use Rattle.shipment_machine.specs.Flights.{same_flight_date}
 
 -- whether two places are one
@@ -13,6 +13,7 @@ same_place (Built a) (Built b) = same_flight_date a b
 same_place Departed Departed = true
 same_place Delivered Delivered = true
 same_place Missing Missing = true
+same_place Transferred Transferred = true
 same_place _ _ = false
 
 -- whether a place is in the store: free, or built on any flight
@@ -29,7 +30,7 @@ is_outside _ = false
 
 -- the places beyond the store, where pieces are missing or have left
 abbrev pub beyond_store : List Place
-beyond_store = Missing ∷ Departed ∷ Delivered ∷ []
+beyond_store = Missing ∷ Departed ∷ Delivered ∷ Transferred ∷ []
 
 -- whether pieces may move so
 abbrev pub is_pair : Place → Place → Bool
@@ -41,5 +42,6 @@ is_pair (Built _) Free = true
 is_pair (Built _) Departed = true
 is_pair Free Delivered = true
 is_pair Free Missing = true
+is_pair Free Transferred = true
 is_pair Missing Free = true
 is_pair _ _ = false

@@ -2,6 +2,7 @@ ghost use Rattle.std.specs.Prelude.{◌≡◌, ℕ, ◌≤◌, ◌↔◌, length
 ghost use Rattle.shipment_machine.specs.Amount.{IsCount};
 ghost use Rattle.shipment_machine.specs.Effect.{reads};
 
+use crate::airline::Airline;
 use crate::flight::FlightDate;
 use crate::trail::TrailLines;
 use crate::view::RowsKey;
@@ -179,6 +180,12 @@ pub enum DeskCommand {
         pieces: Pieces,
         name: Name,
     },
+    /// Hands free pieces to another airline.
+    Transfer {
+        awb: Awb,
+        pieces: Pieces,
+        airline: Airline,
+    },
     /// Records free pieces as missing, perhaps from a flight.
     Missing {
         awb: Awb,
@@ -212,6 +219,7 @@ impl DeskCommand {
             DeskCommand::CheckIn { awb, flight, .. } => RowsKey::CheckIn(*awb, *flight),
             DeskCommand::Notify { awb, .. } => RowsKey::Waybill(*awb),
             DeskCommand::Deliver { awb, .. } => RowsKey::Waybill(*awb),
+            DeskCommand::Transfer { awb, .. } => RowsKey::Waybill(*awb),
             DeskCommand::Missing { awb, .. } => RowsKey::Waybill(*awb),
             DeskCommand::Found { awb, .. } => RowsKey::Waybill(*awb),
             DeskCommand::Confirm { .. } => RowsKey::Messages,

@@ -1,7 +1,7 @@
-//! Notifying the consignee, and delivery to it.
+//! Notifying the consignee, delivery to it, and transfer to another airline.
 ghost use Rattle.std.specs.Prelude.{◌≡◌};
 ghost use Rattle.shipment_machine.specs.Amount.{IsHeld};
-ghost use Rattle.shipment_machine.specs.Effect.{decided, notifying, delivering};
+ghost use Rattle.shipment_machine.specs.Effect.{decided, notifying, delivering, transferring};
 ghost use Rattle.shipment_machine.specs.Agreement.{IsAnswer};
 
 use crate::amount::part_of;
@@ -86,5 +86,38 @@ pub(crate) fn deliver<'a>(
         on.at,
     )?;
     add_notice(&mut plan.notices, on.here, awb, declared, event, part)?;
+    Ok(plan)
+}
+
+/// Hands free pieces to another airline, where the waybill goes further.
+pub(crate) fn transfer<'a>(
+    on: &PlanContext,
+    view: &WaybillView,
+    awb: Awb,
+    pieces: Pieces,
+) -> Result<Plan<'a>, PlanFault>
+    requires { IsHeld view.now.balances.free }
+    ensures { IsAnswer result (decided (transferring on.now.here view.now awb pieces on.now.at)) }
+{
+    let Some(declared) = &view.declared else {
+        return Err(refuse_waybill(201, awb));
+    };
+    if is_same(declared.destination, on.here) {
+        return Err(refuse_waybill(220, awb));
+    }
+    let free = view.balances.free;
+    if free.pieces < pieces.number() {
+        return Err(refuse_free(free));
+    }
+    let mut plan = blank(on.alloc, pieces.number());
+    add_move(
+        &mut plan.moves,
+        awb,
+        Place::Free,
+        Place::Transferred,
+        part_of(free, pieces.number()),
+        None,
+        on.at,
+    )?;
     Ok(plan)
 }

@@ -2,6 +2,7 @@
 #![tactic(auto)]
 
 mod acceptance;
+mod airline;
 mod amount;
 mod arrival;
 mod command;
@@ -22,6 +23,7 @@ mod trail;
 mod view;
 mod waybills;
 
+pub use airline::Airline;
 pub use amount::Amount;
 pub use command::{
     CargoLine, CargoRef, DeskCommand, DeskRef, InboundLine, InboundLines, InboundPart,

@@ -17,6 +17,8 @@ pub enum Place {
     Departed,
     Delivered,
     Missing,
+    /// Handed to another airline.
+    Transferred,
 }
 
 /// The balances of a waybill: what came in from outside, and what is at each place but the built
@@ -31,6 +33,7 @@ pub struct Balances {
     pub missing: Amount,
     pub departed: Amount,
     pub delivered: Amount,
+    pub transferred: Amount,
 }
 
 /// A line of the movement book.

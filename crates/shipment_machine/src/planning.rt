@@ -14,7 +14,7 @@ use crate::amount::Amount;
 use crate::arrival::check_in;
 use crate::command::{DeskCommand, InboundLine, ShipmentCommand};
 use crate::departure::depart;
-use crate::handover::{deliver, notify};
+use crate::handover::{deliver, notify, transfer};
 use crate::inbound::announce;
 use crate::irregular::{record_found, record_missing};
 use crate::messages::{confirm, note_status};
@@ -181,6 +181,7 @@ fn plan_desk<'a>(
             DeskCommand::Deliver { awb, pieces, name } => {
                 deliver(on, waybill, *awb, *pieces, *name)
             }
+            DeskCommand::Transfer { awb, pieces, .. } => transfer(on, waybill, *awb, *pieces),
             DeskCommand::Missing {
                 awb,
                 pieces,

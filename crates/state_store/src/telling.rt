@@ -15,19 +15,23 @@ use shipment_machine::{Amount, Balances, Declared};
 use station_core::{IrregularRow, Waybill};
 use std::alloc::Global;
 
-/// What is left of what came in from two sides once it went three ways.
+/// What is left of what came in from two sides once it went four ways.
 fn left(
     taken: u32,
     found: u32,
     departed: u32,
     delivered: u32,
     missing: u32,
+    transferred: u32,
 ) -> Result<u32, StoreFault>
-    ensures { (n : ℕ) → taken + found ≡ n + departed + delivered + missing
+    ensures { (n : ℕ) → taken + found ≡ n + departed + delivered + missing + transferred
         → IfOk result (λ rest. rest ≡ n) }
 {
     let came = u64::from(taken) + u64::from(found);
-    let gone = u64::from(departed) + u64::from(delivered) + u64::from(missing);
+    let gone = u64::from(departed)
+        + u64::from(delivered)
+        + u64::from(missing)
+        + u64::from(transferred);
     if came < gone {
         return Err(StoreFault);
     }
@@ -37,7 +41,7 @@ fn left(
     }
 }
 
-/// What of a waybill is in the store: what was taken over or found, and hasn't departed, wasn't delivered and isn't missing.
+/// What of a waybill is in the store: what was taken over or found, and hasn't departed, wasn't delivered or transferred and isn't missing.
 fn stored(balances: &Balances) -> Result<Amount, StoreFault>
     ensures { (s : AnyCargo) (w : ℕ) → IsLawful s → balances.now ≡ balances_of s.book w
         → IfOk result (λ amount. amount ≡ store s.book w) }
@@ -49,6 +53,7 @@ fn stored(balances: &Balances) -> Result<Amount, StoreFault>
         departed,
         delivered,
         missing,
+        transferred,
         ..
     } = *balances;
     Ok(Amount {
@@ -58,6 +63,7 @@ fn stored(balances: &Balances) -> Result<Amount, StoreFault>
             departed.pieces,
             delivered.pieces,
             missing.pieces,
+            transferred.pieces,
         )?,
         tenths: left(
             taken.tenths,
@@ -65,6 +71,7 @@ fn stored(balances: &Balances) -> Result<Amount, StoreFault>
             departed.tenths,
             delivered.tenths,
             missing.tenths,
+            transferred.tenths,
         )?,
     })
 }
@@ -83,6 +90,7 @@ fn told_of(declared: Declared, balances: &Balances) -> Result<Waybill, StoreFaul
         departed: balances.departed,
         delivered: balances.delivered,
         missing: balances.missing,
+        transferred: balances.transferred,
     })
 }
 

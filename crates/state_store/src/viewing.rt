@@ -2,8 +2,7 @@
 ghost use Rattle.std.specs.Prelude.{◌≡◌, OnOk, IfOk, length};
 ghost use Rattle.shipment_machine.specs.Agreement.{rows_for, view_of};
 ghost use Rattle.shipment_machine.specs.Book.{built};
-ghost use Rattle.shipment_machine.specs.Views.{declaration_view, waybill_view, flight_view, loads_of};
-ghost use Rattle.shipment_machine.specs.declared.command.ShipmentCommand.TheVariants as order;
+ghost use Rattle.shipment_machine.specs.Views.{declaration_view, waybill_view, flight_view, loads_of, rows_of};
 ghost use Rattle.shipment_machine.specs.declared.view.Rows.TheVariants as rows;
 ghost use Rattle.state_store.specs.Store.{Seen, Survives};
 
@@ -12,7 +11,7 @@ use crate::store::{StateStore, StoreFault};
 use awb_number::Awb;
 use imp_fields::Moment;
 use shipment_machine::{
-    DeclarationView, DeskCommand, FlightDate, FlightView, Rows, ShipmentCommand, View, WaybillView,
+    DeclarationView, FlightDate, FlightView, Rows, RowsKey, ShipmentCommand, View, WaybillView,
 };
 use std::alloc::Global;
 
@@ -195,30 +194,21 @@ fn message_rows<S: StateStore>(store: &S) -> Rows
     }
 }
 
-/// What a command of the desk is planned from.
-fn desk_rows<S: StateStore>(
-    alloc: Global,
-    store: &mut S,
-    command: &DeskCommand,
-    at: Moment,
-) -> Result<Rows, StoreFault>
+/// The rows with this key, as a command of the desk reads them.
+fn desk_rows<S: StateStore>(alloc: Global, store: &mut S, key: &RowsKey) -> Result<Rows, StoreFault>
     ensures value { (x : Seen) → S.shows store.old x → S.is_sound store.new
-        → IfOk result (λ made. made ≡ rows_for x.now.cargo (order.Desk command.now) at) }
+        → IfOk result (λ made. made ≡ rows_of x.now.cargo key.now) }
     ensures same { (x : Seen) → S.shows store.old x → OnOk result (S.shows store.new x) }
     ensures survives { Survives S.is_clean S.is_sound S.may_find store.old store.new }
 {
-    match command {
-        DeskCommand::Book { awb, .. } => declaration_rows(store, awb),
-        DeskCommand::Receive { awb, .. } => waybill_rows(store, awb),
-        DeskCommand::Manifest { awb, flight, .. } => manifest_rows(store, awb, flight),
-        DeskCommand::Offload { awb, flight, .. } => offload_rows(store, awb, flight),
-        DeskCommand::Depart { flight } => departure_rows(alloc, store, flight),
-        DeskCommand::CheckIn { awb, flight, .. } => check_in_rows(store, awb, flight),
-        DeskCommand::Notify { awb, .. } => waybill_rows(store, awb),
-        DeskCommand::Deliver { awb, .. } => waybill_rows(store, awb),
-        DeskCommand::Missing { awb, .. } => waybill_rows(store, awb),
-        DeskCommand::Found { awb, .. } => waybill_rows(store, awb),
-        DeskCommand::Confirm { .. } => Ok(message_rows(store)),
+    match key {
+        RowsKey::Declaration(awb) => declaration_rows(store, awb),
+        RowsKey::Waybill(awb) => waybill_rows(store, awb),
+        RowsKey::Manifest(awb, flight) => manifest_rows(store, awb, flight),
+        RowsKey::Offload(awb, flight) => offload_rows(store, awb, flight),
+        RowsKey::Departure(flight) => departure_rows(alloc, store, flight),
+        RowsKey::CheckIn(awb, flight) => check_in_rows(store, awb, flight),
+        RowsKey::Messages => Ok(message_rows(store)),
     }
 }
 
@@ -235,7 +225,7 @@ fn rows_for<S: StateStore>(
     ensures survives { Survives S.is_clean S.is_sound S.may_find store.old store.new }
 {
     match command {
-        ShipmentCommand::Desk(desk) => desk_rows(alloc, store, desk.get(), at),
+        ShipmentCommand::Desk(desk) => desk_rows(alloc, store, &desk.get().reads()),
         ShipmentCommand::Fwb(line) => declaration_rows(store, &line.get().awb),
         ShipmentCommand::Ffm(part) => part_rows(alloc, store, part, at),
         ShipmentCommand::Fsu(status) => status_rows(store, &status.awb),

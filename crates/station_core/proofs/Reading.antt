@@ -36,9 +36,9 @@ example_pending = refl
 -- what is said of the waybill after the flight left
 abbrev amounts : Option Waybill → List Amount
 amounts None = []
-amounts (Some w) = w.taken ∷ w.found ∷ w.store ∷ w.departed ∷ w.delivered ∷ w.missing ∷ []
+amounts (Some w) = w.taken ∷ w.found ∷ w.store ∷ w.departed ∷ w.delivered ∷ w.missing ∷ w.transferred ∷ []
 
-example_waybill : amounts (waybill_of left.cargo 201234567) ≡ amount 10 1000 ∷ amount 0 0 ∷ amount 6 600 ∷ amount 4 400 ∷ amount 0 0 ∷ amount 0 0 ∷ []
+example_waybill : amounts (waybill_of left.cargo 201234567) ≡ amount 10 1000 ∷ amount 0 0 ∷ amount 6 600 ∷ amount 4 400 ∷ amount 0 0 ∷ amount 0 0 ∷ amount 0 0 ∷ []
 unfolding digits day_line
 example_waybill = refl
 

@@ -14,7 +14,7 @@ use Rattle.agent_stock.specs.declared.stock.Holder.TheVariants as holder
 use Rattle.agent_stock.specs.declared.stock.Order.{Order}
 use Rattle.agent_stock.specs.declared.stock.Order.TheVariants.{TakeIn, Issue, GiveBack, Void}
 use Rattle.shipment_machine.specs.declared.moves.Place.{Place}
-use Rattle.shipment_machine.specs.declared.moves.Place.TheVariants.{Hand, Surplus, Free, Built, Departed, Delivered, Missing}
+use Rattle.shipment_machine.specs.declared.moves.Place.TheVariants.{Hand, Surplus, Free, Built, Departed, Delivered, Missing, Transferred}
 use Rattle.shipment_machine.specs.declared.moves.Move.{Move}
 use Rattle.shipment_machine.specs.declared.moves.Part.{Part}
 use Rattle.shipment_machine.specs.declared.command.InboundLine.{InboundLine}
@@ -54,6 +54,7 @@ module _ (s : Cargo) (h : Holders) (o : List (List ℕ)) where
   noted Departed n = n
   noted Delivered n = n
   noted Missing n = n
+  noted Transferred n = n
 
   moved : (book : List Move) → AllByRecursion (IsLawfulMove s) book → AllByRecursion (IsLawfulMove with) book
   moved [] all = all

@@ -39,3 +39,12 @@ Sent old new bytes n = (n ≤ length bytes) × (new.bytes ≡ old.bytes ++ take 
 -- the writer failed, or took no byte
 abbrev pub HasCause : Given → Given → Type 0
 HasCause old new = (old.failures < new.failures) ⊎ (old.idle < new.idle)
+
+-- no call failed or took no byte
+abbrev pub NoneFailed : Given → Given → Type 0
+NoneFailed old new = (new.failures ≡ old.failures) × (new.idle ≡ old.idle)
+
+-- one call failed or took no byte, and no second one
+abbrev pub OneFailed : Given → Given → Type 0
+OneFailed old new = ((new.failures ≡ old.failures + 1) × (new.idle ≡ old.idle))
+    ⊎ ((new.failures ≡ old.failures) × (new.idle ≡ old.idle + 1))

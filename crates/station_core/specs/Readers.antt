@@ -4,7 +4,7 @@ use Rattle.std.specs.List.{flat_map}
 use Rattle.std.specs.Option.{option_map}
 use Rattle.shipment_machine.specs.declared.moves.Declared.{Declared}
 use Rattle.shipment_machine.specs.declared.moves.Move.{Move}
-use Rattle.shipment_machine.specs.Book.{taken, found, store, departed, delivered, missing, waybills_of}
+use Rattle.shipment_machine.specs.Book.{taken, found, store, departed, delivered, missing, transferred, waybills_of}
 use Rattle.shipment_machine.specs.Cargo.{Cargo}
 use Rattle.shipment_machine.specs.Views.{declaration}
 use Rattle.station_core.specs.declared.rows.IrregularRow.{IrregularRow}
@@ -23,6 +23,7 @@ told_of s w d = record {
   departed = departed s.book w;
   delivered = delivered s.book w;
   missing = missing s.book w;
+  transferred = transferred s.book w;
 }
 
 -- nothing is known of a waybill that wasn't declared

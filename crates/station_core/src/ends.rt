@@ -3,7 +3,7 @@ ghost use Rattle.std.specs.Prelude.{◌≡◌, ℕ, ◌<◌, length, OnOk, IfErr
 ghost use Rattle.std.specs.Io.KnownBytes.{ReadConsumes, WriteAppends};
 ghost use Rattle.station_core.specs.Counted.{given_of, inner_of};
 ghost use Rattle.station_core.specs.Given.{Given, nothing_given};
-ghost use Rattle.station_core.specs.Ends.{ReadStep, WriteStep, Sent, HasCause};
+ghost use Rattle.station_core.specs.Ends.{ReadStep, WriteStep, Sent, HasCause, NoneFailed, OneFailed};
 
 use crate::tally::{Call, Tally};
 use std::io::{ErrorKind, Read, Write};
@@ -117,9 +117,9 @@ impl<T: Write> ByteOut for Counted<T> {
 /// Writes all of the bytes, or returns how many went out before the writer failed or took none.
 pub fn send<W: ByteOut>(writer: &mut W, bytes: &[u8]) -> Result<(), usize>
     ensures all { OnOk result (Sent (W.taken writer.old) (W.taken writer.new) bytes.now (length bytes.now)) }
-    ensures no_failure { OnOk result ((W.taken writer.new).failures ≡ (W.taken writer.old).failures) }
-    ensures no_idle { OnOk result ((W.taken writer.new).idle ≡ (W.taken writer.old).idle) }
     ensures part { IfErr result (Sent (W.taken writer.old) (W.taken writer.new) bytes.now) }
+    ensures none { OnOk result (NoneFailed (W.taken writer.old) (W.taken writer.new)) }
+    ensures once { IfErr result (λ _. OneFailed (W.taken writer.old) (W.taken writer.new)) }
     ensures cause { IfErr result (λ _. HasCause (W.taken writer.old) (W.taken writer.new)) }
 {
     let mut sent = 0;

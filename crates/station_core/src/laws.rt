@@ -19,7 +19,7 @@ pub fn step_law()
 {}
 
 /// Every state that inputs lead to from a new station is lawful. In it, for each waybill, what was taken over or found is in store,
-/// departed, delivered or missing, in pieces and in tenths; and the amounts that are shown of it are the balances of its moves.
+/// departed, delivered, transferred or missing, in pieces and in tenths; and the amounts that are shown of it are the balances of its moves.
 pub fn run_law()
     ensures lawful { (here : List ℕ) (inputs : List (Input × LocalMinute)) → AreInputs inputs → IsLawfulState (after_all (opening here) inputs) }
     ensures conserved { (here : List ℕ) (inputs : List (Input × LocalMinute)) (w : ℕ) → AreInputs inputs → IsConserved (after_all (opening here) inputs).cargo.book w }

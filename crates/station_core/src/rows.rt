@@ -49,6 +49,8 @@ pub struct Waybill {
     pub departed: Amount,
     pub delivered: Amount,
     pub missing: Amount,
+    /// What went to other airlines.
+    pub transferred: Amount,
 }
 
 /// A waybill of which pieces are missing or were found.

@@ -42,7 +42,7 @@ abbrev pub in_order : List (List (Input × LocalMinute)) → List (Input × Loca
 in_order counted = flat_map (λ inputs. inputs) counted
 
 -- The state after all that counts: it is lawful, and for each waybill what was taken over or found is in store, departed,
--- delivered or missing, in pieces and in tenths, and the amounts that are shown are the balances of its moves.
+-- delivered, transferred or missing, in pieces and in tenths, and the amounts that are shown are the balances of its moves.
 pub record IsAfterLives (here : List ℕ) (lives : List Life) (found : State) : Type 0 where
   pub counted : List (List (Input × LocalMinute))
   pub each : AreCounted lives counted

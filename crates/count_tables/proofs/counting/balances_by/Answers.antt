@@ -9,4 +9,5 @@ returns c counts book w rows are = λ i. record {
   missing = c.in_ok-missing.ensures counts book w rows are refl i;
   departed = c.in_ok-departed.ensures counts book w rows are refl i;
   delivered = c.in_ok-delivered.ensures counts book w rows are refl i;
+  transferred = c.in_ok-transferred.ensures counts book w rows are refl i;
 }

@@ -1,4 +1,4 @@
-use Rattle.std.proofs.Common.{rules, refl, ◌∙◌}
+use Rattle.std.proofs.Common.{refl, ◌∙◌}
 use Rattle.row_laws.proofs.Handing.{at_start, came_with, cut_off, ended, failed, one_on, stopped, stopped_took, survived, took_these}
 use Rattle.row_laws.proofs.streaming.hand_rows.Goals as goal
 

@@ -1,5 +1,5 @@
 use Rattle.std.proofs.Common.{◌∙◌, ap}
-use Rattle.shipment_machine.specs.Book.{taken, found, free, missing, departed, delivered}
+use Rattle.shipment_machine.specs.Book.{taken, found, free, missing, departed, delivered, transferred}
 use Rattle.plain_station.proofs.Within.{within_taken, within_found, within_held, within_places}
 use Rattle.shipment_machine.proofs.Conserved.{held_free, held_missing}
 use Rattle.plain_station.specs.Lists.{cargo_of}
@@ -23,6 +23,9 @@ held-requires-3-clause-within c = rw c.as_slice-book.ensures.value (within_place
 pub held-requires-4-clause-within : goal.held-requires-4-clause-within
 held-requires-4-clause-within c = rw c.as_slice-book.ensures.value (within_places (cargo_of c.args.self.now.lists) c.args.awb.now c.args.self.now.steady.lawful).2
 
+pub held-requires-5-clause-within : goal.held-requires-5-clause-within
+held-requires-5-clause-within c = rw c.as_slice-book.ensures.value (within_places (cargo_of c.args.self.now.lists) c.args.awb.now c.args.self.now.steady.lawful).4
+
 pub returns : goal.returns
 returns c =
     let b = c.as_slice-book.ensures.value in
@@ -33,4 +36,5 @@ returns c =
       missing = (c.held-2.ensures ∙ ap (λ l. missing l c.args.awb.now) b) i;
       departed = (c.held-3.ensures ∙ ap (λ l. departed l c.args.awb.now) b) i;
       delivered = (c.held-4.ensures ∙ ap (λ l. delivered l c.args.awb.now) b) i;
+      transferred = (c.held-5.ensures ∙ ap (λ l. transferred l c.args.awb.now) b) i;
     }

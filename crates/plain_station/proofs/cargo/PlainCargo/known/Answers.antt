@@ -19,4 +19,5 @@ returns c =
       departed = ap (λ (b : Balances). b.departed) b i;
       delivered = ap (λ (b : Balances). b.delivered) b i;
       missing = ap (λ (b : Balances). b.missing) b i;
+      transferred = ap (λ (b : Balances). b.transferred) b i;
     }
