@@ -1,15 +1,16 @@
 -- A command over an input that came whole.
 use Rattle.std.specs.Result.{IsErrAnd}
-use Rattle.std.proofs.Common.{◌≡◌, refl, sym, subst, ℕ, Bool, List, Option, Result, Ok, Err, IfOk, IfErr, inl, inr}
+use Rattle.std.proofs.Common.{◌≡◌, refl, sym, subst, ℕ, Bool, false, List, ◌⊎◌, Option, Result, Ok, Err, IfOk, IfErr, inl, inr}
 use Rattle.imp_fields.specs.Date.{LocalMinute}
 use Rattle.station_core.specs.Given.{Given}
 use Rattle.station_core.specs.Step.{State}
 use Rattle.stock_list.specs.declared.answer.RunFault.{RunFault}
-use Rattle.stock_list.specs.Ended.{IsReadersFault}
+use Rattle.stock_list.specs.Ended.{IsReadersFault, IsShutAfter}
 use Rattle.desk_line.specs.declared.asked.Asked.{Asked}
 use Rattle.desk_line.specs.Came.{HasCome}
 use Rattle.desk_line.specs.Ended.{IsAnswered, IsStopped, HasRun}
 use Rattle.desk_line.specs.Shut.{IsAnsweredShut, HasRunShut}
+use Rattle.desk_line.proofs.Unanswered.{works_unread}
 
 pub has_run : (IsAsked : List ℕ → Asked → Type 0) (s : State) (at : LocalMinute) (read_before read_after : Given) (before after : List ℕ)
     (keeps : State → Type 0) (may_find : Option State → Type 0) (bytes : List ℕ) (asks : Asked) (r : Result Bool RunFault)
@@ -29,3 +30,19 @@ pub not_come : (IsAsked : List ℕ → Asked → Type 0) (read_old read_new old 
     → IsErrAnd r (λ x. x ≡ e) → IsReadersFault e → HasRunShut IsAsked read_old read_new old old r
 not_come IsAsked read_old read_new old (Ok x) e same why = absurd same
 not_come IsAsked read_old read_new old (Err x) e same why = inl (subst IsReadersFault (sym same) why, refl)
+
+-- the station works, since nothing was asked of it
+pub works_unheard : (r : Result Bool RunFault) (e : RunFault) (broken : Bool) → IsErrAnd r (λ x. x ≡ e) → IsReadersFault e → broken ≡ false
+    → IfErr r (λ x. IsShutAfter x broken)
+works_unheard (Ok x) e broken same why works = tt
+works_unheard (Err x) e broken same why works = works_unread x broken (subst IsReadersFault (sym same) why) works
+
+-- what holds of a fault that is passed on
+pub passed_on : (r : Result Bool RunFault) (e : RunFault) (P : RunFault → Type 0) → IsErrAnd r (λ x. x ≡ e) → P e → IfErr r P
+passed_on (Ok x) e P same told = tt
+passed_on (Err x) e P same told = subst P (sym same) told
+
+-- no read failed where the input came
+pub each_heard : (r : Result Bool RunFault) (P : RunFault → Type 0) (Same : Type 0) → Same → IfErr r (λ e. P e ⊎ Same)
+each_heard (Ok x) P Same same = tt
+each_heard (Err e) P Same same = inr same

@@ -1,11 +1,11 @@
 -- How a run of a report ends, by how the report ended.
-use Rattle.std.proofs.Common.{◌≡◌, ℕ, Result, Ok, Err, OnOk, List}
+use Rattle.std.proofs.Common.{◌≡◌, ℕ, Result, Ok, Err, OnOk, List, []}
 use Rattle.station_core.specs.Given.{Given}
 use Rattle.station_core.specs.Ends.{HasCause}
 use Rattle.station_core.specs.Step.{State}
 use Rattle.station_core.specs.declared.answer.ActFault.{ActFault}
 use Rattle.station_core.specs.declared.answer.ActFault.TheVariants as act
-use Rattle.reports.specs.Ended.{HasEnded, HasTold}
+use Rattle.reports.specs.Ended.{HasEnded, HasTold, StopsBy, StopsWriting}
 use Rattle.reports.specs.declared.fault.ReportCause.{ReportCause}
 use Rattle.reports.specs.declared.fault.ReportCause.TheVariants as cause
 use Rattle.reports.specs.declared.fault.ReportFault.{ReportFault}
@@ -13,7 +13,7 @@ use Rattle.stock_list.specs.declared.answer.RunFault.{RunFault}
 use Rattle.stock_list.specs.declared.answer.RunFault.TheVariants as fault
 use Rattle.stock_list.specs.Ended.{run_fault}
 use Rattle.desk_line.specs.declared.report.ReportName.{ReportName}
-use Rattle.desk_line.specs.Report.{cause_fault, run_ended, IsReport, HasReported}
+use Rattle.desk_line.specs.Report.{cause_fault, run_ended, IsReport, HasReported, StopsReport}
 
 no_write : (e : ActFault) → run_fault e ≡ fault.Write → ⊥
 no_write act.Memory is = cc
@@ -44,3 +44,14 @@ pub one_told : (s : State) (name : ReportName) (text : List ℕ) (old new : Give
     → IsReport s name text → HasReported text old new r → OnOk r ((x : List ℕ) × IsReport s name x × HasReported x old new r)
 one_told s name text old new (Ok x) is told = (text, is, told)
 one_told s name text old new (Err e) is told = tt
+
+stops_by : (why : ReportCause) (sent : ℕ) (old new : Given) → StopsBy [] why sent old new → StopsReport old new (Err (cause_fault why))
+stops_by cause.Write sent old new stops = stops
+stops_by (cause.Act act.Memory) sent old new stops = stops.0
+stops_by (cause.Act (act.Refused refusal)) sent old new stops = stops.0
+stops_by (cause.Act act.Store) sent old new stops = stops.0
+stops_by (cause.Act act.Reopen) sent old new stops = stops.0
+
+pub stops_writing : (old new : Given) (r : Result (Unit {0}) ReportFault) → StopsWriting [] old new r → StopsReport old new (run_ended r)
+stops_writing old new (Ok x) stops = stops
+stops_writing old new (Err e) stops = stops_by e.cause e.sent old new stops

@@ -2,7 +2,7 @@
 use Rattle.std.specs.Prelude.{◌≡◌, ℕ, if◌then◌else◌, Option, Some, None, Result, Ok, Err, List, ◌++◌, take, codes}
 use Rattle.std.specs.Str.{bytes_eq}
 use Rattle.station_core.specs.Given.{Given}
-use Rattle.station_core.specs.Ends.{HasCause}
+use Rattle.station_core.specs.Ends.{HasCause, NoneFailed, OneFailed}
 use Rattle.station_core.specs.Step.{State}
 use Rattle.reports.specs.Reports.{IsStockReport, irregularity_report, movement_book, trail_report}
 use Rattle.reports.specs.declared.fault.ReportCause.{ReportCause}
@@ -43,3 +43,9 @@ run_ended (Err e) = Err (cause_fault e.cause)
 abbrev pub HasReported : List ℕ → Given → Given → Result (Unit {0}) RunFault → Type 0
 HasReported text old new (Ok x) = new.bytes ≡ old.bytes ++ text
 HasReported text old new (Err e) = ((sent : ℕ) × (new.bytes ≡ old.bytes ++ take sent text)) × (e ≡ fault.Write → HasCause old new) × (e ≡ fault.Read → ⊥)
+
+-- No write failed or took no byte; where the run ended by Write one did, and no second one.
+abbrev pub StopsReport : Given → Given → Result (Unit {0}) RunFault → Type 0
+StopsReport old new (Ok x) = NoneFailed old new
+StopsReport old new (Err fault.Write) = OneFailed old new
+StopsReport old new (Err e) = NoneFailed old new

@@ -1,6 +1,7 @@
-ghost use Rattle.std.specs.Prelude.{◌≡◌, true, false, Err, OnOk};
+ghost use Rattle.std.specs.Prelude.{◌≡◌, ◌⊎◌, true, false, Err, IfErr, OnOk};
 ghost use Rattle.station_core.specs.Ends.{HasCause};
 ghost use Rattle.station_core.specs.Step.{State};
+ghost use Rattle.stock_list.specs.Ended.{IsShutAfter, IsUntroubled};
 ghost use Rattle.desk_line.specs.Asked.{IsCommandAsked};
 ghost use Rattle.desk_line.specs.Came.{HasFailed};
 ghost use Rattle.desk_line.specs.Ended.{HasRun};
@@ -34,12 +35,19 @@ pub fn run_act<K: Keeper, I: ByteIn, O: ByteOut>(
 ) -> Result<bool, RunFault>
     ensures sound { K.is_sound keeper.new → K.is_sound keeper.old }
     ensures works { K.is_broken keeper.old ≡ false → OnOk result (K.is_broken keeper.new ≡ false) }
+    ensures breaks { K.is_broken keeper.old ≡ false
+        → IfErr result (λ e. IsShutAfter e (K.is_broken keeper.new)) }
     ensures ran { (s : State) → K.keeps keeper.old s → K.is_broken keeper.old ≡ false → K.is_sound keeper.new
         → HasRun (IsCommandAsked verb key) s at (I.given reader.old) (I.given reader.new) (O.taken writer.old).bytes (O.taken writer.new).bytes
         (K.keeps keeper.new) (K.may_find keeper.new) result }
     ensures unread { result ≡ Err RunFault.Read → (keeper.new ≡ keeper.old) × (O.taken writer.new ≡ O.taken writer.old) }
     ensures read_cause { result ≡ Err RunFault.Read → HasFailed (I.given reader.old) (I.given reader.new) }
+    ensures read_told { IfErr result (λ e. (e ≡ RunFault.Read)
+        ⊎ ((I.given reader.new).failures ≡ (I.given reader.old).failures)) }
     ensures write_cause { result ≡ Err RunFault.Write → HasCause (O.taken writer.old) (O.taken writer.new) }
+    ensures write_told { IfErr result (λ e. (e ≡ RunFault.Write)
+        ⊎ IsUntroubled (O.taken writer.old) (O.taken writer.new)) }
+    ensures untroubled { OnOk result (IsUntroubled (O.taken writer.old) (O.taken writer.new)) }
 
     // A station that has to be opened again stays as it is, and nothing is asked of it.
     ensures same { K.is_broken keeper.old ≡ true → keeper.new ≡ keeper.old }

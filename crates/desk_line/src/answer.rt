@@ -1,8 +1,9 @@
 //! Answering what the input of a command asks.
-ghost use Rattle.std.specs.Prelude.{◌≡◌, ◌++◌, ◌∷◌, [], true, false, Err, IfOk, IfErr, OnOk, codes, string_bytes};
+ghost use Rattle.std.specs.Prelude.{◌≡◌, ◌⊎◌, ◌++◌, ◌∷◌, [], true, false, Err, IfOk, IfErr, OnOk, codes, string_bytes};
 ghost use Rattle.station_core.specs.Ends.{HasCause};
 ghost use Rattle.station_core.specs.Step.{State};
 ghost use Rattle.station_core.specs.Texts.{refusal_text};
+ghost use Rattle.stock_list.specs.Ended.{IsShutAfter, IsUntroubled};
 ghost use Rattle.stock_list.specs.Lines.{answer_text};
 ghost use Rattle.desk_line.specs.Ended.{HasToldPart, IsAnswered, IsStopped};
 ghost use Rattle.desk_line.specs.Shut.{HasToldLine, IsAnsweredShut};
@@ -43,12 +44,17 @@ fn answer_input<K: Keeper, O: ByteOut>(
 ) -> Result<bool, RunFault>
     ensures sound { K.is_sound keeper.new → K.is_sound keeper.old }
     ensures works { K.is_broken keeper.old ≡ false → OnOk result (K.is_broken keeper.new ≡ false) }
+    ensures breaks { K.is_broken keeper.old ≡ false
+        → IfErr result (λ e. IsShutAfter e (K.is_broken keeper.new)) }
     ensures answered { (s : State) → K.keeps keeper.old s → K.is_broken keeper.old ≡ false → K.is_sound keeper.new
         → IfOk result (λ good. IsAnswered s (Asked.Input input.now) at good (O.taken writer.old).bytes (O.taken writer.new).bytes (K.keeps keeper.new)) }
     ensures stopped { (s : State) → K.keeps keeper.old s → K.is_broken keeper.old ≡ false → K.is_sound keeper.new
         → IfErr result (λ e. IsStopped s (Asked.Input input.now) at e (O.taken writer.old).bytes (O.taken writer.new).bytes (K.keeps keeper.new) (K.may_find keeper.new)) }
     ensures read { result ≡ Err RunFault.Read → ⊥ }
     ensures write { result ≡ Err RunFault.Write → HasCause (O.taken writer.old) (O.taken writer.new) }
+    ensures write_told { IfErr result (λ e. (e ≡ RunFault.Write)
+        ⊎ IsUntroubled (O.taken writer.old) (O.taken writer.new)) }
+    ensures untroubled { OnOk result (IsUntroubled (O.taken writer.old) (O.taken writer.new)) }
     ensures same { K.is_broken keeper.old ≡ true → keeper.new ≡ keeper.old }
     ensures reopen { K.is_broken keeper.old ≡ true → IsAnsweredShut (Asked.Input input.now) (O.taken writer.old) (O.taken writer.new) result }
 {
@@ -72,6 +78,9 @@ fn answer_refusal<O: ByteOut>(
     ensures answered { IfOk result (λ good. (good ≡ false) × ((O.taken writer.new).bytes ≡ (O.taken writer.old).bytes ++ (refusal_text refusal.now ++ 10 ∷ []))) }
     ensures stopped { IfErr result (HasToldPart (refusal_text refusal.now ++ 10 ∷ []) (O.taken writer.old) (O.taken writer.new)) }
     ensures told { HasToldLine (refusal_text refusal.now ++ 10 ∷ []) (O.taken writer.old) (O.taken writer.new) result }
+    ensures write_told { IfErr result (λ e. (e ≡ RunFault.Write)
+        ⊎ IsUntroubled (O.taken writer.old) (O.taken writer.new)) }
+    ensures untroubled { OnOk result (IsUntroubled (O.taken writer.old) (O.taken writer.new)) }
 {
     let Ok(line) = refusal_line(alloc, refusal) else {
         return Err(RunFault::Memory);
@@ -85,6 +94,9 @@ fn answer_bad<O: ByteOut>(writer: &mut O) -> Result<bool, RunFault>
     ensures answered { IfOk result (λ good. (good ≡ false) × ((O.taken writer.new).bytes ≡ (O.taken writer.old).bytes ++ codes "body bad\n")) }
     ensures stopped { IfErr result (HasToldPart (codes "body bad\n") (O.taken writer.old) (O.taken writer.new)) }
     ensures told { HasToldLine (codes "body bad\n") (O.taken writer.old) (O.taken writer.new) result }
+    ensures write_told { IfErr result (λ e. (e ≡ RunFault.Write)
+        ⊎ IsUntroubled (O.taken writer.old) (O.taken writer.new)) }
+    ensures untroubled { OnOk result (IsUntroubled (O.taken writer.old) (O.taken writer.new)) }
 {
     send_line(writer, BAD_BODY)?;
     Ok(false)
@@ -100,12 +112,17 @@ pub(crate) fn answer_asked<K: Keeper, O: ByteOut>(
 ) -> Result<bool, RunFault>
     ensures sound { K.is_sound keeper.new → K.is_sound keeper.old }
     ensures works { K.is_broken keeper.old ≡ false → OnOk result (K.is_broken keeper.new ≡ false) }
+    ensures breaks { K.is_broken keeper.old ≡ false
+        → IfErr result (λ e. IsShutAfter e (K.is_broken keeper.new)) }
     ensures answered { (s : State) → K.keeps keeper.old s → K.is_broken keeper.old ≡ false → K.is_sound keeper.new
         → IfOk result (λ good. IsAnswered s asked.now at good (O.taken writer.old).bytes (O.taken writer.new).bytes (K.keeps keeper.new)) }
     ensures stopped { (s : State) → K.keeps keeper.old s → K.is_broken keeper.old ≡ false → K.is_sound keeper.new
         → IfErr result (λ e. IsStopped s asked.now at e (O.taken writer.old).bytes (O.taken writer.new).bytes (K.keeps keeper.new) (K.may_find keeper.new)) }
     ensures read { result ≡ Err RunFault.Read → ⊥ }
     ensures write { result ≡ Err RunFault.Write → HasCause (O.taken writer.old) (O.taken writer.new) }
+    ensures write_told { IfErr result (λ e. (e ≡ RunFault.Write)
+        ⊎ IsUntroubled (O.taken writer.old) (O.taken writer.new)) }
+    ensures untroubled { OnOk result (IsUntroubled (O.taken writer.old) (O.taken writer.new)) }
     ensures same { K.is_broken keeper.old ≡ true → keeper.new ≡ keeper.old }
     ensures reopen { K.is_broken keeper.old ≡ true → IsAnsweredShut asked.now (O.taken writer.old) (O.taken writer.new) result }
 {

@@ -1,5 +1,5 @@
 //! Reading the input of a command.
-ghost use Rattle.std.specs.Prelude.{◌≡◌, ◌+◌, ◌<◌, true, Err, IfOk, IfErr, OnOk};
+ghost use Rattle.std.specs.Prelude.{◌≡◌, ◌⊎◌, ◌+◌, ◌<◌, true, Err, IfOk, IfErr, OnOk};
 ghost use Rattle.station_core.specs.Ends.{HasCause};
 ghost use Rattle.stock_list.specs.Ended.{IsReadersFault};
 ghost use Rattle.desk_line.specs.Came.{HasGrown, HasCome, HasFailed};
@@ -21,6 +21,8 @@ fn read_more<I: ByteIn>(reader: &mut I, bytes: &mut Vec<u8>) -> Result<bool, Run
     ensures ended { IfOk result (λ ended. ended ≡ true → (I.given reader.old).idle < (I.given reader.new).idle) }
     ensures fault { IfErr result IsReadersFault }
     ensures failed { result ≡ Err RunFault.Read → (I.given reader.old).failures < (I.given reader.new).failures }
+    ensures told { IfErr result (λ e. (e ≡ RunFault.Read)
+        ⊎ ((I.given reader.new).failures ≡ (I.given reader.old).failures)) }
 {
     let mut room = [0; CHUNK];
     match reader.read(&mut room) {
@@ -39,6 +41,8 @@ pub(crate) fn read_input<I: ByteIn>(alloc: Global, reader: &mut I) -> Result<Vec
     ensures come { IfOk result (λ bytes. HasCome (I.given reader.old) (I.given reader.new) bytes.items) }
     ensures fault { IfErr result IsReadersFault }
     ensures failed { result ≡ Err RunFault.Read → HasFailed (I.given reader.old) (I.given reader.new) }
+    ensures told { IfErr result (λ e. (e ≡ RunFault.Read)
+        ⊎ ((I.given reader.new).failures ≡ (I.given reader.old).failures)) }
 {
     let mut bytes = Vec::new(alloc);
     for _turn in 0..u64::MAX {

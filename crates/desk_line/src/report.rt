@@ -3,7 +3,7 @@ ghost use Rattle.std.specs.Prelude.{◌≡◌, true, Err, OnOk, List, ℕ};
 ghost use Rattle.station_core.specs.Keeping.{OnlyReads};
 ghost use Rattle.station_core.specs.Step.{State};
 ghost use Rattle.reports.specs.Reports.{irregularity_report, movement_book, pending_report, trail_report};
-ghost use Rattle.desk_line.specs.Report.{report_called, cause_fault, run_ended, IsReport, HasReported};
+ghost use Rattle.desk_line.specs.Report.{report_called, cause_fault, run_ended, IsReport, HasReported, StopsReport};
 
 use reports::{
     ReportCause, ReportFault, irregularity_report, movement_book, pending_report, stock_report,
@@ -73,6 +73,7 @@ fn run_stock_report<K: Keeper, W: ByteOut>(
 ) -> Result<(), RunFault>
     ensures reads { OnlyReads K.keeps K.is_sound K.is_broken K.may_find keeper.old keeper.new }
     ensures reopen { K.is_broken keeper.old ≡ true → (result ≡ Err RunFault.Store) × (keeper.new ≡ keeper.old) × (W.taken writer.new ≡ W.taken writer.old) }
+    ensures writes { StopsReport (W.taken writer.old) (W.taken writer.new) result }
     ensures told { (s : State) → K.keeps keeper.old s → K.is_sound keeper.new
         → OnOk result ((text : List ℕ) × IsReport s ReportName.Stock text × HasReported text (W.taken writer.old) (W.taken writer.new) result) }
     ensures each { (s : State) → K.keeps keeper.old s → K.is_sound keeper.new → (text : List ℕ) → IsReport s ReportName.Stock text
@@ -89,6 +90,7 @@ fn run_irregularity_report<K: Keeper, W: ByteOut>(
 ) -> Result<(), RunFault>
     ensures reads { OnlyReads K.keeps K.is_sound K.is_broken K.may_find keeper.old keeper.new }
     ensures reopen { K.is_broken keeper.old ≡ true → (result ≡ Err RunFault.Store) × (keeper.new ≡ keeper.old) × (W.taken writer.new ≡ W.taken writer.old) }
+    ensures writes { StopsReport (W.taken writer.old) (W.taken writer.new) result }
     ensures told { (s : State) → K.keeps keeper.old s → K.is_sound keeper.new
         → HasReported (irregularity_report s.cargo) (W.taken writer.old) (W.taken writer.new) result }
 {
@@ -103,6 +105,7 @@ fn run_movement_book<K: Keeper, W: ByteOut>(
 ) -> Result<(), RunFault>
     ensures reads { OnlyReads K.keeps K.is_sound K.is_broken K.may_find keeper.old keeper.new }
     ensures reopen { K.is_broken keeper.old ≡ true → (result ≡ Err RunFault.Store) × (keeper.new ≡ keeper.old) × (W.taken writer.new ≡ W.taken writer.old) }
+    ensures writes { StopsReport (W.taken writer.old) (W.taken writer.new) result }
     ensures told { (s : State) → K.keeps keeper.old s → K.is_sound keeper.new
         → HasReported (movement_book s.cargo) (W.taken writer.old) (W.taken writer.new) result }
 {
@@ -117,6 +120,7 @@ fn run_trail_report<K: Keeper, W: ByteOut>(
 ) -> Result<(), RunFault>
     ensures reads { OnlyReads K.keeps K.is_sound K.is_broken K.may_find keeper.old keeper.new }
     ensures reopen { K.is_broken keeper.old ≡ true → (result ≡ Err RunFault.Store) × (keeper.new ≡ keeper.old) × (W.taken writer.new ≡ W.taken writer.old) }
+    ensures writes { StopsReport (W.taken writer.old) (W.taken writer.new) result }
     ensures told { (s : State) → K.keeps keeper.old s → K.is_sound keeper.new
         → HasReported (trail_report s.cargo) (W.taken writer.old) (W.taken writer.new) result }
 {
@@ -135,6 +139,7 @@ pub fn run_report<K: Keeper, W: ByteOut>(
 ) -> Result<(), RunFault>
     ensures reads { OnlyReads K.keeps K.is_sound K.is_broken K.may_find keeper.old keeper.new }
     ensures reopen { K.is_broken keeper.old ≡ true → (result ≡ Err RunFault.Store) × (keeper.new ≡ keeper.old) × (W.taken writer.new ≡ W.taken writer.old) }
+    ensures writes { StopsReport (W.taken writer.old) (W.taken writer.new) result }
 
     // A text is the report that went out.
     ensures told { (s : State) → K.keeps keeper.old s → K.is_sound keeper.new
@@ -162,6 +167,7 @@ pub fn run_outbox<K: Keeper, W: ByteOut>(
 ) -> Result<(), RunFault>
     ensures reads { OnlyReads K.keeps K.is_sound K.is_broken K.may_find keeper.old keeper.new }
     ensures reopen { K.is_broken keeper.old ≡ true → (result ≡ Err RunFault.Store) × (keeper.new ≡ keeper.old) × (W.taken writer.new ≡ W.taken writer.old) }
+    ensures writes { StopsReport (W.taken writer.old) (W.taken writer.new) result }
     ensures told { (s : State) → K.keeps keeper.old s → K.is_sound keeper.new
         → HasReported (pending_report s.cargo) (W.taken writer.old) (W.taken writer.new) result }
 {

@@ -1,5 +1,5 @@
 -- One row more.
-use Rattle.std.proofs.Common.{arith, ℕ, ◌+◌, ◌≡◌, ◌∙◌, sym, refl, ap, Bool, true, false, ◌&&◌, List, [], ◌∷◌, ◌++◌, append_assoc, length, Option, Some, None, IfSome, option_map, inl, inr}
+use Rattle.std.proofs.Common.{arith, ℕ, ◌+◌, ◌≡◌, ◌∙◌, sym, refl, ap, Bool, true, false, ◌&&◌, List, [], ◌∷◌, ◌++◌, append_assoc, length, Option, Some, None, IfSome, option_map, inl, inr, subst, ⊎_elim}
 use Rattle.imp_fields.specs.Date.{LocalMinute}
 use Rattle.station_core.specs.Step.{State}
 use Rattle.csv.specs.declared.error.ErrorKind.{ErrorKind}
@@ -10,7 +10,7 @@ use Rattle.csv.specs.Reading.{Reached, ReadRecord, default_config, source_of, st
 use Rattle.csv.proofs.ReadFacts.{rows-end, rows-more}
 use Rattle.stock_list.specs.declared.answer.RunFault.{RunFault}
 use Rattle.stock_list.specs.Lines.{Row, row_line, row_good, row_after, lines_from, rows_good, rows_after, stock_rows}
-use Rattle.stock_list.specs.Ended.{IsAnswered, IsStopped, HasRun, HasStopped, AreFirst, IsReadersFault, reader_fault}
+use Rattle.stock_list.specs.Ended.{IsAnswered, IsStopped, HasRun, HasStopped, AreFirst, IsReadersFault, IsShutAfter, reader_fault}
 use Rattle.stock_list.proofs.Records.{all_records, first_records}
 
 after_more : (s : State) (rows : List Row) (row : Row) (at : LocalMinute) → rows_after s (rows ++ row ∷ []) at ≡ row_after (rows_after s rows at) row at
@@ -103,6 +103,12 @@ readers_fault (kind.UnequalLengths pos expected len) = inr refl
 readers_fault (kind.Serialize why) = inr refl
 readers_fault (kind.Deserialize pos err) = inr refl
 readers_fault kind.OutOfMemory = inr refl
+
+-- after it the station works
+pub works_still : (k : ErrorKind) (e : RunFault) (broken : Bool) → e ≡ reader_fault k → broken ≡ false → IsShutAfter e broken
+works_still k e broken is works =
+    ⊎_elim (λ read. subst (λ (told : RunFault). IsShutAfter told broken) (sym (is ∙ read)) works)
+    (λ memory. subst (λ (told : RunFault). IsShutAfter told broken) (sym (is ∙ memory)) works) (readers_fault k)
 
 -- the row after those that were answered stops the run
 pub stops_more : (s : State) (rows : List Row) (row : Row) (at : LocalMinute) (number : ℕ) (good : Bool) (e : RunFault) (before between after : List ℕ) (kept keeps : State → Type 0) (may_find : Option State → Type 0)

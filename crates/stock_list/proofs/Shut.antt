@@ -1,6 +1,6 @@
 -- One row more of a list on a station that has to be opened again.
 use Rattle.std.specs.Result.{IsErrAnd}
-use Rattle.std.proofs.Common.{arith, ℕ, ◌+◌, ◌≡◌, ◌∙◌, sym, refl, ap, subst, Bool, true, false, ◌&&◌, List, [], ◌∷◌, ◌++◌, append_assoc, length, Option, Some, None, Result, Ok, Err, inl, inr, ⊎_elim}
+use Rattle.std.proofs.Common.{arith, ℕ, ◌+◌, ◌≡◌, ◌∙◌, sym, refl, ap, subst, Bool, true, false, ◌&&◌, List, [], ◌∷◌, ◌++◌, append_assoc, length, Option, Some, None, Result, Ok, Err, inl, inr, ⊎_elim, ◌⊎◌}
 use Rattle.agent_stock.specs.declared.stock.Order.{Order}
 use Rattle.csv.specs.declared.error.ErrorKind.{ErrorKind}
 use Rattle.csv.specs.declared.error.ErrorKind.TheVariants as kind
@@ -22,6 +22,10 @@ untroubled_more a b d first more = record { failures = more.failures ∙ first.f
 pub cause_behind : (a b d : Given) → IsUntroubled a b → HasCause b d → HasCause a d
 cause_behind a b d first cause =
     ⊎_elim (λ failed. inl (omega (arith, failed, first.failures))) (λ idle. inr (omega (arith, idle, first.idle))) cause
+
+-- the fault is `Write`, or the writer was untroubled in what came behind too
+pub told_behind : (e : RunFault) (a b d : Given) → IsUntroubled a b → (e ≡ fault.Write) ⊎ IsUntroubled b d → (e ≡ fault.Write) ⊎ IsUntroubled a d
+told_behind e a b d first one = ⊎_elim (λ write. inl write) (λ more. inr (untroubled_more a b d first more)) one
 
 -- a run that is passed on has the fault's cause
 pub passed_cause : (r : Result Bool RunFault) (e : RunFault) (Cause : Type 0) → IsErrAnd r (λ x. x ≡ e) → (e ≡ fault.Write → Cause) → ◌≡◌ {A = Result Bool RunFault} r (Err fault.Write) → Cause

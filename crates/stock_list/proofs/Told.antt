@@ -1,12 +1,12 @@
 -- A run that is told once it is known whether its reader has failed.
-use Rattle.std.proofs.Common.{arith, ℕ, zero, suc, ◌<◌, ◌≡◌, ◌∙◌, sym, refl, ap, Bool, true, false, List, [], ◌∷◌, ◌++◌, length, ◌+◌, Option, Some, None, IfSome, Result, Ok, Err, IfOk, IfErr, OnOk, inl, inr, ⊎_elim}
+use Rattle.std.proofs.Common.{arith, ℕ, zero, suc, ◌<◌, ◌≡◌, ◌∙◌, sym, refl, ap, Bool, true, false, List, [], ◌∷◌, ◌++◌, length, ◌+◌, Option, Some, None, IfSome, Result, Ok, Err, IfOk, IfErr, OnOk, inl, inr, ⊎_elim, ◌⊎◌}
 use Rattle.std.proofs.lemmas.Bool.{false≢true}
 use Rattle.imp_fields.specs.Date.{LocalMinute}
 use Rattle.agent_stock.specs.declared.stock.Order.{Order}
 use Rattle.station_core.specs.Step.{State}
 use Rattle.stock_list.specs.declared.answer.RunFault.{RunFault}
 use Rattle.stock_list.specs.declared.answer.RunFault.TheVariants as fault
-use Rattle.stock_list.specs.Ended.{told_by, rows_read, AreFirst, HasRun, HasStopped}
+use Rattle.stock_list.specs.Ended.{told_by, rows_read, AreFirst, HasRun, HasStopped, IsShutAfter}
 use Rattle.stock_list.specs.Lines.{Row, stock_rows}
 use Rattle.stock_list.specs.Row.{row_asks}
 use Rattle.stock_list.specs.Shut.{bad_lines, IsStoppedShut, HasStoppedShut, HasRunShut}
@@ -128,3 +128,25 @@ told_whole failures (Err fault.Read) false told = tt
 told_whole failures (Err fault.Write) failed told = tt
 told_whole failures (Err fault.Memory) failed told = tt
 told_whole failures (Err fault.Store) failed told = tt
+
+-- it is told so of a station that works, unless its store failed
+pub told_after : (broken : Bool) (ended : Result Bool RunFault) (failed : Bool) → OnOk ended (broken ≡ false) → IfErr ended (λ e. IsShutAfter e broken)
+    → IfErr (told_by ended failed) (λ e. IsShutAfter e broken)
+told_after broken (Ok good) true works after = works
+told_after broken (Ok good) false works after = tt
+told_after broken (Err fault.Read) true works after = after
+told_after broken (Err fault.Read) false works after = after
+told_after broken (Err fault.Write) failed works after = after
+told_after broken (Err fault.Memory) failed works after = after
+told_after broken (Err fault.Store) failed works after = after
+
+-- it is told as `Write`, or the writer was untroubled
+pub told_quiet : (Quiet : Type 0) (ended : Result Bool RunFault) (failed : Bool) → OnOk ended Quiet → IfErr ended (λ e. (e ≡ fault.Write) ⊎ Quiet)
+    → IfErr (told_by ended failed) (λ e. (e ≡ fault.Write) ⊎ Quiet)
+told_quiet Quiet (Ok good) true quiet one = inr quiet
+told_quiet Quiet (Ok good) false quiet one = tt
+told_quiet Quiet (Err fault.Read) true quiet one = one
+told_quiet Quiet (Err fault.Read) false quiet one = ⊎_elim (no_write _) (λ none. inr none) one
+told_quiet Quiet (Err fault.Write) failed quiet one = one
+told_quiet Quiet (Err fault.Memory) failed quiet one = one
+told_quiet Quiet (Err fault.Store) failed quiet one = one

@@ -1,18 +1,18 @@
 -- A row that the keeper didn't answer.
 use Rattle.std.specs.Result.{IsErrAnd}
-use Rattle.std.proofs.Common.{◌≡◌, ℕ, List, Option, Some, Result, Ok, Err, IfErr, subst, sym, ◌∙◌, ap, ◌⊎◌, inl, inr, ⊎_elim}
+use Rattle.std.proofs.Common.{◌≡◌, ℕ, Bool, false, List, Option, Some, Result, Ok, Err, IfErr, subst, sym, ◌∙◌, ap, ◌⊎◌, inl, inr, ⊎_elim}
 use Rattle.imp_fields.specs.Date.{LocalMinute}
 use Rattle.agent_stock.specs.declared.stock.Order.{Order}
 use Rattle.station_core.specs.declared.answer.ActFault.{ActFault}
 use Rattle.station_core.specs.declared.answer.ActFault.TheVariants as act
 use Rattle.station_core.specs.declared.input.Input.{Input}
 use Rattle.station_core.specs.Step.{State, step}
-use Rattle.station_core.specs.Keeping.{Answers, MayLeave}
+use Rattle.station_core.specs.Keeping.{Answers, MayLeave, IsBrokenAfter, IsMemoryOrStore}
 use Rattle.stock_list.specs.declared.answer.RunFault.{RunFault}
 use Rattle.stock_list.specs.declared.answer.RunFault.TheVariants as fault
 use Rattle.stock_list.specs.Row.{row_asks}
 use Rattle.stock_list.specs.Lines.{Row, input_of, asked_after, row_after}
-use Rattle.stock_list.specs.Ended.{run_fault}
+use Rattle.stock_list.specs.Ended.{run_fault, IsShutAfter}
 
 pub still_kept : (s : State) (i : Input) (at : LocalMinute) (e : ActFault) (keeps : State → Type 0) → Answers s i at (Err e) keeps → run_fault e ≡ fault.Memory → keeps s
 still_kept s i at act.Memory keeps answers is = answers
@@ -41,3 +41,18 @@ keeper_cause act.Memory e is = inl is
 keeper_cause act.Store e is = inr is
 keeper_cause act.Reopen e is = inr is
 keeper_cause (act.Refused refusal) e is = inr is
+
+-- after a keeper's fault the station has to be opened again where its store failed, and then only
+shut_as : (f : ActFault) (broken : Bool) → IsMemoryOrStore f → IsBrokenAfter f broken → IsShutAfter (run_fault f) broken
+shut_as act.Memory broken one after = after
+shut_as act.Store broken one after = after
+shut_as act.Reopen broken one after = absurd one
+shut_as (act.Refused refusal) broken one after = absurd one
+
+pub shut_after : (f : ActFault) (e : RunFault) (broken : Bool) → e ≡ run_fault f → IsMemoryOrStore f → IsBrokenAfter f broken → IsShutAfter e broken
+shut_after f e broken is one after = subst (λ (told : RunFault). IsShutAfter told broken) (sym is) (shut_as f broken one after)
+
+-- a writer's fault that is passed on leaves a station that works
+pub still_works : (r : Result Bool RunFault) (e : RunFault) (broken : Bool) → IsErrAnd r (λ x. x ≡ e) → e ≡ fault.Write → broken ≡ false → IfErr r (λ x. IsShutAfter x broken)
+still_works (Ok x) e broken same write works = tt
+still_works (Err x) e broken same write works = subst (λ (told : RunFault). IsShutAfter told broken) (sym (same ∙ write)) works

@@ -1,5 +1,5 @@
 -- What a row leaves behind it, whether it was answered or not.
-use Rattle.std.specs.Prelude.{◌≡◌, ◌⊎◌, ℕ, ◌+◌, Bool, if◌then◌else◌, Result, Ok, Err, Option, Some, None, List, [], ◌∷◌, ◌++◌, length, take}
+use Rattle.std.specs.Prelude.{◌≡◌, ◌⊎◌, ℕ, ◌+◌, Bool, true, false, if◌then◌else◌, Result, Ok, Err, Option, Some, None, List, [], ◌∷◌, ◌++◌, length, take}
 use Rattle.csv.specs.declared.error.ErrorKind.{ErrorKind}
 use Rattle.csv.specs.declared.error.ErrorKind.TheVariants as kind
 use Rattle.imp_fields.specs.Date.{LocalMinute}
@@ -20,6 +20,11 @@ run_fault _ = fault.Store
 pub record IsUntroubled (old new : Given) : Type 0 where
   pub failures : new.failures ≡ old.failures
   pub idle : new.idle ≡ old.idle
+
+-- Whether the station has to be opened again after a fault: where its store failed, and then only.
+abbrev pub IsShutAfter : RunFault → Bool → Type 0
+IsShutAfter fault.Store broken = broken ≡ true
+IsShutAfter _ broken = broken ≡ false
 
 -- its line was written, and the state is the one after it, at this moment
 pub record IsAnswered (number : ℕ) (s : State) (row : Row) (at : LocalMinute) (good : Bool) (before after : List ℕ) (keeps : State → Type 0) : Type 0 where

@@ -1,8 +1,8 @@
-ghost use Rattle.std.specs.Prelude.{◌≡◌, ℕ, true, false, Err, List, ◌++◌, Option, IfOk, IfErr, OnErr, OnOk, take, string_bytes};
+ghost use Rattle.std.specs.Prelude.{◌≡◌, ℕ, true, false, Err, List, ◌++◌, ◌⊎◌, Option, IfOk, IfErr, OnErr, OnOk, take, string_bytes};
 ghost use Rattle.csv.specs.Records.{fields_of};
 ghost use Rattle.station_core.specs.Ends.{HasCause};
 ghost use Rattle.station_core.specs.Step.{State};
-ghost use Rattle.stock_list.specs.Ended.{run_fault, IsAnswered, IsStopped, IsUntroubled};
+ghost use Rattle.stock_list.specs.Ended.{run_fault, IsAnswered, IsShutAfter, IsStopped, IsUntroubled};
 ghost use Rattle.stock_list.specs.Lines.{answer_text, answer_line, bad_line};
 ghost use Rattle.stock_list.specs.Row.{row_asks};
 ghost use Rattle.stock_list.specs.Shut.{IsAnsweredShut};
@@ -92,12 +92,16 @@ pub fn answer_row<K: Keeper, W: ByteOut>(
 ) -> Result<bool, RunFault>
     ensures sound { K.is_sound keeper.new → K.is_sound keeper.old }
     ensures works { K.is_broken keeper.old ≡ false → OnOk result (K.is_broken keeper.new ≡ false) }
+    ensures breaks { K.is_broken keeper.old ≡ false
+        → IfErr result (λ e. IsShutAfter e (K.is_broken keeper.new)) }
     ensures answered { (s : State) → K.keeps keeper.old s → K.is_broken keeper.old ≡ false → K.is_sound keeper.new
         → IfOk result (λ good. IsAnswered number s (fields_of row.now) at good (W.taken writer.old).bytes (W.taken writer.new).bytes (K.keeps keeper.new)) }
     ensures stopped { (s : State) → K.keeps keeper.old s → K.is_broken keeper.old ≡ false → K.is_sound keeper.new
         → IfErr result (λ e. IsStopped number s (fields_of row.now) at e (W.taken writer.old).bytes (W.taken writer.new).bytes (K.keeps keeper.new) (K.may_find keeper.new)) }
     ensures untroubled { OnOk result (IsUntroubled (W.taken writer.old) (W.taken writer.new)) }
     ensures write_cause { result ≡ Err RunFault.Write → HasCause (W.taken writer.old) (W.taken writer.new) }
+    ensures write_told { IfErr result (λ e. (e ≡ RunFault.Write)
+        ⊎ IsUntroubled (W.taken writer.old) (W.taken writer.new)) }
     ensures unread { result ≡ Err RunFault.Read → ⊥ }
 
     // A station that has to be opened again stays as it is, and no row is asked of it.

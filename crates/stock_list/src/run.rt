@@ -1,8 +1,8 @@
-ghost use Rattle.std.specs.Prelude.{◌≡◌, ◌<◌, true, false, Err, List, Option, OnOk, IfOk, IfErr, IfSome};
+ghost use Rattle.std.specs.Prelude.{◌≡◌, ◌<◌, ◌⊎◌, true, false, Err, List, Option, OnOk, IfOk, IfErr, IfSome};
 ghost use Rattle.csv.specs.Reading.{error_kind};
 ghost use Rattle.station_core.specs.Ends.{HasCause};
 ghost use Rattle.station_core.specs.Step.{State};
-ghost use Rattle.stock_list.specs.Ended.{reader_fault, told_by, HasRun, HasStopped, rows_read, AreFirst};
+ghost use Rattle.stock_list.specs.Ended.{reader_fault, told_by, HasRun, HasStopped, IsShutAfter, IsUntroubled, rows_read, AreFirst};
 ghost use Rattle.stock_list.specs.Lines.{Row, stock_rows};
 ghost use Rattle.stock_list.specs.Shut.{HasRunShut};
 
@@ -34,6 +34,8 @@ fn run_rows<K: Keeper, R: Read + Drop, W: ByteOut>(
 ) -> Result<bool, RunFault>
     ensures sound { K.is_sound keeper.new → K.is_sound keeper.old }
     ensures works { K.is_broken keeper.old ≡ false → OnOk result (K.is_broken keeper.new ≡ false) }
+    ensures breaks { K.is_broken keeper.old ≡ false
+        → IfErr result (λ e. IsShutAfter e (K.is_broken keeper.new)) }
     ensures ran { (s : State) → K.keeps keeper.old s → K.is_broken keeper.old ≡ false → K.is_sound keeper.new
         → IfOk result (λ good. (rows : List Row) × IfSome (R.remaining reader) (λ bytes. rows ≡ stock_rows bytes)
         × HasRun s rows at good (W.taken writer.old).bytes (W.taken writer.new).bytes (K.keeps keeper.new)) }
@@ -41,6 +43,9 @@ fn run_rows<K: Keeper, R: Read + Drop, W: ByteOut>(
         → IfErr result (λ e. (rows : List Row) × ((next : Option Row) × (IfSome (R.remaining reader) (AreFirst (rows_read rows next))
         × HasStopped s rows next at e (W.taken writer.old).bytes (W.taken writer.new).bytes (K.keeps keeper.new) (K.may_find keeper.new)))) }
     ensures write_cause { result ≡ Err RunFault.Write → HasCause (W.taken writer.old) (W.taken writer.new) }
+    ensures write_told { IfErr result (λ e. (e ≡ RunFault.Write)
+        ⊎ IsUntroubled (W.taken writer.old) (W.taken writer.new)) }
+    ensures untroubled { OnOk result (IsUntroubled (W.taken writer.old) (W.taken writer.new)) }
     ensures same { K.is_broken keeper.old ≡ true → keeper.new ≡ keeper.old }
     ensures reopen { K.is_broken keeper.old ≡ true
         → HasRunShut (R.remaining reader) (W.taken writer.old).bytes (W.taken writer.new).bytes result }
@@ -97,6 +102,8 @@ pub fn run_stock<K: Keeper, R: Watched + Read, W: ByteOut>(
 ) -> Result<bool, RunFault>
     ensures sound { K.is_sound keeper.new → K.is_sound keeper.old }
     ensures works { K.is_broken keeper.old ≡ false → OnOk result (K.is_broken keeper.new ≡ false) }
+    ensures breaks { K.is_broken keeper.old ≡ false
+        → IfErr result (λ e. IsShutAfter e (K.is_broken keeper.new)) }
 
     // Every row that was read, and of a known reader that is every row of its text, has its line, in their
     // order, and the state is the one after them all.
@@ -114,6 +121,9 @@ pub fn run_stock<K: Keeper, R: Watched + Read, W: ByteOut>(
     ensures read_cause { result ≡ Err RunFault.Read → 0 < (R.given reader.new).failures }
     ensures no_failure { OnOk result ((R.given reader.new).failures ≡ 0) }
     ensures write_cause { result ≡ Err RunFault.Write → HasCause (W.taken writer.old) (W.taken writer.new) }
+    ensures write_told { IfErr result (λ e. (e ≡ RunFault.Write)
+        ⊎ IsUntroubled (W.taken writer.old) (W.taken writer.new)) }
+    ensures untroubled { OnOk result (IsUntroubled (W.taken writer.old) (W.taken writer.new)) }
 
     // A station that has to be opened again stays as it is. The first row that asks anything of it ends the run.
     ensures same { K.is_broken keeper.old ≡ true → keeper.new ≡ keeper.old }

@@ -1,5 +1,6 @@
+use Rattle.std.proofs.Common.{refl, inr}
 use Rattle.desk_line.specs.Asked.{IsCommandAsked}
-use Rattle.desk_line.proofs.Ran.{has_run, has_run_shut, not_come}
+use Rattle.desk_line.proofs.Ran.{has_run, has_run_shut, not_come, works_unheard, passed_on, each_heard}
 use Rattle.desk_line.proofs.act.run_act.Goals as goal
 
 pub returns-in-Ok-clause-ran : goal.returns-in-Ok-clause-ran
@@ -19,3 +20,17 @@ pub returns-in_err-bytes-clause-reopen : goal.returns-in_err-bytes-clause-reopen
 returns-in_err-bytes-clause-reopen g c = λ broken.
     not_come (IsCommandAsked c.args.verb c.args.key) (g.I.ByteIn.given c.args.reader.now) (g.I.ByteIn.given c.read_input.new.reader) (g.O.ByteOut.taken c.args.writer.now)
     c.from_residual.result c.in_err-bytes.field-0.0 c.from_residual.ensures.1 c.in_err-bytes.ensures.fault
+
+pub returns-in_err-bytes-clause-breaks : goal.returns-in_err-bytes-clause-breaks
+returns-in_err-bytes-clause-breaks g c = λ works.
+    works_unheard c.from_residual.result c.in_err-bytes.field-0.0 _ c.from_residual.ensures.1 c.in_err-bytes.ensures.fault works
+
+pub returns-in_err-bytes-clause-read_told : goal.returns-in_err-bytes-clause-read_told
+returns-in_err-bytes-clause-read_told g c = passed_on c.from_residual.result c.in_err-bytes.field-0.0 _ c.from_residual.ensures.1 c.in_err-bytes.ensures.told
+
+pub returns-in_err-bytes-clause-write_told : goal.returns-in_err-bytes-clause-write_told
+returns-in_err-bytes-clause-write_told g c =
+    passed_on c.from_residual.result c.in_err-bytes.field-0.0 _ c.from_residual.ensures.1 (inr (record { failures = refl; idle = refl }))
+
+pub returns-in-Ok-clause-read_told : goal.returns-in-Ok-clause-read_told
+returns-in-Ok-clause-read_told g c = each_heard c.answer_asked.result _ _ c.in_ok-bytes.ensures.come.failures

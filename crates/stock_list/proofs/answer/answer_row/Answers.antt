@@ -1,8 +1,12 @@
 use Rattle.std.proofs.Common.{refl, sym, ◌∙◌, inl, inr, ⊎_elim}
 use Rattle.csv.specs.Records.{fields_of}
 use Rattle.stock_list.specs.Lines.{input_of}
-use Rattle.stock_list.proofs.Unanswered.{still_kept, found_row, keeper_cause}
+use Rattle.stock_list.proofs.Unanswered.{still_kept, found_row, keeper_cause, shut_after}
 use Rattle.stock_list.proofs.answer.answer_row.Goals as goal
+
+pub returns-in-Err-clause-breaks : goal.returns-in-Err-clause-breaks
+returns-in-Err-clause-breaks g c = λ works.
+    shut_after c.in-Err.fault c.keeper_fault.result _ c.keeper_fault.ensures (c.in-Err.ensures.fault works) (c.in-Err.ensures.breaks works)
 
 pub returns-in-Err-clause-stopped : goal.returns-in-Err-clause-stopped
 returns-in-Err-clause-stopped g c = λ s keeps works sound.

@@ -1,10 +1,10 @@
 use Rattle.std.proofs.Common.{rules, arith, ◌∙◌, sym, refl, inl, inr, ap, ◌+◌, ◌<◌, ◌≤◌, List, [], ◌∷◌, ◌++◌, Some, None, Err, subst, Fits, w64}
 use Rattle.station_core.specs.Ends.{HasCause}
-use Rattle.stock_list.specs.Ended.{IsReadersFault}
+use Rattle.stock_list.specs.Ended.{IsReadersFault, IsShutAfter, IsUntroubled}
 use Rattle.csv.specs.Records.{fields_of}
 use Rattle.stock_list.specs.Lines.{Row, rows_after}
-use Rattle.stock_list.proofs.More.{append_nil, known_start, known_more, known_end, known_first, counted_more, run_more, readers_fault, stops_more}
-use Rattle.stock_list.proofs.Shut.{untroubled_more, cause_behind, passed_cause, no_write, shut_start, shut_more, shut_stops, passed_shut}
+use Rattle.stock_list.proofs.More.{append_nil, known_start, known_more, known_end, known_first, counted_more, run_more, readers_fault, works_still, stops_more}
+use Rattle.stock_list.proofs.Shut.{untroubled_more, told_behind, cause_behind, passed_cause, no_write, shut_start, shut_more, shut_stops, passed_shut}
 use Rattle.stock_list.proofs.Unanswered.{passed_on}
 use Rattle.stock_list.proofs.run.run_rows.Goals as goal
 
@@ -90,6 +90,14 @@ returns-clause-sound g c = c.loop-row.invariant.sound
 pub returns-clause-works : goal.returns-clause-works
 returns-clause-works g c = c.loop-row.invariant.works
 
+pub returns-in-Err-clause-breaks : goal.returns-in-Err-clause-breaks
+returns-in-Err-clause-breaks g c = λ works. works_still _ c.reader_fault.result _ c.reader_fault.ensures (c.loop-row.invariant.works works)
+
+pub returns-in_err-accepted-in-Ok-clause-breaks : goal.returns-in_err-accepted-in-Ok-clause-breaks
+returns-in_err-accepted-in-Ok-clause-breaks g c = λ works.
+    passed_on c.from_residual.result c.in_err-accepted-in-Ok.field-0.0 _ c.from_residual.ensures.1
+    (c.in_err-accepted-in-Ok.ensures.breaks (c.loop-row.invariant.works works))
+
 pub returns-clause-ran : goal.returns-clause-ran
 returns-clause-ran g c = λ s keeps works sound.
     let inv = c.loop-row.invariant in
@@ -140,6 +148,20 @@ returns-in_err-accepted-in-Ok-clause-write_cause g c = λ is.
     let new = g.W.ByteOut.taken c.answer_row.new.writer in
     passed_cause c.from_residual.result c.in_err-accepted-in-Ok.field-0.0 (HasCause old new) c.from_residual.ensures.1
     (λ write. cause_behind old (g.W.ByteOut.taken c.loop-row.writer) new c.loop-row.invariant.untroubled (c.in_err-accepted-in-Ok.ensures.write_cause (ap Err write))) is
+
+pub returns-in-Err-clause-write_told : goal.returns-in-Err-clause-write_told
+returns-in-Err-clause-write_told g c = inr c.loop-row.invariant.untroubled
+
+pub returns-in_err-accepted-in-Ok-clause-write_told : goal.returns-in_err-accepted-in-Ok-clause-write_told
+returns-in_err-accepted-in-Ok-clause-write_told g c =
+    let old = g.W.ByteOut.taken c.args.writer.now in
+    let mid = g.W.ByteOut.taken c.loop-row.writer in
+    let new = g.W.ByteOut.taken c.answer_row.new.writer in
+    passed_on c.from_residual.result c.in_err-accepted-in-Ok.field-0.0 _ c.from_residual.ensures.1
+    (told_behind c.in_err-accepted-in-Ok.field-0.0 old mid new c.loop-row.invariant.untroubled c.in_err-accepted-in-Ok.ensures.write_told)
+
+pub returns-clause-untroubled : goal.returns-clause-untroubled
+returns-clause-untroubled g c = c.loop-row.invariant.untroubled
 
 pub returns-in-Err-clause-same : goal.returns-in-Err-clause-same
 returns-in-Err-clause-same g c = c.loop-row.invariant.same

@@ -1,9 +1,13 @@
 use Rattle.std.proofs.Common.{◌∙◌, sym}
-use Rattle.stock_list.proofs.Told.{told_end, told_works, told_stop, told_shut, told_read, told_write, told_whole}
+use Rattle.stock_list.proofs.Told.{told_end, told_works, told_stop, told_shut, told_read, told_write, told_whole, told_after, told_quiet}
 use Rattle.stock_list.proofs.run.run_stock.Goals as goal
 
 pub returns-clause-works : goal.returns-clause-works
 returns-clause-works g c = λ works. rw c.told_by.ensures (told_works _ c.run_rows-ended.result c.has_failed.result (c.run_rows-ended.ensures.works works))
+
+pub returns-clause-breaks : goal.returns-clause-breaks
+returns-clause-breaks g c = λ works.
+    rw c.told_by.ensures (told_after _ c.run_rows-ended.result c.has_failed.result (c.run_rows-ended.ensures.works works) (c.run_rows-ended.ensures.breaks works))
 
 pub returns-clause-ran : goal.returns-clause-ran
 returns-clause-ran g c = λ s keeps works sound. rw c.told_by.ensures (told_end _ c.run_rows-ended.result c.has_failed.result (c.run_rows-ended.ensures.ran s keeps works sound))
@@ -22,6 +26,12 @@ returns-clause-no_failure g c = rw c.told_by.ensures (told_whole _ c.run_rows-en
 
 pub returns-clause-write_cause : goal.returns-clause-write_cause
 returns-clause-write_cause g c = λ is. told_write _ c.run_rows-ended.result c.has_failed.result c.run_rows-ended.ensures.write_cause (sym c.told_by.ensures ∙ is)
+
+pub returns-clause-write_told : goal.returns-clause-write_told
+returns-clause-write_told g c = rw c.told_by.ensures (told_quiet _ c.run_rows-ended.result c.has_failed.result c.run_rows-ended.ensures.untroubled c.run_rows-ended.ensures.write_told)
+
+pub returns-clause-untroubled : goal.returns-clause-untroubled
+returns-clause-untroubled g c = rw c.told_by.ensures (told_works _ c.run_rows-ended.result c.has_failed.result c.run_rows-ended.ensures.untroubled)
 
 pub returns-clause-reopen : goal.returns-clause-reopen
 returns-clause-reopen g c = λ broken.
