@@ -5,7 +5,7 @@ mod files;
 mod service;
 mod task;
 
-use desk_call::DeskFault;
+use desk_call::{DeskFault, version_line};
 use desk_clock::{Zone, moment_now};
 use desk_server::listen;
 use desk_words::{Line, LineCommand, WordsFault, parse_words, usage_fault};
@@ -21,12 +21,21 @@ use task::{Task, end_call, faulted, run_over};
 /// What is said of a text that is no zone's rule.
 const NO_ZONE: &str = "--zone takes a POSIX rule, as UTC0 or CET-1CEST,M3.5.0,M10.5.0/3";
 
-/// Ends a call by what is said of its words: a usage on standard error, or the help on standard output.
+/// Ends a call by a text that was asked for, on standard output.
+fn tell(rt: &HostRuntime, text: &str) -> u8 {
+    match print!(rt; "{text}") {
+        Ok(()) => 0,
+        Err(_) => faulted(rt, RunFault::Write),
+    }
+}
+
+/// Ends a call by what is said of its words: a usage on standard error, or the help or the version on standard output.
 fn refuse_words(rt: &HostRuntime, fault: &WordsFault) -> u8 {
     match fault {
-        WordsFault::Help(text) => match print!(rt; "{text}") {
-            Ok(()) => 0,
-            Err(_) => faulted(rt, RunFault::Write),
+        WordsFault::Help(text) => tell(rt, text.as_str()),
+        WordsFault::Version => match version_line(rt.alloc()) {
+            Ok(line) => tell(rt, line.as_str()),
+            Err(_) => faulted(rt, RunFault::Memory),
         },
         WordsFault::Usage(text) => {
             let _told = eprint!(rt; "{text}");
@@ -99,7 +108,7 @@ fn refuse_call(rt: &HostRuntime, error: &io::Error) -> u8 {
     faulted(rt, RunFault::Memory)
 }
 
-/// The status is 0; 1 where something was refused, or a row or a body was bad; 2 for other words; 3 at a fault; 4 where there is no
+/// The status is 0; 1 where something was refused or is unknown, or a row or a body was bad; 2 for other words; 3 at a fault; 4 where there is no
 /// station in the file, or `init` finds one.
 fn main(rt: HostRuntime) -> ExitCode {
     let status = match words_of(&rt) {

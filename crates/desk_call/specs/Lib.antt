@@ -1,3 +1,4 @@
 pub mod Ended
 pub mod Opened
 pub mod Ran
+pub mod Version

@@ -4,7 +4,9 @@
 mod ended;
 mod opening;
 mod run;
+mod version;
 
 pub use ended::{DeskFault, end};
 pub use opening::open_station;
 pub use run::run_line;
+pub use version::version_line;

@@ -20,6 +20,7 @@ use Rattle.desk_line.specs.Shut.{HasRunShut}
 use Rattle.desk_line.specs.Report.{IsReport, HasReported}
 use Rattle.desk_words.specs.declared.line.LineCommand.{LineCommand}
 use Rattle.desk_words.specs.declared.line.LineCommand.TheVariants as command
+use Rattle.desk_run.specs.Looked.{holder_found, waybill_found, HasLookedUp}
 use Rattle.desk_run.specs.Sent.{HasSent}
 
 -- what went out is no refusal
@@ -107,4 +108,10 @@ HasDone command.Outbox here keeps is_sound is_broken may_find at old new left re
     HasReportedGood IsPending keeps is_sound is_broken may_find old new sent_old sent_new r
 HasDone (command.Report name) here keeps is_sound is_broken may_find at old new left read_old read_new sent_old sent_new r =
     HasReportedGood (λ s. IsReport s name) keeps is_sound is_broken may_find old new sent_old sent_new r
+HasDone (command.Waybill w) here keeps is_sound is_broken may_find at old new left
+    read_old read_new sent_old sent_new r =
+    HasLookedUp (waybill_found w) keeps is_sound is_broken may_find old new sent_old sent_new r
+HasDone (command.Holder w) here keeps is_sound is_broken may_find at old new left
+    read_old read_new sent_old sent_new r =
+    HasLookedUp (holder_found w) keeps is_sound is_broken may_find old new sent_old sent_new r
 HasDone (command.Serve port count) here keeps is_sound is_broken may_find at old new left read_old read_new sent_old sent_new r = HasIdled old new sent_old sent_new r

@@ -1,4 +1,5 @@
 pub mod Done
 pub mod Feed
+pub mod Looked
 pub mod Place
 pub mod Sent

@@ -2,6 +2,7 @@
 #![tactic(auto)]
 
 mod feed;
+mod look;
 mod place;
 mod report;
 mod run;

@@ -4,6 +4,7 @@ ghost use Rattle.desk_line.specs.Asked.{IsCommandAsked, IsTelegramAsked};
 ghost use Rattle.desk_run.specs.Done.{HasAnsweredAsked, HasAnsweredRows, HasDone, HasToldMade};
 ghost use Rattle.desk_run.specs.Place.{here_of};
 
+use crate::look::{do_holder, do_waybill};
 use crate::place::airport_of_line;
 use crate::report::{do_outbox, do_report};
 use crate::sent::send_word;
@@ -104,6 +105,8 @@ pub fn run_over<K: Keeper, I: Watched + Read, W: ByteOut>(
         LineCommand::Act { verb, key } => do_act(alloc, keeper, verb, key, reader, output, at),
         LineCommand::Outbox => do_outbox(alloc, keeper, output),
         LineCommand::Report(name) => do_report(alloc, keeper, name, output),
+        LineCommand::Waybill(number) => do_waybill(alloc, keeper, &number, output),
+        LineCommand::Holder(number) => do_holder(alloc, keeper, &number, output),
         LineCommand::Serve { .. } => Ok(true),
     }
 }

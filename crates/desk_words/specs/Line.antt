@@ -1,6 +1,7 @@
 -- What the words of a call ask.
 use Rattle.std.specs.Prelude.{◌≡◌, ◌≤◌, ℕ, List, Option, Some, None, Ok, IsSome, IfSome, codes, option_map}
 use Rattle.std.specs.Str.Parse.{ParsesUnsigned}
+use Rattle.awb_number.specs.Number.{number_of}
 use Rattle.imp_fields.specs.Airport.{airport_of}
 use Rattle.desk_commands.specs.Verb.{word}
 use Rattle.desk_line.specs.Report.{report_called}
@@ -32,6 +33,8 @@ Means (request.Take file) (command.Take path) = path.now ≡ file.now
 Means (request.Act verb key) (command.Act v k) = (word v ≡ verb.now) × (k ≡ key.now)
 Means request.Outbox command.Outbox = Unit {0}
 Means (request.Report name) (command.Report r) = report_called name.now ≡ Some r
+Means (request.Waybill number) (command.Waybill w) = number_of number.now ≡ Ok w
+Means (request.Holder number) (command.Holder w) = number_of number.now ≡ Ok w
 Means (request.Serve port count) (command.Serve p None) = IsNumber 16 port.now p
 Means (request.Serve port (Some count)) (command.Serve p (Some k)) = IsNumber 16 port.now p × IsNumber 32 count.now k
 Means _ _ = ⊥

@@ -1,41 +1,80 @@
-use std::alloc::Global;
+use std::alloc::{AllocError, Global};
 
 /// Why words aren't a line.
 #[derive(Debug, Drop)]
 pub enum WordsFault {
     /// The help was asked for: this is its text.
     Help(String),
+    /// The program's version was asked for.
+    Version,
     /// The words are others: this says which, and how to call the program.
     Usage(String),
     /// Memory ran out.
     Memory,
 }
 
-/// A value that `clap` let pass, and that is none of its place.
+/// A word that `clap` let pass, and that is none of its place.
 #[derive(Clone, Copy, Debug, PartialEq, Eq)]
-pub(crate) enum BadValue {
-    Station,
-    Verb,
-    Key,
-    ReportName,
-    Port,
-    Count,
+pub(crate) enum BadValue<'a> {
+    Station(&'a str),
+    Verb(&'a str),
+    Key(&'a str),
+    ReportName(&'a str),
+    /// It hasn't the shape of a waybill number.
+    Number(&'a str),
+    /// It has, and its last digit is another one than its check digit.
+    CheckDigit(&'a str),
+    Port(&'a str),
+    Count(&'a str),
     /// `init` without a file or a station.
     Init,
 }
 
-impl BadValue {
+/// What is wanted where a key stands.
+const KEY: &str =
+    "KEY is wanted: 1 to 40 printable characters, no blank; the body comes on standard input";
+
+/// What is wanted where a waybill number stands.
+const NUMBER: &str =
+    "AWB is wanted: three digits, a hyphen, seven digits and their check digit, as 020-12345675";
+
+/// What is wanted where a number with a wrong check digit stands.
+const CHECK_DIGIT: &str =
+    "AWB is wanted, and its check digit is wrong: it is the seven digits before it modulo 7";
+
+/// The word and what is wanted in its place.
+fn told_of(alloc: Global, word: &str, wanted: &str) -> Result<String, AllocError> {
+    format!(in alloc; "'{word}' stands where {wanted}")
+}
+
+impl BadValue<'_> {
     /// What is said of it.
-    pub(crate) fn told(self) -> &'static str {
-        match self {
-            BadValue::Station => "--station takes an airport: three letters, A to Z",
-            BadValue::Verb => "no such VERB: `cargo_desk act --help` lists them",
-            BadValue::Key => "KEY is 1 to 40 printable ASCII characters, none a blank",
-            BadValue::ReportName => "no such NAME: stock, irregularities, movements or trail",
-            BadValue::Port => "--port takes a number from 1 to 65535",
-            BadValue::Count => "--count takes a number from 1 to 4294967295",
-            BadValue::Init => "init needs --db FILE and --station AAA before it",
-        }
+    fn told(self, alloc: Global) -> Result<String, AllocError> {
+        let (word, wanted) = match self {
+            BadValue::Station(word) => (word, "--station wants an airport: three letters, A to Z"),
+            BadValue::Verb(word) => (word, "VERB is wanted: `cargo_desk act --help` lists them"),
+            BadValue::Key(word) => (word, KEY),
+            BadValue::ReportName(word) => (
+                word,
+                "NAME is wanted: stock, irregularities, movements or trail",
+            ),
+            BadValue::Number(word) => (word, NUMBER),
+            BadValue::CheckDigit(word) => (word, CHECK_DIGIT),
+            BadValue::Port(word) => (word, "--port wants a number from 1 to 65535"),
+            BadValue::Count(word) => (word, "--count wants a number from 1 to 4294967295"),
+            BadValue::Init => {
+                return String::from_str(alloc, "init needs --db FILE and --station AAA before it");
+            }
+        };
+        told_of(alloc, word, wanted)
+    }
+}
+
+/// The fault of a word that is none of its place.
+pub(crate) fn value_fault(alloc: Global, bad: BadValue<'_>) -> WordsFault {
+    match bad.told(alloc) {
+        Ok(told) => usage_fault(alloc, told.as_str()),
+        Err(_) => WordsFault::Memory,
     }
 }
 

@@ -6,8 +6,10 @@ mod help;
 mod line;
 mod number;
 mod read;
+mod version;
 mod words;
 
 pub use fault::{WordsFault, usage_fault};
 pub use line::{Line, LineCommand};
 pub use read::parse_words;
+pub use version::program_version;

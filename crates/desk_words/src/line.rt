@@ -1,3 +1,4 @@
+use awb_number::Awb;
 use desk_commands::Verb;
 use desk_line::ReportName;
 use imp_fields::Airport;
@@ -30,6 +31,10 @@ pub enum LineCommand<'a> {
     Outbox,
     /// Tell a report.
     Report(ReportName),
+    /// Tell what is known of a waybill.
+    Waybill(Awb),
+    /// Tell who holds a number.
+    Holder(Awb),
     /// Serve HTTP on a port, until so many connections were served.
     Serve { port: u16, count: Option<u32> },
 }

@@ -1,11 +1,13 @@
 //! The words of a call, to what they ask.
-ghost use Rattle.std.specs.Prelude.{◌≡◌, true, IfOk, option_map};
+ghost use Rattle.std.specs.Prelude.{◌≡◌, true, IfOk, Ok, option_map};
+ghost use Rattle.awb_number.specs.Number.{number_of};
 ghost use Rattle.desk_words.specs.Line.{IsCalled, IsLine, IsMeant, IsStation, Means, rule_of};
 
-use crate::fault::{BadValue, WordsFault, usage_fault};
+use crate::fault::{BadValue, WordsFault, value_fault};
 use crate::line::{Line, LineCommand};
 use crate::number::{read_count, read_port};
 use crate::words::{Request, Words, sort_words};
+use awb_number::{Awb, AwbFault};
 use desk_commands::Verb;
 use desk_line::ReportName;
 use imp_fields::Airport;
@@ -14,40 +16,84 @@ use std::alloc::Global;
 use std::convert::AsStr;
 
 /// The command of a verb and a key.
-fn read_act<'a>(verb: &'a str, key: &'a str) -> Result<LineCommand<'a>, BadValue>
-    ensures { IfOk result (Means (Request.Act verb.entry key.entry)) }
+fn read_act<'a>(word: &'a str, key: &'a str) -> Result<LineCommand<'a>, BadValue<'a>>
+    ensures { IfOk result (Means (Request.Act word.entry key.entry)) }
 {
-    let Some(verb) = Verb::read(verb.as_bytes()) else {
-        return Err(BadValue::Verb);
+    let Some(verb) = Verb::read(word.as_bytes()) else {
+        return Err(BadValue::Verb(word));
     };
     match Key::read(key.as_bytes()) {
         Some(key) => Ok(LineCommand::Act { verb, key }),
-        None => Err(BadValue::Key),
+        None => Err(BadValue::Key(key)),
+    }
+}
+
+/// The waybill number that a text spells, or why it spells none.
+fn number_of(text: &str) -> Result<Awb, AwbFault>
+    ensures { result ≡ number_of text.now }
+{
+    match text.as_bytes().as_array::<12>() {
+        Some(bytes) => Awb::read(bytes),
+        None => Err(AwbFault::Shape),
+    }
+}
+
+/// The waybill number that a word is.
+fn read_number<'a>(word: &'a str) -> Result<Awb, BadValue<'a>>
+    ensures { IfOk result (λ w. number_of word.entry.now ≡ Ok w) }
+{
+    match number_of(word) {
+        Ok(number) => Ok(number),
+        Err(AwbFault::Shape) => Err(BadValue::Number(word)),
+        Err(AwbFault::Check) => Err(BadValue::CheckDigit(word)),
+    }
+}
+
+/// The look-up of a waybill.
+fn read_waybill<'a>(word: &'a str) -> Result<LineCommand<'a>, BadValue<'a>>
+    ensures { IfOk result (Means (Request.Waybill word.entry)) }
+{
+    match read_number(word) {
+        Ok(number) => Ok(LineCommand::Waybill(number)),
+        Err(bad) => Err(bad),
+    }
+}
+
+/// The look-up of a number's holder.
+fn read_holder<'a>(word: &'a str) -> Result<LineCommand<'a>, BadValue<'a>>
+    ensures { IfOk result (Means (Request.Holder word.entry)) }
+{
+    match read_number(word) {
+        Ok(number) => Ok(LineCommand::Holder(number)),
+        Err(bad) => Err(bad),
     }
 }
 
 /// The service at a port, for so many connections.
-fn read_serve<'a>(port: &'a str, count: Option<&'a str>) -> Result<LineCommand<'a>, BadValue>
+fn read_serve<'a>(port: &'a str, count: Option<&'a str>) -> Result<LineCommand<'a>, BadValue<'a>>
     ensures means { IfOk result (Means (Request.Serve port.entry count.entry)) }
     ensures least { IfOk result (λ command. IsCalled command ⊥ ⊥) }
 {
-    let Some(port) = read_port(port) else {
-        return Err(BadValue::Port);
+    let Some(number) = read_port(port) else {
+        return Err(BadValue::Port(port));
     };
     let Some(count) = count else {
-        return Ok(LineCommand::Serve { port, count: None });
+        return Ok(LineCommand::Serve {
+            port: number,
+            count: None,
+        });
     };
     match read_count(count) {
         Some(count) => Ok(LineCommand::Serve {
-            port,
+            port: number,
             count: Some(count),
         }),
-        None => Err(BadValue::Count),
+        None => Err(BadValue::Count(count)),
     }
 }
 
 /// The command that is asked for.
-fn read_command<'a>(request: Request<'a>, is_whole: bool) -> Result<LineCommand<'a>, BadValue>
+fn read_command<'a>(request: Request<'a>, is_whole: bool) -> Result<LineCommand<'a>, BadValue<'a>>
     ensures means { IfOk result (Means request.entry) }
     ensures called { IfOk result (λ command. IsCalled command (is_whole ≡ true) (is_whole ≡ true)) }
 {
@@ -60,14 +106,16 @@ fn read_command<'a>(request: Request<'a>, is_whole: bool) -> Result<LineCommand<
         Request::Outbox => Ok(LineCommand::Outbox),
         Request::Report(name) => match ReportName::read(name.as_bytes()) {
             Some(report) => Ok(LineCommand::Report(report)),
-            None => Err(BadValue::ReportName),
+            None => Err(BadValue::ReportName(name)),
         },
+        Request::Waybill(number) => read_waybill(number),
+        Request::Holder(number) => read_holder(number),
         Request::Serve { port, count } => read_serve(port, count),
     }
 }
 
 /// The airport that is named, if one is.
-fn read_station(station: Option<&str>) -> Result<Option<Airport>, BadValue>
+fn read_station<'a>(station: Option<&'a str>) -> Result<Option<Airport>, BadValue<'a>>
     ensures { IfOk result (IsStation (option_map (λ text. text.now) station.entry)) }
 {
     let Some(station) = station else {
@@ -75,7 +123,7 @@ fn read_station(station: Option<&str>) -> Result<Option<Airport>, BadValue>
     };
     match Airport::read(station.as_bytes()) {
         Some(airport) => Ok(Some(airport)),
-        None => Err(BadValue::Station),
+        None => Err(BadValue::Station(station)),
     }
 }
 
@@ -90,7 +138,7 @@ fn rule_of<'a>(zone: Option<&'a str>) -> &'a str
 }
 
 /// What sorted words ask.
-fn read_line<'a>(words: &Words<'a>) -> Result<Line<'a>, BadValue>
+fn read_line<'a>(words: &Words<'a>) -> Result<Line<'a>, BadValue<'a>>
     ensures whole { IfOk result IsLine }
     ensures meant { IfOk result (IsMeant words.now) }
 {
@@ -109,15 +157,17 @@ fn read_line<'a>(words: &Words<'a>) -> Result<Line<'a>, BadValue>
 
 /// Reads the words of a call; the first is the program's name.
 ///
-/// Returns [`WordsFault::Help`] where the words ask for the help; [`WordsFault::Usage`] for other words than a command's, a bad key
-/// or option's value, an unknown verb or name, an option given twice, and `init` without `--db` and `--station`, but not for a text
-/// that is no zone's rule; [`WordsFault::Memory`] when out of memory.
+/// Returns [`WordsFault::Help`] where the words ask for the help, and [`WordsFault::Version`] where
+/// they ask for the version; [`WordsFault::Usage`] for other words than a command's, a bad key,
+/// number or option's value, an unknown verb or name, an option given twice, and `init` without
+/// `--db` and `--station`, but not for a text that is no zone's rule; [`WordsFault::Memory`] when out
+/// of memory.
 pub fn parse_words<'a, S: AsStr>(alloc: Global, words: &'a [S]) -> Result<Line<'a>, WordsFault>
     ensures { IfOk result IsLine }
 {
     let words = sort_words(alloc, words)?;
     match read_line(&words) {
         Ok(line) => Ok(line),
-        Err(bad) => Err(usage_fault(alloc, bad.told())),
+        Err(bad) => Err(value_fault(alloc, bad)),
     }
 }

@@ -1,9 +1,11 @@
 //! The words as `clap` sorts them. No value is read here but by its place.
 
-use crate::fault::WordsFault;
+use crate::fault::{WordsFault, usage_fault};
 use crate::help;
+use crate::version::program_version;
 use clap::error::ErrorKind;
 use clap::{Arg, ArgAction, ArgMatches, Command, Error};
+use desk_commands::Verb;
 use std::alloc::{AllocError, Global};
 use std::convert::AsStr;
 
@@ -19,6 +21,8 @@ pub(crate) enum Request<'a> {
     },
     Outbox,
     Report(&'a str),
+    Waybill(&'a str),
+    Holder(&'a str),
     Serve {
         port: &'a str,
         count: Option<&'a str>,
@@ -61,11 +65,27 @@ fn take<'a>(alloc: Global) -> Result<Command<'a>, AllocError> {
     command(alloc, "take", help::TAKE, help::TAKE_EXAMPLES).arg(word(alloc, "FILE", "The telegram"))
 }
 
+/// A verb, which stands behind `act`.
+fn verb<'a>(alloc: Global, name: &'a str, about: &'a str) -> Result<Command<'a>, AllocError> {
+    command(alloc, name, about, help::FIELDS).arg(word(alloc, "KEY", help::KEY))
+}
+
+/// The word of a verb.
+fn name_of<'a>(verb: Verb) -> &'a str {
+    verb.word()
+}
+
 /// The command that acts.
 fn act<'a>(alloc: Global) -> Result<Command<'a>, AllocError> {
-    let act = command(alloc, "act", help::ACT, help::ACT_EXAMPLES);
-    let act = act.arg(word(alloc, "VERB", help::VERBS))?;
-    act.arg(word(alloc, "KEY", help::KEY))
+    let mut act = command(alloc, "act", help::ACT, help::ACT_EXAMPLES)
+        .override_usage("cargo_desk act <VERB> <KEY>")
+        .subcommand_help_heading("Verbs")
+        .subcommand_required(true)
+        .disable_help_subcommand(true);
+    for each in help::VERBS {
+        act = below(act, verb(alloc, name_of(each), help::verb(each)))?;
+    }
+    Ok(act)
 }
 
 /// The command that reports.
@@ -75,6 +95,23 @@ fn report<'a>(alloc: Global) -> Result<Command<'a>, AllocError> {
         "NAME",
         help::REPORT_NAMES,
     ))
+}
+
+/// A command that looks a number up.
+fn look_up<'a>(
+    alloc: Global,
+    name: &'a str,
+    about: &'a str,
+    examples: &'a str,
+) -> Result<Command<'a>, AllocError> {
+    command(alloc, name, about, examples).arg(word(alloc, "AWB", help::AWB))
+}
+
+/// The commands that look a number up.
+fn looking<'a>(alloc: Global, top: Command<'a>) -> Result<Command<'a>, AllocError> {
+    let waybill = look_up(alloc, "waybill", help::WAYBILL, help::WAYBILL_EXAMPLES);
+    let holder = look_up(alloc, "holder", help::HOLDER, help::HOLDER_EXAMPLES);
+    below(below(top, waybill)?, holder)
 }
 
 /// The command that serves.
@@ -107,6 +144,7 @@ fn changing<'a>(alloc: Global, top: Command<'a>) -> Result<Command<'a>, AllocErr
 fn telling<'a>(alloc: Global, top: Command<'a>) -> Result<Command<'a>, AllocError> {
     let top = top.subcommand(command(alloc, "outbox", help::OUTBOX, help::OUTBOX_EXAMPLES))?;
     let top = below(top, report(alloc))?;
+    let top = looking(alloc, top)?;
     below(top, serve(alloc))
 }
 
@@ -116,8 +154,8 @@ fn desk<'a>(alloc: Global) -> Result<Command<'a>, AllocError> {
         .arg(option(alloc, "db", "FILE", help::DB))?
         .arg(option(alloc, "station", "AAA", help::STATION))?
         .arg(option(alloc, "zone", "RULE", help::ZONE))?
-        .subcommand_required(true)
-        .disable_help_subcommand(true);
+        .version(program_version())
+        .subcommand_required(true);
     let top = changing(alloc, top)?;
     telling(alloc, top)
 }
@@ -128,12 +166,17 @@ fn asked<'a>(name: &str, words: &ArgMatches<'a>) -> Option<Request<'a>> {
         "init" => Some(Request::Init),
         "stock" => Some(Request::Stock),
         "take" => Some(Request::Take(words.get_str("FILE")?)),
-        "act" => Some(Request::Act {
-            verb: words.get_str("VERB")?,
-            key: words.get_str("KEY")?,
-        }),
+        "act" => {
+            let (verb, words) = words.subcommand()?;
+            Some(Request::Act {
+                verb,
+                key: words.get_str("KEY")?,
+            })
+        }
         "outbox" => Some(Request::Outbox),
         "report" => Some(Request::Report(words.get_str("NAME")?)),
+        "waybill" => Some(Request::Waybill(words.get_str("AWB")?)),
+        "holder" => Some(Request::Holder(words.get_str("AWB")?)),
         "serve" => Some(Request::Serve {
             port: words.get_str("port")?,
             count: words.get_str("count"),
@@ -153,10 +196,25 @@ fn sorted<'a>(matches: &ArgMatches<'a>) -> Option<Words<'a>> {
     })
 }
 
+/// What is said of an option behind its command, which `clap` names as a word that isn't expected.
+fn late_option(told: &str) -> Option<&'static str> {
+    let told = told.strip_prefix("error: unexpected argument '--")?;
+    let (name, _) = told.split_once('\'')?;
+    match name {
+        "db" => Some("--db stands before the command"),
+        "station" => Some("--station stands before the command"),
+        "zone" => Some("--zone stands before the command"),
+        _ => None,
+    }
+}
+
 /// Why `clap` refused the words, with its text.
 fn words_fault(alloc: Global, error: &Error) -> WordsFault {
     if error.kind() == ErrorKind::OutOfMemory {
         return WordsFault::Memory;
+    }
+    if error.kind() == ErrorKind::DisplayVersion {
+        return WordsFault::Version;
     }
     let Ok(text) = format!(in alloc; "{error}") else {
         return WordsFault::Memory;
@@ -164,7 +222,10 @@ fn words_fault(alloc: Global, error: &Error) -> WordsFault {
     if error.kind() == ErrorKind::DisplayHelp {
         return WordsFault::Help(text);
     }
-    WordsFault::Usage(text)
+    match late_option(text.as_str()) {
+        Some(told) => usage_fault(alloc, told),
+        None => WordsFault::Usage(text),
+    }
 }
 
 /// Sorts the words of a call; the first is the program's name.

@@ -6,6 +6,7 @@
 mod calls;
 mod clock;
 mod desk;
+mod samples;
 mod words;
 
 use case_files::{Answers, go_through};

@@ -1,5 +1,8 @@
 //! The words of a call, and what they are read as.
+use crate::samples::{has_line, sample};
+use awb_number::ascii_text;
 use case_words::{say, shown};
+use desk_call::version_line;
 use desk_line::ReportName;
 use desk_words::{Line, LineCommand, WordsFault, parse_words};
 use imp_fields::Airport;
@@ -12,6 +15,16 @@ pub fn answer(alloc: Global, asked: &str, text: &[u8]) -> Option<String> {
             let words = words_of(alloc, shown(text))?;
             read_as(alloc, words.as_slice())
         }
+        "told" => {
+            let words = words_of(alloc, shown(text))?;
+            told(alloc, words.as_slice())
+        }
+        "sample" => sample(alloc, shown(text)),
+        "help-has" => {
+            let has = has_line(alloc, shown(text))?;
+            say(alloc, if has { "yes" } else { "no" })
+        }
+        "version" => version_line(alloc).ok(),
         _ => None,
     }
 }
@@ -44,8 +57,18 @@ pub fn fault_said(alloc: Global, fault: &WordsFault) -> Option<String> {
             let is_told = text.starts_with("error: ");
             say(alloc, if is_told { "status 2" } else { "not told" })
         }
+        WordsFault::Version => say(alloc, "version"),
         WordsFault::Memory => None,
     }
+}
+
+/// What is said of words that are no line, up to the first empty line but for a tip.
+fn told(alloc: Global, words: &[&str]) -> Option<String> {
+    let Err(WordsFault::Usage(text)) = parse_words(alloc, words) else {
+        return None;
+    };
+    let (told, _) = text.as_str().split_once("\n\nUsage: ")?;
+    say(alloc, told)
 }
 
 /// A line: file, station, zone, command.
@@ -79,6 +102,8 @@ fn command_said(alloc: Global, command: &LineCommand<'_>) -> Option<String> {
         }
         LineCommand::Outbox => say(alloc, "outbox"),
         LineCommand::Report(name) => say_two(alloc, "report", report_said(name)),
+        LineCommand::Waybill(number) => say_two(alloc, "waybill", ascii_text(&number.write())),
+        LineCommand::Holder(number) => say_two(alloc, "holder", ascii_text(&number.write())),
         LineCommand::Serve { port, count } => serve_said(alloc, port, count),
     }
 }

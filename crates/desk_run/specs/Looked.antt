@@ -1,0 +1,45 @@
+-- What a look-up of a number leaves.
+use Rattle.std.specs.Prelude.{◌≡◌, ℕ, Bool, true, Option, Some, None, Result, Ok, Err, List, [], ◌∷◌, ◌++◌, take, codes, is_some, option_map}
+use Rattle.serde_json.specs.Data.{Data}
+use Rattle.serde_json.specs.Written.{compact_text}
+use Rattle.station_core.specs.Ends.{HasCause}
+use Rattle.station_core.specs.Given.{Given}
+use Rattle.station_core.specs.Keeping.{OnlyReads}
+use Rattle.station_core.specs.Readers.{waybill_of}
+use Rattle.station_core.specs.Step.{State}
+use Rattle.http_desk.specs.Reply.{holder_data, waybill_data}
+use Rattle.stock_list.specs.declared.answer.RunFault.{RunFault}
+use Rattle.stock_list.specs.declared.answer.RunFault.TheVariants as fault
+
+-- the object that GET /v1/waybills/AWB is answered by: nothing of a waybill that isn't declared
+abbrev pub waybill_found : ℕ → State → Option Data
+waybill_found w s = option_map (waybill_data w) (waybill_of s.cargo w)
+
+-- the object that GET /v1/stock/AWB is answered by: nothing of a number that isn't in stock
+abbrev pub holder_found : ℕ → State → Option Data
+holder_found w s = option_map (holder_data w) (s.cargo.holders w)
+
+-- the line that tells it
+abbrev pub found_line : Option Data → List ℕ
+found_line (Some d) = compact_text d ++ 10 ∷ []
+found_line None = codes "unknown\n"
+
+-- The line went out, and nothing is refused where there is an object; or a beginning of the line,
+-- where the writer failed or took no byte, or the keeper failed, or memory ran out.
+abbrev pub HasToldFound : Option Data → Given → Given → Result Bool RunFault → Type 0
+HasToldFound found old new (Ok good) =
+    (good ≡ is_some found) × (new.bytes ≡ old.bytes ++ found_line found)
+HasToldFound found old new (Err e) =
+    ((sent : ℕ) × (new.bytes ≡ old.bytes ++ take sent (found_line found)))
+    × (e ≡ fault.Write → HasCause old new) × (e ≡ fault.Read → ⊥)
+
+-- The line of what the station has went out, or a beginning of it, and nothing changed. A station
+-- that has to be opened again returns nothing.
+pub record HasLookedUp {K : Type 0} (found : State → Option Data) (keeps : K → State → Type 0)
+    (is_sound : K → Type 0) (is_broken : K → Bool) (may_find : K → Option State → Type 0)
+    (old new : K) (sent_old sent_new : Given) (result : Result Bool RunFault) : Type 0 where
+  pub reads : OnlyReads keeps is_sound is_broken may_find old new
+  pub reopen :
+      is_broken old ≡ true → (result ≡ Err fault.Store) × (new ≡ old) × (sent_new ≡ sent_old)
+  pub told :
+      (s : State) → keeps old s → is_sound new → HasToldFound (found s) sent_old sent_new result
