@@ -1,0 +1,30 @@
+# Completion for bash: source it, or put it into /usr/share/bash-completion/completions/cargo_desk.
+_cargo_desk_options='--db --station --zone --help --version'
+_cargo_desk_commands='init stock take act outbox report waybill holder serve help'
+_cargo_desk_verbs='take-in issue return void book receive manifest offload depart check-in notify deliver
+    transfer missing found confirm'
+_cargo_desk() {
+    local cur=${COMP_WORDS[COMP_CWORD]} word command= i=1
+    COMPREPLY=()
+    while [ $i -lt $COMP_CWORD ]; do
+        word=${COMP_WORDS[i]}
+        case $word in
+            --db | --station | --zone) i=$((i + 1)) ;;
+            init | stock | take | act | outbox | report | waybill | holder | serve | help) command=$word; break ;;
+        esac
+        i=$((i + 1))
+    done
+    case $command in
+        '') case ${COMP_WORDS[COMP_CWORD - 1]} in
+                --db) COMPREPLY=($(compgen -f -- "$cur")) ;;
+                --station | --zone) ;;
+                *) COMPREPLY=($(compgen -W "$_cargo_desk_options $_cargo_desk_commands" -- "$cur")) ;;
+            esac ;;
+        report) COMPREPLY=($(compgen -W 'stock irregularities movements trail' -- "$cur")) ;;
+        act) [ $((COMP_CWORD - i)) -ne 1 ] || COMPREPLY=($(compgen -W "$_cargo_desk_verbs" -- "$cur")) ;;
+        help) COMPREPLY=($(compgen -W "$_cargo_desk_commands" -- "$cur")) ;;
+        take) COMPREPLY=($(compgen -f -- "$cur")) ;;
+        serve) COMPREPLY=($(compgen -W '--port --count --help' -- "$cur")) ;;
+    esac
+}
+complete -o filenames -F _cargo_desk cargo_desk
