@@ -1,6 +1,6 @@
 # Completion for bash: source it, or put it into /usr/share/bash-completion/completions/cargo_desk.
 _cargo_desk_options='--db --station --zone --help --version'
-_cargo_desk_commands='init stock take act outbox report waybill holder serve help'
+_cargo_desk_commands='init migrate stock take act outbox report waybill holder serve help'
 _cargo_desk_verbs='take-in issue return void book receive manifest offload depart check-in notify deliver
     transfer missing found confirm'
 _cargo_desk() {
@@ -10,7 +10,7 @@ _cargo_desk() {
         word=${COMP_WORDS[i]}
         case $word in
             --db | --station | --zone) i=$((i + 1)) ;;
-            init | stock | take | act | outbox | report | waybill | holder | serve | help) command=$word; break ;;
+            init | migrate | stock | take | act | outbox | report | waybill | holder | serve | help) command=$word; break ;;
         esac
         i=$((i + 1))
     done

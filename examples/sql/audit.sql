@@ -1,4 +1,4 @@
--- Each row of a station's file that isn't lawful, with its table, its key and the reason:
+-- Each row of a station's file of version 2 that isn't lawful, with its table, its key and the reason:
 --     sqlite3 -readonly fra.db < examples/sql/audit.sql
 -- It prints nothing where it finds nothing. It is written from the table in docs/STATION.md alone, so it is a second opinion
 -- on `fault 601`. It doesn't test texts (kept commands, parts), nor what a place held in the middle of the book.
@@ -25,16 +25,19 @@ found(name, key, reason) AS (
   SELECT 'station', id, 'id isn''t 1' FROM station WHERE id <> 1
   UNION ALL SELECT 'station', id, 'airport isn''t three letters' FROM station
     WHERE airport NOT GLOB '[A-Z][A-Z][A-Z]'
-  UNION ALL SELECT 'station', id, 'version isn''t 1' FROM station WHERE version <> 1
-  UNION ALL SELECT 'waybill', awb, 'no waybill number' FROM waybill WHERE awb NOT BETWEEN 0 AND 9999999999
-  UNION ALL SELECT 'waybill', awb, 'pieces aren''t 1 to 9999' FROM waybill WHERE pieces NOT BETWEEN 1 AND 9999
-  UNION ALL SELECT 'waybill', awb, 'tenths aren''t one a piece to 999999' FROM waybill
+  UNION ALL SELECT 'station', id, 'version isn''t 2' FROM station WHERE version <> 2
+  UNION ALL SELECT 'waybill', awb, 'a file of version 2 has no row here' FROM waybill
+  UNION ALL SELECT 'waybill2', awb, 'no waybill number' FROM waybill2 WHERE awb NOT BETWEEN 0 AND 9999999999
+  UNION ALL SELECT 'waybill2', awb, 'pieces aren''t 1 to 9999' FROM waybill2 WHERE pieces NOT BETWEEN 1 AND 9999
+  UNION ALL SELECT 'waybill2', awb, 'tenths aren''t one a piece to 999999' FROM waybill2
     WHERE tenths NOT BETWEEN pieces AND 999999
-  UNION ALL SELECT 'waybill', awb, 'origin or destination isn''t three letters' FROM waybill
+  UNION ALL SELECT 'waybill2', awb, 'origin or destination isn''t three letters' FROM waybill2
     WHERE origin NOT GLOB '[A-Z][A-Z][A-Z]' OR destination NOT GLOB '[A-Z][A-Z][A-Z]'
-  UNION ALL SELECT 'waybill', awb, 'goods have more than 15 characters, or end in a blank' FROM waybill
+  UNION ALL SELECT 'waybill2', awb, 'goods have more than 15 characters, or end in a blank' FROM waybill2
     WHERE length(goods) > 15 OR goods GLOB '* '
-  UNION ALL SELECT 'waybill', awb, 'notified isn''t 0 or 1' FROM waybill WHERE notified NOT IN (0, 1)
+  UNION ALL SELECT 'waybill2', awb, 'notified isn''t 0 or 1' FROM waybill2 WHERE notified NOT IN (0, 1)
+  UNION ALL SELECT 'waybill2', awb, 'since isn''t 0 or a day from 2000-01-01 to 2099-12-31' FROM waybill2
+    WHERE since <> 0 AND since NOT BETWEEN 10957 AND 47481
   UNION ALL SELECT 'stock', prefix || '/' || low, 'prefix, low or high is out of range' FROM stock
     WHERE prefix NOT BETWEEN 0 AND 999 OR low < 0 OR high > 9999999 OR low > high
   UNION ALL SELECT 'stock', prefix || '/' || low, 'no holder, or an agent that doesn''t fit it' FROM stock
@@ -46,7 +49,7 @@ found(name, key, reason) AS (
       FROM stock)
     WHERE before >= low
   UNION ALL SELECT 'stock', s.prefix || '/' || s.low, 'used numbers that aren''t declared' FROM stock s
-    WHERE s.holder = 2 AND s.high - s.low + 1 <> (SELECT count(*) FROM waybill w
+    WHERE s.holder = 2 AND s.high - s.low + 1 <> (SELECT count(*) FROM waybill2 w
       WHERE w.awb BETWEEN s.prefix * 10000000 + s.low AND s.prefix * 10000000 + s.high)
   UNION ALL SELECT 'flight', flight || '/' || day, 'it is unloaded here' FROM flight
     WHERE unload = (SELECT airport FROM station)
@@ -56,7 +59,7 @@ found(name, key, reason) AS (
   UNION ALL SELECT 'moves', number, 'its number isn''t its place in the book' FROM (
       SELECT number, row_number() OVER (ORDER BY number) AS place FROM moves)
     WHERE place <> number
-  UNION ALL SELECT 'moves', number, 'the waybill isn''t declared' FROM moves WHERE awb NOT IN (SELECT awb FROM waybill)
+  UNION ALL SELECT 'moves', number, 'the waybill isn''t declared' FROM moves WHERE awb NOT IN (SELECT awb FROM waybill2)
   UNION ALL SELECT 'moves', number, 'no move goes from ' || src || ' to ' || dst FROM moves
     WHERE (src, dst) NOT IN (VALUES (0,2),(0,6),(1,2),(2,3),(3,2),(3,4),(2,5),(2,6),(6,2),(2,7))
   UNION ALL SELECT 'moves', number, 'pieces or tenths are out of range' FROM moves
@@ -68,13 +71,13 @@ found(name, key, reason) AS (
   UNION ALL SELECT 'moves', m.number, 'it builds on a flight that had departed' FROM moves m
     JOIN departed d ON m.flight = d.flight AND m.fday = d.day AND m.dst = 3 AND m.number > d.last
   UNION ALL SELECT 'expected', flight || '/' || day || '/' || awb, 'the waybill isn''t declared' FROM expected
-    WHERE awb NOT IN (SELECT awb FROM waybill)
+    WHERE awb NOT IN (SELECT awb FROM waybill2)
   UNION ALL SELECT 'expected', flight || '/' || day || '/' || awb, 'pieces, tenths or checked are out of range'
     FROM expected WHERE pieces NOT BETWEEN 1 AND 9999 OR tenths NOT BETWEEN pieces AND 999999 OR checked NOT IN (0, 1)
   UNION ALL SELECT 'trail', number, 'its number isn''t its place' FROM (
       SELECT number, row_number() OVER (ORDER BY number) AS place FROM trail)
     WHERE place <> number
-  UNION ALL SELECT 'trail', number, 'the waybill isn''t declared' FROM trail WHERE awb NOT IN (SELECT awb FROM waybill)
+  UNION ALL SELECT 'trail', number, 'the waybill isn''t declared' FROM trail WHERE awb NOT IN (SELECT awb FROM waybill2)
   UNION ALL SELECT 'outbox', number, 'its number isn''t its place' FROM (
       SELECT number, row_number() OVER (ORDER BY number) AS place FROM outbox)
     WHERE place <> number

@@ -4,4 +4,4 @@ SELECT printf('%03d-%07d%d', c.awb / 10000000, c.awb % 10000000, c.awb % 1000000
   CASE WHEN destination = (SELECT airport FROM station) THEN iif(notified, 'notified', 'to notify')
     ELSE 'outbound' END AS next,
   goods
-FROM counts c JOIN waybill w ON w.awb = c.awb WHERE place = 2 ORDER BY c.awb;
+FROM counts c JOIN waybill2 w ON w.awb = c.awb WHERE place = 2 ORDER BY c.awb;

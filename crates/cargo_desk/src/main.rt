@@ -108,8 +108,9 @@ fn refuse_call(rt: &HostRuntime, error: &io::Error) -> u8 {
     faulted(rt, RunFault::Memory)
 }
 
-/// The status is 0; 1 where something was refused or is unknown, or a row or a body was bad; 2 for other words; 3 at a fault; 4 where there is no
-/// station in the file, or `init` finds one.
+/// The status is 0; 1 where something was refused or is unknown, or a row or a body was bad; 2 for
+/// other words; 3 at a fault; 4 where the file has no station that the command can use, or `init`
+/// finds something in it.
 fn main(rt: HostRuntime) -> ExitCode {
     let status = match words_of(&rt) {
         Ok(words) => run_words(&rt, words.as_slice()),

@@ -16,41 +16,42 @@ use Rattle.row_schema.specs.Schema.{station_schema}
 -- ---- waybill
 
 abbrev pub waybill_terms : List Term
-waybill_terms = col 0 0 ∷ lit Null ∷ col 0 1 ∷ col 0 2 ∷ col 0 3 ∷ col 0 4 ∷ col 0 5 ∷ col 0 6 ∷ []
+waybill_terms = col 0 0 ∷ lit Null ∷ col 0 1 ∷ col 0 2 ∷ col 0 3 ∷ col 0 4 ∷ col 0 5 ∷ col 0 6 ∷ col 0 7
+    ∷ []
 
 abbrev pub waybill_key_is : List Term
 waybill_key_is = op2 (Compare Eq Binary) (col 1 0) (col 0 0) ∷ []
 
 abbrev pub waybill_columns : List Term
-waybill_columns = col 1 0 ∷ col 1 2 ∷ col 1 3 ∷ col 1 4 ∷ col 1 5 ∷ col 1 6 ∷ col 1 7 ∷ []
+waybill_columns = col 1 0 ∷ col 1 2 ∷ col 1 3 ∷ col 1 4 ∷ col 1 5 ∷ col 1 6 ∷ col 1 7 ∷ col 1 8 ∷ []
 
 abbrev pub waybill_names : List (List ℕ)
 waybill_names = codes "awb" ∷ codes "origin" ∷ codes "destination" ∷ codes "pieces" ∷ codes "tenths"
-    ∷ codes "goods" ∷ codes "notified" ∷ []
+    ∷ codes "goods" ∷ codes "notified" ∷ codes "since" ∷ []
 
 abbrev pub insert_waybill_text : List ℕ
-insert_waybill_text = codes "INSERT INTO waybill (awb, origin, destination, pieces, tenths, goods, notified) VALUES (?1, ?2, ?3, ?4, ?5, ?6, ?7)"
+insert_waybill_text = codes "INSERT INTO waybill2 (awb, origin, destination, pieces, tenths, goods, notified, since) VALUES (?1, ?2, ?3, ?4, ?5, ?6, ?7, ?8)"
 
-pub insert_waybill_is : Means station_schema insert_waybill_text (Insert 1 (Values waybill_terms 8))
+pub insert_waybill_is : Means station_schema insert_waybill_text (Insert 13 (Values waybill_terms 9))
 unfolding understood everything
 insert_waybill_is = (refl, (refl, refl))
 
 abbrev pub update_waybill_text : List ℕ
-update_waybill_text = codes "UPDATE waybill SET origin = ?2, destination = ?3, pieces = ?4, tenths = ?5, goods = ?6, notified = ?7 WHERE awb = ?1"
+update_waybill_text = codes "UPDATE waybill2 SET origin = ?2, destination = ?3, pieces = ?4, tenths = ?5, goods = ?6, notified = ?7, since = ?8 WHERE awb = ?1"
 
 -- the old rowid, and the whole new row
 abbrev pub update_waybill_terms : List Term
 update_waybill_terms = col 1 0 ∷ col 1 0 ∷ lit Null ∷ col 0 1 ∷ col 0 2 ∷ col 0 3 ∷ col 0 4 ∷ col 0 5
-    ∷ col 0 6 ∷ []
+    ∷ col 0 6 ∷ col 0 7 ∷ []
 
-pub update_waybill_is : Means station_schema update_waybill_text (Update 1 (asks (one_table 1 waybill_key_is update_waybill_terms [])))
+pub update_waybill_is : Means station_schema update_waybill_text (Update 13 (asks (one_table 22 waybill_key_is update_waybill_terms [])))
 unfolding understood everything
 update_waybill_is = (refl, (refl, refl))
 
 abbrev pub get_waybill_text : List ℕ
-get_waybill_text = codes "SELECT awb, origin, destination, pieces, tenths, goods, notified FROM waybill WHERE awb = ?1"
+get_waybill_text = codes "SELECT awb, origin, destination, pieces, tenths, goods, notified, since FROM waybill2 WHERE awb = ?1"
 
-pub get_waybill_is : Asks station_schema get_waybill_text (one_table 1 waybill_key_is waybill_columns []) waybill_names
+pub get_waybill_is : Asks station_schema get_waybill_text (one_table 22 waybill_key_is waybill_columns []) waybill_names
 unfolding understood everything
 get_waybill_is = (refl, (refl, refl), refl)
 

@@ -25,6 +25,7 @@ waybill_meant row = record {
   tenths = row.tenths;
   goods = string_bytes row.goods;
   notified = row.notified;
+  since = row.since;
 }
 
 abbrev pub with_waybill : Waybill → Tables → Tables

@@ -7,7 +7,7 @@ use Rattle.row_schema.specs.Tables.{Build, BuildKey, Count, CountKey, Expected, 
 
 abbrev pub waybill_shown : Waybill → Row
 waybill_shown w = Int w.awb ∷ Text w.origin ∷ Text w.destination ∷ Int w.pieces ∷ Int w.tenths
-    ∷ Text w.goods ∷ Int w.notified ∷ []
+    ∷ Text w.goods ∷ Int w.notified ∷ Int w.since ∷ []
 
 abbrev pub waybill_read : Row → Waybill
 waybill_read r = record {
@@ -18,6 +18,7 @@ waybill_read r = record {
   tenths = int_of (column r 4);
   goods = bytes_of (column r 5);
   notified = int_of (column r 6);
+  since = int_of (column r 7);
 }
 
 abbrev pub flight_shown : Flight → Row

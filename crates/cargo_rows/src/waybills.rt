@@ -7,7 +7,7 @@ ghost use Rattle.cargo_rows.specs.Meant.{changing_waybill, waybill_meant, with_w
 
 use sqlite::{Alter, Connection, Error, Row, params};
 
-/// A row of `waybill`: what is declared of a waybill.
+/// A row of `waybill2`: what is declared of a waybill.
 #[derive(Debug, Drop)]
 pub struct WaybillRow {
     /// The waybill's number, prefix and serial in one. It is the key.
@@ -24,6 +24,8 @@ pub struct WaybillRow {
     pub goods: String,
     /// 1 where the consignee was notified, else 0.
     pub notified: i64,
+    /// The day on which it was last declared, or 0 where none is known.
+    pub since: i64,
 }
 
 /// Adds a waybill, whose number must be free. It fails where the key is taken or the database call fails, and
@@ -33,7 +35,7 @@ pub fn insert_waybill<S: Alter>(conn: &mut Connection<S>, row: &WaybillRow) -> R
     ensures survives { CommitsNothing S.Store conn.old conn.new }
 {
     conn.execute(
-        "INSERT INTO waybill (awb, origin, destination, pieces, tenths, goods, notified) VALUES (?1, ?2, ?3, ?4, ?5, ?6, ?7)",
+        "INSERT INTO waybill2 (awb, origin, destination, pieces, tenths, goods, notified, since) VALUES (?1, ?2, ?3, ?4, ?5, ?6, ?7, ?8)",
         params![
             &row.awb,
             &row.origin,
@@ -41,7 +43,8 @@ pub fn insert_waybill<S: Alter>(conn: &mut Connection<S>, row: &WaybillRow) -> R
             &row.pieces,
             &row.tenths,
             &row.goods,
-            &row.notified
+            &row.notified,
+            &row.since
         ],
     )
 }
@@ -54,7 +57,7 @@ pub fn update_waybill<S: Alter>(conn: &mut Connection<S>, row: &WaybillRow) -> R
     ensures survives { CommitsNothing S.Store conn.old conn.new }
 {
     conn.execute(
-        "UPDATE waybill SET origin = ?2, destination = ?3, pieces = ?4, tenths = ?5, goods = ?6, notified = ?7 WHERE awb = ?1",
+        "UPDATE waybill2 SET origin = ?2, destination = ?3, pieces = ?4, tenths = ?5, goods = ?6, notified = ?7, since = ?8 WHERE awb = ?1",
         params![
             &row.awb,
             &row.origin,
@@ -62,7 +65,8 @@ pub fn update_waybill<S: Alter>(conn: &mut Connection<S>, row: &WaybillRow) -> R
             &row.pieces,
             &row.tenths,
             &row.goods,
-            &row.notified
+            &row.notified,
+            &row.since
         ],
     )
 }
@@ -74,7 +78,7 @@ fn shown_waybill<S: Alter>(conn: &mut Connection<S>, awb: i64) -> Result<Vec<Row
     ensures survives { LeavesAll S.Store conn.old conn.new }
 {
     conn.query_all(
-        "SELECT awb, origin, destination, pieces, tenths, goods, notified FROM waybill WHERE awb = ?1",
+        "SELECT awb, origin, destination, pieces, tenths, goods, notified, since FROM waybill2 WHERE awb = ?1",
         params![&awb],
     )
 }
@@ -90,6 +94,7 @@ fn read_waybill(row: &Row) -> Result<WaybillRow, Error>
         tenths: row.get(4)?,
         goods: row.get(5)?,
         notified: row.get(6)?,
+        since: row.get(7)?,
     })
 }
 

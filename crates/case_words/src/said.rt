@@ -1,5 +1,7 @@
 //! What answers are made of.
 use agent_stock::{Holder, StockRun};
+use desk_commands::day_text;
+use imp_fields::LocalDay;
 use shipment_machine::Amount;
 use station_core::Waybill;
 use std::alloc::Global;
@@ -55,7 +57,15 @@ fn amount_said(alloc: Global, amount: &Amount) -> Option<String> {
     format!(in alloc; "{} at {}", amount.pieces, amount.tenths).ok()
 }
 
-/// What came of a waybill: what was taken over and found, and where that is.
+/// The day of a declaration, as `2026-01-12`, or that there is none.
+fn since_said(alloc: Global, since: Option<LocalDay>) -> Option<String> {
+    match since {
+        Some(day) => say(alloc, shown(&day_text(day))),
+        None => say(alloc, "none"),
+    }
+}
+
+/// What came of a waybill: what was taken over and found, where that is, and when it was declared.
 fn waybill_said(alloc: Global, waybill: &Waybill) -> Option<String> {
     let taken = amount_said(alloc, &waybill.taken)?;
     let found = amount_said(alloc, &waybill.found)?;
@@ -64,8 +74,9 @@ fn waybill_said(alloc: Global, waybill: &Waybill) -> Option<String> {
     let delivered = amount_said(alloc, &waybill.delivered)?;
     let missing = amount_said(alloc, &waybill.missing)?;
     let transferred = amount_said(alloc, &waybill.transferred)?;
+    let since = since_said(alloc, waybill.declared.since)?;
     format!(in alloc;
-        "taken {taken}, found {found}, store {store}, departed {departed}, delivered {delivered}, missing {missing}, transferred {transferred}"
+        "taken {taken}, found {found}, store {store}, departed {departed}, delivered {delivered}, missing {missing}, transferred {transferred}, since {since}"
     ).ok()
 }
 

@@ -9,6 +9,6 @@ mod order;
 mod schema;
 mod tables;
 
-pub use connection::has_station;
+pub use connection::{has_station, shows_old_station};
 pub use order::{files_lie_in_order, memory_lies_in_order};
 pub use schema::is_declared;

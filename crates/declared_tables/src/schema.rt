@@ -1,17 +1,17 @@
 ghost use Rattle.std.specs.Prelude.{◌≡◌, [], ◌∷◌, true, false, IsTrue};
-ghost use Rattle.row_schema.specs.Schema.{station_schema, station, waybill, stock, flight, moves, expected, part, trail, outbox, kept_key, kept_text, counts, build};
+ghost use Rattle.row_schema.specs.Schema.{station_schema, station, waybill, waybill2, stock, flight, moves, expected, part, trail, outbox, kept_key, kept_text, counts, build};
 
 use crate::indexes::are_indexes;
 use crate::tables::{
     is_build, is_counts, is_expected, is_flight, is_kept_key, is_kept_text, is_moves, is_outbox,
-    is_part, is_station, is_stock, is_trail, is_waybill,
+    is_part, is_station, is_stock, is_trail, is_waybill, is_waybill2,
 };
 use sqlite_schema::schema::{Schema, Table};
 
 /// Whether these are the tables of a station, in the order in which it makes them.
 fn are_tables(tables: &[Table]) -> bool
-    ensures on { IsTrue result → tables.now ≡ station ∷ waybill ∷ stock ∷ flight ∷ moves ∷ expected ∷ part ∷ trail ∷ outbox ∷ kept_key ∷ kept_text ∷ counts ∷ build ∷ [] }
-    ensures back { tables.now ≡ station ∷ waybill ∷ stock ∷ flight ∷ moves ∷ expected ∷ part ∷ trail ∷ outbox ∷ kept_key ∷ kept_text ∷ counts ∷ build ∷ [] → result ≡ true }
+    ensures on { IsTrue result → tables.now ≡ station ∷ waybill ∷ stock ∷ flight ∷ moves ∷ expected ∷ part ∷ trail ∷ outbox ∷ kept_key ∷ kept_text ∷ counts ∷ build ∷ waybill2 ∷ [] }
+    ensures back { tables.now ≡ station ∷ waybill ∷ stock ∷ flight ∷ moves ∷ expected ∷ part ∷ trail ∷ outbox ∷ kept_key ∷ kept_text ∷ counts ∷ build ∷ waybill2 ∷ [] → result ≡ true }
 {
     match tables {
         [station, waybill, stock, flight, moves, rest @ ..] => {
@@ -28,8 +28,8 @@ fn are_tables(tables: &[Table]) -> bool
 
 /// Whether these are the tables of a station behind `moves`.
 fn are_later_tables(tables: &[Table]) -> bool
-    ensures on { IsTrue result → tables.now ≡ expected ∷ part ∷ trail ∷ outbox ∷ kept_key ∷ kept_text ∷ counts ∷ build ∷ [] }
-    ensures back { tables.now ≡ expected ∷ part ∷ trail ∷ outbox ∷ kept_key ∷ kept_text ∷ counts ∷ build ∷ [] → result ≡ true }
+    ensures on { IsTrue result → tables.now ≡ expected ∷ part ∷ trail ∷ outbox ∷ kept_key ∷ kept_text ∷ counts ∷ build ∷ waybill2 ∷ [] }
+    ensures back { tables.now ≡ expected ∷ part ∷ trail ∷ outbox ∷ kept_key ∷ kept_text ∷ counts ∷ build ∷ waybill2 ∷ [] → result ≡ true }
 {
     match tables {
         [expected, part, trail, outbox, rest @ ..] => {
@@ -45,18 +45,22 @@ fn are_later_tables(tables: &[Table]) -> bool
 
 /// Whether these are the last tables of a station.
 fn are_last_tables(tables: &[Table]) -> bool
-    ensures on { IsTrue result → tables.now ≡ kept_key ∷ kept_text ∷ counts ∷ build ∷ [] }
-    ensures back { tables.now ≡ kept_key ∷ kept_text ∷ counts ∷ build ∷ [] → result ≡ true }
+    ensures on { IsTrue result → tables.now ≡ kept_key ∷ kept_text ∷ counts ∷ build ∷ waybill2 ∷ [] }
+    ensures back { tables.now ≡ kept_key ∷ kept_text ∷ counts ∷ build ∷ waybill2 ∷ [] → result ≡ true }
 {
     match tables {
-        [kept_key, kept_text, counts, build] => {
-            is_kept_key(kept_key) && is_kept_text(kept_text) && is_counts(counts) && is_build(build)
+        [kept_key, kept_text, counts, build, waybill2] => {
+            is_kept_key(kept_key)
+                && is_kept_text(kept_text)
+                && is_counts(counts)
+                && is_build(build)
+                && is_waybill2(waybill2)
         }
         _ => false,
     }
 }
 
-/// Whether the schema is that of a new station: its thirteen tables and their indexes, each with the columns,
+/// Whether the schema is that of a new station: its fourteen tables and their indexes, each with the columns,
 /// keys and number that a new station gives it, and nothing else.
 pub fn is_declared(schema: &Schema) -> bool
     ensures on { IsTrue result → schema.now ≡ station_schema }

@@ -1,7 +1,7 @@
 ghost use Rattle.std.specs.Prelude.{◌≡◌, [], ◌∷◌, Some, None, true, false, map, IsTrue};
 ghost use Rattle.sqlite_value.specs.Keys.{plain};
 ghost use Rattle.sqlite.specs.Kind.TheVariants.{Integer};
-ghost use Rattle.row_schema.specs.Schema.{key_column, keyed_table, table_by, station, waybill, stock, flight, moves, expected, part, trail, outbox, kept_key, kept_text, counts, build};
+ghost use Rattle.row_schema.specs.Schema.{key_column, keyed_table, table_by, station, waybill, waybill2, stock, flight, moves, expected, part, trail, outbox, kept_key, kept_text, counts, build};
 ghost use Rattle.declared_tables.specs.Wanted.{column_as};
 
 use crate::columns::{are_columns, is_key};
@@ -166,6 +166,28 @@ pub(crate) fn is_waybill(table: &Table) -> bool
             ("tenths", Kind::Integer),
             ("goods", Kind::Text),
             ("notified", Kind::Integer),
+        ],
+    )
+}
+
+/// Whether the table is `waybill2` as a new station has it.
+pub(crate) fn is_waybill2(table: &Table) -> bool
+    ensures on { IsTrue result → table.now ≡ waybill2 }
+    ensures back { table.now ≡ waybill2 → result ≡ true }
+{
+    is_keyed_table(
+        table,
+        22,
+        "waybill2",
+        "awb",
+        &[
+            ("origin", Kind::Text),
+            ("destination", Kind::Text),
+            ("pieces", Kind::Integer),
+            ("tenths", Kind::Integer),
+            ("goods", Kind::Text),
+            ("notified", Kind::Integer),
+            ("since", Kind::Integer),
         ],
     )
 }

@@ -47,6 +47,7 @@ fn declared(origin: Airport, destination: Airport) -> Option<Declared> {
         tenths: BookTenths::new(1000)?,
         goods: Goods::read(b"MACHINE PARTS")?,
         notified: false,
+        since: None,
     })
 }
 

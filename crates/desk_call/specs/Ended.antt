@@ -1,5 +1,5 @@
 -- How a call of the program ends.
-use Rattle.std.specs.Prelude.{ℕ, Bool, true, false, List, ◌++◌, codes, Result, Ok, Err}
+use Rattle.std.specs.Prelude.{◌≡◌, ℕ, Bool, true, false, List, ◌++◌, codes, Result, Ok, Err, IfErr, OnOk}
 use Rattle.std.specs.Fmt.{signed_decimal}
 use Rattle.lawful_tables.specs.Names.{name_text}
 use Rattle.station_core.specs.Given.{Given}
@@ -54,3 +54,17 @@ status_of (Ok true) = 0
 status_of (Ok false) = 1
 status_of (Err (fault.Attach e)) = attach_status e
 status_of (Err e) = 3
+
+-- how a run that was reported has ended: its status, and the line of its fault where it stopped
+pub record HasToldEnd {E : Type 0} (taken : E → Given) (ended : Result Bool RunFault) (errors_old errors_new : E) (status : ℕ) : Type 0 where
+  pub status_is : status ≡ status_of (run_ended ended)
+  pub told : IfErr ended (λ e. HasTold (fault.Run e) (taken errors_old) (taken errors_new))
+  pub silent : OnOk ended (errors_new ≡ errors_old)
+
+-- There is no station, and the fault is reported. Nothing was read or printed, and the connection comes back as it came with the fault.
+pub record HasNoStation {C I W : Type 0} (none : C × AttachFault) (read_old read_new : I) (output_old output_new : W) (told_old told_new : Given) (result : ℕ × C) : Type 0 where
+  pub unread : read_new ≡ read_old
+  pub unprinted : output_new ≡ output_old
+  pub told : HasTold (fault.Attach none.1) told_old told_new
+  pub status : result.0 ≡ attach_status none.1
+  pub conn : result.1 ≡ none.0

@@ -42,7 +42,7 @@ pub record HasFound {S : Type 0} (g : Ghosts S) (keeps : Station S g → State �
   pub inside : (connection_view g conn).in_transaction ≡ true → opened ≡ Err (conn, fault.Store)
   pub works : IfOk opened (λ station. is_broken station ≡ false)
   pub sound : IfOk opened (λ station. is_sound station → (connection_view g conn).IsSound)
-  -- the tables are a station's, all of them lawful, and it keeps the state that they mean
+  -- the tables are a station's of version 2, all of them lawful, and it keeps the state that they mean
   pub found : IfOk opened (λ station. HasCleanDisk (state g (connection_in station)) → (s : State) × IsStateIn (state g conn).now s × keeps station s)
   pub own : IfOk opened (λ station. HasCleanDisk (state g (connection_in station)) → IsOwn (state g conn).now.trees → are_declared station.stored.store.store ≡ true)
   pub typed : IfOk opened (λ station. is_sound station → (s : State) → IsStateIn (state g conn).now s → IsTypedState (state g conn).now s)

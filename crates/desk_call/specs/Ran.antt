@@ -1,5 +1,5 @@
 -- What a call of the program leaves.
-use Rattle.std.specs.Prelude.{◌≡◌, ℕ, Bool, false, Option, Result, Ok, Err, IfErr, OnOk, List}
+use Rattle.std.specs.Prelude.{◌≡◌, ℕ, Bool, true, false, Option, Result, Ok, Err, OnOk, List}
 use Rattle.sqlite.specs.Held.{Held}
 use Rattle.sqlite_trees.specs.declared.store.Store.{Ghosts}
 use Rattle.imp_fields.specs.Date.{LocalMinute}
@@ -16,17 +16,9 @@ use Rattle.stock_list.specs.declared.answer.RunFault.{RunFault}
 use Rattle.desk_words.specs.declared.line.Line.{Line}
 use Rattle.desk_run.specs.Done.{HasDone}
 use Rattle.desk_run.specs.Place.{here_of, is_new}
-use Rattle.desk_call.specs.declared.ended.DeskFault.TheVariants as fault
-use Rattle.desk_call.specs.Ended.{attach_status, run_ended, status_of, HasTold}
+use Rattle.desk_call.specs.Ended.{HasNoStation, HasToldEnd}
+use Rattle.desk_call.specs.Migrated.{HasMigrated}
 use Rattle.desk_call.specs.Opened.{HasOpened}
-
--- There is no station, and the fault is reported. Nothing was read or printed, and the connection comes back as it came with the fault.
-pub record HasNoStation {C I W : Type 0} (none : C × AttachFault) (read_old read_new : I) (output_old output_new : W) (told_old told_new : Given) (result : ℕ × C) : Type 0 where
-  pub unread : read_new ≡ read_old
-  pub unprinted : output_new ≡ output_old
-  pub told : HasTold (fault.Attach none.1) told_old told_new
-  pub status : result.0 ≡ attach_status none.1
-  pub conn : result.1 ≡ none.0
 
 -- A station gave its connection back: what `release` says of it.
 pub record HasReleased {S : Type 0} {g : Ghosts S} (keeps : Station S g → State → Type 0) (is_sound : Station S g → Type 0)
@@ -34,12 +26,6 @@ pub record HasReleased {S : Type 0} {g : Ghosts S} (keeps : Station S g → Stat
   pub leaves : (connection_view g conn).IsSound → (found : Option State) → Finds (connection_view g conn) found → may_find station found
   pub sound : (rows_view g conn (are_declared station.stored.store.store)).IsSound → is_sound station
   pub shown : (s : State) → keeps station s → IfGivenBack (rows_view g conn (are_declared station.stored.store.store)) s
-
--- how a run that was reported has ended: its status, and the line of its fault where it stopped
-pub record HasToldEnd {E : Type 0} (taken : E → Given) (ended : Result Bool RunFault) (errors_old errors_new : E) (status : ℕ) : Type 0 where
-  pub status_is : status ≡ status_of (run_ended ended)
-  pub told : IfErr ended (λ e. HasTold (fault.Run e) (taken errors_old) (taken errors_new))
-  pub silent : OnOk ended (errors_new ≡ errors_old)
 
 -- The line's command ran over its station, how it ended was reported, and the station gave its connection back.
 pub record HasRunLine {S E : Type 0} {g : Ghosts S} (line : Line) (keeps : Station S g → State → Type 0) (is_sound : Station S g → Type 0) (is_broken : Station S g → Bool)
@@ -63,9 +49,23 @@ HasEndedCall line keeps is_sound is_broken may_find at remaining given printed t
     HasNoStation none read_old read_new output_old output_new (told errors_old) (told errors_new) result
 
 -- A line's call over a connection: its station was opened, or there is none; then its command ran, or that was reported.
-pub record HasCalled {S I W E : Type 0} (g : Ghosts S) (line : Line) (keeps : Station S g → State → Type 0) (is_sound : Station S g → Type 0) (is_broken : Station S g → Bool)
+pub record HasCalledStation {S I W E : Type 0} (g : Ghosts S) (line : Line) (keeps : Station S g → State → Type 0) (is_sound : Station S g → Type 0) (is_broken : Station S g → Bool)
     (may_find : Station S g → Option State → Type 0) (at : LocalMinute) (remaining : I → Option (List ℕ)) (given : I → Given) (printed : W → Given) (told : E → Given)
     (conn : Held S) (read_old read_new : I) (output_old output_new : W) (errors_old errors_new : E) (result : ℕ × Held S) : Type 0 where
   pub opened : Result (Station S g) (Held S × AttachFault)
   pub opens : HasOpened g keeps is_sound is_broken (is_new line.db line.command) conn (here_of line.station) opened
   pub ended : HasEndedCall line keeps is_sound is_broken may_find at remaining given printed told opened read_old read_new output_old output_new errors_old errors_new result
+
+-- A line's call over a connection: a migration of its file, or a command over its station.
+abbrev pub HasCalled : {S I W E : Type 0} → (g : Ghosts S) → Bool → Line
+    → (Station S g → State → Type 0) → (Station S g → Type 0) → (Station S g → Bool)
+    → (Station S g → Option State → Type 0) → LocalMinute → (I → Option (List ℕ)) → (I → Given)
+    → (W → Given) → (E → Given) → Held S → I → I → W → W → E → E → ℕ × Held S → Type 0
+HasCalled g true line keeps is_sound is_broken may_find at remaining given printed told conn
+    read_old read_new output_old output_new errors_old errors_new result =
+    HasMigrated g printed told conn read_old read_new output_old output_new
+    errors_old errors_new result
+HasCalled g false line keeps is_sound is_broken may_find at remaining given printed told conn
+    read_old read_new output_old output_new errors_old errors_new result =
+    HasCalledStation g line keeps is_sound is_broken may_find at remaining given printed told conn
+    read_old read_new output_old output_new errors_old errors_new result

@@ -1,10 +1,11 @@
 //! How a call ends.
 ghost use Rattle.std.specs.Prelude.{◌≡◌, ◌++◌, ◌∷◌, [], IfErr, OnOk};
-ghost use Rattle.desk_call.specs.Ended.{attach_status, run_ended, run_line, status_of, HasTold};
+ghost use Rattle.desk_call.specs.Ended.{attach_status, run_ended, run_line, status_of, HasNoStation, HasTold, HasToldEnd};
 ghost use Rattle.desk_run.specs.Sent.{HasSent};
 
 use desk_run::{send_part, send_word};
 use itoa::Buffer;
+use sqlite::{Alter, Connection};
 use station_core::ByteOut;
 use station_tables::AttachFault;
 use stock_list::RunFault;
@@ -21,7 +22,7 @@ pub enum DeskFault {
 }
 
 /// How a call ends where its run does.
-pub(crate) fn run_ended(ended: Result<bool, RunFault>) -> Result<bool, DeskFault>
+fn run_ended(ended: Result<bool, RunFault>) -> Result<bool, DeskFault>
     ensures { result ≡ run_ended ended }
 {
     match ended {
@@ -115,4 +116,24 @@ pub fn end<E: ByteOut>(errors: &mut E, ended: Result<bool, DeskFault>) -> u8
         tell(errors, fault);
     }
     status_of(ended)
+}
+
+/// Ends a call whose command ran.
+pub(crate) fn end_run<E: ByteOut>(errors: &mut E, ended: Result<bool, RunFault>) -> u8
+    ensures { HasToldEnd E.taken ended errors.old errors.new result }
+{
+    end(errors, run_ended(ended))
+}
+
+/// Tells why there is no station, and gives the connection back.
+pub(crate) fn refuse_line<S: Alter, I, W, E: ByteOut>(
+    _reader: &mut I,
+    _output: &mut W,
+    errors: &mut E,
+    none: (Connection<S>, AttachFault),
+) -> (u8, Connection<S>)
+    ensures { HasNoStation none _reader.old _reader.new _output.old _output.new (E.taken errors.old) (E.taken errors.new) result }
+{
+    let (conn, fault) = none;
+    (end(errors, Err(DeskFault::Attach(fault))), conn)
 }

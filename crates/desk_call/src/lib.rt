@@ -2,6 +2,7 @@
 #![tactic(auto)]
 
 mod ended;
+mod migrating;
 mod opening;
 mod run;
 mod version;

@@ -1,10 +1,12 @@
 //! A line over a connection.
 ghost use Rattle.std.specs.Prelude.{◌≡◌};
-ghost use Rattle.desk_call.specs.Ran.{HasCalled, HasEndedCall, HasNoStation, HasReleased, HasRunLine, HasToldEnd};
+ghost use Rattle.desk_run.specs.Place.{is_migration};
+ghost use Rattle.desk_call.specs.Ran.{HasCalled, HasCalledStation, HasEndedCall, HasReleased, HasRunLine};
 
-use crate::ended::{DeskFault, end, run_ended};
+use crate::ended::{end_run, refuse_line};
+use crate::migrating::run_migrate;
 use crate::opening::open_station;
-use desk_run::run_over;
+use desk_run::{is_migration, run_over};
 use desk_words::Line;
 use imp_fields::Moment;
 use sqlite::{Alter, Connection};
@@ -12,14 +14,7 @@ use station_core::{ByteIn, ByteOut, Keeper};
 use station_tables::{AttachFault, Station};
 use std::alloc::Global;
 use std::io::Read;
-use stock_list::{RunFault, Watched};
-
-/// Ends a call whose command ran.
-fn end_run<E: ByteOut>(errors: &mut E, ended: Result<bool, RunFault>) -> u8
-    ensures { HasToldEnd E.taken ended errors.old errors.new result }
-{
-    end(errors, run_ended(ended))
-}
+use stock_list::Watched;
 
 /// Gives the connection of a station back.
 fn give_back<S: Alter>(station: Station<S>) -> Connection<S>
@@ -46,19 +41,6 @@ fn run_station<S: Alter, I: Watched + Read, W: ByteOut, E: ByteOut>(
     (status, give_back(station))
 }
 
-/// Tells why there is no station, and gives the connection back.
-fn refuse_line<S: Alter, I, W, E: ByteOut>(
-    _reader: &mut I,
-    _output: &mut W,
-    errors: &mut E,
-    none: (Connection<S>, AttachFault),
-) -> (u8, Connection<S>)
-    ensures { HasNoStation none _reader.old _reader.new _output.old _output.new (E.taken errors.old) (E.taken errors.new) result }
-{
-    let (conn, fault) = none;
-    (end(errors, Err(DeskFault::Attach(fault))), conn)
-}
-
 /// Runs a line over its station, or reports why there is none.
 fn run_opened<S: Alter, I: Watched + Read, W: ByteOut, E: ByteOut>(
     alloc: Global,
@@ -78,9 +60,30 @@ fn run_opened<S: Alter, I: Watched + Read, W: ByteOut, E: ByteOut>(
     }
 }
 
+/// Runs a line's command over the station of a connection, or reports why there is none.
+fn call_station<S: Alter, I: Watched + Read, W: ByteOut, E: ByteOut>(
+    alloc: Global,
+    line: &Line<'_>,
+    conn: Connection<S>,
+    reader: &mut I,
+    output: &mut W,
+    errors: &mut E,
+    at: Moment,
+) -> (u8, Connection<S>)
+    ensures { HasCalledStation S.Store line.now ⟦<Station<S> as Keeper>⟧.keeps
+        ⟦<Station<S> as Keeper>⟧.is_sound ⟦<Station<S> as Keeper>⟧.is_broken
+        ⟦<Station<S> as Keeper>⟧.may_find at I.remaining I.given W.taken E.taken conn
+        reader.old reader.new output.old output.new errors.old errors.new result }
+{
+    let opened = open_station(alloc, line, conn);
+    run_opened(alloc, line, opened, reader, output, errors, at)
+}
+
 /// Runs a line over a connection, at a moment: every command but `serve`. It returns the exit status and the connection.
 ///
-/// A fault is reported on `errors`: status 3, or 4 where the connection has no station for the line.
+/// `migrate` makes the tables of version 1 that the connection has those of version 2, and prints
+/// `ok 2`. A fault is reported on `errors`: status 3, or 4 where the connection has no station for the
+/// line.
 pub fn run_line<S: Alter, I: Watched + Read, W: ByteOut, E: ByteOut>(
     alloc: Global,
     line: &Line<'_>,
@@ -90,9 +93,15 @@ pub fn run_line<S: Alter, I: Watched + Read, W: ByteOut, E: ByteOut>(
     errors: &mut E,
     at: Moment,
 ) -> (u8, Connection<S>)
-    ensures { HasCalled S.Store line.now ⟦<Station<S> as Keeper>⟧.keeps ⟦<Station<S> as Keeper>⟧.is_sound ⟦<Station<S> as Keeper>⟧.is_broken ⟦<Station<S> as Keeper>⟧.may_find at
-        I.remaining I.given W.taken E.taken conn reader.old reader.new output.old output.new errors.old errors.new result }
+    ensures { HasCalled S.Store (is_migration line.now.command) line.now
+        ⟦<Station<S> as Keeper>⟧.keeps ⟦<Station<S> as Keeper>⟧.is_sound
+        ⟦<Station<S> as Keeper>⟧.is_broken ⟦<Station<S> as Keeper>⟧.may_find at
+        I.remaining I.given W.taken E.taken conn reader.old reader.new
+        output.old output.new errors.old errors.new result }
 {
-    let opened = open_station(alloc, line, conn);
-    run_opened(alloc, line, opened, reader, output, errors, at)
+    if is_migration(line) {
+        run_migrate(alloc, conn, reader, output, errors)
+    } else {
+        call_station(alloc, line, conn, reader, output, errors, at)
+    }
 }

@@ -10,7 +10,7 @@ use std::alloc::{AllocError, Global};
 fn file_version() -> u32
     ensures { pos result ≡ (new_station []).version }
 {
-    1
+    2
 }
 
 /// The line of `--version`: the program, its version, and the version of its files.

@@ -1,6 +1,7 @@
 //! What is known of a number, as objects of JSON. Their members stand in the order of their names.
 use agent_stock::Holder;
 use awb_number::Awb;
+use desk_commands::day_text;
 use imp_fields::{Airport, Goods};
 use serde_json::Value;
 use shipment_machine::{Amount, Declared};
@@ -50,12 +51,23 @@ fn goods(alloc: Global, goods: &Goods) -> Result<String, AllocError> {
     quoted(alloc, goods.as_bytes())
 }
 
-/// The members from `notified` to `pieces`.
+/// The day of the declaration, or an empty text.
+fn since(alloc: Global, declared: &Declared) -> Result<String, AllocError> {
+    match declared.since {
+        Some(day) => quoted(alloc, &day_text(day)),
+        None => quoted(alloc, b""),
+    }
+}
+
+/// The members from `notified` to `since`.
 fn route(alloc: Global, declared: &Declared) -> Result<String, AllocError> {
     let notified = declared.notified;
     let origin = letters(alloc, &declared.origin)?;
     let pieces = declared.pieces.number();
-    format!(in alloc; "\"notified\":{notified},\"origin\":{origin},\"pieces\":{pieces}")
+    let since = since(alloc, declared)?;
+    format!(in alloc;
+        "\"notified\":{notified},\"origin\":{origin},\"pieces\":{pieces},\"since\":{since}"
+    )
 }
 
 /// The members from `delivered` to `missing`.

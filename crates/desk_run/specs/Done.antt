@@ -1,5 +1,5 @@
 -- What a run of a command leaves, by the command.
-use Rattle.std.specs.Prelude.{◌≡◌, ◌<◌, ℕ, Bool, true, false, Option, Some, None, Result, Ok, Err, OnOk, OnErr, IfOk, IfErr, IfSome, List, ◌++◌, codes}
+use Rattle.std.specs.Prelude.{◌≡◌, ◌<◌, ◌⊎◌, ℕ, Bool, true, false, Option, Some, None, Result, Ok, Err, OnOk, OnErr, IfOk, IfErr, IfSome, List, ◌++◌, codes}
 use Rattle.imp_fields.specs.Date.{LocalMinute}
 use Rattle.station_core.specs.Ends.{HasCause}
 use Rattle.station_core.specs.Given.{Given}
@@ -8,7 +8,7 @@ use Rattle.station_core.specs.Step.{State}
 use Rattle.reports.specs.Reports.{pending_report}
 use Rattle.stock_list.specs.declared.answer.RunFault.{RunFault}
 use Rattle.stock_list.specs.declared.answer.RunFault.TheVariants as fault
-use Rattle.stock_list.specs.Ended.{rows_read, AreFirst, HasStopped}
+use Rattle.stock_list.specs.Ended.{rows_read, AreFirst, HasStopped, IsShutAfter, IsUntroubled}
 use Rattle.stock_list.specs.Ended.{HasRun as HasRunRows}
 use Rattle.stock_list.specs.Lines.{Row, stock_rows}
 use Rattle.stock_list.specs.Shut.{HasRunShut as HasRunRowsShut}
@@ -41,8 +41,10 @@ pub record HasToldMade {K : Type 0} (here : List ℕ) (old new : K) (sent_old se
   pub why : IfErr result (λ e. e ≡ fault.Write)
   pub cause : OnErr result (HasCause sent_old sent_new)
 
--- The rows of a stock list were answered, all of them or up to a fault; a reader or a writer is named only where it failed, and the end of a
--- list taken only where no read has. A station that has to be opened again is asked nothing. `left` is the list, where it is known.
+-- The rows of a stock list were answered, all of them or up to a fault. A reader is named only
+-- where it failed, and the end of the list taken only where no read has. A writer is named exactly
+-- where it failed or took no byte, and the store exactly where the station has to be opened again.
+-- A station that has to be opened again is asked nothing. `left` is the list, where it is known.
 pub record HasAnsweredRows {K : Type 0} (keeps : K → State → Type 0) (is_sound : K → Type 0) (is_broken : K → Bool) (may_find : K → Option State → Type 0)
     (left : Option (List ℕ)) (at : LocalMinute) (old new : K) (read_new sent_old sent_new : Given) (result : Result Bool RunFault) : Type 0 where
   pub ran : (s : State) → keeps old s → is_broken old ≡ false → is_sound new
@@ -53,18 +55,26 @@ pub record HasAnsweredRows {K : Type 0} (keeps : K → State → Type 0) (is_sou
   pub read_cause : result ≡ Err fault.Read → 0 < read_new.failures
   pub no_failure : OnOk result (read_new.failures ≡ 0)
   pub write_cause : result ≡ Err fault.Write → HasCause sent_old sent_new
+  pub write_told : IfErr result (λ e. (e ≡ fault.Write) ⊎ IsUntroubled sent_old sent_new)
+  pub untroubled : OnOk result (IsUntroubled sent_old sent_new)
+  pub breaks : is_broken old ≡ false → IfErr result (λ e. IsShutAfter e (is_broken new))
   pub same : is_broken old ≡ true → new ≡ old
   pub reopen : is_broken old ≡ true → HasRunRowsShut left sent_old.bytes sent_new.bytes result
 
--- What the input asks was done and answered, or the run stopped there or before. A reader or a writer is named only where it failed. A
--- station that has to be opened again is asked nothing.
+-- What the input asks was done and answered, or the run stopped there or before. A reader or a
+-- writer is named exactly where it failed, and the store exactly where the station has to be opened
+-- again. A station that has to be opened again is asked nothing.
 pub record HasAnsweredAsked {K : Type 0} (IsAsked : List ℕ → Asked → Type 0) (keeps : K → State → Type 0) (is_sound : K → Type 0) (is_broken : K → Bool)
     (may_find : K → Option State → Type 0) (at : LocalMinute) (old new : K) (read_old read_new sent_old sent_new : Given) (result : Result Bool RunFault) : Type 0 where
   pub ran : (s : State) → keeps old s → is_broken old ≡ false → is_sound new
       → HasRun IsAsked s at read_old read_new sent_old.bytes sent_new.bytes (keeps new) (may_find new) result
   pub unread : result ≡ Err fault.Read → (new ≡ old) × (sent_new ≡ sent_old)
   pub read_cause : result ≡ Err fault.Read → HasFailed read_old read_new
+  pub read_told : IfErr result (λ e. (e ≡ fault.Read) ⊎ (read_new.failures ≡ read_old.failures))
   pub write_cause : result ≡ Err fault.Write → HasCause sent_old sent_new
+  pub write_told : IfErr result (λ e. (e ≡ fault.Write) ⊎ IsUntroubled sent_old sent_new)
+  pub untroubled : OnOk result (IsUntroubled sent_old sent_new)
+  pub breaks : is_broken old ≡ false → IfErr result (λ e. IsShutAfter e (is_broken new))
   pub same : is_broken old ≡ true → new ≡ old
   pub reopen : is_broken old ≡ true → HasRunShut IsAsked read_old read_new sent_old sent_new result
 
@@ -94,10 +104,14 @@ pub record HasIdled {K : Type 0} (old new : K) (sent_old sent_new : Given) (resu
 abbrev pub IsPending : State → List ℕ → Type 0
 IsPending s text = text ≡ pending_report s.cargo
 
--- What a run of each command leaves of its keeper, its reader and its writer, and what it returns. The service doesn't run here.
+-- What a run of each command leaves of its keeper, its reader and its writer, and what it returns. The service and the
+-- migration of a file don't run here.
 abbrev pub HasDone : {K : Type 0} → LineCommand → List ℕ → (K → State → Type 0) → (K → Type 0) → (K → Bool) → (K → Option State → Type 0) → LocalMinute → K → K
     → Option (List ℕ) → Given → Given → Given → Given → Result Bool RunFault → Type 0
 HasDone command.Init here keeps is_sound is_broken may_find at old new left read_old read_new sent_old sent_new r = HasToldMade here old new sent_old sent_new r
+HasDone command.Migrate here keeps is_sound is_broken may_find at old new left
+    read_old read_new sent_old sent_new r =
+    HasIdled old new sent_old sent_new r
 HasDone command.Stock here keeps is_sound is_broken may_find at old new left read_old read_new sent_old sent_new r =
     HasAnsweredRows keeps is_sound is_broken may_find left at old new read_new sent_old sent_new r
 HasDone (command.Take path) here keeps is_sound is_broken may_find at old new left read_old read_new sent_old sent_new r =

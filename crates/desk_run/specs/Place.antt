@@ -13,3 +13,8 @@ abbrev pub is_new : {A : Type 0} → Option A → LineCommand → Bool
 is_new None c = true
 is_new (Some path) command.Init = true
 is_new (Some path) _ = false
+
+-- whether its file is to have the tables of version 2 in place of those of version 1
+abbrev pub is_migration : LineCommand → Bool
+is_migration command.Migrate = true
+is_migration _ = false

@@ -1,6 +1,6 @@
 //! The station of a line.
 ghost use Rattle.std.specs.Prelude.{◌≡◌};
-ghost use Rattle.desk_run.specs.Place.{here_of, is_new};
+ghost use Rattle.desk_run.specs.Place.{here_of, is_migration, is_new};
 
 use desk_words::{Line, LineCommand};
 use imp_fields::Airport;
@@ -23,4 +23,11 @@ pub fn is_opening(line: &Line<'_>) -> bool
         None => true,
         Some(_) => matches!(line.command, LineCommand::Init),
     }
+}
+
+/// Whether a line's file is to have the tables of version 2 in place of those of version 1.
+pub fn is_migration(line: &Line<'_>) -> bool
+    ensures { result ≡ is_migration line.now.command }
+{
+    matches!(line.command, LineCommand::Migrate)
 }

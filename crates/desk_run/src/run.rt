@@ -81,7 +81,8 @@ fn do_act<K: Keeper, I: ByteIn, W: ByteOut>(
     run_act(alloc, keeper, verb, key, reader, output, at)
 }
 
-/// Runs the command of a line over its station, at a moment. `serve` isn't run here: nothing is done or written.
+/// Runs the command of a line over its station, at a moment. `serve` and `migrate` aren't run here:
+/// nothing is done or written.
 ///
 /// `Ok` says whether all was accepted. Returns [`RunFault::Read`], [`RunFault::Write`], [`RunFault::Memory`] or
 /// [`RunFault::Store`] where the run stopped, as its command's own call says.
@@ -107,6 +108,6 @@ pub fn run_over<K: Keeper, I: Watched + Read, W: ByteOut>(
         LineCommand::Report(name) => do_report(alloc, keeper, name, output),
         LineCommand::Waybill(number) => do_waybill(alloc, keeper, &number, output),
         LineCommand::Holder(number) => do_holder(alloc, keeper, &number, output),
-        LineCommand::Serve { .. } => Ok(true),
+        LineCommand::Serve { .. } | LineCommand::Migrate => Ok(true),
     }
 }

@@ -12,9 +12,11 @@ use Rattle.desk_words.specs.declared.words.Words.{Words}
 use Rattle.desk_words.specs.declared.words.Request.{Request}
 use Rattle.desk_words.specs.declared.words.Request.TheVariants as request
 
--- A new file needs its path and its airport; a port and a count are at least 1.
+-- A new file needs its path and its airport, and one that is migrated its path. A port and a count
+-- are at least 1.
 abbrev pub IsCalled : LineCommand → Type 0 → Type 0 → Type 0
 IsCalled command.Init HasFile HasAirport = HasFile × HasAirport
+IsCalled command.Migrate HasFile HasAirport = HasFile
 IsCalled (command.Serve port count) HasFile HasAirport = (1 ≤ port) × IfSome count (λ k. 1 ≤ k)
 IsCalled _ HasFile HasAirport = Unit {0}
 
@@ -28,6 +30,7 @@ IsNumber bits text n = ParsesUnsigned {E = Unit {0}} bits 10 text (Ok n)
 -- each word of a command is read by its own rule
 abbrev pub Means : Request → LineCommand → Type 0
 Means request.Init command.Init = Unit {0}
+Means request.Migrate command.Migrate = Unit {0}
 Means request.Stock command.Stock = Unit {0}
 Means (request.Take file) (command.Take path) = path.now ≡ file.now
 Means (request.Act verb key) (command.Act v k) = (word v ≡ verb.now) × (k ≡ key.now)

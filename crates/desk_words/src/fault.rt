@@ -28,6 +28,8 @@ pub(crate) enum BadValue<'a> {
     Count(&'a str),
     /// `init` without a file or a station.
     Init,
+    /// `migrate` without a file.
+    Migrate,
 }
 
 /// What is wanted where a key stands.
@@ -64,6 +66,9 @@ impl BadValue<'_> {
             BadValue::Count(word) => (word, "--count wants a number from 1 to 4294967295"),
             BadValue::Init => {
                 return String::from_str(alloc, "init needs --db FILE and --station AAA before it");
+            }
+            BadValue::Migrate => {
+                return String::from_str(alloc, "migrate needs --db FILE before it");
             }
         };
         told_of(alloc, word, wanted)

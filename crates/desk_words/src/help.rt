@@ -7,7 +7,8 @@ pub(crate) const DESK: &str = "The cargo desk of one air cargo station";
 pub(crate) const DESK_EXAMPLES: &str = "\
 Statuses: 0 done; 1 something was refused, a row or a body was bad, or a number is unknown;
 2 other words; 3 the store, memory, the clock, a file, a socket or a stream failed; 4 the file has
-no station that can be used (601 to 603), or `init` found something in it (604).
+no station that can be used (601 to 603), or `init` found something in it (604). `fault 603 1`: the
+file is of version 1, and `migrate` makes it one of version 2.
 
 Examples:
   cargo_desk --db fra.db --station FRA init
@@ -31,6 +32,16 @@ Needs --db and --station before it. Makes the file if it is missing, and prints 
 
 Example:
   cargo_desk --db fra.db --station FRA init";
+
+pub(crate) const MIGRATE: &str = "Makes a file of version 1 one of version 2";
+
+pub(crate) const MIGRATE_EXAMPLES: &str = "\
+Needs --db before it; --station isn't used. Prints `ok 2`. The whole file is tested first, and then
+changed in one step: whatever stops it, the file is whole, of version 1 or of version 2. A file of
+another version stays as it is: `fault 603 2`, with its version. Copy the file before.
+
+Example:
+  cargo_desk --db fra.db migrate";
 
 pub(crate) const STOCK: &str = "Answers a stock list, CSV on standard input, row by row";
 

@@ -21,6 +21,8 @@ pub struct Line<'a> {
 pub enum LineCommand<'a> {
     /// Make a station in a file.
     Init,
+    /// Make the tables of a file of version 1 those of version 2.
+    Migrate,
     /// Answer a stock list.
     Stock,
     /// Take the telegram in the file of this path.

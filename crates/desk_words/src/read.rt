@@ -93,13 +93,19 @@ fn read_serve<'a>(port: &'a str, count: Option<&'a str>) -> Result<LineCommand<'
 }
 
 /// The command that is asked for.
-fn read_command<'a>(request: Request<'a>, is_whole: bool) -> Result<LineCommand<'a>, BadValue<'a>>
+fn read_command<'a>(
+    request: Request<'a>,
+    has_file: bool,
+    has_airport: bool,
+) -> Result<LineCommand<'a>, BadValue<'a>>
     ensures means { IfOk result (Means request.entry) }
-    ensures called { IfOk result (λ command. IsCalled command (is_whole ≡ true) (is_whole ≡ true)) }
+    ensures called { IfOk result (λ command. IsCalled command (has_file ≡ true) (has_airport ≡ true)) }
 {
     match request {
-        Request::Init if is_whole => Ok(LineCommand::Init),
+        Request::Init if has_file && has_airport => Ok(LineCommand::Init),
         Request::Init => Err(BadValue::Init),
+        Request::Migrate if has_file => Ok(LineCommand::Migrate),
+        Request::Migrate => Err(BadValue::Migrate),
         Request::Stock => Ok(LineCommand::Stock),
         Request::Take(file) => Ok(LineCommand::Take(file)),
         Request::Act { verb, key } => read_act(verb, key),
@@ -143,8 +149,9 @@ fn read_line<'a>(words: &Words<'a>) -> Result<Line<'a>, BadValue<'a>>
     ensures meant { IfOk result (IsMeant words.now) }
 {
     let station = read_station(words.station)?;
-    let is_whole = words.db.is_some() && station.is_some();
-    match read_command(words.request, is_whole) {
+    let has_file = words.db.is_some();
+    let has_airport = station.is_some();
+    match read_command(words.request, has_file, has_airport) {
         Ok(command) => Ok(Line {
             db: words.db,
             station,
@@ -159,9 +166,9 @@ fn read_line<'a>(words: &Words<'a>) -> Result<Line<'a>, BadValue<'a>>
 ///
 /// Returns [`WordsFault::Help`] where the words ask for the help, and [`WordsFault::Version`] where
 /// they ask for the version; [`WordsFault::Usage`] for other words than a command's, a bad key,
-/// number or option's value, an unknown verb or name, an option given twice, and `init` without
-/// `--db` and `--station`, but not for a text that is no zone's rule; [`WordsFault::Memory`] when out
-/// of memory.
+/// number or option's value, an unknown verb or name, an option given twice, `init` without `--db`
+/// and `--station`, and `migrate` without `--db`, but not for a text that is no zone's rule;
+/// [`WordsFault::Memory`] when out of memory.
 pub fn parse_words<'a, S: AsStr>(alloc: Global, words: &'a [S]) -> Result<Line<'a>, WordsFault>
     ensures { IfOk result IsLine }
 {

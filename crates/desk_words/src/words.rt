@@ -13,6 +13,7 @@ use std::convert::AsStr;
 #[derive(Clone, Copy, Debug, PartialEq, Eq)]
 pub(crate) enum Request<'a> {
     Init,
+    Migrate,
     Stock,
     Take(&'a str),
     Act {
@@ -135,6 +136,7 @@ fn below<'a>(
 /// The commands that change a station.
 fn changing<'a>(alloc: Global, top: Command<'a>) -> Result<Command<'a>, AllocError> {
     let top = top.subcommand(command(alloc, "init", help::INIT, help::INIT_EXAMPLES))?;
+    let top = top.subcommand(command(alloc, "migrate", help::MIGRATE, help::MIGRATE_EXAMPLES))?;
     let top = top.subcommand(command(alloc, "stock", help::STOCK, help::STOCK_EXAMPLES))?;
     let top = below(top, take(alloc))?;
     below(top, act(alloc))
@@ -164,6 +166,7 @@ fn desk<'a>(alloc: Global) -> Result<Command<'a>, AllocError> {
 fn asked<'a>(name: &str, words: &ArgMatches<'a>) -> Option<Request<'a>> {
     match name {
         "init" => Some(Request::Init),
+        "migrate" => Some(Request::Migrate),
         "stock" => Some(Request::Stock),
         "take" => Some(Request::Take(words.get_str("FILE")?)),
         "act" => {

@@ -1,4 +1,4 @@
--- All tables of a station in a database: what is held under each name.
+-- All tables of a station in a database that is read as of a version: what is held under each name.
 use Rattle.std.specs.Prelude.{IsTrue, Result}
 use Rattle.sqlite.specs.declared.error.Error.{Error}
 use Rattle.sqlite.specs.Effect.{Database}
@@ -10,7 +10,8 @@ use Rattle.raw_rows.specs.Whole.{TellsTable}
 use Rattle.cargo_rows.specs.Meant.{waybill_meant, move_meant, count_meant, build_meant}
 use Rattle.text_rows.specs.Meant.{trail_meant, message_meant}
 use Rattle.station_rows.specs.Meant.{stock_meant}
-use Rattle.found_tables.specs.Held.{HoldsWaybill, HoldsStock, HoldsFlight, flight_entry, HoldsMoves, HoldsExpected, expected_entry, HoldsPart, part_entry, HoldsTrail, HoldsOutbox, HoldsKeptKey, kept_key_entry, HoldsKeptText, kept_text_entry, HoldsCounts, HoldsBuild}
+use Rattle.found_tables.specs.Held.{old_waybill_entry, HoldsStock, HoldsFlight, flight_entry, HoldsMoves, HoldsExpected, expected_entry, HoldsPart, part_entry, HoldsTrail, HoldsOutbox, HoldsKeptKey, kept_key_entry, HoldsKeptText, kept_text_entry, HoldsCounts, HoldsBuild}
+use Rattle.found_station.specs.Reading.{Reading, HoldsOldWaybills, HoldsWaybills}
 use Rattle.found_station.specs.declared.all.FoundCargo.{FoundCargo}
 use Rattle.found_station.specs.declared.all.FoundMessages.{FoundMessages}
 use Rattle.found_station.specs.declared.all.FoundReplies.{FoundReplies}
@@ -19,11 +20,12 @@ use Rattle.found_station.specs.declared.all.FoundTables.{FoundTables}
 
 -- each is what the database holds, or nothing where it holds none
 
-pub record AreCargo (db : Database) (found : FoundCargo) : Type 0 where
-  pub waybills : TellsTable waybill_meant (HoldsWaybill db) found.waybills
-  pub stock : TellsTable stock_meant (HoldsStock db) found.stock
-  pub flights : TellsTable flight_entry (HoldsFlight db) found.flights
-  pub moves : TellsTable move_meant (HoldsMoves db) found.moves
+pub record AreCargo (r : Reading) (found : FoundCargo) : Type 0 where
+  pub old_waybills : TellsTable old_waybill_entry (HoldsOldWaybills r.version r.database) found.old_waybills
+  pub waybills : TellsTable waybill_meant (HoldsWaybills r.version r.database) found.waybills
+  pub stock : TellsTable stock_meant (HoldsStock r.database) found.stock
+  pub flights : TellsTable flight_entry (HoldsFlight r.database) found.flights
+  pub moves : TellsTable move_meant (HoldsMoves r.database) found.moves
 
 pub record AreMessages (db : Database) (found : FoundMessages) : Type 0 where
   pub expected : TellsTable expected_entry (HoldsExpected db) found.expected
@@ -39,11 +41,11 @@ pub record AreCounts (db : Database) (found : FoundCounts) : Type 0 where
   pub counts : TellsTable count_meant (HoldsCounts db) found.counts
   pub builds : TellsTable build_meant (HoldsBuild db) found.builds
 
-pub record AreTables (db : Database) (found : FoundTables) : Type 0 where
-  pub cargo : AreCargo db found.cargo
-  pub messages : AreMessages db found.messages
-  pub replies : AreReplies db found.replies
-  pub counts : AreCounts db found.counts
+pub record AreTables (r : Reading) (found : FoundTables) : Type 0 where
+  pub cargo : AreCargo r found.cargo
+  pub messages : AreMessages r.database found.messages
+  pub replies : AreReplies r.database found.replies
+  pub counts : AreCounts r.database found.counts
 
 -- a call that reads some tables, and changes nothing
 abbrev pub FindsTables : {S X : Type 0} → Ghosts S → Held S → Held S → Result X Error → (Database → X → Type 0) → Type 0

@@ -2,7 +2,7 @@
 use Rattle.std.proofs.Common.{[], ◌∷◌, codes, refl, arith}
 use Rattle.sqlite_tied.specs.Compute.{everything}
 use Rattle.raw_rows.specs.Selects.{IsSelect}
-use Rattle.found_tables.specs.Held.{waybill_name, waybill_columns, stock_name, stock_columns, flight_name, flight_columns, moves_name, moves_columns, expected_name, expected_columns, part_name, part_columns, trail_name, trail_columns, outbox_name, outbox_columns, kept_key_name, kept_key_columns, kept_text_name, kept_text_columns, counts_name, counts_columns, build_name, build_columns}
+use Rattle.found_tables.specs.Held.{old_waybill_name, old_waybill_columns, waybill_name, waybill_columns, stock_name, stock_columns, flight_name, flight_columns, moves_name, moves_columns, expected_name, expected_columns, part_name, part_columns, trail_name, trail_columns, outbox_name, outbox_columns, kept_key_name, kept_key_columns, kept_text_name, kept_text_columns, counts_name, counts_columns, build_name, build_columns}
 use Rattle.found_tables.specs.Verdict.{station_name, station_columns}
 
 pub station_is : IsSelect (codes "SELECT id, airport, version, confirmed FROM station ORDER BY id") station_name station_columns (codes "id" ∷ [])
@@ -34,7 +34,36 @@ station_is = record {
   few_keys = omega arith;
 }
 
-pub waybill_is : IsSelect (codes "SELECT awb, origin, destination, pieces, tenths, goods, notified FROM waybill ORDER BY awb") waybill_name waybill_columns (codes "awb" ∷ [])
+pub old_waybill_is : IsSelect (codes "SELECT awb, origin, destination, pieces, tenths, goods, notified FROM waybill ORDER BY awb") old_waybill_name old_waybill_columns (codes "awb" ∷ [])
+unfolding everything
+old_waybill_is = record {
+  p = _;
+  sel = _;
+  first_is = refl;
+  statement_is = refl;
+  formats_is = refl;
+  select_is = record {
+    with_is = refl;
+    others_is = refl;
+    limit_is = refl;
+    offset_is = refl;
+    core_is = record {
+      shown_is = ((_, _, refl, refl), ((_, _, refl, refl), ((_, _, refl, refl), ((_, _, refl, refl), ((_, _, refl, refl), ((_, _, refl, refl), ((_, _, refl, refl), tt)))))));
+      source = _;
+      from_is = refl;
+      plain_source = record { origin_is = refl; alias_is = refl; using_is = refl; inner_is = refl; on_is = refl };
+      distinct_is = refl;
+      filter_is = refl;
+      group_is = refl;
+      having_is = refl;
+    };
+    order_is = ((refl, refl, refl), tt);
+  };
+  few = omega arith;
+  few_keys = omega arith;
+}
+
+pub waybill_is : IsSelect (codes "SELECT awb, origin, destination, pieces, tenths, goods, notified, since FROM waybill2 ORDER BY awb") waybill_name waybill_columns (codes "awb" ∷ [])
 unfolding everything
 waybill_is = record {
   p = _;
@@ -48,7 +77,7 @@ waybill_is = record {
     limit_is = refl;
     offset_is = refl;
     core_is = record {
-      shown_is = ((_, _, refl, refl), ((_, _, refl, refl), ((_, _, refl, refl), ((_, _, refl, refl), ((_, _, refl, refl), ((_, _, refl, refl), ((_, _, refl, refl), tt)))))));
+      shown_is = ((_, _, refl, refl), ((_, _, refl, refl), ((_, _, refl, refl), ((_, _, refl, refl), ((_, _, refl, refl), ((_, _, refl, refl), ((_, _, refl, refl), ((_, _, refl, refl), tt))))))));
       source = _;
       from_is = refl;
       plain_source = record { origin_is = refl; alias_is = refl; using_is = refl; inner_is = refl; on_is = refl };

@@ -3,12 +3,14 @@ use Rattle.std.specs.Prelude.{◌≡◌, ℕ, ℤ, List, [], ◌∷◌, codes, t
 use Rattle.std.specs.Ordering.{int_cmp}
 use Rattle.std.specs.declared.cmp.Ordering.{Ordering}
 use Rattle.std.specs.Str.{is_utf8}
+use Rattle.sqlite.specs.declared.types.Value.TheVariants.{Int, Text}
 use Rattle.sqlite.specs.Order.{Row, column}
 use Rattle.sqlite.specs.Effect.{Database}
 use Rattle.sqlite_typed.specs.Columns.{int_of, bytes_of}
 use Rattle.raw_rows.specs.Whole.{AreLawful, HoldsTable}
-use Rattle.row_schema.specs.Tables.{Waybill, waybill_id, Stock, StockKey, stock_cmp, stock_row, Flight, FlightKey, flight_cmp, flight_row, Move, move_id, Expected, ExpectedKey, expected_cmp, expected_row, PartKey, part_cmp, part_row, TrailLine, trail_id, Message, message_id, Kept, kept_cmp, kept_row, kept_text_cmp, kept_text_row, Count, CountKey, count_cmp, count_row, Build, BuildKey, build_cmp, build_row}
+use Rattle.row_schema.specs.Tables.{OldWaybill, old_waybill_id, Waybill, waybill_id, Stock, StockKey, stock_cmp, stock_row, Flight, FlightKey, flight_cmp, flight_row, Move, move_id, Expected, ExpectedKey, expected_cmp, expected_row, PartKey, part_cmp, part_row, TrailLine, trail_id, Message, message_id, Kept, kept_cmp, kept_row, kept_text_cmp, kept_text_row, Count, CountKey, count_cmp, count_row, Build, BuildKey, build_cmp, build_row}
 use Rattle.cargo_rows.specs.Shown.{waybill_shown, move_shown}
+use Rattle.found_tables.specs.declared.old_waybill.OldWaybillEntry.{OldWaybillEntry}
 use Rattle.found_tables.specs.declared.flight.FlightEntry.{FlightEntry}
 use Rattle.found_tables.specs.declared.expected.ExpectedEntry.{ExpectedEntry}
 use Rattle.found_tables.specs.declared.part.PartEntry.{PartEntry}
@@ -27,14 +29,58 @@ by_number id a b = int_cmp (id a) (id b)
 abbrev pub IsText : List ℕ → Type 0
 IsText t = is_utf8 t ≡ true
 
--- ---- waybill
+-- ---- waybill: those of a file of version 1
+
+abbrev pub old_waybill_name : List ℕ
+old_waybill_name = codes "waybill"
+
+abbrev pub old_waybill_columns : List (List ℕ)
+old_waybill_columns = codes "awb" ∷ codes "origin" ∷ codes "destination" ∷ codes "pieces"
+    ∷ codes "tenths" ∷ codes "goods" ∷ codes "notified" ∷ []
+
+abbrev pub old_waybill_shown : OldWaybill → Row
+old_waybill_shown w = Int w.awb ∷ Text w.origin ∷ Text w.destination ∷ Int w.pieces ∷ Int w.tenths
+    ∷ Text w.goods ∷ Int w.notified ∷ []
+
+abbrev pub HasOldWaybillTexts : OldWaybill → Type 0
+HasOldWaybillTexts e = IsText e.origin × IsText e.destination × IsText e.goods
+
+abbrev pub HoldsOldWaybill : Database → List OldWaybill → Type 0
+HoldsOldWaybill db = HoldsTable db old_waybill_name old_waybill_columns old_waybill_shown
+    (AreLawful (by_number old_waybill_id) HasOldWaybillTexts)
+
+-- what a row stands for
+abbrev pub old_waybill_entry : OldWaybillEntry → OldWaybill
+old_waybill_entry row = record {
+  awb = row.awb;
+  origin = string_bytes row.origin;
+  destination = string_bytes row.destination;
+  pieces = row.pieces;
+  tenths = row.tenths;
+  goods = string_bytes row.goods;
+  notified = row.notified;
+}
+
+-- an entry from the values of its columns
+abbrev pub old_waybill_back : Row → OldWaybill
+old_waybill_back r = record {
+  awb = int_of (column r 0);
+  origin = bytes_of (column r 1);
+  destination = bytes_of (column r 2);
+  pieces = int_of (column r 3);
+  tenths = int_of (column r 4);
+  goods = bytes_of (column r 5);
+  notified = int_of (column r 6);
+}
+
+-- ---- waybill2
 
 abbrev pub waybill_name : List ℕ
-waybill_name = codes "waybill"
+waybill_name = codes "waybill2"
 
 abbrev pub waybill_columns : List (List ℕ)
 waybill_columns = codes "awb" ∷ codes "origin" ∷ codes "destination" ∷ codes "pieces"
-    ∷ codes "tenths" ∷ codes "goods" ∷ codes "notified" ∷ []
+    ∷ codes "tenths" ∷ codes "goods" ∷ codes "notified" ∷ codes "since" ∷ []
 
 abbrev pub HasWaybillTexts : Waybill → Type 0
 HasWaybillTexts e = IsText e.origin × IsText e.destination × IsText e.goods

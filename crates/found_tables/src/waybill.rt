@@ -9,7 +9,7 @@ use raw_rows::{KeyedTable, found_rows, number, words};
 use sqlite::{Alter, Connection, Error, Row};
 use std::alloc::Global;
 
-/// The table `waybill`. Its key is `awb`.
+/// The table `waybill2`. Its key is `awb`.
 struct WaybillTable;
 
 impl KeyedTable for WaybillTable {
@@ -36,7 +36,7 @@ impl KeyedTable for WaybillTable {
     ghost back = { λ _. refl };
 
     fn typed(alloc: Global, row: &Row) -> Result<Option<WaybillRow>, Error> {
-        if row.column_count() != 7 {
+        if row.column_count() != 8 {
             return Ok(None);
         }
         let Some(awb) = number(row, 0) else {
@@ -60,6 +60,9 @@ impl KeyedTable for WaybillTable {
         let Some(notified) = number(row, 6) else {
             return Ok(None);
         };
+        let Some(since) = number(row, 7) else {
+            return Ok(None);
+        };
         Ok(Some(WaybillRow {
             awb,
             origin,
@@ -68,6 +71,7 @@ impl KeyedTable for WaybillTable {
             tenths,
             goods,
             notified,
+            since,
         }))
     }
 
@@ -76,7 +80,7 @@ impl KeyedTable for WaybillTable {
     }
 }
 
-/// All rows of `waybill` in any database, by `awb`. Nothing where the table or a column is missing, a value
+/// All rows of `waybill2` in any database, by `awb`. Nothing where the table or a column is missing, a value
 /// is of another type or a text that is no UTF-8, or a key stands twice. The connection is open. On error
 /// memory is out or the database could not be read: nothing was done, or the transaction that was open is
 /// undone.
@@ -91,8 +95,8 @@ pub fn found_waybills<S: Alter>(
     found_rows::<S, WaybillTable>(
         alloc,
         conn,
-        "SELECT awb, origin, destination, pieces, tenths, goods, notified FROM waybill ORDER BY awb",
-        "waybill",
+        "SELECT awb, origin, destination, pieces, tenths, goods, notified, since FROM waybill2 ORDER BY awb",
+        "waybill2",
         &[
             "awb",
             "origin",
@@ -101,6 +105,7 @@ pub fn found_waybills<S: Alter>(
             "tenths",
             "goods",
             "notified",
+            "since",
         ],
         1,
     )

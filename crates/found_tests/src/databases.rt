@@ -9,7 +9,7 @@ use imp_fields::Airport;
 use sqlite::{Connection, MemStore};
 use station_core::{Input, Keeper};
 use station_rows::open_memory;
-use station_tables::{AttachFault, Station, attach, create};
+use station_tables::{AttachFault, Station, attach, create, migrate};
 use std::alloc::Global;
 use telegrams::read_telegram;
 
@@ -68,6 +68,7 @@ impl FoundAnswers {
                 let conn = self.connection()?;
                 self.start(conn)
             }
+            "migrate" => self.migrate_tables(),
             "release" => {
                 let conn = self.connection()?;
                 self.keep(conn)
@@ -174,6 +175,15 @@ impl FoundAnswers {
         let conn = self.connection()?;
         match attach(self.alloc, conn) {
             Ok(station) => self.put(station),
+            Err((conn, fault)) => self.give_back(conn, &fault),
+        }
+    }
+
+    /// Takes the tables of the connection to version 2.
+    fn migrate_tables(&mut self) -> Option<String> {
+        let conn = self.connection()?;
+        match migrate(self.alloc, conn) {
+            Ok(conn) => self.keep(conn),
             Err((conn, fault)) => self.give_back(conn, &fault),
         }
     }

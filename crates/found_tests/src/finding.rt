@@ -1,6 +1,6 @@
 //! What an opening finds in a database.
 use crate::faults::fault_said;
-use crate::listing::{all_rows, rows_of};
+use crate::listing::{all_rows, old_rows, rows_of};
 use awb_number::Awb;
 use case_words::known_said;
 use sqlite::{Alter, Connection};
@@ -33,7 +33,24 @@ fn notes_said<S: Alter>(alloc: Global, conn: &mut Connection<S>) -> Option<Strin
     format!(in alloc; ", notes {rows}").ok()
 }
 
-/// Why no station was found, how many tables and indexes there are, and a table `notes`.
+/// The rows of a file of version 1, where that is why there is no station, and if it has all its
+/// tables.
+fn old_rows_said<S: Alter>(
+    alloc: Global,
+    conn: &mut Connection<S>,
+    fault: &AttachFault,
+) -> Option<String> {
+    match fault {
+        AttachFault::Version(1) => match old_rows(alloc, conn) {
+            Some(rows) => format!(in alloc; "\n{rows}").ok(),
+            None => Some(String::new(alloc)),
+        },
+        _ => Some(String::new(alloc)),
+    }
+}
+
+/// Why no station was found, how many tables and indexes there are, a table `notes`, and the rows
+/// of a file of version 1.
 pub fn fault_found<S: Alter>(
     alloc: Global,
     conn: &mut Connection<S>,
@@ -41,8 +58,9 @@ pub fn fault_found<S: Alter>(
 ) -> Option<String> {
     let count = rows_of(alloc, conn, "SELECT count(*) FROM sqlite_schema")?;
     let notes = notes_said(alloc, conn)?;
+    let rows = old_rows_said(alloc, conn, fault)?;
     let fault = fault_said(alloc, fault)?;
-    format!(in alloc; "{fault}, {count} tables and indexes{notes}").ok()
+    format!(in alloc; "{fault}, {count} tables and indexes{notes}{rows}").ok()
 }
 
 /// All rows of a station's tables, and of a table `notes`.

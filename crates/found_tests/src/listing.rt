@@ -3,11 +3,16 @@ use sqlite::{Alter, Connection, Row};
 use std::alloc::Global;
 
 /// The tables of a station, each with its columns, and with those that its key is made of.
-const TABLES: [(&str, &str, &str); 13] = [
+const TABLES: [(&str, &str, &str); 14] = [
     ("station", "id, airport, version, confirmed", "id"),
     (
         "waybill",
         "awb, origin, destination, pieces, tenths, goods, notified",
+        "awb",
+    ),
+    (
+        "waybill2",
+        "awb, origin, destination, pieces, tenths, goods, notified, since",
         "awb",
     ),
     ("stock", "prefix, low, high, holder, agent", "prefix, low"),
@@ -85,16 +90,37 @@ pub fn rows_of<S: Alter>(alloc: Global, conn: &mut Connection<S>, query: &str) -
     Some(said)
 }
 
+/// The rows of a table in the order of their key.
+fn table_said<S: Alter>(
+    alloc: Global,
+    conn: &mut Connection<S>,
+    table: &str,
+    columns: &str,
+    key: &str,
+) -> Option<String> {
+    let query = format!(in alloc; "SELECT {columns} FROM {table} ORDER BY {key}").ok()?;
+    let rows = rows_of(alloc, conn, query.as_str())?;
+    format!(in alloc; "{table}: {rows}\n").ok()
+}
+
 /// The rows of each table of a station in the order of their keys, if there are all the tables.
 pub fn all_rows<S: Alter>(alloc: Global, conn: &mut Connection<S>) -> Option<String> {
     let mut said = String::new(alloc);
     for (table, columns, key) in TABLES {
-        said.push_str(table).ok()?;
-        said.push_str(": ").ok()?;
-        let query = format!(in alloc; "SELECT {columns} FROM {table} ORDER BY {key}").ok()?;
-        let rows = rows_of(alloc, conn, query.as_str())?;
+        let rows = table_said(alloc, conn, table, columns, key)?;
         said.push_str(rows.as_str()).ok()?;
-        said.push_str("\n").ok()?;
+    }
+    Some(said)
+}
+
+/// The same of a file of version 1, which has no table `waybill2`.
+pub fn old_rows<S: Alter>(alloc: Global, conn: &mut Connection<S>) -> Option<String> {
+    let mut said = String::new(alloc);
+    for (table, columns, key) in TABLES {
+        if table != "waybill2" {
+            let rows = table_said(alloc, conn, table, columns, key)?;
+            said.push_str(rows.as_str()).ok()?;
+        }
     }
     Some(said)
 }

@@ -21,7 +21,7 @@ mod work;
 
 use case_files::{Answers, go_through};
 use databases::FoundAnswers;
-use memory::{Run, Told, told_at_last};
+use memory::{Run, Told, migration_told_at_last, told_at_last};
 use repeats::RepeatAnswers;
 use std::alloc::Global;
 use std::process::ExitCode;
@@ -50,8 +50,8 @@ impl Answers for FileAnswers {
     }
 }
 
-/// Gives each input for which memory may be refused, and prints what came of it. Whether all came
-/// out as they must.
+/// Gives each input for which memory may be refused, and takes a file to version 2; prints what
+/// came of each. Whether all came out as they must.
 fn try_memory(rt: &HostRuntime) -> Result<bool, io::Error> {
     let mut all = true;
     for run in [
@@ -66,7 +66,9 @@ fn try_memory(rt: &HostRuntime) -> Result<bool, io::Error> {
         println!(rt; "{run:?}: {}", told.word())?;
         all &= told != Told::Otherwise;
     }
-    Ok(all)
+    let told = migration_told_at_last(rt.alloc());
+    println!(rt; "Migration: {}", told.word())?;
+    Ok(all && told != Told::Otherwise)
 }
 
 /// Goes through each file of cases. Whether all came out as they must.

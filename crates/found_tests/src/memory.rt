@@ -1,16 +1,17 @@
 //! Inputs for which a request for memory is refused: before the first call of the store all is as
 //! it was, and from then on the store is said to have failed, holds what was before or after, and
-//! the input that is repeated has its one reply.
+//! the input that is repeated has its one reply. The same of a file that is taken to version 2: it
+//! is as it was where memory is told to be out, and of either version where the store is.
 use crate::errands::build_up_all;
 use crate::fused::Fused;
-use crate::listing::all_rows;
+use crate::listing::{all_rows, old_rows};
 use awb_number::Awb;
 use case_words::{answer_said, is_done, keyed, noon, say};
 use imp_fields::{Airport, Moment};
 use sqlite::{Connection, MemStore};
 use station_core::{ActFault, Answer, Input, Keeper, answer_one};
 use station_rows::{Rows, open_memory};
-use station_tables::attach_and_repeat;
+use station_tables::{AttachFault, attach_and_repeat, migrate};
 use std::alloc::Global;
 use stored_station::StoredStation;
 use table_state::TableState;
@@ -45,6 +46,8 @@ pub enum Told {
     Accepted,
     /// Memory was refused before the first call of the tables, and nothing changed.
     Unbegun,
+    /// Memory was refused, and nothing changed.
+    Unchanged,
     /// The tables failed, and have what was before or after. The repeat has the one reply.
     Broken,
     /// Anything else.
@@ -57,6 +60,7 @@ impl Told {
         match self {
             Told::Accepted => "accepted",
             Told::Unbegun => "out of memory before the first call, and as it was",
+            Told::Unchanged => "out of memory, and as it was",
             Told::Broken => "a failed store, before or after, and its one reply",
             Told::Otherwise => "not told",
         }
@@ -225,14 +229,33 @@ fn after_fault(
     })
 }
 
+/// What came of an input that had an answer: its one reply, and the rows that it leaves where
+/// nothing is refused.
+fn after_answer(
+    alloc: Global,
+    run: Run,
+    input: &Input<'_>,
+    answer: &Answer,
+    conn: Connection<MemStore>,
+) -> Option<Told> {
+    let after = rows_after(alloc, run, input)?;
+    let mut conn = conn;
+    let rows = all_rows(alloc, &mut conn)?;
+    let reply = answer_said(alloc, answer)?;
+    Some(if reply.as_str() == wanted(run) && rows.as_str() == after.as_str() {
+        Told::Accepted
+    } else {
+        Told::Otherwise
+    })
+}
+
 /// What comes of an input. Nothing where memory was refused before it.
 fn try_run(alloc: Global, run: Run) -> Option<Told> {
     let text = text_of(alloc, run)?;
     let input = input_of(alloc, run, text.as_str())?;
     let Given { answer, made, conn } = give(alloc, tables(alloc, run)?, &input, noon()?);
     match answer {
-        Ok(Answer::Done(_)) => Some(Told::Accepted),
-        Ok(Answer::Refused(_)) => Some(Told::Otherwise),
+        Ok(answer) => after_answer(alloc, run, &input, &answer, conn),
         Err(fault) => after_fault(alloc, run, &input, &fault, made, conn),
     }
 }
@@ -242,5 +265,94 @@ pub fn told_at_last(alloc: Global, run: Run) -> Told {
     match try_run(alloc, run) {
         Some(told_first) => told_first,
         None => try_run(alloc, run).unwrap_or(Told::Otherwise),
+    }
+}
+
+/// What makes a file of version 1 of one of version 2.
+const BACK: &str = "INSERT INTO waybill
+    SELECT awb, origin, destination, pieces, tenths, goods, notified FROM waybill2;
+    DROP TABLE waybill2;
+    UPDATE station SET version = 1";
+
+/// The tables of version 1 of a station with twenty waybills on a flight.
+fn old_tables(alloc: Global) -> Option<Connection<MemStore>> {
+    let mut conn = tables(alloc, Run::Departure)?.into_store().release();
+    conn.execute_batch(BACK).ok()?;
+    Some(conn)
+}
+
+/// All rows of these tables in version 2, where nothing is refused.
+fn rows_migrated(alloc: Global) -> Option<String> {
+    match migrate(alloc, old_tables(alloc)?) {
+        Ok(conn) => {
+            let mut conn = conn;
+            all_rows(alloc, &mut conn)
+        }
+        Err(_) => None,
+    }
+}
+
+/// Whether tables are of version 2, as those that nothing hindered.
+fn is_migrated(alloc: Global, conn: Connection<MemStore>) -> Option<bool> {
+    let after = rows_migrated(alloc)?;
+    let mut conn = conn;
+    let rows = all_rows(alloc, &mut conn)?;
+    Some(rows.as_str() == after.as_str())
+}
+
+/// Whether tables have the rows of version 1.
+fn is_old(alloc: Global, conn: &mut Connection<MemStore>) -> Option<bool> {
+    let mut old = old_tables(alloc)?;
+    let before = old_rows(alloc, &mut old)?;
+    let rows = old_rows(alloc, conn)?;
+    Some(rows.as_str() == before.as_str())
+}
+
+/// Whether tables that are taken to version 2 once more are so then, or are so already.
+fn is_migrated_again(alloc: Global, conn: Connection<MemStore>) -> Option<bool> {
+    match migrate(alloc, conn) {
+        Ok(conn) => is_migrated(alloc, conn),
+        Err((conn, AttachFault::Version(2))) => is_migrated(alloc, conn),
+        Err(_) => Some(false),
+    }
+}
+
+/// What came of tables that weren't taken to version 2.
+fn after_unmigrated(
+    alloc: Global,
+    fault: &AttachFault,
+    conn: Connection<MemStore>,
+) -> Option<Told> {
+    let mut conn = conn;
+    let is_old = is_old(alloc, &mut conn)?;
+    let told = match fault {
+        AttachFault::Memory if is_old => Told::Unchanged,
+        AttachFault::Store => Told::Broken,
+        _ => Told::Otherwise,
+    };
+    Some(if is_migrated_again(alloc, conn)? {
+        told
+    } else {
+        Told::Otherwise
+    })
+}
+
+/// What comes of a file that is taken to version 2. Nothing where memory was refused before it.
+fn try_migration(alloc: Global) -> Option<Told> {
+    match migrate(alloc, old_tables(alloc)?) {
+        Ok(conn) => Some(if is_migrated(alloc, conn)? {
+            Told::Accepted
+        } else {
+            Told::Otherwise
+        }),
+        Err((conn, fault)) => after_unmigrated(alloc, &fault, conn),
+    }
+}
+
+/// The same, from the beginning where memory was refused before it.
+pub fn migration_told_at_last(alloc: Global) -> Told {
+    match try_migration(alloc) {
+        Some(told_first) => told_first,
+        None => try_migration(alloc).unwrap_or(Told::Otherwise),
     }
 }

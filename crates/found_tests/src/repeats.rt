@@ -52,6 +52,7 @@ impl RepeatAnswers {
             }
             "sql" => self.execute(text),
             "created" => self.stop(&Work::Make(here()?, Errand::Nothing)),
+            "migrated" => self.stop(&Work::Migrate),
             "waybill" => self.note(text),
             "built-up" => self.build_up(shown(text).parse::<u32>().ok()?),
             "outbox" => self.work_on(&Work::Open(Errand::Outbox)),

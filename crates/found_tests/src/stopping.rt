@@ -118,26 +118,42 @@ fn may_remain(attempt: Attempt, remains: Remains) -> bool {
     }
 }
 
+/// Whether work over what was left has this reply, and leaves what is left where nothing stops it.
+fn is_replied(
+    alloc: Global,
+    before: &Before,
+    work: &Work<'_>,
+    reply: &str,
+    whole: &Whole,
+    left: &FileBytes,
+) -> Option<bool> {
+    let (said, bytes) = said_of(alloc, left, work, &before.numbers)?;
+    let found = found_in(alloc, &bytes, &before.numbers)?;
+    Some(said.as_str() == reply && found.as_str() == whole.after.as_str())
+}
+
 /// Whether the work that is repeated has its one reply, and leaves what it leaves where nothing
-/// stops it. A station is made once.
+/// stops it. A station is made once. A file that is of version 2 already isn't taken there again.
 fn is_repeated(
     alloc: Global,
     before: &Before,
     work: &Work<'_>,
     whole: &Whole,
+    remains: Remains,
     left: &FileBytes,
 ) -> Option<bool> {
-    let Work::Give(form, text, at) = work else {
-        return Some(true);
-    };
-    let (said, bytes) = said_of(
-        alloc,
-        left,
-        &Work::Repeat(*form, text, *at),
-        &before.numbers,
-    )?;
-    let found = found_in(alloc, &bytes, &before.numbers)?;
-    Some(said.as_str() == whole.reply.as_str() && found.as_str() == whole.after.as_str())
+    let reply = whole.reply.as_str();
+    match work {
+        Work::Give(form, text, at) => {
+            let repeat = Work::Repeat(*form, text, *at);
+            is_replied(alloc, before, &repeat, reply, whole, left)
+        }
+        Work::Migrate if remains == Remains::After => {
+            is_replied(alloc, before, work, "603 2", whole, left)
+        }
+        Work::Migrate => is_replied(alloc, before, work, reply, whole, left),
+        _ => Some(true),
+    }
 }
 
 /// What a stop left. Files that are as the last stop left them aren't opened again.
@@ -155,10 +171,11 @@ fn looked_at(
         }
     }
     let found = found_in(alloc, &bytes, &before.numbers)?;
-    let is_repeated = is_repeated(alloc, before, work, whole, &bytes)?;
+    let remains = remains_of(whole, found.as_str());
+    let is_repeated = is_repeated(alloc, before, work, whole, remains, &bytes)?;
     Some(Left {
         bytes,
-        remains: remains_of(whole, found.as_str()),
+        remains,
         is_repeated,
     })
 }
@@ -209,7 +226,7 @@ fn stops_of(
 /// The stops of both files. The reply of the work that isn't stopped, where all is as it must be.
 pub fn stops(alloc: Global, before: &Before, work: &Work<'_>) -> Option<String> {
     let whole = undisturbed(alloc, before, work)?;
-    if !is_repeated(alloc, before, work, &whole, &before.bytes)? {
+    if !is_repeated(alloc, before, work, &whole, Remains::Before, &before.bytes)? {
         return String::from_str(alloc, "otherwise at its first coming").ok();
     }
     for file in [FailingFile::Log, FailingFile::Database] {

@@ -1,12 +1,13 @@
 //! What is done over a connection.
 use crate::errands::{Came, Errand, give};
+use crate::faults::fault_said;
 use crate::finding::{fault_found, found};
 use awb_number::Awb;
 use case_words::{answer_said, keyed, say, shown};
 use imp_fields::{Airport, Moment};
 use sqlite::{Alter, Connection};
 use station_core::Input;
-use station_tables::{AttachFault, Station, attach, attach_and_repeat, create};
+use station_tables::{AttachFault, Station, attach, attach_and_repeat, create, migrate};
 use std::alloc::Global;
 use telegrams::read_telegram;
 
@@ -44,6 +45,8 @@ pub enum Work<'a> {
     Give(InputForm, &'a [u8], Moment),
     /// An input is repeated through an opening at a moment.
     Repeat(InputForm, &'a [u8], Moment),
+    /// A file of version 1 is taken to version 2.
+    Migrate,
     /// The station is opened: what it says of waybills, and all its rows, or why there is none.
     Find,
 }
@@ -63,6 +66,7 @@ impl Work<'_> {
             Work::Open(errand) => open(alloc, conn, *errand),
             Work::Give(form, text, at) => act(alloc, conn, &form.input(alloc, text)?, *at),
             Work::Repeat(form, text, at) => repeat(alloc, conn, &form.input(alloc, text)?, *at),
+            Work::Migrate => migrate_tables(alloc, conn),
             Work::Find => {
                 let (said, conn) = found(alloc, conn, numbers)?;
                 Some((Came::Done(said), conn))
@@ -73,7 +77,7 @@ impl Work<'_> {
     /// Whether the connection is closed after it. Else a crash ends it.
     pub fn is_closed_after(&self, came: &Came) -> bool {
         match self {
-            Work::Execute(_) | Work::Make(_, Errand::Nothing) => true,
+            Work::Execute(_) | Work::Make(_, Errand::Nothing) | Work::Migrate => true,
             Work::Open(_) | Work::Give(_, _, _) => !matches!(came, Came::NotBegun),
             _ => false,
         }
@@ -102,6 +106,18 @@ fn make<S: Alter + Drop>(
         Ok(station) => serve(alloc, station, errand),
         Err((conn, AttachFault::Store)) => Some((Came::Stopped, conn)),
         Err(_) => None,
+    }
+}
+
+/// Takes a file of version 1 to version 2, or says why it is none.
+fn migrate_tables<S: Alter + Drop>(
+    alloc: Global,
+    conn: Connection<S>,
+) -> Option<(Came, Connection<S>)> {
+    match migrate(alloc, conn) {
+        Ok(conn) => Some((Came::Done(say(alloc, "ok")?), conn)),
+        Err((conn, AttachFault::Store)) => Some((Came::Stopped, conn)),
+        Err((conn, fault)) => Some((Came::Done(fault_said(alloc, &fault)?), conn)),
     }
 }
 

@@ -4,7 +4,7 @@ use Rattle.serde_json.specs.Data.{boolean, string}
 use Rattle.serde_json.specs.Written.{compact_text}
 use Rattle.awb_number.specs.Number.{number_text}
 use Rattle.station_core.specs.declared.rows.Waybill.{Waybill}
-use Rattle.http_desk.specs.Reply.{pair_data}
+use Rattle.http_desk.specs.Reply.{pair_data, since_text}
 
 abbrev pub first_members : ℕ → Waybill → List ℕ
 first_members w known = codes "{\"awb\":" ++ (compact_text (string (number_text w)) ++ (codes ",\"delivered\":" ++ (compact_text (pair_data known.delivered) ++ (codes ",\"departed\":" ++ (compact_text (pair_data known.departed) ++ codes ",")))))
@@ -16,4 +16,4 @@ abbrev pub third_members : Waybill → List ℕ
 third_members known = codes "\"missing\":" ++ (compact_text (pair_data known.missing) ++ (codes ",\"notified\":" ++ (compact_text (boolean known.declared.notified) ++ (codes ",\"origin\":" ++ (compact_text (string known.declared.origin) ++ codes ",")))))
 
 abbrev pub last_members : Waybill → List ℕ
-last_members known = codes "\"pieces\":" ++ (decimal known.declared.pieces ++ (codes ",\"store\":" ++ (compact_text (pair_data known.store) ++ (codes ",\"taken\":" ++ (compact_text (pair_data known.taken) ++ (codes ",\"tenths\":" ++ (decimal known.declared.tenths ++ (codes ",\"transferred\":" ++ (compact_text (pair_data known.transferred) ++ codes "}")))))))))
+last_members known = codes "\"pieces\":" ++ (decimal known.declared.pieces ++ (codes ",\"since\":" ++ (compact_text (string (since_text known.declared.since)) ++ (codes ",\"store\":" ++ (compact_text (pair_data known.store) ++ (codes ",\"taken\":" ++ (compact_text (pair_data known.taken) ++ (codes ",\"tenths\":" ++ (decimal known.declared.tenths ++ (codes ",\"transferred\":" ++ (compact_text (pair_data known.transferred) ++ codes "}")))))))))))

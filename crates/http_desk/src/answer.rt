@@ -3,13 +3,15 @@ ghost use Rattle.std.specs.Prelude.{◌≡◌, IfOk, string_bytes, option_map};
 ghost use Rattle.http.specs.StatusCode.{IsStatusCode};
 ghost use Rattle.serde_json.specs.View.{view};
 ghost use Rattle.serde_json.specs.Written.{compact_text};
-ghost use Rattle.http_desk.specs.Reply.{status_line, allow_line, json_fields, json_answer, report_head, refused_data, pair_data, holding_data, holder_data, holder_word, holder_name, waybill_data};
+ghost use Rattle.http_desk.specs.Reply.{status_line, allow_line, json_fields, json_answer, report_head, refused_data, pair_data, holding_data, holder_data, holder_word, holder_name, since_text, waybill_data};
 ghost use Rattle.serde_json.specs.Data.{boolean, string};
 ghost use Rattle.http_desk.specs.Members.{first_members, second_members, third_members, last_members};
 
 use agent_stock::Holder;
 use awb_number::{Awb, ascii_text};
+use desk_commands::day_text;
 use http::StatusCode;
+use imp_fields::LocalDay;
 use serde_json::{Value, json};
 use shipment_machine::Amount;
 use station_core::Waybill;
@@ -181,18 +183,34 @@ fn third_members(alloc: Global, known: &Waybill) -> Result<String, AllocError>
     format!(in alloc; "\"missing\":{missing},\"notified\":{notified},\"origin\":{origin},")
 }
 
-/// The declared pieces, what is in the store, what was taken over, the declared tenths, and what was
-/// transferred.
+/// The day on which a waybill was declared, as `2026-01-12`; nothing where that wasn't kept.
+fn since_text(alloc: Global, since: Option<LocalDay>) -> Result<String, AllocError>
+    ensures { IfOk result (λ text. string_bytes text ≡ since_text since) }
+{
+    match since {
+        Some(day) => {
+            let day = day_text(day);
+            let day = ascii_text(&day);
+            format!(in alloc; "{day}")
+        }
+        None => Ok(String::new(alloc)),
+    }
+}
+
+/// The declared pieces, the day of the declaration, what is in the store, what was taken over, the
+/// declared tenths, and what was transferred.
 fn last_members(alloc: Global, known: &Waybill) -> Result<String, AllocError>
     ensures { IfOk result (λ text. string_bytes text ≡ last_members known.now) }
 {
     let pieces = known.declared.pieces.number();
+    let since = since_text(alloc, known.declared.since)?;
+    let since = quoted(alloc, since.as_str())?;
     let store = pair_text(alloc, &known.store)?;
     let taken = pair_text(alloc, &known.taken)?;
     let tenths = known.declared.tenths.number();
     let transferred = pair_text(alloc, &known.transferred)?;
     format!(in alloc;
-        "\"pieces\":{pieces},\"store\":{store},\"taken\":{taken},\"tenths\":{tenths},\"transferred\":{transferred}}}"
+        "\"pieces\":{pieces},\"since\":{since},\"store\":{store},\"taken\":{taken},\"tenths\":{tenths},\"transferred\":{transferred}}}"
     )
 }
 

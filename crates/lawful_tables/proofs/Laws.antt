@@ -11,7 +11,8 @@ use Rattle.lawful_tables.specs.Lawful.{cargo_in, IsLawfulTable}
 readable : (t : Tables) → ((name : TableName) → IsLawfulTable name t) → IsReadable t
 readable t each = record {
   station = each table.Station;
-  waybills = (each table.Waybill).rows;
+  old = each table.Waybill;
+  waybills = (each table.Waybill2).rows;
   stock = (each table.Stock).rows;
   flights = (each table.Flight).rows;
   moves = (each table.Moves).rows;
@@ -33,7 +34,7 @@ lawful : (t : Tables) → ((name : TableName) → IsLawfulTable name t) → IsLa
 lawful t each = record {
   stocked = (each table.Moves).stocked;
   within = (each table.Moves).within;
-  declarations = (each table.Waybill).amounts;
+  declarations = (each table.Waybill2).amounts;
   expectations = (each table.Expected).expectations;
   moves = (each table.Moves).moves;
   trail = (each table.Trail).lines;
@@ -48,7 +49,8 @@ lawful t each = record {
 
 table_by_table : (t : Tables) → IsReadable t → IsLawfulState (meaning_of t) → (name : TableName) → IsLawfulTable name t
 table_by_table t r s table.Station = r.station
-table_by_table t r s table.Waybill = record { rows = r.waybills; amounts = s.cargo.declarations }
+table_by_table t r s table.Waybill = r.old
+table_by_table t r s table.Waybill2 = record { rows = r.waybills; amounts = s.cargo.declarations }
 table_by_table t r s table.Stock = record { rows = r.stock; used = s.cargo.used }
 table_by_table t r s table.Flight = record { rows = r.flights; outbound = s.cargo.outbound }
 table_by_table t r s table.Moves = record {

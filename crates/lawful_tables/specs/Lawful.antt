@@ -1,5 +1,5 @@
 -- What is lawful of each table of a station: its own values, and what they owe to the tables before it.
-use Rattle.std.specs.Prelude.{◌≡◌, ◌≤◌, ℕ, false, ◌↔◌, IsTrue, IsSome, IfSome, Some, length}
+use Rattle.std.specs.Prelude.{◌≡◌, ◌≤◌, ℕ, [], false, ◌↔◌, IsTrue, IsSome, IfSome, Some, length}
 use Rattle.std.specs.List.{AllByRecursion, list_all, list_any}
 use Rattle.std.specs.Str.{bytes_eq}
 use Rattle.std.specs.FinMap.{entries}
@@ -93,7 +93,8 @@ pub record AreKeptTexts (t : Tables) : Type 0 where
 -- whether a table is lawful: its own values, against those of the tables before it
 abbrev pub IsLawfulTable : TableName → Tables → Type 0
 IsLawfulTable table.Station t = IsTrue (is_station t.stations)
-IsLawfulTable table.Waybill t = AreWaybills t
+IsLawfulTable table.Waybill t = t.old_waybills ≡ []
+IsLawfulTable table.Waybill2 t = AreWaybills t
 IsLawfulTable table.Stock t = AreStocks t
 IsLawfulTable table.Flight t = AreFlights t
 IsLawfulTable table.Moves t = AreMoves t

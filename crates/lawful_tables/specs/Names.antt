@@ -1,11 +1,12 @@
 -- The names of the tables in the database.
 use Rattle.std.specs.Prelude.{ℕ, List, codes}
 use Rattle.lawful_tables.specs.declared.name.TableName.{TableName}
-use Rattle.lawful_tables.specs.declared.name.TableName.TheVariants.{Station, Waybill, Stock, Flight, Moves, Expected, Part, Trail, Outbox, KeptKey, KeptText, Counts, Build}
+use Rattle.lawful_tables.specs.declared.name.TableName.TheVariants.{Station, Waybill, Waybill2, Stock, Flight, Moves, Expected, Part, Trail, Outbox, KeptKey, KeptText, Counts, Build}
 
 abbrev pub name_text : TableName → List ℕ
 name_text Station = codes "station"
 name_text Waybill = codes "waybill"
+name_text Waybill2 = codes "waybill2"
 name_text Stock = codes "stock"
 name_text Flight = codes "flight"
 name_text Moves = codes "moves"

@@ -8,8 +8,10 @@ use std::fmt;
 pub enum TableName {
     /// The station's one row: its airport, the version of the file, the last message that was confirmed.
     Station,
-    /// What is declared of each air waybill.
+    /// What was declared of each air waybill in files of version 1: it is empty.
     Waybill,
+    /// What is declared of each air waybill, and since when.
+    Waybill2,
     /// The stock of air waybill numbers, by runs.
     Stock,
     /// Outbound flights.
@@ -42,6 +44,7 @@ impl TableName {
         match self {
             TableName::Station => "station",
             TableName::Waybill => "waybill",
+            TableName::Waybill2 => "waybill2",
             TableName::Stock => "stock",
             TableName::Flight => "flight",
             TableName::Moves => "moves",

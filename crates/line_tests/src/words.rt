@@ -94,6 +94,7 @@ fn airport_said(alloc: Global, airport: Option<Airport>) -> Option<String> {
 fn command_said(alloc: Global, command: &LineCommand<'_>) -> Option<String> {
     match *command {
         LineCommand::Init => say(alloc, "init"),
+        LineCommand::Migrate => say(alloc, "migrate"),
         LineCommand::Stock => say(alloc, "stock"),
         LineCommand::Take(path) => say_two(alloc, "take", path),
         LineCommand::Act { verb, key } => {

@@ -9,7 +9,7 @@ use Rattle.sqlite.specs.declared.types.Value.TheVariants.{Null, Int}
 use Rattle.sqlite.specs.Order.{Row}
 use Rattle.sqlite_value.proofs.OrderLemmas.{value_cmp-Int}
 use Rattle.sqlite.specs.Tree.{Trees, rowid, put_row}
-use Rattle.sqlite.specs.Edit.{is_taken, are_fresh, id_in, edit_of, numbered, without_all, put_all, left_by, Applies}
+use Rattle.sqlite.specs.Edit.{is_taken, are_fresh, id_in, edit_of, numbered, with_rowid, without_all, put_all, left_by, Applies}
 use Rattle.sqlite.specs.Cast.{cast_row}
 use Rattle.sqlite_rules.specs.Calls.{ids_of}
 use Rattle.sqlite_keyed.proofs.WriteLemmas.{removes_delete}
@@ -120,6 +120,21 @@ pub fold-map : {A B C : Type 0} (f : C → B → C) (g : A → B) (c : C) (xs : 
 fold-map f g c [] = refl
 fold-map f g c (x ∷ xs) = fold-map f g (f c (g x)) xs
 
+-- rowids that rows have stay
+module _ {X : Type 0} (key : X → ℤ) (to_row : X → Row) (keyed : (x : X) → rowid (to_row x) ≡ Int (key x)) where
+  numbered_chosen : (rows : List Row) (news : List X) → numbered Chosen rows (map to_row news) ≡ map to_row news
+  numbered_chosen rows [] = refl
+  numbered_chosen rows (x ∷ news) =
+      let same : with_rowid Chosen rows (to_row x) ≡ to_row x = rw (keyed x) refl in
+      ap₂ ◌∷◌ same (numbered_chosen (put_row (with_rowid Chosen rows (to_row x)) rows) news)
+
+  -- INSERT of many rows
+  pub puts_all : (schema : Schema) (keys : Keys) (table : Table) (db next : Trees) (xs : List X) → db table.tree ≡ map to_row xs → (sources : List Row) (news : List X)
+      → map (λ s. cast_row table s) sources ≡ map to_row news → Applies schema keys db (edit_of db table [] Chosen 0 sources) next → next table.tree ≡ map to_row (fold (insert_by key) xs news)
+  puts_all schema keys table db next xs stored sources news is h =
+      let all : (edit_of db table [] Chosen 0 sources).news ≡ map to_row news = ap (numbered Chosen (db table.tree)) is ∙ numbered_chosen (db table.tree) news in
+      h.rows ∙ ap₂ (λ l ns. put_all l ns) stored all ∙ fold-map (λ rows r. put_row r rows) to_row (map to_row xs) news ∙ puts-map key to_row keyed news xs
+
 -- rowids that are given stay
 numbered_given : (rows news : List Row) → numbered Given rows news ≡ news
 numbered_given rows [] = refl
@@ -133,7 +148,7 @@ module _ {X : Type 0} (key : X → ℤ) where
       let o : int_cmp (key x) (key new) ≡ Greater = grind (arith, ints) in
       ap (λ c. match_ordering c (x ∷ insert_by key xs new) (new ∷ xs) (new ∷ x ∷ xs)) o
 
-  puts_past : (news : List X) (x : X) (xs : List X) → AllByRecursion (λ n. key x <ℤ key n) news → fold (insert_by key) (x ∷ xs) news ≡ x ∷ fold (insert_by key) xs news
+  pub puts_past : (news : List X) (x : X) (xs : List X) → AllByRecursion (λ n. key x <ℤ key n) news → fold (insert_by key) (x ∷ xs) news ≡ x ∷ fold (insert_by key) xs news
   puts_past [] x xs above = refl
   puts_past (n ∷ news) x xs above = rw (Less-from_lt (key x) (key n) above.0) (puts_past news x (insert_by key xs n) above.1)
 

@@ -4,7 +4,7 @@ use Rattle.sqlite.specs.Order.{Row}
 use Rattle.sqlite.specs.Term.{Term}
 use Rattle.sqlite.specs.Table.{Table}
 use Rattle.sqlite.specs.Command.TheVariants.{Insert, Update, Delete}
-use Rattle.sqlite.specs.Source.TheVariants.{Values}
+use Rattle.sqlite.specs.Source.TheVariants.{Values, Query}
 use Rattle.sqlite.specs.Rowids.TheVariants.{Chosen, Given}
 use Rattle.sqlite.specs.Edit.{Edit, edit_of, Applies}
 use Rattle.sqlite.specs.Effect.{Answers, value_rows}
@@ -17,7 +17,7 @@ use Rattle.sqlite_rules.specs.Calls.{ids_of}
 use Rattle.sqlite_schema.specs.declared.schema.Keys.{Keys}
 use Rattle.sqlite_schema.specs.declared.program.Program.{Program}
 use Rattle.sqlite.specs.Schema.{Schema}
-use Rattle.row_laws.proofs.Shared.{inserts, updates, deletes}
+use Rattle.row_laws.proofs.Shared.{inserts, inserts_rows_of, updates, deletes}
 use Rattle.row_laws.proofs.Texts.{Means}
 
 -- a table of the schema, on which no key acts and whose rows are not counted
@@ -41,6 +41,15 @@ module _ (schema : Schema) (old new : State) (has : old.now.schema ≡ schema) w
         let step = inserts schema at table placed.there placed.uncounted placed.unstamped old.step_limit (mode_of old) params old.now.trees text terms width w.tally new.now (placed.idle (mode_of old).keys)
         (subst (λ d. Does old.step_limit (mode_of old) params (record old.now { schema = d }) text None (Insert at (Values terms width)) (Ok (w.tally, new.now))) has w.changed) in
         record { kept = step.kept; applies = step.applies; shown = w.shown }
+
+    -- INSERT .. SELECT
+    pub select_ran : (q : Program) → Means schema sql (Insert at (Query q)) → (rows : List Row) × Answers (record { schema = schema; trees = old.now.trees }) q params rows × Wrote (edit_of old.now.trees table [] Chosen 0 rows)
+    select_ran q is =
+        let text = statement_of sql (understood schema sql) in
+        let w = runs_as sql params old new schema has (Insert at (Query q)) is.0 is.1 count h in
+        let did = inserts_rows_of schema at table placed.there placed.uncounted placed.unstamped old.step_limit (mode_of old) params old.now.trees text q w.tally new.now (placed.idle (mode_of old).keys)
+        (subst (λ d. Does old.step_limit (mode_of old) params (record old.now { schema = d }) text None (Insert at (Query q)) (Ok (w.tally, new.now))) has w.changed) in
+        (did.0, did.1, record { kept = did.2.kept; applies = did.2.applies; shown = w.shown })
 
     pub update_ran : (q : Program) → Means schema sql (Update at q) → (rows : List Row) × Answers (record { schema = schema; trees = old.now.trees }) q params rows × Wrote (edit_of old.now.trees table (ids_of rows) Given 1 rows)
     update_ran q is =

@@ -6,7 +6,7 @@ use Rattle.sqlite.specs.State.{State, Shows}
 use Rattle.std.specs.Fmt.{digits}
 use Rattle.row_laws.specs.Calls.{IsMade}
 use Rattle.row_schema.specs.Calls.{IsInside}
-use Rattle.row_schema.specs.Schema.{no_schema, station_made, waybill_made, stock_made, flight_made, moves_made, moves_indexed, expected_made, part_made, trail_made, outbox_made, kept_key_made, kept_text_made, counts_made, station_schema, station, waybill, stock, flight, moves, expected, part, trail, outbox, kept_key, kept_text, counts, build, moves_index}
+use Rattle.row_schema.specs.Schema.{no_schema, station_made, waybill_made, stock_made, flight_made, moves_made, moves_indexed, expected_made, part_made, trail_made, outbox_made, kept_key_made, kept_text_made, counts_made, old_schema, station_schema, station, waybill, waybill2, stock, flight, moves, expected, part, trail, outbox, kept_key, kept_text, counts, build, moves_index}
 use Rattle.row_schema.proofs.Stored.{made_station}
 
 -- an automatic index has its number in its name
@@ -56,9 +56,12 @@ pub counts_makes : created kept_text_made (record counts { tree = 0 }) ≡ count
 unfolding digits
 counts_makes = refl
 
-pub build_makes : created counts_made (record build { tree = 0 }) ≡ station_schema
+pub build_makes : created counts_made (record build { tree = 0 }) ≡ old_schema
 unfolding digits
 build_makes = refl
+
+pub waybill2_makes : created old_schema (record waybill2 { tree = 0 }) ≡ station_schema
+waybill2_makes = refl
 
 pub made_inside : (s : State) → IsMade station_schema s → IsInside s
 made_inside s h = record { begun = h.begun; station = made_station s.now h.made h.empty }

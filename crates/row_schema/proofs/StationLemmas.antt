@@ -25,7 +25,7 @@ inserts_station old new airport count inside h =
     let params = Text airport ∷ [] in
     let ran = insert_ran station_schema old new inside.station.schema 0 station station_placed insert_station_text params count h station_terms 5 insert_station_is in
     let put = puts station_id station_row (λ _. refl) station_schema _ station old.now.trees new.now.trees (tables_of old.now.trees).stations was.rows (value_rows params 5 1 station_terms) (new_station airport)
-    (rw (cast_null, cast_int (pos 1), cast_int (pos 0))) ran.applies in
+    (rw (cast_null, cast_int (pos 1), cast_int (pos 2), cast_int (pos 0))) ran.applies in
     edits_stations old new inside ran.kept ran.applies.tables ran.shown (λ xs. insert_by station_id xs (new_station airport)) put.rows (IsKeyedBy-insert_by station_id _ (new_station airport) was.keyed)
 
 pub insert_survives : (old new : State) (params : Row) → Survives old new (CommitsBy insert_station_text params old) → Survives old new (λ _. ¬ IsInside old)

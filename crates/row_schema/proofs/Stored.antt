@@ -62,7 +62,8 @@ module _ (old new : Trees) (t : ℕ) where
 pub rows_after : (old new : Trees) (t : ℕ) → AllByRecursion (λ (table : Table). table.tree ≢ t → new table.tree ≡ old table.tree) station_schema.tables → rows_in new ≡ rows_in (put_tree old t (new t))
 rows_after old new t others = λ i. record {
   stations = is_put old new t 0 others.0 i;
-  waybills = is_put old new t 1 others.1.0 i;
+  old_waybills = is_put old new t 1 others.1.0 i;
+  waybills = is_put old new t 22 others.1.1.1.1.1.1.1.1.1.1.1.1.1.0 i;
   stock = is_put old new t 2 others.1.1.0 i;
   flights = is_put old new t 4 others.1.1.1.0 i;
   moves = is_put old new t 6 others.1.1.1.1.0 i;
@@ -104,9 +105,15 @@ module _ (old new : State) (inside : IsInside old) (schema : new.now.schema ≡ 
       (listed table.station_id table.station_row table.station_in (λ _. refl) _ _ rows up)
       (ap (λ xs. record before { stations = xs }) (list_back table.station_id table.station_row table.station_in (λ _. refl) _ _ rows))
 
-  pub edits_waybills : Others 1 → Shown → (change : List table.Waybill → List table.Waybill) → new.now.trees 1 ≡ map table.waybill_row (change before.waybills) → IsKeyedBy table.waybill_id (change before.waybills)
+  pub edits_old_waybills : Others 1 → Shown → (change : List table.OldWaybill → List table.OldWaybill) → new.now.trees 1 ≡ map table.old_waybill_row (change before.old_waybills) → IsKeyedBy table.old_waybill_id (change before.old_waybills)
+      → Edits old new (λ tables. record tables { old_waybills = change tables.old_waybills })
+  edits_old_waybills others shown change rows up = edits_by old new 1 inside schema others shown (λ tables. record tables { old_waybills = change tables.old_waybills })
+      (listed table.old_waybill_id table.old_waybill_row table.old_waybill_in (λ _. refl) _ _ rows up)
+      (ap (λ xs. record before { old_waybills = xs }) (list_back table.old_waybill_id table.old_waybill_row table.old_waybill_in (λ _. refl) _ _ rows))
+
+  pub edits_waybills : Others 22 → Shown → (change : List table.Waybill → List table.Waybill) → new.now.trees 22 ≡ map table.waybill_row (change before.waybills) → IsKeyedBy table.waybill_id (change before.waybills)
       → Edits old new (λ tables. record tables { waybills = change tables.waybills })
-  edits_waybills others shown change rows up = edits_by old new 1 inside schema others shown (λ tables. record tables { waybills = change tables.waybills })
+  edits_waybills others shown change rows up = edits_by old new 22 inside schema others shown (λ tables. record tables { waybills = change tables.waybills })
       (listed table.waybill_id table.waybill_row table.waybill_in (λ _. refl) _ _ rows up)
       (ap (λ xs. record before { waybills = xs }) (list_back table.waybill_id table.waybill_row table.waybill_in (λ _. refl) _ _ rows))
 
@@ -187,5 +194,5 @@ no_list key to_row from_row stored none = subst (AreListed key to_row from_row) 
 pub made_station : (db : Database) → db.schema ≡ station_schema → AllByRecursion (λ (t : Table). db.trees t.tree ≡ []) station_schema.tables → IsStation db
 made_station db schema empty = record {
   schema = schema;
-  typed = (no_list _ _ _ _ empty.0, (no_list _ _ _ _ empty.1.0, (no_entries _ _ _ _ empty.1.1.0, (no_entries _ _ _ _ empty.1.1.1.0, (no_list _ _ _ _ empty.1.1.1.1.0, (no_entries _ _ _ _ empty.1.1.1.1.1.0, (no_entries _ _ _ _ empty.1.1.1.1.1.1.0, (no_list _ _ _ _ empty.1.1.1.1.1.1.1.0, (no_list _ _ _ _ empty.1.1.1.1.1.1.1.1.0, (no_entries _ _ _ _ empty.1.1.1.1.1.1.1.1.1.0, (no_entries _ _ _ _ empty.1.1.1.1.1.1.1.1.1.1.0, (no_entries _ _ _ _ empty.1.1.1.1.1.1.1.1.1.1.1.0, (no_entries _ _ _ _ empty.1.1.1.1.1.1.1.1.1.1.1.1.0, tt)))))))))))));
+  typed = (no_list _ _ _ _ empty.0, (no_list _ _ _ _ empty.1.0, (no_entries _ _ _ _ empty.1.1.0, (no_entries _ _ _ _ empty.1.1.1.0, (no_list _ _ _ _ empty.1.1.1.1.0, (no_entries _ _ _ _ empty.1.1.1.1.1.0, (no_entries _ _ _ _ empty.1.1.1.1.1.1.0, (no_list _ _ _ _ empty.1.1.1.1.1.1.1.0, (no_list _ _ _ _ empty.1.1.1.1.1.1.1.1.0, (no_entries _ _ _ _ empty.1.1.1.1.1.1.1.1.1.0, (no_entries _ _ _ _ empty.1.1.1.1.1.1.1.1.1.1.0, (no_entries _ _ _ _ empty.1.1.1.1.1.1.1.1.1.1.1.0, (no_entries _ _ _ _ empty.1.1.1.1.1.1.1.1.1.1.1.1.0, (no_list _ _ _ _ empty.1.1.1.1.1.1.1.1.1.1.1.1.1.0, tt))))))))))))));
 }

@@ -7,7 +7,7 @@ use Rattle.sqlite.specs.Command.TheVariants.{Insert}
 use Rattle.sqlite_tied.specs.Compute.{everything}
 use Rattle.sqlite.specs.Listing.{understood}
 use Rattle.row_laws.proofs.Texts.{IsCreate, IsIndex, Means}
-use Rattle.row_schema.specs.Schema.{no_schema, station_made, waybill_made, stock_made, flight_made, moves_made, moves_indexed, expected_made, part_made, trail_made, outbox_made, kept_key_made, kept_text_made, counts_made, station_schema, station, waybill, stock, flight, moves, expected, part, trail, outbox, kept_key, kept_text, counts, build, moves_index}
+use Rattle.row_schema.specs.Schema.{no_schema, station_made, waybill_made, stock_made, flight_made, moves_made, moves_indexed, expected_made, part_made, trail_made, outbox_made, kept_key_made, kept_text_made, counts_made, old_schema, station_schema, station, waybill, waybill2, stock, flight, moves, expected, part, trail, outbox, kept_key, kept_text, counts, build, moves_index}
 
 abbrev pub create_station_text : List ℕ
 create_station_text = codes "CREATE TABLE station (id INTEGER PRIMARY KEY, airport TEXT NOT NULL, version INTEGER NOT NULL, confirmed INTEGER NOT NULL) STRICT"
@@ -107,13 +107,20 @@ pub create_build_is : IsCreate create_build_text counts_made (record build { tre
 unfolding understood everything
 create_build_is = record { command = refl; plain = (refl, refl); whole = refl; defined = refl }
 
+abbrev pub create_waybill2_text : List ℕ
+create_waybill2_text = codes "CREATE TABLE waybill2 (awb INTEGER PRIMARY KEY, origin TEXT NOT NULL, destination TEXT NOT NULL, pieces INTEGER NOT NULL, tenths INTEGER NOT NULL, goods TEXT NOT NULL, notified INTEGER NOT NULL, since INTEGER NOT NULL) STRICT"
+
+pub create_waybill2_is : IsCreate create_waybill2_text old_schema (record waybill2 { tree = 0 })
+unfolding understood everything
+create_waybill2_is = record { command = refl; plain = (refl, refl); whole = refl; defined = refl }
+
 -- ---- the row of station
 
 abbrev pub station_terms : List Term
-station_terms = lit (Int (pos 1)) ∷ lit Null ∷ col 0 0 ∷ lit (Int (pos 1)) ∷ lit (Int (pos 0)) ∷ []
+station_terms = lit (Int (pos 1)) ∷ lit Null ∷ col 0 0 ∷ lit (Int (pos 2)) ∷ lit (Int (pos 0)) ∷ []
 
 abbrev pub insert_station_text : List ℕ
-insert_station_text = codes "INSERT INTO station (id, airport, version, confirmed) VALUES (1, ?1, 1, 0)"
+insert_station_text = codes "INSERT INTO station (id, airport, version, confirmed) VALUES (1, ?1, 2, 0)"
 
 pub insert_station_is : Means station_schema insert_station_text (Insert 0 (Values station_terms 5))
 unfolding understood everything

@@ -56,7 +56,7 @@ pub record IsWorking (s : State) : Type 0 where
 
 -- the row of a new station
 abbrev pub new_station : List ℕ → Station
-new_station airport = record { id = pos 1; airport = airport; version = pos 1; confirmed = pos 0 }
+new_station airport = record { id = pos 1; airport = airport; version = pos 2; confirmed = pos 0 }
 
 abbrev pub with_station : List ℕ → Tables → Tables
 with_station airport tables = record tables { stations = insert_by station_id tables.stations (new_station airport) }

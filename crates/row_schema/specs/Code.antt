@@ -3,7 +3,7 @@ use Rattle.std.specs.Prelude.{ℕ, ℤ, List, refl}
 use Rattle.std.specs.Coded.{Coded, code_by, coded×, coded_ℕ, coded_ℤ, coded_list}
 use Rattle.std.specs.FinMap.{FinMap}
 use Rattle.std.specs.FinMap as map
-use Rattle.row_schema.specs.Tables.{Tables, Station, Waybill, Stock, Flight, Move, Expected, TrailLine, Message, Kept, Count, Build, stock_cmp, flight_cmp, expected_cmp, part_cmp, kept_cmp, kept_text_cmp, count_cmp, build_cmp}
+use Rattle.row_schema.specs.Tables.{Tables, Station, OldWaybill, Waybill, Stock, Flight, Move, Expected, TrailLine, Message, Kept, Count, Build, stock_cmp, flight_cmp, expected_cmp, part_cmp, kept_cmp, kept_text_cmp, count_cmp, build_cmp}
 
 abbrev pub text_code : Coded (List ℕ)
 text_code = coded_list coded_ℕ
@@ -13,10 +13,15 @@ station_code = code_by (ℤ × (List ℕ × (ℤ × ℤ))) (coded× coded_ℤ (c
     (λ s. (s.id, (s.airport, (s.version, s.confirmed))))
     (λ p. record { id = p.0; airport = p.1.0; version = p.1.1.0; confirmed = p.1.1.1 }) (λ _. refl)
 
-abbrev pub waybill_code : Coded Waybill
-waybill_code = code_by (ℤ × (List ℕ × (List ℕ × (ℤ × (ℤ × (List ℕ × ℤ)))))) (coded× coded_ℤ (coded× text_code (coded× text_code (coded× coded_ℤ (coded× coded_ℤ (coded× text_code coded_ℤ))))))
+abbrev pub old_waybill_code : Coded OldWaybill
+old_waybill_code = code_by (ℤ × (List ℕ × (List ℕ × (ℤ × (ℤ × (List ℕ × ℤ)))))) (coded× coded_ℤ (coded× text_code (coded× text_code (coded× coded_ℤ (coded× coded_ℤ (coded× text_code coded_ℤ))))))
     (λ w. (w.awb, (w.origin, (w.destination, (w.pieces, (w.tenths, (w.goods, w.notified)))))))
     (λ p. record { awb = p.0; origin = p.1.0; destination = p.1.1.0; pieces = p.1.1.1.0; tenths = p.1.1.1.1.0; goods = p.1.1.1.1.1.0; notified = p.1.1.1.1.1.1 }) (λ _. refl)
+
+abbrev pub waybill_code : Coded Waybill
+waybill_code = code_by (ℤ × (List ℕ × (List ℕ × (ℤ × (ℤ × (List ℕ × (ℤ × ℤ))))))) (coded× coded_ℤ (coded× text_code (coded× text_code (coded× coded_ℤ (coded× coded_ℤ (coded× text_code (coded× coded_ℤ coded_ℤ)))))))
+    (λ w. (w.awb, (w.origin, (w.destination, (w.pieces, (w.tenths, (w.goods, (w.notified, w.since))))))))
+    (λ p. record { awb = p.0; origin = p.1.0; destination = p.1.1.0; pieces = p.1.1.1.0; tenths = p.1.1.1.1.0; goods = p.1.1.1.1.1.0; notified = p.1.1.1.1.1.1.0; since = p.1.1.1.1.1.1.1 }) (λ _. refl)
 
 abbrev pub stock_code : Coded Stock
 stock_code = code_by (ℤ × (ℤ × List ℕ)) (coded× coded_ℤ (coded× coded_ℤ text_code))
@@ -66,21 +71,22 @@ build_code = code_by (ℤ × ℤ) (coded× coded_ℤ coded_ℤ)
 -- in the order of the tables
 abbrev pub tables_code : Coded Tables
 tables_code = code_by
-    (List Station × (List Waybill × (FinMap stock_cmp Stock × (FinMap flight_cmp Flight × (List Move × (FinMap expected_cmp Expected × (FinMap part_cmp (List ℕ) × (List TrailLine × (List Message × (FinMap kept_cmp Kept × (FinMap kept_text_cmp ℤ × (FinMap count_cmp Count × FinMap build_cmp Build))))))))))))
-    (coded× (coded_list station_code) (coded× (coded_list waybill_code) (coded× (map.code (coded× coded_ℤ coded_ℤ) stock_code) (coded× (map.code (coded× text_code coded_ℤ) flight_code) (coded× (coded_list move_code) (coded× (map.code (coded× text_code (coded× coded_ℤ coded_ℤ)) expected_code) (coded× (map.code (coded× text_code (coded× coded_ℤ (coded× text_code coded_ℤ))) text_code) (coded× (coded_list trail_code) (coded× (coded_list message_code) (coded× (map.code text_code kept_code) (coded× (map.code text_code coded_ℤ) (coded× (map.code (coded× coded_ℤ coded_ℤ) count_code) (map.code (coded× text_code (coded× coded_ℤ coded_ℤ)) build_code)))))))))))))
-    (λ t. (t.stations, (t.waybills, (t.stock, (t.flights, (t.moves, (t.expected, (t.parts, (t.trail, (t.outbox, (t.kept, (t.kept_texts, (t.counts, t.builds)))))))))))))
+    (List Station × (List OldWaybill × (List Waybill × (FinMap stock_cmp Stock × (FinMap flight_cmp Flight × (List Move × (FinMap expected_cmp Expected × (FinMap part_cmp (List ℕ) × (List TrailLine × (List Message × (FinMap kept_cmp Kept × (FinMap kept_text_cmp ℤ × (FinMap count_cmp Count × FinMap build_cmp Build)))))))))))))
+    (coded× (coded_list station_code) (coded× (coded_list old_waybill_code) (coded× (coded_list waybill_code) (coded× (map.code (coded× coded_ℤ coded_ℤ) stock_code) (coded× (map.code (coded× text_code coded_ℤ) flight_code) (coded× (coded_list move_code) (coded× (map.code (coded× text_code (coded× coded_ℤ coded_ℤ)) expected_code) (coded× (map.code (coded× text_code (coded× coded_ℤ (coded× text_code coded_ℤ))) text_code) (coded× (coded_list trail_code) (coded× (coded_list message_code) (coded× (map.code text_code kept_code) (coded× (map.code text_code coded_ℤ) (coded× (map.code (coded× coded_ℤ coded_ℤ) count_code) (map.code (coded× text_code (coded× coded_ℤ coded_ℤ)) build_code))))))))))))))
+    (λ t. (t.stations, (t.old_waybills, (t.waybills, (t.stock, (t.flights, (t.moves, (t.expected, (t.parts, (t.trail, (t.outbox, (t.kept, (t.kept_texts, (t.counts, t.builds))))))))))))))
     (λ p. record {
       stations = p.0;
-      waybills = p.1.0;
-      stock = p.1.1.0;
-      flights = p.1.1.1.0;
-      moves = p.1.1.1.1.0;
-      expected = p.1.1.1.1.1.0;
-      parts = p.1.1.1.1.1.1.0;
-      trail = p.1.1.1.1.1.1.1.0;
-      outbox = p.1.1.1.1.1.1.1.1.0;
-      kept = p.1.1.1.1.1.1.1.1.1.0;
-      kept_texts = p.1.1.1.1.1.1.1.1.1.1.0;
-      counts = p.1.1.1.1.1.1.1.1.1.1.1.0;
-      builds = p.1.1.1.1.1.1.1.1.1.1.1.1;
+      old_waybills = p.1.0;
+      waybills = p.1.1.0;
+      stock = p.1.1.1.0;
+      flights = p.1.1.1.1.0;
+      moves = p.1.1.1.1.1.0;
+      expected = p.1.1.1.1.1.1.0;
+      parts = p.1.1.1.1.1.1.1.0;
+      trail = p.1.1.1.1.1.1.1.1.0;
+      outbox = p.1.1.1.1.1.1.1.1.1.0;
+      kept = p.1.1.1.1.1.1.1.1.1.1.0;
+      kept_texts = p.1.1.1.1.1.1.1.1.1.1.1.0;
+      counts = p.1.1.1.1.1.1.1.1.1.1.1.1.0;
+      builds = p.1.1.1.1.1.1.1.1.1.1.1.1.1;
     }) (λ _. refl)

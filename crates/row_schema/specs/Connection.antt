@@ -31,7 +31,8 @@ IsVacant g conn = (state g conn).now.schema ≡ no_schema
 -- the tables of a new station
 abbrev pub opening : List ℕ → Tables
 opening airport = record {
-  stations = record { id = pos 1; airport = airport; version = pos 1; confirmed = pos 0 } ∷ [];
+  stations = record { id = pos 1; airport = airport; version = pos 2; confirmed = pos 0 } ∷ [];
+  old_waybills = [];
   waybills = [];
   stock = empty;
   flights = empty;

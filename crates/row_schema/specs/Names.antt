@@ -4,11 +4,11 @@ use Rattle.std.specs.List.{list_any}
 use Rattle.sqlite.specs.Schema.{Schema}
 use Rattle.sqlite_schema.specs.Names.{table_named, index_named, view_named}
 
--- thirteen tables, and the index of the moves by their waybills
+-- fourteen tables, and the index of the moves by their waybills
 abbrev pub station_names : List (List ℕ)
 station_names =
     codes "station" ∷ codes "waybill" ∷ codes "stock" ∷ codes "flight" ∷ codes "moves" ∷ codes "moves_awb" ∷ codes "expected"
-    ∷ codes "part" ∷ codes "trail" ∷ codes "outbox" ∷ codes "kept_key" ∷ codes "kept_text" ∷ codes "counts" ∷ codes "build" ∷ []
+    ∷ codes "part" ∷ codes "trail" ∷ codes "outbox" ∷ codes "kept_key" ∷ codes "kept_text" ∷ codes "counts" ∷ codes "build" ∷ codes "waybill2" ∷ []
 
 -- a table, an index or a view has this name, whatever the case of its ASCII letters
 abbrev pub is_taken : Schema → List ℕ → Bool

@@ -46,7 +46,8 @@ typed_once t rows =
     (either_once (t == 14) (entries_once _ _ _ _)
     (either_once (t == 16) (entries_once _ _ _ _)
     (either_once (t == 18) (entries_once _ _ _ _)
-    (either_once (t == 20) (entries_once _ _ _ _) (λ a b. refl)))))))))))))
+    (either_once (t == 20) (entries_once _ _ _ _)
+    (either_once (t == 22) (listed_once _ _ _ _) (λ a b. refl))))))))))))))
 
 all_once : {A : Type 0} (P : A → Type 0) → ((a : A) → IsProp (P a)) → (xs : List A) → IsProp (AllByRecursion P xs)
 all_once P once [] a b = refl

@@ -8,7 +8,7 @@ use Rattle.sqlite_trees.specs.View.{IsOrdered}
 use Rattle.sqlite_trees.specs.Objects.{catalog_tree, IsListed}
 use Rattle.sqlite_schema.specs.contracts.schema.Schema.{the_row as schema_row}
 use Rattle.row_schema.specs.Connection.{opening}
-use Rattle.row_schema.specs.Schema.{station_schema}
+use Rattle.row_schema.specs.Schema.{old_schema, station_schema}
 use Rattle.row_schema.specs.Tables.{tables_of}
 use base.Stored.{Coded-set}
 
@@ -18,6 +18,10 @@ pub record IsOwn (db : Trees) : Type 0 where
 
 pub own_once : (db : Trees) → IsProp (IsOwn db)
 own_once db a b = λ i. record { only = λ schema sound. Coded-set schema_row.coded _ _ (a.only schema sound) (b.only schema sound) i }
+
+-- whoever reads a schema out of these trees finds that of a station of version 1
+pub record IsOldOwn (db : Trees) : Type 0 where
+  pub only : (schema : Schema) → IsSound schema db → schema ≡ old_schema
 
 -- These are the trees of a station that was just made.
 pub record IsNewStation (airport : List ℕ) (db : Trees) : Type 0 where

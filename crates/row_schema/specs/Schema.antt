@@ -67,6 +67,7 @@ station = keyed_table 0 (codes "station") (key_column (codes "id") Integer
     ∷ column_of (codes "airport") Text ∷ column_of (codes "version") Integer
     ∷ column_of (codes "confirmed") Integer ∷ [])
 
+-- the waybills of a file of version 1; in one of version 2 it is empty
 abbrev pub waybill : Table
 waybill = keyed_table 1 (codes "waybill") (key_column (codes "awb") Integer
     ∷ column_of (codes "origin") Text ∷ column_of (codes "destination") Text
@@ -155,6 +156,14 @@ build = table_by 20 (1 ∷ 2 ∷ 3 ∷ []) (codes "build") (column_of (codes "fl
 
 abbrev pub build_index : Index
 build_index = key_index 21 20 (1 ∷ 2 ∷ 3 ∷ []) (codes "sqlite_autoindex_build_1")
+
+-- the waybills of a file of version 2, with the day on which each was last declared
+abbrev pub waybill2 : Table
+waybill2 = keyed_table 22 (codes "waybill2") (key_column (codes "awb") Integer
+    ∷ column_of (codes "origin") Text ∷ column_of (codes "destination") Text
+    ∷ column_of (codes "pieces") Integer ∷ column_of (codes "tenths") Integer
+    ∷ column_of (codes "goods") Text ∷ column_of (codes "notified") Integer
+    ∷ column_of (codes "since") Integer ∷ [])
 
 -- the schema once the last of these tables is made
 abbrev pub no_schema : Schema
@@ -257,11 +266,20 @@ counts_made = record {
   views = [];
 }
 
-abbrev pub station_schema : Schema
-station_schema = record {
+-- the tables of both versions, and more of them
+abbrev pub schema_with : List Table → Schema
+schema_with more = record {
   tables = station ∷ waybill ∷ stock ∷ flight ∷ moves ∷ expected ∷ part ∷ trail ∷ outbox ∷ kept_key
-      ∷ kept_text ∷ counts ∷ build ∷ [];
+      ∷ kept_text ∷ counts ∷ build ∷ more;
   indexes = stock_index ∷ flight_index ∷ moves_index ∷ expected_index ∷ part_index ∷ kept_key_index
       ∷ kept_text_index ∷ counts_index ∷ build_index ∷ [];
   views = [];
 }
+
+-- the schema of a file of version 1
+abbrev pub old_schema : Schema
+old_schema = schema_with []
+
+-- and that of a file of version 2
+abbrev pub station_schema : Schema
+station_schema = schema_with (waybill2 ∷ [])

@@ -1,5 +1,5 @@
 -- The tables of a station as typed rows: a list where SQLite is given the key as an id, and a map where the key is of columns.
-use Rattle.std.specs.Prelude.{◌≡◌, ◌==◌, ℤ, ℕ, List, [], ◌∷◌, map, MatchBool}
+use Rattle.std.specs.Prelude.{◌≡◌, ◌==◌, ℤ, pos, ℕ, List, [], ◌∷◌, map, MatchBool}
 use Rattle.sqlite.specs.declared.types.Value.TheVariants.{Null, Int, Text}
 use Rattle.sqlite.specs.Order.{Row, column}
 use Rattle.std.specs.List.{AllByRecursion}
@@ -9,11 +9,12 @@ use Rattle.sqlite.specs.Effect.{Database}
 use Rattle.sqlite_typed.specs.Columns.{int_of, bytes_of}
 use Rattle.sqlite_typed.specs.Tests.{bytes_cmp}
 use Rattle.std.specs.declared.cmp.Ordering.{Ordering}
-use Rattle.std.specs.Ordering.{int_cmp}
+use Rattle.std.specs.Ordering.{int_cmp, int_eq}
 use Rattle.std.specs.FinMap.{FinMap, from_entries}
+use Rattle.sqlite_keyed.specs.Lists.{update_where}
 use Rattle.sqlite_keyed.proofs.SortLemmas.{pair_cmp}
 use Rattle.row_laws.specs.Columns.{AreEntries, AreListed}
-use Rattle.row_schema.specs.Schema.{station_schema}
+use Rattle.row_schema.specs.Schema.{old_schema, station_schema}
 
 -- Of each table: a row (where the key is of columns, apart from the key), the row as it is stored, and back. A row that is stored
 -- begins with its rowid; SQLite keeps NULL in the place of an INTEGER PRIMARY KEY.
@@ -41,10 +42,10 @@ station_in r = record {
   confirmed = int_of (column r 4);
 }
 
--- ---- waybill
+-- ---- waybill: those of a file of version 1
 
 -- a row of `waybill`
-pub record Waybill : Type 0 where
+pub record OldWaybill : Type 0 where
   pub awb : ℤ
   pub origin : List ℕ
   pub destination : List ℕ
@@ -53,12 +54,43 @@ pub record Waybill : Type 0 where
   pub goods : List ℕ
   pub notified : ℤ
 
+abbrev pub old_waybill_id : OldWaybill → ℤ
+old_waybill_id w = w.awb
+
+abbrev pub old_waybill_row : OldWaybill → Row
+old_waybill_row w = Int w.awb ∷ Null ∷ Text w.origin ∷ Text w.destination ∷ Int w.pieces ∷ Int w.tenths
+    ∷ Text w.goods ∷ Int w.notified ∷ []
+
+abbrev pub old_waybill_in : Row → OldWaybill
+old_waybill_in r = record {
+  awb = int_of (column r 0);
+  origin = bytes_of (column r 2);
+  destination = bytes_of (column r 3);
+  pieces = int_of (column r 4);
+  tenths = int_of (column r 5);
+  goods = bytes_of (column r 6);
+  notified = int_of (column r 7);
+}
+
+-- ---- waybill2
+
+-- a row of `waybill2`: `since` is the day on which it was last declared, or 0 where none is known
+pub record Waybill : Type 0 where
+  pub awb : ℤ
+  pub origin : List ℕ
+  pub destination : List ℕ
+  pub pieces : ℤ
+  pub tenths : ℤ
+  pub goods : List ℕ
+  pub notified : ℤ
+  pub since : ℤ
+
 abbrev pub waybill_id : Waybill → ℤ
 waybill_id w = w.awb
 
 abbrev pub waybill_row : Waybill → Row
 waybill_row w = Int w.awb ∷ Null ∷ Text w.origin ∷ Text w.destination ∷ Int w.pieces ∷ Int w.tenths
-    ∷ Text w.goods ∷ Int w.notified ∷ []
+    ∷ Text w.goods ∷ Int w.notified ∷ Int w.since ∷ []
 
 abbrev pub waybill_in : Row → Waybill
 waybill_in r = record {
@@ -69,6 +101,7 @@ waybill_in r = record {
   tenths = int_of (column r 5);
   goods = bytes_of (column r 6);
   notified = int_of (column r 7);
+  since = int_of (column r 8);
 }
 
 -- ---- stock
@@ -315,6 +348,7 @@ build_in r = (
 -- the rows of each table, as they lie in its tree
 pub record TreeRows : Type 0 where
   pub stations : List Row
+  pub old_waybills : List Row
   pub waybills : List Row
   pub stock : List Row
   pub flights : List Row
@@ -331,7 +365,8 @@ pub record TreeRows : Type 0 where
 abbrev pub rows_in : Trees → TreeRows
 rows_in db = record {
   stations = db 0;
-  waybills = db 1;
+  old_waybills = db 1;
+  waybills = db 22;
   stock = db 2;
   flights = db 4;
   moves = db 6;
@@ -348,6 +383,7 @@ rows_in db = record {
 -- and what they stand for
 pub record Tables : Type 0 where
   pub stations : List Station
+  pub old_waybills : List OldWaybill
   pub waybills : List Waybill
   pub stock : FinMap stock_cmp Stock
   pub flights : FinMap flight_cmp Flight
@@ -364,6 +400,7 @@ pub record Tables : Type 0 where
 abbrev pub tables_in : TreeRows → Tables
 tables_in r = record {
   stations = map station_in r.stations;
+  old_waybills = map old_waybill_in r.old_waybills;
   waybills = map waybill_in r.waybills;
   stock = from_entries (map stock_in r.stock);
   flights = from_entries (map flight_in r.flights);
@@ -385,7 +422,7 @@ tables_of db = tables_in (rows_in db)
 abbrev pub IsTyped : ℕ → List Row → Type 0
 IsTyped t rows =
     MatchBool (t == 0) (AreListed station_id station_row station_in rows)
-    (MatchBool (t == 1) (AreListed waybill_id waybill_row waybill_in rows)
+    (MatchBool (t == 1) (AreListed old_waybill_id old_waybill_row old_waybill_in rows)
     (MatchBool (t == 2) (AreEntries stock_cmp stock_row stock_in rows)
     (MatchBool (t == 4) (AreEntries flight_cmp flight_row flight_in rows)
     (MatchBool (t == 6) (AreListed move_id move_row move_in rows)
@@ -396,10 +433,45 @@ IsTyped t rows =
     (MatchBool (t == 14) (AreEntries kept_cmp kept_row kept_in rows)
     (MatchBool (t == 16) (AreEntries kept_text_cmp kept_text_row kept_text_in rows)
     (MatchBool (t == 18) (AreEntries count_cmp count_row count_in rows)
-    (MatchBool (t == 20) (AreEntries build_cmp build_row build_in rows) (Unit {0})))))))))))))
+    (MatchBool (t == 20) (AreEntries build_cmp build_row build_in rows)
+    (MatchBool (t == 22) (AreListed waybill_id waybill_row waybill_in rows) (Unit {0}))))))))))))))
 
 abbrev pub AreTyped : Trees → Type 0
 AreTyped db = AllByRecursion (λ (table : Table). IsTyped table.tree (db table.tree)) station_schema.tables
+
+-- ---- a file of version 1
+
+-- one of its waybills as one of `waybill2`, with no day
+abbrev pub undated : OldWaybill → Waybill
+undated w = record {
+  awb = w.awb;
+  origin = w.origin;
+  destination = w.destination;
+  pieces = w.pieces;
+  tenths = w.tenths;
+  goods = w.goods;
+  notified = w.notified;
+  since = pos 0;
+}
+
+-- the tables of such trees: there is no `waybill2`
+abbrev pub old_tables_of : Trees → Tables
+old_tables_of db = tables_in (record (rows_in db) { waybills = [] })
+
+-- the row of `station`, of version 2
+abbrev pub raised : List Station → List Station
+raised stations = update_where (λ s. int_eq (station_id s) (pos 1)) (λ s. record s { version = pos 2 }) stations
+
+-- the tables of version 2 that those of version 1 become
+abbrev pub upgraded : Tables → Tables
+upgraded t = record t { stations = raised t.stations; old_waybills = []; waybills = map undated t.old_waybills }
+
+-- the database has the tables of such a station, and each row of them is typed
+pub record IsOldStation (db : Database) : Type 0 where
+  pub schema : db.schema ≡ old_schema
+  pub typed : AllByRecursion (λ (table : Table). IsTyped table.tree (db.trees table.tree)) old_schema.tables
+
+-- ---- a station
 
 -- the database has a station's tables, and each row of them is typed
 pub record IsStation (db : Database) : Type 0 where
@@ -410,8 +482,8 @@ module _ (db : Database) (was : IsStation db) where
   abbrev pub typed_stations : AreListed station_id station_row station_in (db.trees 0)
   typed_stations = was.typed.0
 
-  abbrev pub typed_waybills : AreListed waybill_id waybill_row waybill_in (db.trees 1)
-  typed_waybills = was.typed.1.0
+  abbrev pub typed_old_waybills : AreListed old_waybill_id old_waybill_row old_waybill_in (db.trees 1)
+  typed_old_waybills = was.typed.1.0
 
   abbrev pub typed_stock : AreEntries stock_cmp stock_row stock_in (db.trees 2)
   typed_stock = was.typed.1.1.0
@@ -445,3 +517,6 @@ module _ (db : Database) (was : IsStation db) where
 
   abbrev pub typed_builds : AreEntries build_cmp build_row build_in (db.trees 20)
   typed_builds = was.typed.1.1.1.1.1.1.1.1.1.1.1.1.0
+
+  abbrev pub typed_waybills : AreListed waybill_id waybill_row waybill_in (db.trees 22)
+  typed_waybills = was.typed.1.1.1.1.1.1.1.1.1.1.1.1.1.0

@@ -31,7 +31,7 @@ pub fn create_beside<S: Alter>(conn: &mut Connection<S>, airport: &str) -> Resul
     let mut tables = conn.transaction();
     declare(&mut tables)?;
     tables.execute(
-        "INSERT INTO station (id, airport, version, confirmed) VALUES (1, ?1, 1, 0)",
+        "INSERT INTO station (id, airport, version, confirmed) VALUES (1, ?1, 2, 0)",
         params![airport],
     )?;
     tables.commit()

@@ -2,7 +2,7 @@ ghost use Rattle.std.specs.Prelude.{◌≡◌, OnOk, OnErr};
 ghost use Rattle.sqlite.specs.State.{HasCleanDisk, Survives};
 ghost use Rattle.sqlite.specs.Held.{state};
 ghost use Rattle.row_laws.specs.Calls.{IsMade, IsSettled, IsUndone, Makes};
-ghost use Rattle.row_schema.specs.Schema.{no_schema, station_made, waybill_made, stock_made, flight_made, moves_made, moves_indexed, expected_made, part_made, trail_made, outbox_made, kept_key_made, kept_text_made, counts_made, station_schema};
+ghost use Rattle.row_schema.specs.Schema.{no_schema, station_made, waybill_made, stock_made, flight_made, moves_made, moves_indexed, expected_made, part_made, trail_made, outbox_made, kept_key_made, kept_text_made, counts_made, old_schema, station_schema};
 ghost use Rattle.row_schema.specs.Connection.{IsVacant};
 ghost use Rattle.row_schema.specs.Own.{IsNewStation};
 ghost use Rattle.row_schema.specs.Calls.{IsInside, Changes, Fills, Founds, IsFounded, with_station};
@@ -104,10 +104,17 @@ fn create_counts<S: Alter>(conn: &mut Connection<S>) -> Result<usize, Error>
 }
 
 fn create_build<S: Alter>(conn: &mut Connection<S>) -> Result<usize, Error>
-    ensures made { HasCleanDisk (state S.Store conn.new) → IsMade counts_made (state S.Store conn.old) → Makes (state S.Store conn.old) (state S.Store conn.new) result station_schema }
+    ensures made { HasCleanDisk (state S.Store conn.new) → IsMade counts_made (state S.Store conn.old) → Makes (state S.Store conn.old) (state S.Store conn.new) result old_schema }
     ensures survives { Survives (state S.Store conn.old) (state S.Store conn.new) (λ _. ¬ IsMade counts_made (state S.Store conn.old)) }
 {
     conn.execute(declarations::BUILD, &[])
+}
+
+fn create_waybill2<S: Alter>(conn: &mut Connection<S>) -> Result<usize, Error>
+    ensures made { HasCleanDisk (state S.Store conn.new) → IsMade old_schema (state S.Store conn.old) → Makes (state S.Store conn.old) (state S.Store conn.new) result station_schema }
+    ensures survives { Survives (state S.Store conn.old) (state S.Store conn.new) (λ _. ¬ IsMade old_schema (state S.Store conn.old)) }
+{
+    conn.execute(declarations::WAYBILL2, &[])
 }
 
 fn insert_station<S: Alter>(conn: &mut Connection<S>, airport: &str) -> Result<usize, Error>
@@ -115,7 +122,7 @@ fn insert_station<S: Alter>(conn: &mut Connection<S>, airport: &str) -> Result<u
     ensures survives { Survives (state S.Store conn.old) (state S.Store conn.new) (λ _. ¬ IsInside (state S.Store conn.old)) }
 {
     conn.execute(
-        "INSERT INTO station (id, airport, version, confirmed) VALUES (1, ?1, 1, 0)",
+        "INSERT INTO station (id, airport, version, confirmed) VALUES (1, ?1, 2, 0)",
         params![airport],
     )
 }
@@ -164,13 +171,14 @@ fn create_replies<S: Alter>(conn: &mut Connection<S>) -> Result<(), Error>
     Ok(())
 }
 
-/// Makes the running counts, in a transaction.
+/// Makes the running counts, and the waybills of version 2, in a transaction.
 fn create_sums<S: Alter>(conn: &mut Connection<S>) -> Result<(), Error>
     ensures made { HasCleanDisk (state S.Store conn.new) → IsMade kept_text_made (state S.Store conn.old) → Makes (state S.Store conn.old) (state S.Store conn.new) result station_schema }
     ensures survives { Survives (state S.Store conn.old) (state S.Store conn.new) (λ _. ¬ IsMade kept_text_made (state S.Store conn.old)) }
 {
     create_counts(conn)?;
     create_build(conn)?;
+    create_waybill2(conn)?;
     Ok(())
 }
 

@@ -41,8 +41,11 @@ pub(crate) const COUNTS: &str =
 pub(crate) const BUILD: &str =
     "CREATE TABLE build (flight TEXT NOT NULL, day INTEGER NOT NULL, awb INTEGER NOT NULL, pieces INTEGER NOT NULL, tenths INTEGER NOT NULL, PRIMARY KEY (flight, day, awb)) STRICT";
 
+pub(crate) const WAYBILL2: &str =
+    "CREATE TABLE waybill2 (awb INTEGER PRIMARY KEY, origin TEXT NOT NULL, destination TEXT NOT NULL, pieces INTEGER NOT NULL, tenths INTEGER NOT NULL, goods TEXT NOT NULL, notified INTEGER NOT NULL, since INTEGER NOT NULL) STRICT";
+
 /// All of them, in the order in which they are carried out.
-pub(crate) const DECLARATIONS: [&str; 14] = [
+pub(crate) const DECLARATIONS: [&str; 15] = [
     STATION, WAYBILL, STOCK, FLIGHT, MOVES, MOVES_AWB, EXPECTED, PART, TRAIL, OUTBOX, KEPT_KEY,
-    KEPT_TEXT, COUNTS, BUILD,
+    KEPT_TEXT, COUNTS, BUILD, WAYBILL2,
 ];

@@ -32,4 +32,5 @@ pub fn takes_name(schema: &Schema) -> bool
         || is_taken(schema, "kept_text")
         || is_taken(schema, "counts")
         || is_taken(schema, "build")
+        || is_taken(schema, "waybill2")
 }

@@ -27,11 +27,11 @@ module _ (upto : ℕ) where
 
   one_row : (row : Station) (here : Bool) → int_eq row.id (pos 1) ≡ here → is_count (pos upto) ≡ true → is_station (row ∷ []) ≡ true → IsConfirmed (row ∷ []) (put here row ∷ [])
   one_row row true e counts h =
-      let x = and_parts (int_eq row.id (pos 1) && is_airport row.airport && int_eq row.version (pos 1)) (is_count row.confirmed) h in
-      record { fits = and_from (int_eq row.id (pos 1) && is_airport row.airport && int_eq row.version (pos 1)) (is_count (pos upto)) x.0 counts; airport = refl; upto_is = refl }
+      let x = and_parts (int_eq row.id (pos 1) && is_airport row.airport && int_eq row.version (pos 2)) (is_count row.confirmed) h in
+      record { fits = and_from (int_eq row.id (pos 1) && is_airport row.airport && int_eq row.version (pos 2)) (is_count (pos upto)) x.0 counts; airport = refl; upto_is = refl }
   one_row row false e counts h =
-      let x = and_parts (int_eq row.id (pos 1) && is_airport row.airport && int_eq row.version (pos 1)) (is_count row.confirmed) h in
-      let y = and_parts (int_eq row.id (pos 1) && is_airport row.airport) (int_eq row.version (pos 1)) x.0 in
+      let x = and_parts (int_eq row.id (pos 1) && is_airport row.airport && int_eq row.version (pos 2)) (is_count row.confirmed) h in
+      let y = and_parts (int_eq row.id (pos 1) && is_airport row.airport) (int_eq row.version (pos 2)) x.0 in
       let z = and_parts (int_eq row.id (pos 1)) (is_airport row.airport) y.0 in
       absurd (true≢false (sym z.0 ∙ e))
 

@@ -1,5 +1,6 @@
 -- What is declared of a waybill is written.
-use Rattle.std.proofs.Common.{◌≡◌, ◌==◌, ℕ, ℤ, pos, Bool, true, false, cond, Option, Some, option_map, List, int_eq, refl, sym, ap, ◌∙◌, arith}
+use Rattle.std.proofs.Common.{◌≡◌, ◌==◌, ℕ, ℤ, zero, suc, pos, Bool, true, false, cond, Option, Some, None, option_map, List, int_eq, refl, sym, ap, ◌∙◌, arith}
+use Rattle.std.specs.Bool.{if◌then◌else◌}
 use Rattle.std.proofs.lemmas.Int.{ints}
 use Rattle.sqlite_keyed.specs.Keyed.{get_by, insert_by}
 use Rattle.sqlite_keyed.specs.Lists.{update_where}
@@ -11,14 +12,20 @@ use Rattle.state_store.specs.Told.{on_cargo}
 use Rattle.row_schema.specs.Tables.{Tables, Waybill, waybill_id}
 use Rattle.cargo_rows.specs.Meant.{with_waybill, changing_waybill}
 use Rattle.row_values.specs.Numbers.{flag, is_set}
-use Rattle.row_values.specs.Waybills.{declared_by, waybill_row, declared_in, is_waybill_row}
+use Rattle.row_values.specs.Waybills.{since_of, since_column, declared_by, waybill_row, declared_in, is_waybill_row}
 use Rattle.row_values.specs.Meaning.{meaning_of, Means}
 use Rattle.row_values.proofs.Listed.{get_by-insert_by, list_all-insert_by, get_by-update_where, list_all-update_where}
+use Rattle.row_values.proofs.Fits.{not_zero}
 use Rattle.row_values.proofs.Readable.{readable_waybills}
 
 pub flag_again : (set : Bool) → is_set (flag set) ≡ set
 flag_again true = refl
 flag_again false = refl
+
+since_again : (o : Option ℕ) → since_of (since_column o) ≡ o
+since_again None = refl
+since_again (Some zero) = refl
+since_again (Some (suc n)) = ap (λ (b : Bool). if b then None else Some (suc n)) (not_zero n)
 
 same_number : (w q : ℕ) → int_eq (pos w) (pos q) ≡ (q == w)
 same_number w q = grind (arith, ints)
@@ -27,7 +34,7 @@ is_same : (a b : ℤ) → int_eq a b ≡ true → a ≡ b
 is_same a b e = grind (arith, ints)
 
 pub declared_again : (w : ℕ) (d : Declared) → declared_by (waybill_row w d) ≡ d
-declared_again w d = λ i. record d { notified = flag_again d.notified i }
+declared_again w d = λ i. record d { notified = flag_again d.notified i; since = since_again d.since i }
 
 module _ (t : Tables) (w : ℕ) (d : Declared) where
   chosen : (b : Bool) (x : Waybill) (o : Option Waybill) → option_map declared_by (cond b (Some x) o) ≡ cond b (Some (declared_by x)) (option_map declared_by o)

@@ -1,5 +1,6 @@
 -- Values within range make rows within range.
-use Rattle.std.proofs.Common.{◌≡◌, ℕ, ◌<◌, ◌≤◌, pos, Bool, true, false, List, IsTrue, refl, arith}
+use Rattle.std.proofs.Common.{◌≡◌, ℕ, ◌<◌, ◌≤◌, zero, suc, pos, Bool, true, false, Option, Some, None, IfSome, List, IsTrue, refl, sym, arith, true≢false}
+use Rattle.std.specs.Ordering.{int_eq}
 use Rattle.std.specs.Str.{is_utf8}
 use Rattle.std.proofs.lemmas.Bool.{and_from}
 use Rattle.std.proofs.lemmas.Int.{ints}
@@ -15,7 +16,7 @@ use Rattle.shipment_machine.specs.declared.moves.Outbound.{Outbound}
 use Rattle.shipment_machine.specs.declared.moves.Expected.{Expected}
 use Rattle.shipment_machine.specs.declared.moves.Part.{Part}
 use Rattle.row_values.specs.Numbers.{is_within, is_number, is_count, is_day, flag, is_flag}
-use Rattle.row_values.specs.Waybills.{waybill_row, is_waybill_row}
+use Rattle.row_values.specs.Waybills.{since_column, is_since, waybill_row, is_waybill_row}
 use Rattle.row_values.specs.Flights.{is_designator, flight_key, outbound_row, is_flight_row}
 use Rattle.row_values.specs.Manifests.{expected_key, expected_row, is_expected_row, part_key, is_part_row}
 use Rattle.row_values.specs.Logs.{line_row, is_trail_row}
@@ -43,10 +44,23 @@ flag_fits : (set : Bool) → is_flag (flag set) ≡ true
 flag_fits true = refl
 flag_fits false = refl
 
+pub not_zero : (n : ℕ) → int_eq (pos (suc n)) (pos 0) ≡ false
+not_zero n = grind (arith, ints)
+
+-- a day of a moment has its own column
+pub day_column : (n : ℕ) → IsTrue (is_day (pos n)) → since_column (Some n) ≡ pos n
+day_column zero is = absurd (true≢false (sym is))
+day_column (suc n) is = refl
+
+pub since_fits : (o : Option ℕ) → IfSome o (λ n. IsTrue (is_day (pos n))) → IsTrue (is_since (since_column o))
+since_fits None is = refl
+since_fits (Some zero) is = absurd (true≢false (sym is))
+since_fits (Some (suc n)) is = rw (not_zero n) is
+
 pub waybill_fits : (w : ℕ) (d : Declared) → IsNumber w → IsTrue (is_airport d.origin) → IsTrue (is_airport d.destination) → IsPieces d.pieces → IsBookTenths d.tenths → IsTrue (is_goods d.goods)
-    → IsTrue (is_waybill_row (waybill_row w d))
-waybill_fits w d number origin destination pieces tenths goods =
-    and_from _ _ (and_from _ _ (and_from _ _ (and_from _ _ (and_from _ _ (and_from _ _ (number_fits w number) origin) destination) (pieces_fit d.pieces pieces)) (tenths_fit d.tenths tenths)) goods) (flag_fits d.notified)
+    → IsTrue (is_since (since_column d.since)) → IsTrue (is_waybill_row (waybill_row w d))
+waybill_fits w d number origin destination pieces tenths goods since =
+    and_from _ _ (and_from _ _ (and_from _ _ (and_from _ _ (and_from _ _ (and_from _ _ (and_from _ _ (number_fits w number) origin) destination) (pieces_fit d.pieces pieces)) (tenths_fit d.tenths tenths)) goods) (flag_fits d.notified)) since
 
 pub flight_fits : (f : FlightDate) (o : Outbound) → IsTrue (is_designator f.flight) → IsTrue (is_day (pos f.day)) → IsTrue (is_airport o.unload) → IsTrue (is_flight_row (flight_key f, outbound_row o))
 flight_fits f o is day unload = and_from _ _ (and_from _ _ (and_from _ _ (written_reads f.flight is) day) unload) (flag_fits o.closed)

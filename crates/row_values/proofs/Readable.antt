@@ -16,6 +16,7 @@ module _ (t : Tables) (is : IsReadable t) where
   pub readable_stations : (rows : List Station) → IsTrue (is_station rows) → IsReadable (record t { stations = rows })
   readable_stations rows fits = record {
     station = fits;
+    old = is.old;
     waybills = is.waybills;
     stock = is.stock;
     flights = is.flights;
@@ -37,6 +38,7 @@ module _ (t : Tables) (is : IsReadable t) where
   pub readable_waybills : (rows : List Waybill) → IsTrue (list_all is_waybill_row rows) → IsReadable (record t { waybills = rows })
   readable_waybills rows fits = record {
     station = is.station;
+    old = is.old;
     waybills = fits;
     stock = is.stock;
     flights = is.flights;
@@ -58,6 +60,7 @@ module _ (t : Tables) (is : IsReadable t) where
   pub readable_stock : (rows : FinMap stock_cmp Stock) → AreStockRows rows → IsReadable (record t { stock = rows })
   readable_stock rows fits = record {
     station = is.station;
+    old = is.old;
     waybills = is.waybills;
     stock = fits;
     flights = is.flights;
@@ -79,6 +82,7 @@ module _ (t : Tables) (is : IsReadable t) where
   pub readable_flights : (rows : FinMap flight_cmp Flight) → IsTrue (list_all is_flight_row (entries rows)) → IsReadable (record t { flights = rows })
   readable_flights rows fits = record {
     station = is.station;
+    old = is.old;
     waybills = is.waybills;
     stock = is.stock;
     flights = fits;
@@ -100,6 +104,7 @@ module _ (t : Tables) (is : IsReadable t) where
   pub readable_expected : (rows : FinMap expected_cmp Expected) → IsTrue (list_all is_expected_row (entries rows)) → IsReadable (record t { expected = rows })
   readable_expected rows fits = record {
     station = is.station;
+    old = is.old;
     waybills = is.waybills;
     stock = is.stock;
     flights = is.flights;
@@ -121,6 +126,7 @@ module _ (t : Tables) (is : IsReadable t) where
   pub readable_parts : (rows : FinMap part_cmp (List ℕ)) → IsTrue (list_all is_part_row (entries rows)) → IsReadable (record t { parts = rows })
   readable_parts rows fits = record {
     station = is.station;
+    old = is.old;
     waybills = is.waybills;
     stock = is.stock;
     flights = is.flights;
@@ -142,6 +148,7 @@ module _ (t : Tables) (is : IsReadable t) where
   pub readable_trail : (rows : List TrailLine) → IsTrue (list_all is_trail_row rows) → AreNumbered trail_id rows → IsReadable (record t { trail = rows })
   readable_trail rows fits numbered = record {
     station = is.station;
+    old = is.old;
     waybills = is.waybills;
     stock = is.stock;
     flights = is.flights;
@@ -163,6 +170,7 @@ module _ (t : Tables) (is : IsReadable t) where
   pub readable_outbox : (rows : List Message) → IsTrue (list_all is_message_row rows) → AreNumbered message_id rows → IsReadable (record t { outbox = rows })
   readable_outbox rows fits numbered = record {
     station = is.station;
+    old = is.old;
     waybills = is.waybills;
     stock = is.stock;
     flights = is.flights;
@@ -184,6 +192,7 @@ module _ (t : Tables) (is : IsReadable t) where
   pub readable_kept : (rows : FinMap kept_cmp Kept) → IsTrue (list_all is_kept_row (entries rows)) → AreRequests rows → IsReadable (record t { kept = rows })
   readable_kept rows fits requests = record {
     station = is.station;
+    old = is.old;
     waybills = is.waybills;
     stock = is.stock;
     flights = is.flights;
@@ -205,6 +214,7 @@ module _ (t : Tables) (is : IsReadable t) where
   pub readable_kept_texts : (rows : FinMap kept_text_cmp ℤ) → IsTrue (list_all is_kept_text_row (entries rows)) → IsReadable (record t { kept_texts = rows })
   readable_kept_texts rows fits = record {
     station = is.station;
+    old = is.old;
     waybills = is.waybills;
     stock = is.stock;
     flights = is.flights;

@@ -26,10 +26,10 @@ abbrev pub confirmed_in : List Station → ℕ
 confirmed_in [] = 0
 confirmed_in (row ∷ rows) = natural row.confirmed
 
--- one row, of version 1
+-- one row, of version 2
 abbrev pub is_station : List Station → Bool
 is_station [] = false
-is_station (row ∷ []) = int_eq row.id (pos 1) && is_airport row.airport && int_eq row.version (pos 1) && is_count row.confirmed
+is_station (row ∷ []) = int_eq row.id (pos 1) && is_airport row.airport && int_eq row.version (pos 2) && is_count row.confirmed
 is_station (row ∷ other ∷ rows) = false
 
 -- the state that the rows stand for
@@ -51,10 +51,11 @@ meaning_of t = record {
   kept_texts = kept_texts_in t.kept_texts;
 }
 
--- Every value is within range, no number is in two rows of the stock, what is numbered has the numbers from 1, what was accepted
+-- Every value is within range, `waybill` is empty, no number is in two rows of the stock, what is numbered has the numbers from 1, what was accepted
 -- under a key is a command, and the running counts are the book's sums.
 pub record IsReadable (t : Tables) : Type 0 where
   pub station : IsTrue (is_station t.stations)
+  pub old : t.old_waybills ≡ []
   pub waybills : IsTrue (list_all is_waybill_row t.waybills)
   pub stock : AreStockRows t.stock
   pub flights : IsTrue (list_all is_flight_row (entries t.flights))

@@ -347,6 +347,24 @@ example_declares : declared_amount (three_of_ten.declared w1) ≡ amount 10 333
 unfolding days_of_years days_of_months day_count days_from_civil
 example_declares = refl
 
+-- the day of the declaration: that of the moment, and no notice changes it
+abbrev since_of : Option Declared → Option ℕ
+since_of None = None
+since_of (Some d) = d.since
+
+example_declares_since : since_of (three_of_ten.declared w1) ≡ Some 20465
+unfolding days_of_years days_of_months day_count days_from_civil
+example_declares_since = refl
+
+example_booked_since : since_of (booked.declared w1) ≡ Some 20465
+example_booked_since = refl
+
+example_notified_since : since_of (three_free.declared w1) ≡ Some 20465
+example_notified_since = refl
+
+example_booked_again_since : since_of ((after booked booking (record { day = 20466; minute = 0 })).declared w1) ≡ Some 20466
+example_booked_again_since = refl
+
 example_declares_expected : expected_amount (three_of_ten.expected (lh_on 400) w1) ≡ amount 3 100
 unfolding days_of_years days_of_months day_count days_from_civil
 example_declares_expected = refl

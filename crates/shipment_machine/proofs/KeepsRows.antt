@@ -29,7 +29,7 @@ use Rattle.shipment_machine.specs.declared.plans.Refusal.{Refusal}
 use Rattle.shipment_machine.specs.Amount.{amount, fits}
 use Rattle.shipment_machine.specs.Cargo.{Cargo, written, written_all}
 use Rattle.shipment_machine.specs.Views.{declaration_view}
-use Rattle.shipment_machine.specs.Effect.{effect, carried_out, first_refusal, unless_refused, then_write, declaring, declare, declared_by, all_pieces, booked, expected_amount, expected_after, row_changes, line_refusals, line_changes, lines_changes, lines_for, inbound_flight, inbound_part, announced}
+use Rattle.shipment_machine.specs.Effect.{effect, carried_out, first_refusal, unless_refused, then_write, declaring, declare, dated, declared_by, all_pieces, booked, expected_amount, expected_after, row_changes, line_refusals, line_changes, lines_changes, lines_for, inbound_flight, inbound_part, announced}
 use Rattle.shipment_machine.specs.Lawful.{IsLawful, IsLawfulAmount, HasPieces}
 use Rattle.shipment_machine.proofs.Keeps.{NoneHolds, none_holds, by_refusals}
 use Rattle.imp_fields.proofs.ShareLemmas.{share_heavy}
@@ -45,7 +45,7 @@ keeps_declaring text s w d some heavy none law =
 
 pub keeps_book : (s : Cargo) (w : ℕ) (origin destination : List ℕ) (p t : ℕ) (goods : List ℕ) (at : LocalMinute) (text : List ℕ) → 1 ≤ p → IsLawful s → IfOk (effect s (order.Desk (desk.Book w origin destination p t goods)) at) (λ done. IsLawful (carried_out text done s))
 keeps_book s w origin destination p t goods at text some law = by_refusals s (order.Desk (desk.Book w origin destination p t goods)) at _ (λ none.
-    keeps_declaring text s w (booked origin destination p t goods) some (heavier t p) none law)
+    keeps_declaring text s w (dated at.day (booked origin destination p t goods)) some (heavier t p) none law)
   where
     heavier : (t p : ℕ) → p ≤ max t p
     heavier t p = omega arith
@@ -64,7 +64,7 @@ line_heavy c some = share_heavy c.pieces (book_weight_of c.pieces c.tenths) (all
 
 pub keeps_fwb : (s : Cargo) (c : CargoLine) (at : LocalMinute) (text : List ℕ) → 1 ≤ c.pieces → IsLawful s → IfOk (effect s (order.Fwb c) at) (λ done. IsLawful (carried_out text done s))
 keeps_fwb s c at text some law = by_refusals s (order.Fwb c) at _ (λ none.
-    keeps_declaring text s c.awb (declared_by c) (line_some c some) (line_heavy c some) none law)
+    keeps_declaring text s c.awb (dated at.day (declared_by c)) (line_some c some) (line_heavy c some) none law)
 
 -- A part of a manifest.
 
@@ -73,13 +73,13 @@ written_append text [] rest s = refl
 written_append text (change ∷ first) rest s = written_append text first rest (written text change s)
 
 -- a line notes no part, so the telegram's text doesn't count
-text_blind : (text : List ℕ) (new : Bool) (who : Option Holder) (so_far : Option Expected) (flight : FlightDate) (c : CargoLine) (s : Cargo) → written_all text (row_changes new who so_far flight c) s ≡ written_all [] (row_changes new who so_far flight c) s
-text_blind text true None so_far flight c s = refl
-text_blind text true (Some holder.Desk) so_far flight c s = refl
-text_blind text true (Some (holder.Agent code)) so_far flight c s = refl
-text_blind text true (Some holder.Used) so_far flight c s = refl
-text_blind text true (Some holder.Void) so_far flight c s = refl
-text_blind text false who so_far flight c s = refl
+text_blind : (text : List ℕ) (new : Bool) (who : Option Holder) (so_far : Option Expected) (flight : FlightDate) (today : ℕ) (c : CargoLine) (s : Cargo) → written_all text (row_changes new who so_far flight today c) s ≡ written_all [] (row_changes new who so_far flight today c) s
+text_blind text true None so_far flight today c s = refl
+text_blind text true (Some holder.Desk) so_far flight today c s = refl
+text_blind text true (Some (holder.Agent code)) so_far flight today c s = refl
+text_blind text true (Some holder.Used) so_far flight today c s = refl
+text_blind text true (Some holder.Void) so_far flight today c s = refl
+text_blind text false who so_far flight today c s = refl
 
 more_heavy : (o : Option Expected) (P : Type 0) → IfSome o (λ e. IsLawfulAmount e.pieces e.tenths × P) → (expected_amount o).pieces ≤ (expected_amount o).tenths
 more_heavy None P h = omega arith
@@ -100,18 +100,18 @@ fine_after o c heavy some room =
     weighs : (a b p t : ℕ) → a ≤ b → a + p ≤ b + max t p
     weighs a b p t h = omega arith
 
-keeps_line : (s : Cargo) (flight : FlightDate) (c : CargoLine) → 1 ≤ c.pieces → NoneHolds (line_refusals s flight c) → IsLawful s → IsLawful (written_all [] (line_changes s flight c) s)
-keeps_line s flight c some none law =
+keeps_line : (s : Cargo) (flight : FlightDate) (today : ℕ) (c : CargoLine) → 1 ≤ c.pieces → NoneHolds (line_refusals s flight c) → IsLawful s → IsLawful (written_all [] (line_changes s flight today c) s)
+keeps_line s flight today c some none law =
     let room = either_false _ _ none.1.1.0 in
     let e = expected_after (s.expected flight c.awb) c in
     let fine : IsLawfulAmount e.pieces e.tenths = fine_after (s.expected flight c.awb) c (more_heavy (s.expected flight c.awb) _ (law.expectations flight c.awb)) some room.1 in
-    elim (is_none (s.declared c.awb)) as (λ b. is_none (s.declared c.awb) ≡ b → (b && not (fits (amount (declared_by c).pieces (declared_by c).tenths))) ≡ false → IsLawful (written_all [] (row_changes b (s.holders c.awb) (s.expected flight c.awb) flight c) s)) [
+    elim (is_none (s.declared c.awb)) as (λ b. is_none (s.declared c.awb) ≡ b → (b && not (fits (amount (declared_by c).pieces (declared_by c).tenths))) ≡ false → IsLawful (written_all [] (row_changes b (s.holders c.awb) (s.expected flight c.awb) flight today c) s)) [
       | true ↦ λ _ fit.
           let r = fits_parts (amount (declared_by c).pieces (declared_by c).tenths) fit in
-          let declared : IsLawful (written_all [] (declare (s.holders c.awb) c.awb (declared_by c)) s) = declared_rows [] (s.holders c.awb) s c.awb (declared_by c)
+          let declared : IsLawful (written_all [] (declare (s.holders c.awb) c.awb (dated today (declared_by c))) s) = declared_rows [] (s.holders c.awb) s c.awb (dated today (declared_by c))
           (record { some = line_some c some; not_more = r.0; tenth_a_piece = line_heavy c some; not_heavier = r.1 }) law in
-          subst (λ (t : Cargo). IsLawful t) (sym (written_append [] (declare (s.holders c.awb) c.awb (declared_by c)) (Expect flight c.awb e ∷ []) s))
-          (expects [] (written_all [] (declare (s.holders c.awb) c.awb (declared_by c)) s) flight c.awb e fine (known_after [] (s.holders c.awb) s c.awb (declared_by c)) declared)
+          subst (λ (t : Cargo). IsLawful t) (sym (written_append [] (declare (s.holders c.awb) c.awb (dated today (declared_by c))) (Expect flight c.awb e ∷ []) s))
+          (expects [] (written_all [] (declare (s.holders c.awb) c.awb (dated today (declared_by c))) s) flight c.awb e fine (known_after [] (s.holders c.awb) s c.awb (dated today (declared_by c))) declared)
       | false ↦ λ old _. expects [] s flight c.awb e fine (is_known (s.declared c.awb) old) law
     ] refl room.0
 
@@ -122,15 +122,15 @@ then_lawful : (text : List ℕ) (s s1 : Cargo) (first : List Change) (r : Result
 then_lawful text s s1 first (Ok rest) e h = subst (λ (t : Cargo). IsLawful t) (sym (written_append text first rest s)) (subst (λ (t : Cargo). IsLawful (written_all text rest t)) (sym e) h)
 then_lawful text s s1 first (Err refusal) e h = tt
 
-keeps_lines : (text : List ℕ) (flight : FlightDate) (cs : List CargoLine) (s : Cargo) → AllHavePieces cs → IsLawful s → IfOk (lines_changes s flight cs) (λ changes. IsLawful (written_all text changes s))
-keeps_lines text flight [] s some law = law
-keeps_lines text flight (c ∷ cs) s some law =
-    let s1 : Cargo = written_all [] (line_changes s flight c) s in
-    elim (first_refusal (line_refusals s flight c)) as (λ o. first_refusal (line_refusals s flight c) ≡ o → IfOk (unless_refused o (then_write (line_changes s flight c) (lines_changes s1 flight cs))) (λ changes. IsLawful (written_all text changes s))) [
+keeps_lines : (text : List ℕ) (flight : FlightDate) (today : ℕ) (cs : List CargoLine) (s : Cargo) → AllHavePieces cs → IsLawful s → IfOk (lines_changes s flight today cs) (λ changes. IsLawful (written_all text changes s))
+keeps_lines text flight today [] s some law = law
+keeps_lines text flight today (c ∷ cs) s some law =
+    let s1 : Cargo = written_all [] (line_changes s flight today c) s in
+    elim (first_refusal (line_refusals s flight c)) as (λ o. first_refusal (line_refusals s flight c) ≡ o → IfOk (unless_refused o (then_write (line_changes s flight today c) (lines_changes s1 flight today cs))) (λ changes. IsLawful (written_all text changes s))) [
       | Some r ↦ λ _. tt
-      | None ↦ λ e. then_lawful text s s1 (line_changes s flight c) (lines_changes s1 flight cs)
-          (text_blind text (is_none (s.declared c.awb)) (s.holders c.awb) (s.expected flight c.awb) flight c s)
-          (keeps_lines text flight cs s1 some.1 (keeps_line s flight c some.0 (none_holds (line_refusals s flight c) e) law))
+      | None ↦ λ e. then_lawful text s s1 (line_changes s flight today c) (lines_changes s1 flight today cs)
+          (text_blind text (is_none (s.declared c.awb)) (s.holders c.awb) (s.expected flight c.awb) flight today c s)
+          (keeps_lines text flight today cs s1 some.1 (keeps_line s flight today c some.0 (none_holds (line_refusals s flight c) e) law))
     ] refl
 
 pub here_have_pieces : (here : List ℕ) (lines : List InboundLine) → AllByRecursion HasPieces lines → AllHavePieces (lines_for here lines)
@@ -148,8 +148,8 @@ announced_lawful text s key count (Err refusal) h = tt
 
 pub keeps_ffm : (s : Cargo) (f : InboundPart) (at : LocalMinute) (text : List ℕ) → AllHavePieces (lines_for s.here f.lines) → IsLawful s → IfOk (effect s (order.Ffm f) at) (λ done. IsLawful (carried_out text done s))
 keeps_ffm s f at text some law = by_refusals s (order.Ffm f) at _ (λ none.
-    announced_lawful text s (inbound_part f at) (length (lines_for s.here f.lines)) (lines_changes s (inbound_flight f at) (lines_for s.here f.lines))
-    (keeps_lines text (inbound_flight f at) (lines_for s.here f.lines) s some law))
+    announced_lawful text s (inbound_part f at) (length (lines_for s.here f.lines)) (lines_changes s (inbound_flight f at) at.day (lines_for s.here f.lines))
+    (keeps_lines text (inbound_flight f at) at.day (lines_for s.here f.lines) s some law))
 
 -- A status message.
 

@@ -68,10 +68,10 @@ part_is : (s : Cargo) (f : InboundPart) (at : LocalMinute) (day : Bool) → is_d
     rows_answer s.here (rows_of_part s f at day) (order.Ffm f) at (resolved f.date at.day) ≡ decided (announcing s f at)
 part_is s f at true e =
     ap (λ (r : Result (List Change) Refusal). unless_refused (first_refusal (announcing s f at).refusals) (announced (inbound_part f at) (length (lines_for s.here f.lines)) r))
-    (announced_is s (inbound_flight f at) (lines_for s.here f.lines))
+    (announced_is s (inbound_flight f at) at.day (lines_for s.here f.lines))
 part_is s f at false e =
     no_day (is_day (resolved f.date at.day)) dateless None
-    (announced (part_key f (resolved f.date at.day)) (length (lines_for s.here f.lines)) (announced_changes no_earlier (part_key f (resolved f.date at.day)).flight (lines_for s.here f.lines) [])) e
+    (announced (part_key f (resolved f.date at.day)) (length (lines_for s.here f.lines)) (announced_changes no_earlier (part_key f (resolved f.date at.day)).flight at.day (lines_for s.here f.lines) [])) e
     ∙ sym (no_day (is_day (resolved f.date at.day)) dateless (if is_some (s.parts (inbound_part f at)) then Some (record { number = 213; detail = detail.Part (inbound_part f at) }) else None) (announcing s f at).outcome e)
 
 pub answers : (s : Cargo) (command : ShipmentCommand) (at : LocalMinute) → rows_answer s.here (rows_for s command at) command at (meant_by command at) ≡ effect s command at

@@ -17,7 +17,7 @@ use Rattle.shipment_machine.specs.declared.plans.PlanFault.TheVariants as fault
 use Rattle.shipment_machine.specs.Amount.{IsHeld}
 use Rattle.shipment_machine.specs.Cargo.{Cargo}
 use Rattle.shipment_machine.specs.Views.{line_view_of, rows_of}
-use Rattle.shipment_machine.specs.Effect.{Outcome, decided, no_rule, reads, desk_rule, declaring, declared_by, noting_status, carried_out, expected_amount, lines_for, is_day, inbound_flight, inbound_part}
+use Rattle.shipment_machine.specs.Effect.{Outcome, decided, no_rule, reads, desk_rule, declaring, dated, declared_by, noting_status, carried_out, expected_amount, lines_for, is_day, inbound_flight, inbound_part}
 use Rattle.shipment_machine.specs.Lawful.{IsLawful}
 use Rattle.shipment_machine.specs.Announced.{part_answer}
 
@@ -56,9 +56,9 @@ abbrev pub rows_answer : List ℕ → Rows → ShipmentCommand → LocalMinute �
     → Result Outcome Refusal
 rows_answer here read (order.Desk command) at meant = decided (desk_rule here read command at)
 rows_answer here (rows.Declaration view) (order.Fwb c) at meant =
-    decided (declaring view c.awb (declared_by c))
+    decided (declaring view c.awb (dated at.day (declared_by c)))
 rows_answer here (rows.Lines taken lines) (order.Ffm f) at meant =
-    part_answer here taken lines f meant
+    part_answer here at.day taken lines f meant
 rows_answer here (rows.Status declared) (order.Fsu f) at meant =
     decided (noting_status declared f.awb f.lines)
 rows_answer here _ _ at meant = decided no_rule

@@ -41,23 +41,23 @@ abbrev pub refusal_now : Option Expected → CargoLine → LineView → Option R
 refusal_now before c row =
     first_refusal (row_refusals (is_new before row) row.holder (expected_so_far before row) c)
 
-abbrev pub changes_now : Option Expected → FlightDate → CargoLine → LineView → List Change
-changes_now before flight c row =
-    row_changes (is_new before row) row.holder (expected_so_far before row) flight c
+abbrev pub changes_now : Option Expected → FlightDate → ℕ → CargoLine → LineView → List Change
+changes_now before flight today c row =
+    row_changes (is_new before row) row.holder (expected_so_far before row) flight today c
 
 abbrev pub expected_now : Option Expected → CargoLine → LineView → Expected
 expected_now before c row = expected_after (expected_so_far before row) c
 
 -- what all lines write, each after those before it; or the first refusal
-abbrev pub announced_changes : Earlier → FlightDate → List CargoLine → List LineView
+abbrev pub announced_changes : Earlier → FlightDate → ℕ → List CargoLine → List LineView
     → Result (List Change) Refusal
-announced_changes earlier flight [] rows = Ok []
-announced_changes earlier flight (c ∷ cs) [] = Ok []
-announced_changes earlier flight (c ∷ cs) (row ∷ rows) =
+announced_changes earlier flight today [] rows = Ok []
+announced_changes earlier flight today (c ∷ cs) [] = Ok []
+announced_changes earlier flight today (c ∷ cs) (row ∷ rows) =
     unless_refused (refusal_now (earlier c.awb) c row)
-    (then_write (changes_now (earlier c.awb) flight c row)
-    (announced_changes (with_line earlier c.awb (expected_now (earlier c.awb) c row)) flight cs
-    rows))
+    (then_write (changes_now (earlier c.awb) flight today c row)
+    (announced_changes (with_line earlier c.awb (expected_now (earlier c.awb) c row)) flight today
+    cs rows))
 
 -- the part that a telegram is, where its date means this day
 abbrev pub part_key : InboundPart → Option ℕ → Part
@@ -74,12 +74,12 @@ part_tests taken f meant =
     ∷ (taken, record { number = 213; detail = detail.Part (part_key f meant) }) ∷ []
 
 -- what it is answered, where it was taken or not, from the rows of its lines for here
-abbrev pub part_answer : List ℕ → Bool → List LineView → InboundPart → Option ℕ
+abbrev pub part_answer : List ℕ → ℕ → Bool → List LineView → InboundPart → Option ℕ
     → Result Outcome Refusal
-part_answer here taken rows f meant =
+part_answer here today taken rows f meant =
     unless_refused (first_refusal (part_tests taken f meant))
     (announced (part_key f meant) (length (lines_for here f.lines))
-    (announced_changes no_earlier (part_key f meant).flight (lines_for here f.lines) rows))
+    (announced_changes no_earlier (part_key f meant).flight today (lines_for here f.lines) rows))
 
 -- the rows of a waybill that a line declares, if it does
 abbrev pub first_rows : Option Declared → Option Holder → ℕ → List Change

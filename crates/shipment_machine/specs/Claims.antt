@@ -1,5 +1,5 @@
 -- What is to be declared.
-use Rattle.std.specs.Prelude.{false}
+use Rattle.std.specs.Prelude.{false, None}
 use Rattle.shipment_machine.specs.declared.moves.Declared.{Declared}
 use Rattle.shipment_machine.specs.declared.acceptance.ProposedDeclaration.{ProposedDeclaration}
 
@@ -13,4 +13,5 @@ claimed c =
       tenths = c.tenths;
       goods = c.goods;
       notified = false;
+      since = None;
     }

@@ -123,7 +123,12 @@ declared_by c = record {
   tenths = share_of c.pieces (book_weight_of c.pieces c.tenths) (all_pieces c);
   goods = c.goods;
   notified = false;
+  since = None;
 }
+
+-- the same, declared on this day
+abbrev pub dated : ℕ → Declared → Declared
+dated today d = record d { since = Some today }
 
 -- a number that an agent has is used up
 abbrev pub used_up : Option Holder → ℕ → List Change
@@ -171,11 +176,11 @@ row_refusals new who expected c =
       about 217 c.awb,
     ) ∷ []
 
--- what a line writes: an unknown waybill is declared, and the line adds to what is expected
-abbrev pub row_changes : Bool → Option Holder → Option Expected → FlightDate → CargoLine
+-- what a line writes: an unknown waybill is declared today, and the line adds to what is expected
+abbrev pub row_changes : Bool → Option Holder → Option Expected → FlightDate → ℕ → CargoLine
     → List Change
-row_changes new who expected flight c =
-    (if new then declare who c.awb (declared_by c) else [])
+row_changes new who expected flight today c =
+    (if new then declare who c.awb (dated today (declared_by c)) else [])
     ++ Expect flight c.awb (expected_after expected c) ∷ []
 
 -- the same in a state, which the lines before it have changed
@@ -183,9 +188,10 @@ abbrev pub line_refusals : Cargo → FlightDate → CargoLine → List (Bool × 
 line_refusals s flight c =
     row_refusals (is_none (s.declared c.awb)) (s.holders c.awb) (s.expected flight c.awb) c
 
-abbrev pub line_changes : Cargo → FlightDate → CargoLine → List Change
-line_changes s flight c =
-    row_changes (is_none (s.declared c.awb)) (s.holders c.awb) (s.expected flight c.awb) flight c
+abbrev pub line_changes : Cargo → FlightDate → ℕ → CargoLine → List Change
+line_changes s flight today c =
+    row_changes (is_none (s.declared c.awb)) (s.holders c.awb) (s.expected flight c.awb) flight
+    today c
 
 -- in front of what the later lines write
 abbrev pub then_write : List Change → Result (List Change) Refusal → Result (List Change) Refusal
@@ -197,12 +203,12 @@ unless_refused (Some refusal) rest = Err refusal
 unless_refused None rest = rest
 
 -- what all lines write, each read after those before it; or the first refusal
-abbrev pub lines_changes : Cargo → FlightDate → List CargoLine → Result (List Change) Refusal
-lines_changes s flight [] = Ok []
-lines_changes s flight (c ∷ cs) =
+abbrev pub lines_changes : Cargo → FlightDate → ℕ → List CargoLine → Result (List Change) Refusal
+lines_changes s flight today [] = Ok []
+lines_changes s flight today (c ∷ cs) =
     unless_refused (first_refusal (line_refusals s flight c))
-    (then_write (line_changes s flight c)
-    (lines_changes (written_all [] (line_changes s flight c) s) flight cs))
+    (then_write (line_changes s flight today c)
+    (lines_changes (written_all [] (line_changes s flight today c) s) flight today cs))
 
 -- the day must exist, and be one of a Moment
 abbrev pub is_day : Option ℕ → Bool
@@ -296,6 +302,7 @@ booked origin destination p t goods =
       tenths = book_weight_of p t;
       goods = goods;
       notified = false;
+      since = None;
     }
 
 abbrev pub declaring : DeclarationView → ℕ → Declared → Rule
@@ -520,7 +527,7 @@ announcing s f at =
         record { number = 301; detail = detail.Line 2 why.Date },
       )
           ∷ (is_some (s.parts key), record { number = 213; detail = detail.Part key }) ∷ [];
-      outcome = announced key (length lines) (lines_changes s (inbound_flight f at) lines);
+      outcome = announced key (length lines) (lines_changes s (inbound_flight f at) at.day lines);
     }
 
 -- A status message: its lines join the trail.
@@ -548,7 +555,7 @@ reads (desk.Confirm upto) = key.Messages
 
 abbrev pub desk_rule : List ℕ → Rows → DeskCommand → LocalMinute → Rule
 desk_rule here (rows.Declaration view) (desk.Book w origin destination p t goods) at =
-    declaring view w (booked origin destination p t goods)
+    declaring view w (dated at.day (booked origin destination p t goods))
 desk_rule here (rows.Waybill view) (desk.Receive w p t name) at = receiving here view w p t name at
 desk_rule here (rows.Manifest view on) (desk.Manifest w flight unload p) at =
     manifesting here view on w flight unload p at
@@ -572,7 +579,8 @@ desk_rule here _ _ at = no_rule
 -- the rule of each command in a state
 abbrev pub rule : Cargo → ShipmentCommand → LocalMinute → Rule
 rule s (order.Desk command) at = desk_rule s.here (rows_of s (reads command)) command at
-rule s (order.Fwb c) at = declaring (declaration_view s c.awb) c.awb (declared_by c)
+rule s (order.Fwb c) at =
+    declaring (declaration_view s c.awb) c.awb (dated at.day (declared_by c))
 rule s (order.Ffm f) at = announcing s f at
 rule s (order.Fsu f) at = noting_status (s.declared f.awb) f.awb f.lines
 

@@ -1,5 +1,5 @@
 -- What a station's state has of a waybill, of a flight and of a manifest's line.
-use Rattle.std.specs.Prelude.{ℕ, false, List, [], map, length}
+use Rattle.std.specs.Prelude.{ℕ, false, None, List, [], map, length}
 use Rattle.std.specs.Option.{unwrap_or}
 use Rattle.shipment_machine.specs.declared.flight.FlightDate.{FlightDate}
 use Rattle.shipment_machine.specs.declared.moves.Declared.{Declared}
@@ -19,7 +19,15 @@ use Rattle.shipment_machine.specs.Cargo.{Cargo}
 -- what is declared of a waybill that has a declaration
 abbrev pub undeclared : Declared
 undeclared =
-    record { origin = []; destination = []; pieces = 0; tenths = 0; goods = []; notified = false }
+    record {
+      origin = [];
+      destination = [];
+      pieces = 0;
+      tenths = 0;
+      goods = [];
+      notified = false;
+      since = None;
+    }
 
 abbrev pub declaration : Cargo → ℕ → Declared
 declaration s w = unwrap_or (s.declared w) undeclared

@@ -1,7 +1,7 @@
 //! What is declared and taken over.
 ghost use Rattle.std.specs.Prelude.{◌≡◌, ℕ, ◌≤◌, ◌++◌, Some, None, OnOk, if◌then◌else◌};
 ghost use Rattle.shipment_machine.specs.Amount.{amount, fits};
-ghost use Rattle.shipment_machine.specs.Effect.{decided, at_desk_or_void, booked, declare, declared_by, declaring, receiving};
+ghost use Rattle.shipment_machine.specs.Effect.{decided, at_desk_or_void, booked, dated, declare, declared_by, declaring, receiving};
 ghost use Rattle.shipment_machine.specs.Agreement.{IsAnswer};
 ghost use Rattle.shipment_machine.specs.Claims.{claimed};
 
@@ -17,7 +17,7 @@ use crate::plans::{Change, Plan, PlanFault};
 use crate::view::{DeclarationView, WaybillView};
 use agent_stock::Holder;
 use awb_number::Awb;
-use imp_fields::{Airport, Goods, Name, Pieces, Tenths, book_weight, share};
+use imp_fields::{Airport, Goods, LocalDay, Moment, Name, Pieces, Tenths, book_weight, share};
 use std::alloc::AllocError;
 
 /// What is to be declared of a waybill, perhaps past what can be.
@@ -58,11 +58,18 @@ pub(crate) fn add_declaration<'a>(
     Ok(())
 }
 
-/// What is declared, unless it is past what can be.
-pub(crate) fn declared_as(claim: &ProposedDeclaration) -> Option<Declared>
+/// The local day of a moment.
+fn day_of(at: Moment) -> Option<LocalDay>
+    ensures { result ≡ Some at.day }
+{
+    LocalDay::new(at.day)
+}
+
+/// What is declared at a moment, unless it is past what can be.
+pub(crate) fn declared_as(claim: &ProposedDeclaration, at: Moment) -> Option<Declared>
     requires { 1 ≤ claim.now.pieces }
     ensures { result ≡ (if fits (amount claim.now.pieces claim.now.tenths)
-        then Some (claimed claim.now) else None) }
+        then Some (dated at.day (claimed claim.now)) else None) }
 {
     if !is_within(u64::from(claim.pieces), claim.tenths) {
         return None;
@@ -74,6 +81,7 @@ pub(crate) fn declared_as(claim: &ProposedDeclaration) -> Option<Declared>
         tenths: tenths_of(claim.tenths as u32),
         goods: claim.goods,
         notified: false,
+        since: day_of(at),
     })
 }
 
@@ -128,9 +136,9 @@ pub(crate) fn book<'a>(
     claim: &ProposedDeclaration,
 ) -> Result<Plan<'a>, PlanFault>
     requires { 1 ≤ claim.now.pieces }
-    ensures { IsAnswer result (decided (declaring view.now awb (claimed claim.now))) }
+    ensures { IsAnswer result (decided (declaring view.now awb (dated on.now.at.day (claimed claim.now)))) }
 {
-    let Some(declared) = declared_as(claim) else {
+    let Some(declared) = declared_as(claim, on.at) else {
         return Err(refuse_waybill(217, awb));
     };
     if view.declared.is_some() && view.has_moves {

@@ -2,7 +2,7 @@
 ghost use Rattle.std.specs.Prelude.{◌≡◌, ◌≤◌, ℕ, [], ◌∷◌, ◌++◌, Some, None, Ok, nat_eq, OnOk, IfOk, IfErr, if◌then◌else◌, length, not, true, All};
 ghost use Rattle.std.specs.HashMap.{get};
 ghost use Rattle.shipment_machine.specs.Amount.{amount, fits};
-ghost use Rattle.shipment_machine.specs.Effect.{declared_by, expected_after, lines_for, is_day};
+ghost use Rattle.shipment_machine.specs.Effect.{dated, declared_by, expected_after, lines_for, is_day};
 ghost use Rattle.shipment_machine.specs.Lawful.{HasPieces};
 ghost use Rattle.imp_fields.specs.declared.fault.Why.TheVariants as why;
 ghost use Rattle.shipment_machine.specs.declared.plans.Detail.TheVariants as detail;
@@ -23,7 +23,7 @@ use crate::plans::{Change, Detail, Plan, PlanFault, Refusal};
 use crate::view::{LineView, LineViews};
 use agent_stock::Holder;
 use awb_number::Awb;
-use imp_fields::{Airport, LocalDay, Why, book_weight};
+use imp_fields::{Airport, LocalDay, Moment, Why, book_weight};
 use std::alloc::{AllocError, Global};
 use std::collections::HashMap;
 
@@ -61,10 +61,15 @@ fn expected_with(so_far: Option<Expected>, line: &CargoLine) -> Option<Expected>
 
 /// Tests a line after those before it. `before` is what is expected of its waybill by an earlier
 /// line.
-fn find(before: Option<Expected>, line: &CargoLine, row: &LineView) -> Result<Finding, PlanFault>
+fn find(
+    before: Option<Expected>,
+    line: &CargoLine,
+    row: &LineView,
+    at: Moment,
+) -> Result<Finding, PlanFault>
     ensures due { OnOk result (refusal_now before line.now row.now ≡ None) }
     ensures declared { IfOk result (λ finding. finding.declared
-        ≡ (if is_new before row.now then Some (declared_by line.now) else None)) }
+        ≡ (if is_new before row.now then Some (dated at.day (declared_by line.now)) else None)) }
     ensures expected { IfOk result (λ finding. finding.expected
         ≡ expected_now before line.now row.now) }
     ensures refused { IfErr result (IsRefusal (refusal_now before line.now row.now)) }
@@ -83,7 +88,7 @@ fn find(before: Option<Expected>, line: &CargoLine, row: &LineView) -> Result<Fi
         return Err(refuse_waybill(203, line.awb));
     }
     let declared = if new {
-        declared_as(&claim_of(line))
+        declared_as(&claim_of(line), at)
     } else {
         None
     };
@@ -130,11 +135,12 @@ fn add_line<'a>(
     flight: &FlightDate,
     line: &CargoLine,
     row: &LineView,
+    at: Moment,
 ) -> Result<(), PlanFault>
     ensures due { OnOk result (refusal_now (get nat_eq earlier.old line.now.awb) line.now row.now
         ≡ None) }
     ensures changes { OnOk result (changes.new.items ≡ changes.old.items
-        ++ changes_now (get nat_eq earlier.old line.now.awb) flight.now line.now row.now) }
+        ++ changes_now (get nat_eq earlier.old line.now.awb) flight.now at.day line.now row.now) }
     ensures earlier { OnOk result ((q : ℕ) → get nat_eq earlier.new q
         ≡ with_line (get nat_eq earlier.old) line.now.awb
         (expected_now (get nat_eq earlier.old line.now.awb) line.now row.now) q) }
@@ -142,7 +148,7 @@ fn add_line<'a>(
         (refusal_now (get nat_eq earlier.old line.now.awb) line.now row.now)) }
 {
     let before = earlier.get(&line.awb.key()).copied();
-    match find(before, line, row) {
+    match find(before, line, row, at) {
         Err(fault) => Err(fault),
         Ok(finding) => Ok(write_line(changes, earlier, flight, line.awb, row.holder, &finding)?),
     }
@@ -175,17 +181,25 @@ pub(crate) fn announced<'a>(
     flight: &FlightDate,
     lines: &[CargoRef<'_>],
     rows: &[LineView],
+    at: Moment,
 ) -> Result<Vec<Change<'a>>, PlanFault>
     requires { length rows.now ≡ length lines.now }
-    ensures ok { IfOk result (λ changes. announced_changes no_earlier flight.now lines.now rows.now
+    ensures ok { IfOk result (λ changes. announced_changes no_earlier flight.now at.day lines.now rows.now
         ≡ Ok changes.items) }
     ensures refused { IfErr result (IsPartFault
-        (announced_changes no_earlier flight.now lines.now rows.now)) }
+        (announced_changes no_earlier flight.now at.day lines.now rows.now)) }
 {
     let mut changes = Vec::new(alloc);
     let mut earlier = HashMap::new(alloc);
     for i in 0..lines.len() {
-        add_line(&mut changes, &mut earlier, flight, lines[i].get(), &rows[i])?;
+        add_line(
+            &mut changes,
+            &mut earlier,
+            flight,
+            lines[i].get(),
+            &rows[i],
+            at,
+        )?;
     }
     Ok(changes)
 }
@@ -231,7 +245,7 @@ pub(crate) fn announce<'a>(
 ) -> Result<Plan<'a>, PlanFault>
     requires { is_day meant ≡ true → length rows.now
         ≡ length (lines_for on.now.here part.now.lines) }
-    ensures answer { IsAnswer result (part_answer on.now.here taken rows.now part.now meant) }
+    ensures answer { IsAnswer result (part_answer on.now.here on.now.at.day taken rows.now part.now meant) }
     ensures some { IfOk result (λ _. All HasPieces part.now.lines) }
 {
     let Some(number) = meant else {
@@ -249,7 +263,13 @@ pub(crate) fn announce<'a>(
     }
     let lines = lines_here(on.alloc, on.here, part.lines.as_slice())?;
     let mut plan = blank(on.alloc, lines.len() as u32);
-    plan.changes = announced(on.alloc, &key.flight, lines.as_slice(), rows.as_slice())?;
+    plan.changes = announced(
+        on.alloc,
+        &key.flight,
+        lines.as_slice(),
+        rows.as_slice(),
+        on.at,
+    )?;
     plan.changes.push(Change::NotePart { part: *key })?;
     Ok(plan)
 }

@@ -1,7 +1,7 @@
 use crate::amount::Amount;
 use crate::flight::FlightDate;
 use awb_number::Awb;
-use imp_fields::{Airport, BookTenths, Goods, Moment, PartNumber, Pieces};
+use imp_fields::{Airport, BookTenths, Goods, LocalDay, Moment, PartNumber, Pieces};
 
 /// Where pieces of a waybill can be. The first two are outside the station.
 #[derive(Clone, Copy, Debug, PartialEq, Eq)]
@@ -59,6 +59,8 @@ pub struct Declared {
     pub goods: Goods,
     /// Whether the consignee was notified since.
     pub notified: bool,
+    /// The local day on which it was declared, where that was kept.
+    pub since: Option<LocalDay>,
 }
 
 /// An outbound flight.

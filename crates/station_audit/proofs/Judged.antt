@@ -1,7 +1,7 @@
 -- One table after another: what a test says of the tables so far.
 use Rattle.std.proofs.Common.{◌≡◌, ◌∙◌, ℕ, ℤ, Bool, true, false, List, [], ◌∷◌, sym, ap, ap₂, inl, Result, Ok, Err}
 use Rattle.std.specs.Prelude.{◌↔◌, IsTrue, IfOk}
-use Rattle.sqlite.specs.Effect.{Database}
+use Rattle.found_station.specs.Reading.{Reading, station_read}
 use Rattle.sqlite.specs.State.{State, IsUnchanged}
 use Rattle.sqlite.specs.declared.error.Error.{Error}
 use Rattle.row_laws.specs.Calls.{Reads}
@@ -9,9 +9,9 @@ use Rattle.row_schema.specs.Connection.{opening}
 use Rattle.row_schema.specs.Tables.{Tables}
 use Rattle.row_values.specs.Meaning.{airport_in, confirmed_in}
 use Rattle.row_values.specs.Numbers.{natural}
-use Rattle.found_tables.specs.Verdict.{no_station, damaged, other_version, station_of, one_row, new_row}
+use Rattle.found_tables.specs.Verdict.{no_station, damaged, other_version, one_row, new_row}
 use Rattle.lawful_tables.specs.declared.name.TableName.{TableName}
-use Rattle.lawful_tables.specs.declared.name.TableName.TheVariants.{Station, Waybill, Stock, Flight, Moves, Expected, Part, Trail, Outbox, KeptKey, KeptText, Counts, Build}
+use Rattle.lawful_tables.specs.declared.name.TableName.TheVariants.{Station, Waybill, Waybill2, Stock, Flight, Moves, Expected, Part, Trail, Outbox, KeptKey, KeptText, Counts, Build}
 use Rattle.lawful_tables.specs.Lawful.{IsLawfulTable}
 use Rattle.station_audit.specs.declared.unfit.Unfit.{Unfit}
 use Rattle.station_audit.specs.declared.unfit.Unfit.TheVariants as unfit
@@ -19,11 +19,11 @@ use Rattle.station_audit.specs.Good.{HoldsStation, IsHeld, before, AreGood, IsSt
 use Rattle.station_audit.specs.Verdict.{is_ours, IsUnfit}
 
 -- what a test of a table says, whatever the tables are that are good so far
-abbrev pub IsExact : Database → TableName → Bool → Type 0
+abbrev pub IsExact : Reading → TableName → Bool → Type 0
 IsExact db name good = (t : Tables) → AreGood db t (before name) → IsHeld name db t → IsTrue good ↔ IsLawfulTable name t
 
 -- where it says no, there is a station's database so far, and no further
-pub stops_at : (db : Database) (t : Tables) (name : TableName) (good : Bool) → AreGood db t (before name) → IsExact db name good → good ≡ false → IsFirstBad db name
+pub stops_at : (db : Reading) (t : Tables) (name : TableName) (good : Bool) → AreGood db t (before name) → IsExact db name good → good ≡ false → IsFirstBad db name
 stops_at db t name good so_far exact fails = record {
   tables = t;
   so_far = so_far;
@@ -31,7 +31,7 @@ stops_at db t name good so_far exact fails = record {
 }
 
 -- where it says yes of a table that is held, there is one table more
-pub goes_past : (db : Database) (t : Tables) (name : TableName) (good : Bool) → AreGood db t (before name) → IsExact db name good → good ≡ true → IsHeld name db t → AreGood db t (name ∷ before name)
+pub goes_past : (db : Reading) (t : Tables) (name : TableName) (good : Bool) → AreGood db t (before name) → IsExact db name good → good ≡ true → IsHeld name db t → AreGood db t (name ∷ before name)
 goes_past db t name good so_far exact passes held = (record { held = held; lawful = (exact t so_far held).0 passes }, so_far)
 
 -- ---- the row of `station`
@@ -42,15 +42,15 @@ same_words h = cc
 same_mark : {a b : List ℕ} {c d : ℤ} → one_row a c ≡ one_row b d → c ≡ d
 same_mark h = cc
 
-pub airport_is : (db : Database) (airport : List ℕ) (confirmed : ℤ) → station_of db ≡ one_row airport confirmed → (t : Tables) → HoldsStation db t → airport_in t.stations ≡ airport
+pub airport_is : (db : Reading) (airport : List ℕ) (confirmed : ℤ) → station_read db ≡ one_row airport confirmed → (t : Tables) → HoldsStation db t → airport_in t.stations ≡ airport
 airport_is db airport confirmed says t h = ap airport_in h.3 ∙ same_words (sym h.2 ∙ says)
 
-pub mark_is : (db : Database) (airport : List ℕ) (confirmed : ℤ) → station_of db ≡ one_row airport confirmed → (t : Tables) → HoldsStation db t → confirmed_in t.stations ≡ natural confirmed
+pub mark_is : (db : Reading) (airport : List ℕ) (confirmed : ℤ) → station_read db ≡ one_row airport confirmed → (t : Tables) → HoldsStation db t → confirmed_in t.stations ≡ natural confirmed
 mark_is db airport confirmed says t h = ap confirmed_in h.3 ∙ ap natural (same_mark (sym h.2 ∙ says))
 
 -- ---- a station's database is fit
 
-through : (db : Database) (t : Tables) → IsStationOf db t → (name : TableName) → AreGood db t (name ∷ before name)
+through : (db : Reading) (t : Tables) → IsStationOf db t → (name : TableName) → AreGood db t (name ∷ before name)
 through db t all Build = all
 through db t all Counts = all.1
 through db t all KeptText = all.1.1
@@ -62,8 +62,9 @@ through db t all Expected = all.1.1.1.1.1.1.1
 through db t all Moves = all.1.1.1.1.1.1.1.1
 through db t all Flight = all.1.1.1.1.1.1.1.1.1
 through db t all Stock = all.1.1.1.1.1.1.1.1.1.1
-through db t all Waybill = all.1.1.1.1.1.1.1.1.1.1.1
-through db t all Station = all.1.1.1.1.1.1.1.1.1.1.1.1
+through db t all Waybill2 = all.1.1.1.1.1.1.1.1.1.1.1
+through db t all Waybill = all.1.1.1.1.1.1.1.1.1.1.1.1
+through db t all Station = all.1.1.1.1.1.1.1.1.1.1.1.1.1
 
 none_there : (a : List ℕ) (c : ℤ) → one_row a c ≡ no_station → ⊥
 none_there a c h = absurd (cc)
@@ -71,21 +72,21 @@ none_there a c h = absurd (cc)
 no_other : (a : List ℕ) (c n : ℤ) → one_row a c ≡ other_version n → ⊥
 no_other a c n h = absurd (cc)
 
-pub fit : (db : Database) (t : Tables) → IsStationOf db t → (why : Unfit) → IsUnfit db why → ⊥
+pub fit : (db : Reading) (t : Tables) → IsStationOf db t → (why : Unfit) → IsUnfit db why → ⊥
 fit db t all unfit.NoStation h = let s = (through db t all Station).0.held in none_there s.0 s.1 (sym s.2 ∙ h)
 fit db t all (unfit.OtherVersion n) h = let s = (through db t all Station).0.held in no_other s.0 s.1 n (sym s.2 ∙ h)
 fit db t all (unfit.Unlawful name) h = h.1.no_further t (through db t all name)
 
 -- ---- the table `station` alone
 
-pub is_our_row : (db : Database) (airport : List ℕ) (confirmed : ℤ) → station_of db ≡ one_row airport confirmed → IsTrue (is_ours (station_of db))
+pub is_our_row : (db : Reading) (airport : List ℕ) (confirmed : ℤ) → station_read db ≡ one_row airport confirmed → IsTrue (is_ours (station_read db))
 is_our_row db airport confirmed says = ap is_ours says
 
 same_rows : (airport a : List ℕ) (confirmed c : ℤ) → a ≡ airport → c ≡ confirmed → new_row a c ∷ [] ≡ new_row airport confirmed ∷ []
 same_rows airport a confirmed c one two = ap₂ (λ x y. new_row x y ∷ []) one two
 
 -- the one row isn't lawful
-pub row_stops : (db : Database) (airport : List ℕ) (confirmed : ℤ) → station_of db ≡ one_row airport confirmed → ((t : Tables) → t.stations ≡ new_row airport confirmed ∷ [] → IsLawfulTable Station t → false ≡ true) → IsFirstBad db Station
+pub row_stops : (db : Reading) (airport : List ℕ) (confirmed : ℤ) → station_read db ≡ one_row airport confirmed → ((t : Tables) → t.stations ≡ new_row airport confirmed ∷ [] → IsLawfulTable Station t → false ≡ true) → IsFirstBad db Station
 row_stops db airport confirmed says unlawful = record {
   tables = opening airport;
   so_far = tt;
@@ -98,7 +99,7 @@ row_stops db airport confirmed says unlawful = record {
 one_damaged : (a : List ℕ) (c : ℤ) → one_row a c ≡ damaged → ⊥
 one_damaged a c h = absurd (cc)
 
-pub damaged_stops : (db : Database) → station_of db ≡ damaged → IsTrue (is_ours (station_of db)) × IsFirstBad db Station
+pub damaged_stops : (db : Reading) → station_read db ≡ damaged → IsTrue (is_ours (station_read db)) × IsFirstBad db Station
 damaged_stops db says = (
   ap is_ours says,
   record {

@@ -64,7 +64,8 @@ either false b text by_one by_other h = by_other h
 
 pub waybill_texts : (row : Waybill) → is_waybill_row row ≡ true → HasWaybillTexts row
 waybill_texts row h =
-    let a = and_parts _ _ h in
+    let since = and_parts _ _ h in
+    let a = and_parts _ _ since.0 in
     let b = and_parts _ _ a.0 in
     let c = and_parts _ _ b.0 in
     let d = and_parts _ _ c.0 in

@@ -2,12 +2,12 @@
 use Rattle.std.specs.Prelude.{ℕ, ℤ, List, [], ◌∷◌, map, Option, Some, None, Vec, Result, Ok, Err, ⊤}
 use Rattle.std.specs.declared.alloc.Global.{Global}
 use Rattle.std.specs.FinMap.{entries, from_entries}
-use Rattle.sqlite.specs.Effect.{Database}
+use Rattle.found_station.specs.Reading.{Reading}
 use Rattle.row_schema.specs.Tables.{Tables}
 use Rattle.cargo_rows.specs.Meant.{waybill_meant, move_meant, count_meant, build_meant}
 use Rattle.text_rows.specs.Meant.{trail_meant, message_meant}
 use Rattle.station_rows.specs.Meant.{stock_meant}
-use Rattle.found_tables.specs.Held.{flight_entry, expected_entry, part_entry, kept_key_entry, kept_text_entry}
+use Rattle.found_tables.specs.Held.{old_waybill_entry, flight_entry, expected_entry, part_entry, kept_key_entry, kept_text_entry}
 use Rattle.found_tables.specs.Verdict.{new_row}
 use Rattle.found_station.specs.declared.all.FoundTables.{FoundTables}
 use Rattle.lawful_tables.specs.declared.name.TableName.{TableName}
@@ -31,6 +31,7 @@ entries_of meant read = map meant (rows_in read)
 abbrev pub tables_from : List ℕ → ℤ → FoundTables → Tables
 tables_from airport confirmed found = record {
   stations = new_row airport confirmed ∷ [];
+  old_waybills = entries_of old_waybill_entry found.cargo.old_waybills;
   waybills = entries_of waybill_meant found.cargo.waybills;
   stock = from_entries (entries_of stock_meant found.cargo.stock);
   flights = from_entries (entries_of flight_entry found.cargo.flights);
@@ -46,11 +47,11 @@ tables_from airport confirmed found = record {
 }
 
 -- the first table that isn't good, or none
-abbrev pub NamesFirst : Database → Tables → Result (Option TableName) NoRoom → Type 0
+abbrev pub NamesFirst : Reading → Tables → Result (Option TableName) NoRoom → Type 0
 NamesFirst db t (Ok None) = IsStationOf db t
 NamesFirst db t (Ok (Some name)) = IsFirstBad db name
 NamesFirst db t (Err no_room) = ⊤
 
 -- what the book of a database comes to
-abbrev pub AreSumsOf : Database → BookSums → Type 0
+abbrev pub AreSumsOf : Reading → BookSums → Type 0
 AreSumsOf db sums = (t : Tables) → AreGood db t (before Expected) → AreSums (flights_of (entries t.flights)) sums (running (book_in t.moves))

@@ -1,7 +1,7 @@
 ghost use Rattle.std.specs.Prelude.{◌≡◌, ◌↔◌, map, IfOk, IfSome, IsSome, IsTrue};
 ghost use Rattle.std.specs.List.{list_all};
 ghost use Rattle.std.specs.FinMap.{entries};
-ghost use Rattle.sqlite.specs.Effect.{Database};
+ghost use Rattle.found_station.specs.Reading.{Reading};
 ghost use Rattle.row_schema.specs.Tables.{Tables};
 ghost use Rattle.cargo_rows.specs.Meant.{waybill_meant, move_meant};
 ghost use Rattle.row_values.specs.Counts.{running};
@@ -54,8 +54,8 @@ fn lawful_sums(
 /// What the moves of the book that was found come to. `None`: it is missing or not lawful.
 pub(crate) fn good_book(alloc: Global, found: &FoundTables) -> Result<Option<BookSums>, NoRoom>
     ensures some { IfOk result (λ sums. IsSome sums → IsSome found.now.cargo.moves) }
-    ensures exact { (db : Database) (t : Tables) → AreTables db found.now → AreGood db t (before table.Moves) → IsHeld table.Moves db t → IfOk result (λ sums. IsSome sums ↔ AreMoves t) }
-    ensures sums { (db : Database) (t : Tables) → AreTables db found.now → AreGood db t (before table.Moves) → IsHeld table.Moves db t
+    ensures exact { (db : Reading) (t : Tables) → AreTables db found.now → AreGood db t (before table.Moves) → IsHeld table.Moves db t → IfOk result (λ sums. IsSome sums ↔ AreMoves t) }
+    ensures sums { (db : Reading) (t : Tables) → AreTables db found.now → AreGood db t (before table.Moves) → IsHeld table.Moves db t
         → IfOk result (λ sums. IfSome sums (λ s. AreSums (flights_of (entries t.flights)) s (running (book_in t.moves)))) }
 {
     let cargo = &found.cargo;

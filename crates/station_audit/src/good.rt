@@ -1,6 +1,6 @@
 ghost use Rattle.std.specs.Prelude.{◌≡◌, ◌↔◌, IsTrue, IsSome};
 ghost use Rattle.std.specs.FinMap.{entries};
-ghost use Rattle.sqlite.specs.Effect.{Database};
+ghost use Rattle.found_station.specs.Reading.{Reading};
 ghost use Rattle.row_schema.specs.Tables.{Tables};
 ghost use Rattle.row_values.specs.Counts.{running};
 ghost use Rattle.row_values.specs.Meaning.{airport_in, confirmed_in};
@@ -17,13 +17,25 @@ use book_audits::{BookSums, are_builds, are_counts};
 use found_station::FoundTables;
 use table_audits::{
     are_expected_lawful, are_flights_lawful, are_kept_keys_lawful, are_kept_texts_lawful,
-    are_parts_lawful, are_stock_lawful, are_waybills_lawful, is_outbox_lawful, is_trail_lawful,
+    are_old_waybills_lawful, are_parts_lawful, are_stock_lawful, are_waybills_lawful,
+    is_outbox_lawful, is_trail_lawful,
 };
 
 /// Whether `waybill` is there and lawful.
+pub(crate) fn are_old_waybills_good(found: &FoundTables) -> bool
+    ensures some { IsTrue result → IsSome found.now.cargo.old_waybills }
+    ensures exact { (db : Reading) (t : Tables) → AreTables db found.now → AreGood db t (before table.Waybill) → IsHeld table.Waybill db t → (IsTrue result ↔ IsLawfulTable table.Waybill t) }
+{
+    match &found.cargo.old_waybills {
+        None => false,
+        Some(rows) => are_old_waybills_lawful(rows),
+    }
+}
+
+/// Whether the waybills are there and lawful.
 pub(crate) fn are_waybills_good(found: &FoundTables) -> bool
     ensures some { IsTrue result → IsSome found.now.cargo.waybills }
-    ensures exact { (db : Database) (t : Tables) → AreTables db found.now → AreGood db t (before table.Waybill) → IsHeld table.Waybill db t → (IsTrue result ↔ IsLawfulTable table.Waybill t) }
+    ensures exact { (db : Reading) (t : Tables) → AreTables db found.now → AreGood db t (before table.Waybill2) → IsHeld table.Waybill2 db t → (IsTrue result ↔ IsLawfulTable table.Waybill2 t) }
 {
     match &found.cargo.waybills {
         None => false,
@@ -34,7 +46,7 @@ pub(crate) fn are_waybills_good(found: &FoundTables) -> bool
 /// Whether `stock` is there and lawful.
 pub(crate) fn are_stock_good(found: &FoundTables) -> bool
     ensures some { IsTrue result → IsSome found.now.cargo.stock }
-    ensures exact { (db : Database) (t : Tables) → AreTables db found.now → AreGood db t (before table.Stock) → IsHeld table.Stock db t → (IsTrue result ↔ IsLawfulTable table.Stock t) }
+    ensures exact { (db : Reading) (t : Tables) → AreTables db found.now → AreGood db t (before table.Stock) → IsHeld table.Stock db t → (IsTrue result ↔ IsLawfulTable table.Stock t) }
 {
     let Some(waybills) = &found.cargo.waybills else {
         return false;
@@ -48,7 +60,7 @@ pub(crate) fn are_stock_good(found: &FoundTables) -> bool
 /// Whether `flight` is there and lawful.
 pub(crate) fn are_flights_good(found: &FoundTables, here: &str) -> bool
     ensures some { IsTrue result → IsSome found.now.cargo.flights }
-    ensures exact { (db : Database) (t : Tables) → AreTables db found.now → AreGood db t (before table.Flight) → IsHeld table.Flight db t → airport_in t.stations ≡ here.now → (IsTrue result ↔ IsLawfulTable table.Flight t) }
+    ensures exact { (db : Reading) (t : Tables) → AreTables db found.now → AreGood db t (before table.Flight) → IsHeld table.Flight db t → airport_in t.stations ≡ here.now → (IsTrue result ↔ IsLawfulTable table.Flight t) }
 {
     match &found.cargo.flights {
         None => false,
@@ -59,7 +71,7 @@ pub(crate) fn are_flights_good(found: &FoundTables, here: &str) -> bool
 /// Whether `expected` is there and lawful.
 pub(crate) fn are_expected_good(found: &FoundTables) -> bool
     ensures some { IsTrue result → IsSome found.now.messages.expected }
-    ensures exact { (db : Database) (t : Tables) → AreTables db found.now → AreGood db t (before table.Expected) → IsHeld table.Expected db t → (IsTrue result ↔ IsLawfulTable table.Expected t) }
+    ensures exact { (db : Reading) (t : Tables) → AreTables db found.now → AreGood db t (before table.Expected) → IsHeld table.Expected db t → (IsTrue result ↔ IsLawfulTable table.Expected t) }
 {
     let Some(waybills) = &found.cargo.waybills else {
         return false;
@@ -73,7 +85,7 @@ pub(crate) fn are_expected_good(found: &FoundTables) -> bool
 /// Whether `part` is there and lawful.
 pub(crate) fn are_parts_good(found: &FoundTables) -> bool
     ensures some { IsTrue result → IsSome found.now.messages.parts }
-    ensures exact { (db : Database) (t : Tables) → AreTables db found.now → AreGood db t (before table.Part) → IsHeld table.Part db t → (IsTrue result ↔ IsLawfulTable table.Part t) }
+    ensures exact { (db : Reading) (t : Tables) → AreTables db found.now → AreGood db t (before table.Part) → IsHeld table.Part db t → (IsTrue result ↔ IsLawfulTable table.Part t) }
 {
     match &found.messages.parts {
         None => false,
@@ -84,7 +96,7 @@ pub(crate) fn are_parts_good(found: &FoundTables) -> bool
 /// Whether `trail` is there and lawful.
 pub(crate) fn is_trail_good(found: &FoundTables) -> bool
     ensures some { IsTrue result → IsSome found.now.messages.trail }
-    ensures exact { (db : Database) (t : Tables) → AreTables db found.now → AreGood db t (before table.Trail) → IsHeld table.Trail db t → (IsTrue result ↔ IsLawfulTable table.Trail t) }
+    ensures exact { (db : Reading) (t : Tables) → AreTables db found.now → AreGood db t (before table.Trail) → IsHeld table.Trail db t → (IsTrue result ↔ IsLawfulTable table.Trail t) }
 {
     let Some(waybills) = &found.cargo.waybills else {
         return false;
@@ -98,7 +110,7 @@ pub(crate) fn is_trail_good(found: &FoundTables) -> bool
 /// Whether `outbox` is there and lawful.
 pub(crate) fn is_outbox_good(found: &FoundTables, confirmed: i64) -> bool
     ensures some { IsTrue result → IsSome found.now.messages.outbox }
-    ensures exact { (db : Database) (t : Tables) → AreTables db found.now → AreGood db t (before table.Outbox) → IsHeld table.Outbox db t → confirmed_in t.stations ≡ natural confirmed → (IsTrue result ↔ IsLawfulTable table.Outbox t) }
+    ensures exact { (db : Reading) (t : Tables) → AreTables db found.now → AreGood db t (before table.Outbox) → IsHeld table.Outbox db t → confirmed_in t.stations ≡ natural confirmed → (IsTrue result ↔ IsLawfulTable table.Outbox t) }
 {
     match &found.messages.outbox {
         None => false,
@@ -109,7 +121,7 @@ pub(crate) fn is_outbox_good(found: &FoundTables, confirmed: i64) -> bool
 /// Whether `kept_key` is there and lawful.
 pub(crate) fn are_kept_keys_good(found: &FoundTables) -> bool
     ensures some { IsTrue result → IsSome found.now.replies.kept_keys }
-    ensures exact { (db : Database) (t : Tables) → AreTables db found.now → AreGood db t (before table.KeptKey) → IsHeld table.KeptKey db t → (IsTrue result ↔ IsLawfulTable table.KeptKey t) }
+    ensures exact { (db : Reading) (t : Tables) → AreTables db found.now → AreGood db t (before table.KeptKey) → IsHeld table.KeptKey db t → (IsTrue result ↔ IsLawfulTable table.KeptKey t) }
 {
     match &found.replies.kept_keys {
         None => false,
@@ -120,7 +132,7 @@ pub(crate) fn are_kept_keys_good(found: &FoundTables) -> bool
 /// Whether `kept_text` is there and lawful.
 pub(crate) fn are_kept_texts_good(found: &FoundTables) -> bool
     ensures some { IsTrue result → IsSome found.now.replies.kept_texts }
-    ensures exact { (db : Database) (t : Tables) → AreTables db found.now → AreGood db t (before table.KeptText) → IsHeld table.KeptText db t → (IsTrue result ↔ IsLawfulTable table.KeptText t) }
+    ensures exact { (db : Reading) (t : Tables) → AreTables db found.now → AreGood db t (before table.KeptText) → IsHeld table.KeptText db t → (IsTrue result ↔ IsLawfulTable table.KeptText t) }
 {
     let Some(parts) = &found.messages.parts else {
         return false;
@@ -134,7 +146,7 @@ pub(crate) fn are_kept_texts_good(found: &FoundTables) -> bool
 /// Whether `counts` is there and lawful.
 pub(crate) fn are_counts_good(found: &FoundTables, sums: &BookSums) -> bool
     ensures some { IsTrue result → IsSome found.now.counts.counts }
-    ensures exact { (db : Database) (t : Tables) → AreTables db found.now → AreGood db t (before table.Counts) → IsHeld table.Counts db t → AreSums (flights_of (entries t.flights)) sums.now (running (book_in t.moves)) → (IsTrue result ↔ IsLawfulTable table.Counts t) }
+    ensures exact { (db : Reading) (t : Tables) → AreTables db found.now → AreGood db t (before table.Counts) → IsHeld table.Counts db t → AreSums (flights_of (entries t.flights)) sums.now (running (book_in t.moves)) → (IsTrue result ↔ IsLawfulTable table.Counts t) }
 {
     match &found.counts.counts {
         None => false,
@@ -145,7 +157,7 @@ pub(crate) fn are_counts_good(found: &FoundTables, sums: &BookSums) -> bool
 /// Whether `build` is there and lawful.
 pub(crate) fn are_builds_good(found: &FoundTables, sums: &BookSums) -> bool
     ensures some { IsTrue result → IsSome found.now.counts.builds }
-    ensures exact { (db : Database) (t : Tables) → AreTables db found.now → AreGood db t (before table.Build) → IsHeld table.Build db t → AreSums (flights_of (entries t.flights)) sums.now (running (book_in t.moves)) → (IsTrue result ↔ IsLawfulTable table.Build t) }
+    ensures exact { (db : Reading) (t : Tables) → AreTables db found.now → AreGood db t (before table.Build) → IsHeld table.Build db t → AreSums (flights_of (entries t.flights)) sums.now (running (book_in t.moves)) → (IsTrue result ↔ IsLawfulTable table.Build t) }
 {
     let Some(flights) = &found.cargo.flights else {
         return false;

@@ -1,7 +1,7 @@
 ghost use Rattle.std.specs.Prelude.{◌≡◌, ℕ, ℤ, List, Ok};
-ghost use Rattle.sqlite.specs.Effect.{Database};
+ghost use Rattle.found_station.specs.Reading.{Reading, station_read};
 ghost use Rattle.found_station.specs.All.{AreTables};
-ghost use Rattle.found_tables.specs.Verdict.{station_of, one_row};
+ghost use Rattle.found_tables.specs.Verdict.{one_row};
 ghost use Rattle.lawful_tables.specs.declared.name.TableName.TheVariants as table;
 ghost use Rattle.station_audit.specs.Good.{before, AreGood};
 ghost use Rattle.station_audit.specs.Made.{tables_from, NamesFirst, AreSumsOf};
@@ -9,8 +9,8 @@ ghost use Rattle.station_audit.specs.Made.{tables_from, NamesFirst, AreSumsOf};
 use crate::book::good_book;
 use crate::good::{
     are_builds_good, are_counts_good, are_expected_good, are_flights_good, are_kept_keys_good,
-    are_kept_texts_good, are_parts_good, are_stock_good, are_waybills_good, is_outbox_good,
-    is_trail_good,
+    are_kept_texts_good, are_old_waybills_good, are_parts_good, are_stock_good, are_waybills_good,
+    is_outbox_good, is_trail_good,
 };
 use book_audits::{BookSums, NoRoom};
 use found_station::FoundTables;
@@ -19,7 +19,7 @@ use std::alloc::Global;
 
 /// The first table that isn't good, from `counts` on.
 fn bad_count(found: &FoundTables, sums: &BookSums) -> Option<TableName>
-    ensures { (db : Database) (airport : List ℕ) (confirmed : ℤ) → AreTables db found.now
+    ensures { (db : Reading) (airport : List ℕ) (confirmed : ℤ) → AreTables db found.now
         → AreSumsOf db sums.now → AreGood db (tables_from airport confirmed found.now) (before table.Counts)
         → NamesFirst db (tables_from airport confirmed found.now) (Ok result) }
 {
@@ -34,7 +34,7 @@ fn bad_count(found: &FoundTables, sums: &BookSums) -> Option<TableName>
 
 /// The first table that isn't good, from `kept_key` on.
 fn bad_reply(found: &FoundTables, sums: &BookSums) -> Option<TableName>
-    ensures { (db : Database) (airport : List ℕ) (confirmed : ℤ) → AreTables db found.now
+    ensures { (db : Reading) (airport : List ℕ) (confirmed : ℤ) → AreTables db found.now
         → AreSumsOf db sums.now → AreGood db (tables_from airport confirmed found.now) (before table.KeptKey)
         → NamesFirst db (tables_from airport confirmed found.now) (Ok result) }
 {
@@ -49,7 +49,7 @@ fn bad_reply(found: &FoundTables, sums: &BookSums) -> Option<TableName>
 
 /// The first table that isn't good, from `trail` on.
 fn bad_log(found: &FoundTables, confirmed: i64, sums: &BookSums) -> Option<TableName>
-    ensures { (db : Database) (airport : List ℕ) → AreTables db found.now → station_of db ≡ one_row airport confirmed
+    ensures { (db : Reading) (airport : List ℕ) → AreTables db found.now → station_read db ≡ one_row airport confirmed
         → AreSumsOf db sums.now → AreGood db (tables_from airport confirmed found.now) (before table.Trail)
         → NamesFirst db (tables_from airport confirmed found.now) (Ok result) }
 {
@@ -64,7 +64,7 @@ fn bad_log(found: &FoundTables, confirmed: i64, sums: &BookSums) -> Option<Table
 
 /// The first table that isn't good, from `expected` on.
 fn bad_message(found: &FoundTables, confirmed: i64, sums: &BookSums) -> Option<TableName>
-    ensures { (db : Database) (airport : List ℕ) → AreTables db found.now → station_of db ≡ one_row airport confirmed
+    ensures { (db : Reading) (airport : List ℕ) → AreTables db found.now → station_read db ≡ one_row airport confirmed
         → AreSumsOf db sums.now → AreGood db (tables_from airport confirmed found.now) (before table.Expected)
         → NamesFirst db (tables_from airport confirmed found.now) (Ok result) }
 {
@@ -79,7 +79,7 @@ fn bad_message(found: &FoundTables, confirmed: i64, sums: &BookSums) -> Option<T
 
 /// The first table that isn't good, from `moves` on.
 fn bad_move(alloc: Global, found: &FoundTables, confirmed: i64) -> Result<Option<TableName>, NoRoom>
-    ensures { (db : Database) (airport : List ℕ) → AreTables db found.now → station_of db ≡ one_row airport confirmed
+    ensures { (db : Reading) (airport : List ℕ) → AreTables db found.now → station_read db ≡ one_row airport confirmed
         → AreGood db (tables_from airport confirmed found.now) (before table.Moves)
         → NamesFirst db (tables_from airport confirmed found.now) result }
 {
@@ -96,7 +96,7 @@ fn bad_stock(
     here: &str,
     confirmed: i64,
 ) -> Result<Option<TableName>, NoRoom>
-    ensures { (db : Database) → AreTables db found.now → station_of db ≡ one_row here.now confirmed
+    ensures { (db : Reading) → AreTables db found.now → station_read db ≡ one_row here.now confirmed
         → AreGood db (tables_from here.now confirmed found.now) (before table.Stock)
         → NamesFirst db (tables_from here.now confirmed found.now) result }
 {
@@ -117,12 +117,15 @@ pub(crate) fn first_bad(
     here: &str,
     confirmed: i64,
 ) -> Result<Option<TableName>, NoRoom>
-    ensures { (db : Database) → AreTables db found.now → station_of db ≡ one_row here.now confirmed
+    ensures { (db : Reading) → AreTables db found.now → station_read db ≡ one_row here.now confirmed
         → AreGood db (tables_from here.now confirmed found.now) (before table.Waybill)
         → NamesFirst db (tables_from here.now confirmed found.now) result }
 {
-    if !are_waybills_good(found) {
+    if !are_old_waybills_good(found) {
         return Ok(Some(TableName::Waybill));
+    }
+    if !are_waybills_good(found) {
+        return Ok(Some(TableName::Waybill2));
     }
     bad_stock(alloc, found, here, confirmed)
 }

@@ -1,10 +1,10 @@
 ghost use Rattle.std.specs.Prelude.{◌≡◌, IfOk, IsTrue, ℕ, ℤ, List, length};
-ghost use Rattle.sqlite.specs.Effect.{Database};
+ghost use Rattle.found_station.specs.Reading.{Reading, station_read, read_as};
 ghost use Rattle.sqlite.specs.State.{HasCleanDisk, Survives};
 ghost use Rattle.sqlite.specs.Held.{state};
 ghost use Rattle.row_laws.specs.Calls.{Reads};
 ghost use Rattle.found_station.specs.All.{AreTables};
-ghost use Rattle.found_tables.specs.Verdict.{station_of, one_row};
+ghost use Rattle.found_tables.specs.Verdict.{one_row};
 ghost use Rattle.row_values.specs.Numbers.{natural};
 ghost use Rattle.lawful_tables.specs.Lawful.{IsLawfulTable};
 ghost use Rattle.lawful_tables.specs.declared.name.TableName.TheVariants as table;
@@ -15,7 +15,7 @@ use crate::counted::{OwnRow, count_of, own_row};
 use crate::judge::first_bad;
 use crate::unfit::Unfit;
 use found_station::{FoundTables, all_tables};
-use found_tables::{StationFound, found_station};
+use found_tables::{FileVersion, StationFound, found_station};
 use imp_fields::Airport;
 use lawful_tables::TableName;
 use sqlite::{Alter, Connection, Error, ErrorCode};
@@ -68,7 +68,7 @@ fn judged(
     confirmed: i64,
     own: OwnRow,
 ) -> Result<Result<FoundState, Unfit>, Error>
-    ensures { (db : Database) → AreTables db found.now → station_of db ≡ one_row airport.now confirmed → IsLawfulTable table.Station (tables_from airport.now confirmed found.now)
+    ensures { (db : Reading) → AreTables db found.now → station_read db ≡ one_row airport.now confirmed → IsLawfulTable table.Station (tables_from airport.now confirmed found.now)
         → own.here ≡ airport.now → own.confirmed ≡ natural confirmed → IfOk result (Judges db) }
 {
     let Ok(bad) = first_bad(alloc, found, airport, confirmed) else {
@@ -85,40 +85,44 @@ fn judged(
     }))
 }
 
-/// Reads and judges a database whose table `station` has this one row, of version 1.
+/// Reads and judges a database whose table `station` has this one row, of this version.
 fn found_from<S: Alter>(
     alloc: Global,
     conn: &mut Connection<S>,
+    version: FileVersion,
     airport: &str,
     confirmed: i64,
 ) -> Result<Result<FoundState, Unfit>, Error>
-    ensures read { HasCleanDisk (state S.Store conn.new) → IsTrue (state S.Store conn.old).is_open → station_of (state S.Store conn.old).now ≡ one_row airport.now confirmed
-        → Reads (state S.Store conn.old) (state S.Store conn.new) result (Judges (state S.Store conn.old).now) }
+    ensures read { HasCleanDisk (state S.Store conn.new) → IsTrue (state S.Store conn.old).is_open → station_read (read_as version (state S.Store conn.old).now) ≡ one_row airport.now confirmed
+        → Reads (state S.Store conn.old) (state S.Store conn.new) result (Judges (read_as version (state S.Store conn.old).now)) }
     ensures survives { Survives (state S.Store conn.old) (state S.Store conn.new) (λ _. ⊥) }
 {
     let Some(own) = own_row(airport, confirmed) else {
         return Ok(Err(Unfit::Unlawful(TableName::Station)));
     };
-    let found = all_tables(alloc, conn)?;
+    let found = all_tables(alloc, conn, version)?;
     judged(alloc, &found, airport, confirmed, own)
 }
 
-/// Reads and judges any database: its tables are those of a station and lawful, or why they aren't. The table `station` is
+/// Reads and judges any database as of a version: its tables are those of a station and lawful, or why they aren't. The table `station` is
 /// looked at first; the others are read whole, each by one statement, and tested in their order, each beside those before
 /// it. The connection is open. On error memory is out, there is no number for a row, or the database could not be read:
 /// nothing was done, or the transaction that was open is undone.
 pub fn found_state<S: Alter>(
     alloc: Global,
     conn: &mut Connection<S>,
+    version: FileVersion,
 ) -> Result<Result<FoundState, Unfit>, Error>
     ensures read { HasCleanDisk (state S.Store conn.new) → IsTrue (state S.Store conn.old).is_open
-        → Reads (state S.Store conn.old) (state S.Store conn.new) result (Judges (state S.Store conn.old).now) }
+        → Reads (state S.Store conn.old) (state S.Store conn.new) result (Judges (read_as version (state S.Store conn.old).now)) }
     ensures survives { Survives (state S.Store conn.old) (state S.Store conn.new) (λ _. ⊥) }
 {
-    match found_station(alloc, conn)? {
+    match found_station(alloc, conn, version)? {
         StationFound::NoStation => Ok(Err(Unfit::NoStation)),
         StationFound::Damaged => Ok(Err(Unfit::Unlawful(TableName::Station))),
-        StationFound::OtherVersion(version) => Ok(Err(Unfit::OtherVersion(version))),
-        StationFound::OneRow(airport, confirmed) => found_from(alloc, conn, &airport, confirmed),
+        StationFound::OtherVersion(other) => Ok(Err(Unfit::OtherVersion(other))),
+        StationFound::OneRow(airport, confirmed) => {
+            found_from(alloc, conn, version, &airport, confirmed)
+        }
     }
 }

@@ -3,6 +3,7 @@ use Rattle.std.proofs.Common.{◌≡◌, ◌⊎◌, inl, inr, ⊎_elim, Option, 
 use Rattle.std.specs.Prelude.{IfOk, IfErr}
 use Rattle.imp_fields.specs.Date.{LocalMinute}
 use Rattle.station_core.specs.declared.answer.ActFault as act
+use Rattle.station_core.specs.declared.answer.ActFault.TheVariants as cause
 use Rattle.station_core.specs.declared.answer.Answer.{Answer}
 use Rattle.station_core.specs.declared.answer.Answer.TheVariants.{Done}
 use Rattle.station_core.specs.declared.answer.Reply.{Reply}
@@ -32,6 +33,11 @@ has_answered s i at answer keeps may_find given leaves = record {
 pub one_of : (s : State) (i : Input) (at : LocalMinute) (failed : act.ActFault) (found : Option State) → MayLeave s i at (Err failed) found → IsBeforeOrAfter s i at found
 one_of s i at failed found (inl before) = inl before
 one_of s i at failed found (inr after) = inr after.1
+
+-- where memory was out it is the one before
+pub before_of : (s : State) (i : Input) (at : LocalMinute) (failed : act.ActFault) (found : Option State) → failed ≡ cause.Memory → MayLeave s i at (Err failed) found → found ≡ Some s
+before_of s i at failed found is (inl before) = before
+before_of s i at failed found is (inr (stored, after)) = absurd (cc)
 
 breaks_nothing : (db : Database) (f : AttachFault) → IsBreakdown f → Refuses db f
 breaks_nothing db (fault.Unlawful name) broke = absurd broke
@@ -82,6 +88,20 @@ module _ {K C : Type 0} (db : Database) (i : Input) (at : LocalMinute) (keeps : 
       go (Err e) clean leaves = λ on own lies f finds.
           let it = found (clean on) in
           inr (it.0, it.1, leaves it.0 it.2 (sound (clean on) own lies) on f finds)
+
+  pub memory_on : (Clean : C → Type 0) (Finds : C → Option State → Type 0) (Before : Option State → Type 0) (Own Lies : Type 0) → (is_clean station → Own → Lies → is_sound station)
+      → IfErr r (λ e. Clean e.0 → is_clean station)
+      → ((s : State) → keeps station s → is_sound station → IfErr r (λ e. e.1 ≡ fault.Memory → Clean e.0 → (f : Option State) → Finds e.0 f → f ≡ Some s))
+      → IfErr r (λ e. e.1 ≡ fault.Memory → Clean e.0 → Own → Lies → (f : Option State) → Finds e.0 f → Before f ⊎ ((s : State) × IsStateIn db s × (f ≡ Some s)))
+  memory_on Clean Finds Before Own Lies sound clean leaves = go r clean leaves
+    where
+      go : (r : Result (K × Answer) (C × AttachFault)) → IfErr r (λ e. Clean e.0 → is_clean station)
+          → ((s : State) → keeps station s → is_sound station → IfErr r (λ e. e.1 ≡ fault.Memory → Clean e.0 → (f : Option State) → Finds e.0 f → f ≡ Some s))
+          → IfErr r (λ e. e.1 ≡ fault.Memory → Clean e.0 → Own → Lies → (f : Option State) → Finds e.0 f → Before f ⊎ ((s : State) × IsStateIn db s × (f ≡ Some s)))
+      go (Ok p) clean leaves = tt
+      go (Err e) clean leaves = λ is on own lies f finds.
+          let it = found (clean on) in
+          inr (it.0, it.1, leaves it.0 it.2 (sound (clean on) own lies) is on f finds)
 
   pub spared_on : (Clean : C → Type 0) (Finds : C → Option State → Type 0) (Before : Option State → Type 0) → IfErr r (λ e. Clean e.0 → is_clean station)
       → IfErr r (λ e. Clean e.0 → ((s : State) → ¬ IsStateIn db s) → (f : Option State) → Finds e.0 f → Before f)

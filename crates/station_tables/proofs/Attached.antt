@@ -3,6 +3,8 @@ use Rattle.std.proofs.Common.{◌≡◌, ◌∙◌, ◌≤◌, ◌⊎◌, false,
 use Rattle.std.specs.Prelude.{IfOk, IfErr}
 use Rattle.std.proofs.lemmas.List.{length-map}
 use Rattle.sqlite.specs.Effect.{Database}
+use Rattle.found_station.specs.Reading.{Reading, read_as}
+use Rattle.found_tables.specs.declared.station.FileVersion.TheVariants.{First, Second}
 use Rattle.sqlite.specs.State as sqlite
 use Rattle.station_core.specs.Step.{State, IsLawfulState}
 use Rattle.row_schema.specs.Connection.{view_of}
@@ -24,24 +26,24 @@ use Rattle.station_audit.specs.declared.unfit.Unfit.{Unfit}
 use Rattle.station_audit.specs.declared.unfit.Unfit.TheVariants as unfit
 use Rattle.sqlite.specs.declared.error.Error.{Error}
 use Rattle.row_laws.specs.Calls.{Reads}
-use Rattle.station_tables.specs.Attached.{IsStateIn, IsTypedState, IsFoundIn, IsJudged, Refuses, IsBreakdown}
+use Rattle.station_tables.specs.Attached.{IsStateOf, IsStateIn, IsOldStateIn, IsTypedState, IsFoundIn, IsJudged, RefusesAs, Refuses, IsBreakdown}
 use Rattle.station_tables.specs.declared.fault.AttachFault.{AttachFault}
 use Rattle.station_tables.specs.declared.fault.AttachFault.TheVariants as fault
 
-both : (db : Database) (t : Tables) → IsStationOf db t → IsReadable t × IsLawfulState (meaning_of t)
+both : (db : Reading) (t : Tables) → IsStationOf db t → IsReadable t × IsLawfulState (meaning_of t)
 both db t all = (lawful_each t).0 (each_lawful db t all)
 
 -- the state that a station's tables mean is lawful
-pub is_lawful : (db : Database) (s : State) → IsStateIn db s → IsLawfulState s
+pub is_lawful : (db : Reading) (s : State) → IsStateOf db s → IsLawfulState s
 is_lawful db s in_ = subst IsLawfulState in_.means (both db in_.tables in_.is_station).1
 
 -- they mean it
-pub means : (db : Database) (s : State) (in_ : IsStateIn db s) → Means in_.tables (Some s)
+pub means : (db : Reading) (s : State) (in_ : IsStateOf db s) → Means in_.tables (Some s)
 means db s in_ = ((both db in_.tables in_.is_station).0, in_.means)
 
 -- where a station declared the tables, they are the typed ones
 pub means_typed : (db : Database) (s : State) → IsStation db → IsStateIn db s → IsTypedState db s
-means_typed db s was in_ = record { means = subst (λ t. Means t (Some s)) (sym (same_tables db in_.tables was in_.is_station)) (means db s in_) }
+means_typed db s was in_ = record { means = subst (λ t. Means t (Some s)) (sym (same_tables db in_.tables was in_.is_station)) (means (read_as Second db) s in_) }
 
 -- and where typed tables mean a lawful state, they are a station's
 pub in_state : (db : Database) (s : State) → IsStation db → IsTypedState db s → IsLawfulState s → IsStateIn db s
@@ -63,15 +65,15 @@ known found t tells = record {
   confirmed_is = tells.confirmed;
 }
 
-pub knows : (found : FoundState) (db : Database) (s : State) (in_ : IsStateIn db s) → Tells found in_.tables → Knows found.here found.sizes found.confirmed (at_rest s)
+pub knows : (found : FoundState) (db : Reading) (s : State) (in_ : IsStateOf db s) → Tells found in_.tables → Knows found.here found.sizes found.confirmed (at_rest s)
 knows found db s in_ tells = subst (λ x. Knows found.here found.sizes found.confirmed (at_rest x)) in_.means (known found in_.tables tells)
 
 -- what is judged, with a state in place of its tables
-judged : (db : Database) (r : Result FoundState Unfit) → Judges db r → IsJudged db r
+judged : (db : Reading) (r : Result FoundState Unfit) → Judges db r → IsJudged db r
 judged db (Ok found) was = record { state = meaning_of was.0; is_in = record { tables = was.0; is_station = was.1; means = refl }; tells = was.2 }
 judged db (Err why) was = was
 
-pub reads : (old new : sqlite.State) (db : Database) (r : Result (Result FoundState Unfit) Error) → Reads old new r (Judges db) → Reads old new r (IsJudged db)
+pub reads : (old new : sqlite.State) (db : Reading) (r : Result (Result FoundState Unfit) Error) → Reads old new r (Judges db) → Reads old new r (IsJudged db)
 reads old new db (Ok r) read = (judged db r read.0, read.1)
 reads old new db (Err e) read = read
 
@@ -88,16 +90,25 @@ has_these c v s in_ was outside rest unchanged = has c v in_.tables (same_tables
 
 -- what is refused is no station's, unless the fault says nothing of it
 pub breaks_down : (db : Database) (s : State) (fault : AttachFault) → IsStateIn db s → Refuses db fault → IsBreakdown fault
-breaks_down db s (fault.Unlawful name) in_ why = absurd (fit db in_.tables in_.is_station (unfit.Unlawful name) why)
-breaks_down db s fault.NoStation in_ why = absurd (fit db in_.tables in_.is_station unfit.NoStation why)
-breaks_down db s (fault.Version n) in_ why = absurd (fit db in_.tables in_.is_station (unfit.OtherVersion n) why)
+breaks_down db s (fault.Unlawful name) in_ why = absurd (fit (read_as Second db) in_.tables in_.is_station (unfit.Unlawful name) why)
+breaks_down db s fault.NoStation in_ why = absurd (fit (read_as Second db) in_.tables in_.is_station unfit.NoStation why)
+breaks_down db s (fault.Version n) in_ why = absurd (fit (read_as Second db) in_.tables in_.is_station (unfit.OtherVersion n) why)
 breaks_down db s fault.Occupied in_ why = why
 breaks_down db s fault.Store in_ why = tt
 breaks_down db s fault.Memory in_ why = tt
 
+-- nor is a file of version 1 refused that is a station's
+pub old_breaks_down : (db : Database) (s : State) (fault : AttachFault) → IsOldStateIn db s → RefusesAs First db fault → IsBreakdown fault
+old_breaks_down db s (fault.Unlawful name) in_ (audited, is, why) = absurd (fit (read_as First db) in_.tables in_.is_station (unfit.Unlawful audited) why)
+old_breaks_down db s fault.NoStation in_ why = absurd (fit (read_as First db) in_.tables in_.is_station unfit.NoStation why)
+old_breaks_down db s (fault.Version n) in_ why = absurd (fit (read_as First db) in_.tables in_.is_station (unfit.OtherVersion n) why)
+old_breaks_down db s fault.Occupied in_ why = why
+old_breaks_down db s fault.Store in_ why = tt
+old_breaks_down db s fault.Memory in_ why = tt
+
 -- a station that goes on from what was found
-pub kept_on : {K E : Type 0} (db : Database) (found : FoundState) (keeps : K → State → Type 0) (r : Result K E) → IsFoundIn db found
-    → ((s : State) (in_ : IsStateIn db s) → Tells found in_.tables → IfOk r (λ k. keeps k s)) → IfOk r (λ k. (s : State) × IsStateIn db s × keeps k s)
+pub kept_on : {K E : Type 0} (db : Reading) (found : FoundState) (keeps : K → State → Type 0) (r : Result K E) → IsFoundIn db found
+    → ((s : State) (in_ : IsStateOf db s) → Tells found in_.tables → IfOk r (λ k. keeps k s)) → IfOk r (λ k. (s : State) × IsStateOf db s × keeps k s)
 kept_on db found keeps (Ok k) at goes = (at.state, at.is_in, goes at.state at.is_in at.tells)
 kept_on db found keeps (Err e) at goes = tt
 

@@ -2,6 +2,7 @@ mod Around
 mod Again
 mod Attached
 mod Looked
+mod Migrated
 mod Made
 mod Restarted
 mod Lives

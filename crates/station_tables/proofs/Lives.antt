@@ -1,5 +1,5 @@
 -- The state after the lives of a file.
-use Rattle.std.proofs.Common.{◌≡◌, ◌⊎◌, inl, inr, ⊎_elim, ℕ, ◌+◌, ◌<◌, List, [], ◌∷◌, ◌++◌, zero, suc, take, length, Option, Some, None, refl, sym, ap, subst, ◌∙◌}
+use Rattle.std.proofs.Common.{◌≡◌, ◌↔◌, ◌⊎◌, inl, inr, ⊎_elim, ℕ, ◌+◌, ◌<◌, List, [], ◌∷◌, ◌++◌, zero, suc, take, length, Option, Some, None, refl, sym, ap, subst, ◌∙◌, arith}
 use Rattle.std.specs.List.{AllByRecursion}
 use Rattle.imp_fields.specs.Date.{LocalMinute}
 use Rattle.shipment_machine.proofs.Conserved.{is_conserved}
@@ -7,7 +7,7 @@ use Rattle.shipment_machine.proofs.Shown.{are_balances}
 use Rattle.station_core.specs.declared.input.Input.{Input}
 use Rattle.station_core.specs.Ranges.{AreInputs}
 use Rattle.station_core.specs.Step.{State, IsLawfulState, opening, step, after_all}
-use Rattle.station_tables.specs.Lives.{Life, IsAfterLife, AreLives, Counts, AreCounted, in_order, IsAfterLives}
+use Rattle.station_tables.specs.Lives.{Life, IsAfterLife, AreLives, Counts, AreCounted, in_order, IsAfterLives, migration}
 
 after_append : (s : State) (xs ys : List (Input × LocalMinute)) → after_all s (xs ++ ys) ≡ after_all (after_all s xs) ys
 after_append s [] ys = refl
@@ -76,3 +76,10 @@ after_lives run_lawful here lives found are is =
       conserved = λ w. is_conserved found.cargo w lawful.cargo;
       shown = λ w. are_balances found.cargo w lawful.cargo;
     }
+
+pub after_migration : (s found : State) → IsAfterLife s migration found ↔ (found ≡ s)
+after_migration s found = (after_none, λ is. inl (ap Some is))
+  where
+    after_none : IsAfterLife s migration found → found ≡ s
+    after_none (inl is) = some_is _ _ is
+    after_none (inr (stopped, more, is)) = omega (arith, more)

@@ -2,6 +2,10 @@
 use Rattle.std.proofs.Common.{◌≡◌, ◌∙◌, ℕ, ◌≤◌, ◌⊎◌, inl, inr, Bool, true, false, Option, Result, Ok, Err, refl, sym, subst, arith}
 use Rattle.std.specs.Prelude.{IsTrue, IfOk, IfErr, not}
 use Rattle.sqlite.specs.Effect.{Database}
+use Rattle.found_station.specs.Reading.{read_as}
+use Rattle.found_tables.specs.declared.station.FileVersion.{FileVersion}
+use Rattle.found_tables.specs.declared.station.FileVersion.TheVariants.{Second}
+use Rattle.sqlite.specs.Tree.{Trees}
 use Rattle.sqlite.specs.State as sqlite
 use Rattle.sqlite.specs.State.{HasCleanDisk}
 use Rattle.sqlite.proofs.Callers.{unchanged_then}
@@ -29,6 +33,10 @@ no_less a b below none = omega (arith, below, none)
 -- a disk that is clean was clean
 pub was_clean : (a b : sqlite.State) → sqlite.Survives a b (λ _. ⊥) → HasCleanDisk b → HasCleanDisk a
 was_clean a b s clean = no_less (doubt a.is_clean) (doubt b.is_clean) s.clean clean
+
+-- whatever it may have written
+pub clean_before : (a b : sqlite.State) (Commits : Trees → Type 0) → sqlite.Survives a b Commits → HasCleanDisk b → HasCleanDisk a
+clean_before a b Commits s clean = no_less (doubt a.is_clean) (doubt b.is_clean) s.clean clean
 
 -- a call that did nothing
 pub survives_same : (s : sqlite.State) → sqlite.Survives s s (λ _. ⊥)
@@ -108,17 +116,17 @@ module _ (a b d : sqlite.State) (auto : Bool) (value : auto ≡ not a.in_transac
         rest = two.now_is ∙ one.now_is ∙ rest ∙ sym one.committed_is ∙ sym two.committed_is;
       }
 
-  -- a station that was found there
   -- what is judged of it is so of it as it was and as it is
-  pub judged_there : (r : Result FoundState Unfit) → (HasCleanDisk d → IsTrue b.is_open → Reads b d (Ok r) (IsJudged b.now)) → HasCleanDisk d → IsSeen a d × IsJudged d.now r
-  judged_there r reads clean =
+  pub judged_there : (version : FileVersion) (r : Result FoundState Unfit) → (HasCleanDisk d → IsTrue b.is_open → Reads b d (Ok r) (IsJudged (read_as version b.now)))
+      → HasCleanDisk d → IsSeen a d × IsJudged (read_as version d.now) r
+  judged_there version r reads clean =
       let read = reads clean (is_open clean) in
-      (seen clean read.1, subst (λ db. IsJudged db r) (sym read.1.0.now_is) read.0)
+      (seen clean read.1, subst (λ db. IsJudged (read_as version db) r) (sym read.1.0.now_is) read.0)
 
 -- what holds of a station that goes on, in terms of the connection before
-module _ {K E : Type 0} (a d : sqlite.State) (judged : Result FoundState Unfit) (Clean : K → Type 0) (look : HasCleanDisk d → IsSeen a d × IsJudged d.now judged) where
+module _ {K E : Type 0} (a d : sqlite.State) (judged : Result FoundState Unfit) (Clean : K → Type 0) (look : HasCleanDisk d → IsSeen a d × IsJudged (read_as Second d.now) judged) where
   pub found_on : (keeps : K → State → Type 0) (r : Result K E) → IfOk r (λ k. Clean k → HasCleanDisk d)
-      → (d.in_transaction ≡ false → d.now ≡ d.committed → IsJudged d.now judged → IfOk r (λ k. (s : State) × IsStateIn d.now s × keeps k s))
+      → (d.in_transaction ≡ false → d.now ≡ d.committed → IsJudged (read_as Second d.now) judged → IfOk r (λ k. (s : State) × IsStateIn d.now s × keeps k s))
       → IfOk r (λ k. Clean k → (s : State) × IsStateIn a.now s × keeps k s)
   found_on keeps (Ok k) clean goes = λ on.
       let l = look (clean on) in
@@ -140,16 +148,16 @@ module _ {K E : Type 0} (a d : sqlite.State) (judged : Result FoundState Unfit) 
   typed_on (Err e) clean typed = tt
 
 -- an error of a call that a crash survives
-module _ {K C : Type 0} (view : C → View) (a d : sqlite.State) (judged : Result FoundState Unfit) (look : HasCleanDisk d → IsSeen a d × IsJudged d.now judged) where
+module _ {K C : Type 0} (view : C → View) (a d : sqlite.State) (judged : Result FoundState Unfit) (look : HasCleanDisk d → IsSeen a d × IsJudged (read_as Second d.now) judged) where
   pub refused_on : (r : Result K (C × AttachFault)) → IfErr r (λ e. store.Survives (view_of d) (view e.0))
-      → (IsJudged d.now judged → IfErr r (λ e. Refuses d.now e.1)) → IfErr r (λ e. (view e.0).IsSound → Refuses a.now e.1)
+      → (IsJudged (read_as Second d.now) judged → IfErr r (λ e. Refuses d.now e.1)) → IfErr r (λ e. (view e.0).IsSound → Refuses a.now e.1)
   refused_on (Ok k) spares why = tt
   refused_on (Err e) spares why = λ sound.
       let l = look (spares.sound sound) in
       subst (λ db. Refuses db e.1) l.0.same (why l.1)
 
   pub fit_on : (r : Result K (C × AttachFault)) → IfErr r (λ e. store.Survives (view_of d) (view e.0))
-      → (IsJudged d.now judged → IfErr r (λ e. Refuses d.now e.1)) → IfErr r (λ e. (view e.0).IsSound → (s : State) → IsStateIn a.now s → IsBreakdown e.1)
+      → (IsJudged (read_as Second d.now) judged → IfErr r (λ e. Refuses d.now e.1)) → IfErr r (λ e. (view e.0).IsSound → (s : State) → IsStateIn a.now s → IsBreakdown e.1)
   fit_on (Ok k) spares why = tt
   fit_on (Err e) spares why = λ sound s in_.
       let l = look (spares.sound sound) in
@@ -157,7 +165,7 @@ module _ {K C : Type 0} (view : C → View) (a d : sqlite.State) (judged : Resul
 
   -- the same of what a station wrote
   pub own_fit_on : (L : Type 0) (r : Result K (C × AttachFault)) → IfErr r (λ e. store.Survives (view_of d) (view e.0))
-      → (IsJudged d.now judged → IfErr r (λ e. Refuses d.now e.1)) → (IsOwn a.now.trees → IsTrue a.is_open → a.now ≡ a.committed → L → IsStation a.now)
+      → (IsJudged (read_as Second d.now) judged → IfErr r (λ e. Refuses d.now e.1)) → (IsOwn a.now.trees → IsTrue a.is_open → a.now ≡ a.committed → L → IsStation a.now)
       → IfErr r (λ e. (view e.0).IsSound → IsOwn a.now.trees → L → (s : State) → IsTypedState a.now s → IsLawfulState s → IsBreakdown e.1)
   own_fit_on L (Ok k) spares why own = tt
   own_fit_on L (Err e) spares why own = λ sound is lies s typed lawful.

@@ -10,40 +10,66 @@ use Rattle.station_audit.specs.declared.state.FoundState.{FoundState}
 use Rattle.station_audit.specs.declared.unfit.Unfit.{Unfit}
 use Rattle.station_audit.specs.declared.unfit.Unfit.TheVariants as unfit
 use Rattle.station_audit.specs.Good.{IsStationOf}
+use Rattle.found_station.specs.Reading.{Reading, read_as}
+use Rattle.found_tables.specs.declared.station.FileVersion.{FileVersion}
+use Rattle.found_tables.specs.declared.station.FileVersion.TheVariants.{First, Second}
+use Rattle.lawful_tables.specs.declared.name.TableName.{TableName}
+use Rattle.lawful_tables.specs.declared.name.TableName.TheVariants.{Waybill, Waybill2}
 use Rattle.station_audit.specs.Verdict.{IsUnfit, Tells}
 use Rattle.station_tables.specs.declared.fault.AttachFault.{AttachFault}
 use Rattle.station_tables.specs.declared.fault.AttachFault.TheVariants as fault
 use Rattle.station_tables.specs.declared.station.Station.{Station}
 
--- the database is a station's, and this is the state that its tables mean
-pub record IsStateIn (db : Database) (s : State) : Type 0 where
+-- the database, read as of a version, is a station's, and this is the state that its tables mean
+pub record IsStateOf (r : Reading) (s : State) : Type 0 where
   pub tables : Tables
-  pub is_station : IsStationOf db tables
+  pub is_station : IsStationOf r tables
   pub means : meaning_of tables ≡ s
+
+-- the same of the version that stations are made with
+abbrev pub IsStateIn : Database → State → Type 0
+IsStateIn db s = IsStateOf (read_as Second db) s
+
+-- and of version 1, where no waybill has the day on which it was declared
+abbrev pub IsOldStateIn : Database → State → Type 0
+IsOldStateIn db s = IsStateOf (read_as First db) s
 
 -- a state that the typed tables of a database mean
 pub record IsTypedState (db : Database) (s : State) : Type 0 where
   pub means : Means (tables_of db.trees) (Some s)
 
 -- what is said of a station besides its rows is true of a state that its tables mean
-pub record IsFoundIn (db : Database) (found : FoundState) : Type 0 where
+pub record IsFoundIn (r : Reading) (found : FoundState) : Type 0 where
   pub state : State
-  pub is_in : IsStateIn db state
+  pub is_in : IsStateOf r state
   pub tells : Tells found is_in.tables
 
 -- the database is a station's, and this is said of it; or why it isn't
-abbrev pub IsJudged : Database → Result FoundState Unfit → Type 0
-IsJudged db (Ok found) = IsFoundIn db found
-IsJudged db (Err why) = IsUnfit db why
+abbrev pub IsJudged : Reading → Result FoundState Unfit → Type 0
+IsJudged r (Ok found) = IsFoundIn r found
+IsJudged r (Err why) = IsUnfit r why
+
+-- the table of a file of version 1 in which these rows stand
+abbrev pub old_name : TableName → TableName
+old_name Waybill2 = Waybill
+old_name name = name
+
+-- the table of this name is the first that isn't good, where the database is read as of a version
+abbrev pub IsUnlawfulAt : FileVersion → Database → TableName → Type 0
+IsUnlawfulAt First db name = (audited : TableName) × (name ≡ old_name audited) × IsUnfit (read_as First db) (unfit.Unlawful audited)
+IsUnlawfulAt Second db name = IsUnfit (read_as Second db) (unfit.Unlawful name)
 
 -- why a database is refused: that which `fault` names is so, and `Store` and `Memory` say nothing of it
+abbrev pub RefusesAs : FileVersion → Database → AttachFault → Type 0
+RefusesAs version db (fault.Unlawful name) = IsUnlawfulAt version db name
+RefusesAs version db fault.NoStation = IsUnfit (read_as version db) unfit.NoStation
+RefusesAs version db (fault.Version n) = IsUnfit (read_as version db) (unfit.OtherVersion n)
+RefusesAs version db fault.Occupied = ⊥
+RefusesAs version db fault.Store = ⊤
+RefusesAs version db fault.Memory = ⊤
+
 abbrev pub Refuses : Database → AttachFault → Type 0
-Refuses db (fault.Unlawful name) = IsUnfit db (unfit.Unlawful name)
-Refuses db fault.NoStation = IsUnfit db unfit.NoStation
-Refuses db (fault.Version n) = IsUnfit db (unfit.OtherVersion n)
-Refuses db fault.Occupied = ⊥
-Refuses db fault.Store = ⊤
-Refuses db fault.Memory = ⊤
+Refuses db fault = RefusesAs Second db fault
 
 -- nothing is wrong with the tables
 abbrev pub IsBreakdown : AttachFault → Type 0

@@ -1,5 +1,6 @@
 pub mod Found
 pub mod Attached
+pub mod Migrated
 pub mod Repeated
 pub mod Restarted
 pub mod Lives

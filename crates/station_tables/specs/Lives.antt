@@ -1,5 +1,5 @@
 -- The lives of a file: each is a station that opens it, is given inputs, and ends.
-use Rattle.std.specs.Prelude.{◌≡◌, ◌⊎◌, ℕ, ◌+◌, ◌<◌, List, [], ◌∷◌, ◌++◌, take, length, Option, Some}
+use Rattle.std.specs.Prelude.{◌≡◌, ◌⊎◌, ℕ, ◌+◌, ◌<◌, List, [], ◌∷◌, ◌++◌, take, length, Option, Some, None}
 use Rattle.std.specs.List.{AllByRecursion, flat_map}
 use Rattle.imp_fields.specs.Date.{LocalMinute}
 use Rattle.shipment_machine.specs.Laws.{IsConserved, AreBalances}
@@ -16,6 +16,10 @@ pub record Life : Type 0 where
   pub inputs : List (Input × LocalMinute)
   pub answered : ℕ
   pub ended : Option ActFault
+
+-- A migration of the file to another version is a life of its own, which is given no input.
+abbrev pub migration : Life
+migration = record { inputs = []; answered = 0; ended = None }
 
 -- the next opening finds this state
 abbrev pub IsAfterLife : State → Life → State → Type 0

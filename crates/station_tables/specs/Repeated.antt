@@ -29,6 +29,10 @@ pub record HasRepeated (db : Database) (i : Input) (at : LocalMinute) (answer : 
 abbrev pub IsBeforeOrAfter : State → Input → LocalMinute → Option State → Type 0
 IsBeforeOrAfter s i at found = (found ≡ Some s) ⊎ (found ≡ Some (step s i at).state)
 
+-- what was left before, or the state that the tables of a database mean
+abbrev pub IsBeforeIn : View → Database → Option State → Type 0
+IsBeforeIn before db found = Finds before found ⊎ ((s : State) × IsStateIn db s × (found ≡ Some s))
+
 -- what was left before; or the state that the tables of a database mean, or the one after it
 abbrev pub IsBeforeOrAfterIn : View → Database → Input → LocalMinute → Option State → Type 0
 IsBeforeOrAfterIn before db i at found = Finds before found ⊎ ((s : State) × IsStateIn db s × IsBeforeOrAfter s i at found)

@@ -3,6 +3,8 @@ ghost use Rattle.sqlite.specs.State.{HasCleanDisk, IsUnchanged, Survives};
 ghost use Rattle.row_laws.specs.Calls.{Reads};
 ghost use Rattle.sqlite.specs.Held.{state};
 ghost use Rattle.sqlite.specs.Effect.{Database};
+ghost use Rattle.found_station.specs.Reading.{read_as};
+ghost use Rattle.found_tables.specs.declared.station.FileVersion.TheVariants.{Second};
 ghost use Rattle.station_core.specs.Step.{State, IsLawfulState};
 ghost use Rattle.row_schema.specs.Connection.{connection_view};
 ghost use Rattle.row_schema.specs.Schema.{station_schema};
@@ -20,6 +22,7 @@ ghost use Rattle.station_tables.specs.Found.{Finds};
 use crate::fault::AttachFault;
 use crate::station::Station;
 use declared_tables::has_station;
+use found_tables::FileVersion;
 use sqlite::{Alter, Connection, Error, ErrorCode};
 use station_audit::{FoundState, Unfit, found_state};
 use station_core::Keeper;
@@ -30,7 +33,7 @@ use table_state::TableState;
 
 /// The fault that says why a database is no station's.
 fn unfit_fault(unfit: Unfit) -> AttachFault
-    ensures refuses { (db : Database) → IsUnfit db unfit → Refuses db result }
+    ensures refuses { (db : Database) → IsUnfit (read_as Second db) unfit → Refuses db result }
     ensures never { result ≢ AttachFault.Occupied }
 {
     match unfit {
@@ -41,7 +44,7 @@ fn unfit_fault(unfit: Unfit) -> AttachFault
 }
 
 /// The fault that a failed read is.
-fn breakdown(error: &Error) -> AttachFault
+pub(crate) fn breakdown(error: &Error) -> AttachFault
     ensures told { IsBreakdown result }
     ensures never { result ≢ AttachFault.Occupied }
 {
@@ -111,16 +114,17 @@ fn go_on<S: Alter>(
     }
 }
 
-/// Reads and judges the tables of any database.
-fn judge<S: Alter>(
+/// Reads and judges the tables of any database, as of a version.
+pub(crate) fn judge<S: Alter>(
     alloc: Global,
     conn: &mut Connection<S>,
+    version: FileVersion,
 ) -> Result<Result<FoundState, Unfit>, Error>
     ensures read { HasCleanDisk (state S.Store conn.new) → IsTrue (state S.Store conn.old).is_open
-        → Reads (state S.Store conn.old) (state S.Store conn.new) result (IsJudged (state S.Store conn.old).now) }
+        → Reads (state S.Store conn.old) (state S.Store conn.new) result (IsJudged (read_as version (state S.Store conn.old).now)) }
     ensures survives { Survives (state S.Store conn.old) (state S.Store conn.new) (λ _. ⊥) }
 {
-    found_state(alloc, conn)
+    found_state(alloc, conn, version)
 }
 
 /// A station over a connection whose tables were judged, or why there is none.
@@ -133,11 +137,11 @@ fn settle<S: Alter>(
     ensures sound { IfOk result (λ station. ⟦<Station<S> as Keeper>⟧.is_sound station → (connection_view S.Store conn).IsSound) }
     ensures clean { IfOk result (λ station. HasCleanDisk (state S.Store (connection_in station)) → HasCleanDisk (state S.Store conn)) }
     ensures own { IfOk result (λ station. HasCleanDisk (state S.Store (connection_in station)) → IsOwn (state S.Store conn).now.trees → are_declared station.stored.store.store ≡ true) }
-    ensures found { (state S.Store conn).in_transaction ≡ false → (state S.Store conn).now ≡ (state S.Store conn).committed → IsJudged (state S.Store conn).now judged
+    ensures found { (state S.Store conn).in_transaction ≡ false → (state S.Store conn).now ≡ (state S.Store conn).committed → IsJudged (read_as Second (state S.Store conn).now) judged
         → IfOk result (λ station. (s : State) × IsStateIn (state S.Store conn).now s × ⟦<Station<S> as Keeper>⟧.keeps station s) }
     ensures typed { IfOk result (λ station. ⟦<Station<S> as Keeper>⟧.is_sound station → (state S.Store conn).now ≡ (state S.Store conn).committed
         → (s : State) → IsStateIn (state S.Store conn).now s → IsTypedState (state S.Store conn).now s) }
-    ensures refused { IsJudged (state S.Store conn).now judged → IfErr result (λ e. Refuses (state S.Store conn).now e.1) }
+    ensures refused { IsJudged (read_as Second (state S.Store conn).now) judged → IfErr result (λ e. Refuses (state S.Store conn).now e.1) }
     ensures never { IfErr result (λ e. e.1 ≢ AttachFault.Occupied) }
     ensures spares { IfErr result (λ e. store.Survives (connection_view S.Store conn) (connection_view S.Store e.0)) }
     ensures unwritten { IfOk result (λ station. Survives (state S.Store conn) (state S.Store (connection_in station)) (λ _. ⊥)) }
@@ -198,7 +202,7 @@ pub fn attach<S: Alter>(
     if !row_laws::is_live(&mut conn) {
         return Err((conn, AttachFault::Store));
     }
-    match judge(alloc, &mut conn) {
+    match judge(alloc, &mut conn, FileVersion::Second) {
         Ok(judged) => settle(alloc, conn, judged),
         Err(error) => {
             let fault = breakdown(&error);

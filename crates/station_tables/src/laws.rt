@@ -1,10 +1,10 @@
 //! What holds of the lives of a file.
-ghost use Rattle.std.specs.Prelude.{◌≡◌, ℕ, List, Bool, true};
+ghost use Rattle.std.specs.Prelude.{◌≡◌, ◌↔◌, ℕ, List, Bool, true};
 ghost use Rattle.std.specs.List.{AllByRecursion};
 ghost use Rattle.station_core.specs.Ranges.{AreInputs};
 ghost use Rattle.station_core.specs.Step.{State, opening};
 ghost use Rattle.station_tables.specs.Calls.{Call, Desk, DoAll, CallsActOnce};
-ghost use Rattle.station_tables.specs.Lives.{Life, AreLives, IsAfterLives};
+ghost use Rattle.station_tables.specs.Lives.{Life, AreLives, IsAfterLife, IsAfterLives, migration};
 
 use station_core::laws::{retry_law, run_law};
 
@@ -16,6 +16,11 @@ pub fn lives_law()
 {
     run_law();
 }
+
+/// A migration leaves the state as it was, so that it stands anywhere between the lives of a file.
+pub fn migration_law()
+    ensures { (s found : State) → IsAfterLife s migration found ↔ (found ≡ s) }
+{}
 
 /// Whatever is called, answered, cut off and repeated on a station that was just made, each accepted input acts once.
 pub fn calls_law()

@@ -4,6 +4,7 @@
 mod attaching;
 mod fault;
 mod laws;
+mod migrating;
 mod opening;
 mod repeating;
 mod restarting;
@@ -11,7 +12,8 @@ mod station;
 
 pub use attaching::attach;
 pub use fault::AttachFault;
-pub use laws::{calls_law, lives_law};
+pub use laws::{calls_law, lives_law, migration_law};
+pub use migrating::migrate;
 pub use opening::create;
 pub use repeating::attach_and_repeat;
 pub use restarting::{Reopening, Restart, act_and_restart, release_and_restart};

@@ -1,4 +1,4 @@
-ghost use Rattle.std.specs.Prelude.{◌≡◌, ◌≢◌, true, false, Err, Option, IfOk, IfErr, OnOk};
+ghost use Rattle.std.specs.Prelude.{◌≡◌, ◌≢◌, true, false, Err, Option, Some, IfOk, IfErr, OnOk};
 ghost use Rattle.sqlite.specs.State.{HasCleanDisk};
 ghost use Rattle.sqlite.specs.Held.{state};
 ghost use Rattle.row_schema.specs.Own.{IsOwn, LiesInOrder};
@@ -8,7 +8,7 @@ ghost use Rattle.station_core.specs.Step.{State, IsLawfulState};
 ghost use Rattle.station_rows.specs.Own.{are_declared};
 ghost use Rattle.station_tables.specs.Attached.{connection_in, IsBreakdown, IsStateIn, IsTypedState, Refuses};
 ghost use Rattle.station_tables.specs.Found.{Finds};
-ghost use Rattle.station_tables.specs.Repeated.{HasAnswered, HasRepeated, IsBeforeOrAfter, IsBeforeOrAfterIn};
+ghost use Rattle.station_tables.specs.Repeated.{HasAnswered, HasRepeated, IsBeforeIn, IsBeforeOrAfter, IsBeforeOrAfterIn};
 
 use crate::attaching::attach;
 use crate::fault::AttachFault;
@@ -47,6 +47,7 @@ fn answer_on<S: Alter>(
 fn ended_by(fault: &ActFault) -> AttachFault
     ensures told { IsBreakdown result }
     ensures never { result ≢ AttachFault.Occupied }
+    ensures memory { result ≡ AttachFault.Memory → fault.now ≡ ActFault.Memory }
 {
     match fault {
         ActFault::Memory => AttachFault::Memory,
@@ -72,6 +73,9 @@ fn repeat_on<S: Alter>(
     ensures left_clean { IfErr result (λ e. HasCleanDisk (state S.Store e.0) → HasCleanDisk (state S.Store (connection_in station))) }
     ensures leaves { (s : State) → ⟦<Station<S> as Keeper>⟧.keeps station s → ⟦<Station<S> as Keeper>⟧.is_sound station → IfErr result (λ e. HasCleanDisk (state S.Store e.0)
         → (found : Option State) → Finds (connection_view S.Store e.0) found → IsBeforeOrAfter s input.now at found) }
+    ensures memory { (s : State) → ⟦<Station<S> as Keeper>⟧.keeps station s → ⟦<Station<S> as Keeper>⟧.is_sound station
+        → IfErr result (λ e. e.1 ≡ AttachFault.Memory → HasCleanDisk (state S.Store e.0)
+        → (found : Option State) → Finds (connection_view S.Store e.0) found → found ≡ Some s) }
 {
     match answer_on(&mut station, input, at) {
         Ok(answer) => Ok((station, answer)),
@@ -111,6 +115,11 @@ pub fn attach_and_repeat<S: Alter>(
     // A crash then leaves what it left before the call, or, where a station wrote the tables, the state that they mean or the one after it.
     ensures leaves { IfErr result (λ e. HasCleanDisk (state S.Store e.0) → IsOwn (state S.Store conn).now.trees → LiesInOrder S.Store
         → (found : Option State) → Finds (connection_view S.Store e.0) found → IsBeforeOrAfterIn (connection_view S.Store conn) (state S.Store conn).now input.now at found) }
+
+    // Where memory was out, the input was not done: what it left before, or the state that the tables mean.
+    ensures memory { IfErr result (λ e. e.1 ≡ AttachFault.Memory → HasCleanDisk (state S.Store e.0)
+        → IsOwn (state S.Store conn).now.trees → LiesInOrder S.Store → (found : Option State)
+        → Finds (connection_view S.Store e.0) found → IsBeforeIn (connection_view S.Store conn) (state S.Store conn).now found) }
 
     // Tables that aren't a station's are left as they were.
     ensures spares { IfErr result (λ e. HasCleanDisk (state S.Store e.0) → ((s : State) → ¬ IsStateIn (state S.Store conn).now s)

@@ -1,7 +1,8 @@
-ghost use Rattle.std.specs.Prelude.{◌≡◌, false, [], None, length, IfOk, IfErr};
+ghost use Rattle.std.specs.Prelude.{◌≡◌, ◌<◌, false, [], None, Some, length, take, IfOk, IfErr};
 ghost use Rattle.sqlite.specs.State.{HasCleanDisk};
 ghost use Rattle.sqlite.specs.Held.{state};
-ghost use Rattle.station_core.specs.Step.{State};
+ghost use Rattle.station_core.specs.Keeping.{IsBrokenAtEnd, IsMemoryOrStore};
+ghost use Rattle.station_core.specs.Step.{State, answers_of};
 ghost use Rattle.station_tables.specs.Attached.{connection_in, IsBreakdown};
 ghost use Rattle.station_tables.specs.Restarted.{IsRestored};
 
@@ -10,7 +11,7 @@ use crate::fault::AttachFault;
 use crate::station::Station;
 use imp_fields::Moment;
 use sqlite::{Alter, Connection};
-use station_core::{AllAnswers, Input, Keeper, act_all};
+use station_core::{ActFault, AllAnswers, Input, Keeper, act_all};
 use std::alloc::Global;
 
 /// A station that was given inputs, and what was opened after it.
@@ -39,6 +40,16 @@ pub fn act_and_restart<S: Alter>(
         → IfOk result.opened (λ again. HasCleanDisk (state S.Store (connection_in again))
         → IsRestored s inputs.now (length result.given.answers.items) result.given.fault (state S.Store other).now
         (⟦<Station<S> as Keeper>⟧.is_broken again) (⟦<Station<S> as Keeper>⟧.keeps again)) }
+
+    // All inputs were answered, each as a step answers it, or a fault of the store or of memory ended them.
+    ensures all { result.given.fault ≡ None → length result.given.answers.items ≡ length inputs.now }
+    ensures answers { (s : State) → ⟦<Station<S> as Keeper>⟧.keeps station s → ⟦<Station<S> as Keeper>⟧.is_broken station ≡ false
+        → ⟦<Station<S> as Keeper>⟧.is_sound result.stopped
+        → result.given.answers.items ≡ answers_of s (take (length result.given.answers.items) inputs.now) }
+    ensures part { (e : ActFault) → result.given.fault ≡ Some e → length result.given.answers.items < length inputs.now }
+    ensures fault { ⟦<Station<S> as Keeper>⟧.is_broken station ≡ false → (e : ActFault) → result.given.fault ≡ Some e → IsMemoryOrStore e }
+    ensures breaks { ⟦<Station<S> as Keeper>⟧.is_broken station ≡ false
+        → IsBrokenAtEnd result.given.fault (⟦<Station<S> as Keeper>⟧.is_broken result.stopped) }
 
     // What a crash leaves is no reason to refuse it: a fault says that the store failed, or that memory was out.
     ensures opens { (s : State) → ⟦<Station<S> as Keeper>⟧.keeps station s → ⟦<Station<S> as Keeper>⟧.is_broken station ≡ false → ⟦<Station<S> as Keeper>⟧.is_sound result.stopped

@@ -1,4 +1,4 @@
--- The rows of `waybill` are lawful exactly where the table is.
+-- The rows of `waybill2` are lawful exactly where the table is.
 use Rattle.std.proofs.Common.{◌≡◌, ℕ, pos, true, Option, Some, None, option_map, refl, ap, subst, ◌∙◌}
 use Rattle.std.specs.Prelude.{int_le, IfSome}
 use Rattle.std.specs.List.{list_all}
@@ -17,7 +17,7 @@ use Rattle.table_audits.proofs.Each.{found_passes, both_lists, each_by_number, n
 -- its number, its pieces and its weight
 pub in_range : (x : Waybill) → is_waybill_row x ≡ true → (is_number x.awb ≡ true) × (is_within 1 9999 x.pieces ≡ true) × (is_within 0 999_999 x.tenths ≡ true)
 in_range x h =
-    let a = (and_parts _ _ (and_parts _ _ h).0).0 in
+    let a = (and_parts _ _ (and_parts _ _ (and_parts _ _ h).0).0).0 in
     let b = and_parts _ _ a in
     let c = and_parts _ _ b.0 in
     ((and_parts _ _ (and_parts _ _ c.0).0).0, c.1, b.1)

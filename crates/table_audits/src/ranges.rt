@@ -9,6 +9,7 @@ ghost use Rattle.std.specs.Str.{bytes_eq};
 ghost use Rattle.std.specs.List.{list_all};
 ghost use Rattle.agent_stock.specs.Code.{is_agent_code};
 ghost use Rattle.row_values.specs.Numbers.{is_within, is_number, is_count, is_day, is_flag};
+ghost use Rattle.row_values.specs.Waybills.{is_since};
 ghost use Rattle.row_values.specs.Flights.{is_flight_text};
 
 use agent_stock::AgentCode;
@@ -33,6 +34,13 @@ pub fn is_day(number: i64) -> bool
     ensures { result ≡ is_day number }
 {
     10_957 <= number && number <= 47_481
+}
+
+/// Whether it is a day, or 0 for none.
+pub(crate) fn is_since(number: i64) -> bool
+    ensures { result ≡ is_since number }
+{
+    number == 0 || is_day(number)
 }
 
 /// Whether it is 0 or 1.

@@ -8,7 +8,7 @@ ghost use Rattle.lawful_tables.specs.declared.name.TableName.TheVariants as tabl
 ghost use Rattle.row_values.specs.Waybills.{is_waybill_row};
 ghost use Rattle.table_audits.specs.Rows.{is_lawful_waybill};
 
-use crate::ranges::{is_airport, is_flag, is_goods, is_number, is_pieces, is_tenths};
+use crate::ranges::{is_airport, is_flag, is_goods, is_number, is_pieces, is_since, is_tenths};
 use station_rows::WaybillRow;
 
 /// Whether the row is within range.
@@ -33,7 +33,10 @@ fn is_in_range(row: &WaybillRow) -> bool
     if !is_goods(&row.goods) {
         return false;
     }
-    is_flag(row.notified)
+    if !is_flag(row.notified) {
+        return false;
+    }
+    is_since(row.since)
 }
 
 /// Whether the row is within range, and its weight at least a tenth a piece.
@@ -50,9 +53,9 @@ fn are_lawful(rows: &[WaybillRow]) -> bool
     rows.iter().all(|row| is_lawful(row))
 }
 
-/// Whether these rows of `waybill`, in the order of their numbers, are lawful.
+/// Whether these rows of `waybill2`, in the order of their numbers, are lawful.
 pub fn are_waybills_lawful(rows: &[WaybillRow]) -> bool
-    ensures exact { (t : Tables) → RisesByNumber (map waybill_meant rows.now) → t.waybills ≡ map waybill_meant rows.now → (IsTrue result ↔ IsLawfulTable table.Waybill t) }
+    ensures exact { (t : Tables) → RisesByNumber (map waybill_meant rows.now) → t.waybills ≡ map waybill_meant rows.now → (IsTrue result ↔ IsLawfulTable table.Waybill2 t) }
 {
     are_lawful(rows)
 }

@@ -179,6 +179,7 @@ module _ (t : Tables) (s : State) (m : Move) (book : List table.Move) (counts : 
   still_readable : AreNumbered move_id book → IsTrue (list_all is_move_row book) → AreCounts counts (book_in book) → AreBuilds builds (book_in book) → IsReadable with_book
   still_readable numbered rows are_counts are_builds = record {
     station = means.0.station;
+    old = means.0.old;
     waybills = means.0.waybills;
     stock = means.0.stock;
     flights = means.0.flights;

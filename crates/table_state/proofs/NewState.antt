@@ -88,6 +88,7 @@ none_kept key row has = none_some row (sym (get-empty {X = Kept} kept_cmp key) �
 pub opening_readable : (here : List ℕ) → IsTrue (is_airport here) → IsReadable (opening here)
 opening_readable here airport = record {
   station = rw airport refl;
+  old = refl;
   waybills = refl;
   stock = record { rows = rw (no_entries stock_cmp Stock) refl; apart = rw (no_entries stock_cmp Stock) refl };
   flights = rw (no_entries flight_cmp Flight) refl;

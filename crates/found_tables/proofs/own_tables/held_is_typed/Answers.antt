@@ -1,9 +1,10 @@
-use Rattle.found_tables.proofs.Declared.{station_typed, waybill_typed, stock_typed, flight_typed, moves_typed, expected_typed, part_typed, trail_typed, outbox_typed, kept_key_typed, kept_text_typed, counts_typed, build_typed}
+use Rattle.found_tables.proofs.Declared.{station_typed, old_waybill_typed, waybill_typed, stock_typed, flight_typed, moves_typed, expected_typed, part_typed, trail_typed, outbox_typed, kept_key_typed, kept_text_typed, counts_typed, build_typed}
 use Rattle.found_tables.proofs.own_tables.held_is_typed.Goals as goal
 
 pub returns : goal.returns
 returns c = record {
   station = station_typed;
+  old_waybill = old_waybill_typed;
   waybill = waybill_typed;
   stock = stock_typed;
   flight = flight_typed;

@@ -1,6 +1,6 @@
 use Rattle.std.proofs.Common.{subst}
 use Rattle.table_audits.specs.Order.{RisesByNumber}
-use Rattle.station_audit.proofs.ReadLists.{waybill_none, waybill_is, flight_none, flight_is, moves_none, moves_is}
+use Rattle.station_audit.proofs.ReadLists.{waybills_rise, waybill_none, waybill_is, flight_none, flight_is, moves_none, moves_is}
 use Rattle.station_audit.proofs.book.good_book.Goals as goal
 
 pub returns-in_default-clause-exact : goal.returns-in_default-clause-exact
@@ -17,11 +17,11 @@ returns-in-Some-moves-clause-exact c = λ db t tables so_far held.
     let waybills = waybill_is db c.args.found.now tables c.in-Some.waybills c.deref-in-Some-moves.result.now c.in-Some.is c.deref-in-Some-moves.ensures.value t so_far.1.1.0.held in
     let flights = flight_is db c.args.found.now tables c.in-Some-flights.flights c.deref-in-Some-moves-2.result.now c.in-Some-flights.is c.deref-in-Some-moves-2.ensures.value t so_far.0.held in
     let moves = moves_is db c.args.found.now tables c.in-Some-moves.moves c.deref.result.now c.in-Some-moves.is c.deref.ensures.value t held in
-    c.lawful_sums.ensures.exact t (subst RisesByNumber waybills so_far.1.1.0.held.are.rising) waybills so_far.0.lawful.rows flights moves
+    c.lawful_sums.ensures.exact t (subst RisesByNumber waybills (waybills_rise db.version db.database t.waybills so_far.1.1.0.held)) waybills so_far.0.lawful.rows flights moves
 
 pub returns-in-Some-moves-clause-sums : goal.returns-in-Some-moves-clause-sums
 returns-in-Some-moves-clause-sums c = λ db t tables so_far held.
     let waybills = waybill_is db c.args.found.now tables c.in-Some.waybills c.deref-in-Some-moves.result.now c.in-Some.is c.deref-in-Some-moves.ensures.value t so_far.1.1.0.held in
     let flights = flight_is db c.args.found.now tables c.in-Some-flights.flights c.deref-in-Some-moves-2.result.now c.in-Some-flights.is c.deref-in-Some-moves-2.ensures.value t so_far.0.held in
     let moves = moves_is db c.args.found.now tables c.in-Some-moves.moves c.deref.result.now c.in-Some-moves.is c.deref.ensures.value t held in
-    c.lawful_sums.ensures.sums t (subst RisesByNumber waybills so_far.1.1.0.held.are.rising) waybills so_far.0.lawful.rows flights moves
+    c.lawful_sums.ensures.sums t (subst RisesByNumber waybills (waybills_rise db.version db.database t.waybills so_far.1.1.0.held)) waybills so_far.0.lawful.rows flights moves

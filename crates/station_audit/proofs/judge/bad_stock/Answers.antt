@@ -10,7 +10,7 @@ pub returns-then-not-are_stock_good : goal.returns-then-not-are_stock_good
 returns-then-not-are_stock_good c = λ db tables says so_far. stops_at db (tables_from c.args.here.now c.args.confirmed c.args.found.now) table.Stock c.are_stock_good.result so_far (λ u good held. c.are_stock_good.ensures.exact db u tables good held) c.if-not-are_stock_good.true
 
 pub returns-then-not-are_flights_good : goal.returns-then-not-are_flights_good
-returns-then-not-are_flights_good c = λ db tables says so_far. stops_at db (tables_from c.args.here.now c.args.confirmed c.args.found.now) table.Flight c.are_flights_good.result (goes_past db (tables_from c.args.here.now c.args.confirmed c.args.found.now) table.Stock c.are_stock_good.result so_far (λ u good held. c.are_stock_good.ensures.exact db u tables good held) c.if-not-are_stock_good.false (stock_held db c.args.found.now tables (c.are_stock_good.ensures.some c.if-not-are_stock_good.false))) (λ u good held. c.are_flights_good.ensures.exact db u tables good held (airport_is db c.args.here.now c.args.confirmed says u good.1.1.0.held)) c.if-not-are_flights_good.true
+returns-then-not-are_flights_good c = λ db tables says so_far. stops_at db (tables_from c.args.here.now c.args.confirmed c.args.found.now) table.Flight c.are_flights_good.result (goes_past db (tables_from c.args.here.now c.args.confirmed c.args.found.now) table.Stock c.are_stock_good.result so_far (λ u good held. c.are_stock_good.ensures.exact db u tables good held) c.if-not-are_stock_good.false (stock_held db c.args.found.now tables (c.are_stock_good.ensures.some c.if-not-are_stock_good.false))) (λ u good held. c.are_flights_good.ensures.exact db u tables good held (airport_is db c.args.here.now c.args.confirmed says u good.1.1.1.0.held)) c.if-not-are_flights_good.true
 
 pub returns : goal.returns
-returns c = λ db tables says so_far. rw (to_z-of_z w64 c.args.confirmed c.ranges.confirmed) at (c.bad_move.ensures db c.args.here.now tables) says (goes_past db (tables_from c.args.here.now c.args.confirmed c.args.found.now) table.Flight c.are_flights_good.result (goes_past db (tables_from c.args.here.now c.args.confirmed c.args.found.now) table.Stock c.are_stock_good.result so_far (λ u good held. c.are_stock_good.ensures.exact db u tables good held) c.if-not-are_stock_good.false (stock_held db c.args.found.now tables (c.are_stock_good.ensures.some c.if-not-are_stock_good.false))) (λ u good held. c.are_flights_good.ensures.exact db u tables good held (airport_is db c.args.here.now c.args.confirmed says u good.1.1.0.held)) c.if-not-are_flights_good.false (flight_held db c.args.found.now tables (c.are_flights_good.ensures.some c.if-not-are_flights_good.false)))
+returns c = λ db tables says so_far. rw (to_z-of_z w64 c.args.confirmed c.ranges.confirmed) at (c.bad_move.ensures db c.args.here.now tables) says (goes_past db (tables_from c.args.here.now c.args.confirmed c.args.found.now) table.Flight c.are_flights_good.result (goes_past db (tables_from c.args.here.now c.args.confirmed c.args.found.now) table.Stock c.are_stock_good.result so_far (λ u good held. c.are_stock_good.ensures.exact db u tables good held) c.if-not-are_stock_good.false (stock_held db c.args.found.now tables (c.are_stock_good.ensures.some c.if-not-are_stock_good.false))) (λ u good held. c.are_flights_good.ensures.exact db u tables good held (airport_is db c.args.here.now c.args.confirmed says u good.1.1.1.0.held)) c.if-not-are_flights_good.false (flight_held db c.args.found.now tables (c.are_flights_good.ensures.some c.if-not-are_flights_good.false)))

@@ -7,32 +7,32 @@ returns-then-not-is_live-clause-leaves g c = λ sound found finds. finds_after_o
 
 pub returns-in-Ok-clause-found : goal.returns-in-Ok-clause-found
 returns-in-Ok-clause-found g c = found_on _ _ _ _
-    (judged_there _ _ _ _ c.is_autocommit.ensures.value c.is_autocommit.ensures.settled c.if-not-is_autocommit.false (c.is_live.ensures.same c.if-not-is_live.false) c.in-Ok.ensures.survives _ c.in-Ok.ensures.read)
+    (judged_there _ _ _ _ c.is_autocommit.ensures.value c.is_autocommit.ensures.settled c.if-not-is_autocommit.false (c.is_live.ensures.same c.if-not-is_live.false) c.in-Ok.ensures.survives _ _ c.in-Ok.ensures.read)
     _ _ c.settle.ensures.clean c.settle.ensures.found
 
 pub returns-in-Ok-clause-own : goal.returns-in-Ok-clause-own
 returns-in-Ok-clause-own g c = own_on _ _ _ _
-    (judged_there _ _ _ _ c.is_autocommit.ensures.value c.is_autocommit.ensures.settled c.if-not-is_autocommit.false (c.is_live.ensures.same c.if-not-is_live.false) c.in-Ok.ensures.survives _ c.in-Ok.ensures.read)
+    (judged_there _ _ _ _ c.is_autocommit.ensures.value c.is_autocommit.ensures.settled c.if-not-is_autocommit.false (c.is_live.ensures.same c.if-not-is_live.false) c.in-Ok.ensures.survives _ _ c.in-Ok.ensures.read)
     _ _ c.settle.ensures.clean c.settle.ensures.own
 
 pub returns-in-Ok-clause-typed : goal.returns-in-Ok-clause-typed
 returns-in-Ok-clause-typed g c = typed_on _ _ _ _
-    (judged_there _ _ _ _ c.is_autocommit.ensures.value c.is_autocommit.ensures.settled c.if-not-is_autocommit.false (c.is_live.ensures.same c.if-not-is_live.false) c.in-Ok.ensures.survives _ c.in-Ok.ensures.read)
+    (judged_there _ _ _ _ c.is_autocommit.ensures.value c.is_autocommit.ensures.settled c.if-not-is_autocommit.false (c.is_live.ensures.same c.if-not-is_live.false) c.in-Ok.ensures.survives _ _ c.in-Ok.ensures.read)
     _ c.settle.ensures.sound c.settle.ensures.typed
 
 pub returns-in-Ok-clause-refused : goal.returns-in-Ok-clause-refused
 returns-in-Ok-clause-refused g c = refused_on _ _ _ _
-    (judged_there _ _ _ _ c.is_autocommit.ensures.value c.is_autocommit.ensures.settled c.if-not-is_autocommit.false (c.is_live.ensures.same c.if-not-is_live.false) c.in-Ok.ensures.survives _ c.in-Ok.ensures.read)
+    (judged_there _ _ _ _ c.is_autocommit.ensures.value c.is_autocommit.ensures.settled c.if-not-is_autocommit.false (c.is_live.ensures.same c.if-not-is_live.false) c.in-Ok.ensures.survives _ _ c.in-Ok.ensures.read)
     _ c.settle.ensures.spares c.settle.ensures.refused
 
 pub returns-in-Ok-clause-fit : goal.returns-in-Ok-clause-fit
 returns-in-Ok-clause-fit g c = fit_on _ _ _ _
-    (judged_there _ _ _ _ c.is_autocommit.ensures.value c.is_autocommit.ensures.settled c.if-not-is_autocommit.false (c.is_live.ensures.same c.if-not-is_live.false) c.in-Ok.ensures.survives _ c.in-Ok.ensures.read)
+    (judged_there _ _ _ _ c.is_autocommit.ensures.value c.is_autocommit.ensures.settled c.if-not-is_autocommit.false (c.is_live.ensures.same c.if-not-is_live.false) c.in-Ok.ensures.survives _ _ c.in-Ok.ensures.read)
     _ c.settle.ensures.spares c.settle.ensures.refused
 
 pub returns-in-Ok-clause-own_fit : goal.returns-in-Ok-clause-own_fit
 returns-in-Ok-clause-own_fit g c = own_fit_on _ _ _ _
-    (judged_there _ _ _ _ c.is_autocommit.ensures.value c.is_autocommit.ensures.settled c.if-not-is_autocommit.false (c.is_live.ensures.same c.if-not-is_live.false) c.in-Ok.ensures.survives _ c.in-Ok.ensures.read)
+    (judged_there _ _ _ _ c.is_autocommit.ensures.value c.is_autocommit.ensures.settled c.if-not-is_autocommit.false (c.is_live.ensures.same c.if-not-is_live.false) c.in-Ok.ensures.survives _ _ c.in-Ok.ensures.read)
     _ _ c.settle.ensures.spares c.settle.ensures.refused c.shows_own_station.ensures
 
 pub returns-in-Ok-clause-leaves : goal.returns-in-Ok-clause-leaves

@@ -1,5 +1,7 @@
 use Rattle.std.proofs.Common.{◌≡◌, subst}
 use Rattle.sqlite.specs.Held.{state}
+use Rattle.found_station.specs.Reading.{read_as}
+use Rattle.found_tables.specs.declared.station.FileVersion.TheVariants.{Second}
 use Rattle.station_tables.specs.Attached.{IsJudged}
 use Rattle.station_tables.proofs.Attached.{kept_on, store_says_nothing}
 use Rattle.station_tables.proofs.Looked.{survives_same}
@@ -7,13 +9,13 @@ use Rattle.station_tables.proofs.attaching.settle.Goals as goal
 
 pub returns-in-Ok-clause-found : goal.returns-in-Ok-clause-found
 returns-in-Ok-clause-found g c = λ outside rest at.
-    kept_on _ _ _ _ (subst (IsJudged (state g.S.Store c.args.conn).now) c.in-Ok.is at) (λ s in_ tells. c.go_on.ensures.keeps s in_ tells outside rest)
+    kept_on _ _ _ _ (subst (IsJudged (read_as Second (state g.S.Store c.args.conn).now)) c.in-Ok.is at) (λ s in_ tells. c.go_on.ensures.keeps s in_ tells outside rest)
 
 pub returns-in-Ok-clause-refused : goal.returns-in-Ok-clause-refused
 returns-in-Ok-clause-refused g c = λ at. store_says_nothing _ _ c.go_on.ensures.fault
 
 pub returns-in-Err-clause-refused : goal.returns-in-Err-clause-refused
-returns-in-Err-clause-refused g c = λ at. c.unfit_fault.ensures.refuses _ (subst (IsJudged (state g.S.Store c.args.conn).now) c.in-Err.is at)
+returns-in-Err-clause-refused g c = λ at. c.unfit_fault.ensures.refuses _ (subst (IsJudged (read_as Second (state g.S.Store c.args.conn).now)) c.in-Err.is at)
 
 pub returns-in-Err-clause-unwritten_at_err : goal.returns-in-Err-clause-unwritten_at_err
 returns-in-Err-clause-unwritten_at_err g c = survives_same _

@@ -5,7 +5,7 @@ use Rattle.row_schema.specs.Own.{IsOwn, LiesInOrder}
 use Rattle.row_schema.specs.Connection.{connection_view}
 use Rattle.station_tables.specs.Attached.{connection_in}
 use Rattle.station_tables.specs.Found.{Finds}
-use Rattle.station_tables.proofs.Again.{left_on, refuses_on, repeated_on, sound_on, spared_on}
+use Rattle.station_tables.proofs.Again.{left_on, memory_on, refuses_on, repeated_on, sound_on, spared_on}
 use Rattle.station_tables.specs.contracts.station.StationKeeper.TheImpl.{ghosts}
 use Rattle.station_tables.proofs.repeating.attach_and_repeat.Goals as goal
 
@@ -40,3 +40,12 @@ returns-in-Err-clause-leaves g c = λ clean own lies found finds. inl (c.in-Err.
 
 pub returns-in-Err-clause-spares : goal.returns-in-Err-clause-spares
 returns-in-Err-clause-spares g c = λ clean none found finds. c.in-Err.ensures.leaves clean found finds
+
+pub returns-in-Ok-clause-memory : goal.returns-in-Ok-clause-memory
+returns-in-Ok-clause-memory g c =
+    let station = ghosts g.row.S g.S.Alter g.S.Alter-dict g.S.Store g.S.Store-dict in
+    memory_on _ c.args.input.now c.args.at station.keeps station.is_sound (λ k. HasCleanDisk (state g.S.Store (connection_in k))) c.in-Ok.station _ c.in-Ok.ensures.found (λ conn. HasCleanDisk (state g.S.Store conn)) (λ conn. Finds (connection_view g.S.Store conn)) _
+    (IsOwn (state g.S.Store c.args.conn).now.trees) (LiesInOrder g.S.Store) (λ clean own lies. (clean, c.in-Ok.ensures.own clean own, lies)) c.repeat_on.ensures.left_clean c.repeat_on.ensures.memory
+
+pub returns-in-Err-clause-memory : goal.returns-in-Err-clause-memory
+returns-in-Err-clause-memory g c = λ is clean own lies found finds. inl (c.in-Err.ensures.leaves clean found finds)

@@ -10,5 +10,6 @@ returns-clause-some c =
       to_z-of_z w64 c.in-Some-number.pieces (search rules),
       to_z-of_z w64 c.in-Some-number-2.tenths (search rules),
       to_z-of_z w64 c.in-Some-number-3.notified (search rules),
+      to_z-of_z w64 c.in-Some-number-4.since (search rules),
     )
-    (waybill_values c.args.row.now (omega (arith, c.column_count.ensures, c.if-column_count-ne7.false)) _ _ _ _ _ _ _ c.in-Some.ensures.some (rw c.in-Some-2.is at c.in_ok-origin.ensures.some) (rw c.in-Some-3.is at c.in_ok-destination.ensures.some) c.in-Some-number.ensures.some c.in-Some-number-2.ensures.some (rw c.in-Some-4.is at c.in_ok-goods.ensures.some) c.in-Some-number-3.ensures.some)
+    (waybill_values c.args.row.now (omega (arith, c.column_count.ensures, c.if-column_count-ne8.false)) _ _ _ _ _ _ _ _ c.in-Some.ensures.some (rw c.in-Some-2.is at c.in_ok-origin.ensures.some) (rw c.in-Some-3.is at c.in_ok-destination.ensures.some) c.in-Some-number.ensures.some c.in-Some-number-2.ensures.some (rw c.in-Some-4.is at c.in_ok-goods.ensures.some) c.in-Some-number-3.ensures.some c.in-Some-number-4.ensures.some)

@@ -1,0 +1,44 @@
+-- A database, and the version as which it is read: what it says of the tables of a station.
+use Rattle.std.specs.Prelude.{◌≡◌, pos, List, [], map}
+use Rattle.sqlite.specs.Effect.{Database}
+use Rattle.row_schema.specs.Tables.{OldWaybill, Waybill, undated}
+use Rattle.cargo_rows.specs.declared.waybills.WaybillRow.{WaybillRow}
+use Rattle.found_tables.specs.declared.old_waybill.OldWaybillEntry.{OldWaybillEntry}
+use Rattle.found_tables.specs.declared.station.FileVersion.{FileVersion}
+use Rattle.found_tables.specs.declared.station.FileVersion.TheVariants.{First, Second}
+use Rattle.found_tables.specs.Held.{HoldsOldWaybill, HoldsWaybill}
+use Rattle.found_tables.specs.Verdict.{Verdict, station_of}
+
+-- a row of `waybill` as one of `waybill2`, with no day
+abbrev pub undated_row : OldWaybillEntry → WaybillRow
+undated_row row = record {
+  awb = row.awb;
+  origin = row.origin;
+  destination = row.destination;
+  pieces = row.pieces;
+  tenths = row.tenths;
+  goods = row.goods;
+  notified = row.notified;
+  since = pos 0;
+}
+
+pub record Reading : Type 0 where
+  pub database : Database
+  pub version : FileVersion
+
+abbrev pub read_as : FileVersion → Database → Reading
+read_as version db = record { database = db; version = version }
+
+-- what its table `station` says
+abbrev pub station_read : Reading → Verdict
+station_read r = station_of r.version r.database
+
+-- its rows of `waybill`. Read as version 1, they are taken for those that the file is to have: none
+abbrev pub HoldsOldWaybills : FileVersion → Database → List OldWaybill → Type 0
+HoldsOldWaybills First db olds = olds ≡ []
+HoldsOldWaybills Second db olds = HoldsOldWaybill db olds
+
+-- its waybills: those of `waybill2`, or in a file of version 1 those of `waybill`, with no day
+abbrev pub HoldsWaybills : FileVersion → Database → List Waybill → Type 0
+HoldsWaybills First db waybills = (olds : List OldWaybill) × HoldsOldWaybill db olds × (waybills ≡ map undated olds)
+HoldsWaybills Second db waybills = HoldsWaybill db waybills

@@ -1,0 +1,121 @@
+-- A file of version 1 that was looked at, and its tables of version 2.
+use Rattle.std.proofs.Common.{◌≡◌, ◌≢◌, ◌∙◌, ◌⊎◌, inl, inr, ⊎_elim, Some, Result, Ok, Err, refl, sym, ap, subst, arith}
+use Rattle.std.specs.Prelude.{IsTrue, IfOk, IfErr}
+use Rattle.sqlite.specs.Effect.{Database}
+use Rattle.sqlite.specs.Tree.{Trees}
+use Rattle.sqlite.specs.State as sqlite
+use Rattle.sqlite.specs.State.{HasCleanDisk}
+use Rattle.found_station.specs.Reading.{read_as}
+use Rattle.found_tables.specs.declared.station.FileVersion.TheVariants.{First}
+use Rattle.row_laws.specs.Calls.{IsSettled}
+use Rattle.row_schema.specs.Own.{IsOwn, IsOldOwn}
+use Rattle.row_schema.specs.Schema.{station_schema}
+use Rattle.row_schema.specs.Tables.{Tables, IsStation, IsOldStation, tables_of, old_tables_of, upgraded}
+use Rattle.row_values.specs.Meaning.{Means}
+use Rattle.station_core.specs.Step.{State}
+use Rattle.station_audit.proofs.Declared.{old_same_tables}
+use Rattle.station_audit.specs.declared.state.FoundState.{FoundState}
+use Rattle.station_audit.specs.declared.unfit.Unfit.{Unfit}
+use Rattle.table_upgrade.specs.Upgrade.{IsUpgraded, MeansUpgraded}
+use Rattle.station_tables.specs.Attached.{IsOldStateIn, IsFoundIn, IsJudged, RefusesAs, IsBreakdown}
+use Rattle.station_tables.specs.Migrated.{IsMigrated, HasMigrated}
+use Rattle.station_tables.specs.declared.fault.AttachFault.{AttachFault}
+use Rattle.station_tables.specs.declared.fault.AttachFault.TheVariants as fault
+use Rattle.station_tables.proofs.Attached.{means, is_lawful, in_state, old_breaks_down}
+use Rattle.station_tables.proofs.Looked.{IsSeen, clean_before, either, survives_both}
+
+-- tables that are those of version 1 upgraded mean what a file of version 1 meant
+same_meaning : (old : Database) (t : Tables) → IsOldStation old → t ≡ upgraded (old_tables_of old.trees) → (s : State) → IsOldStateIn old s → Means t (Some s)
+same_meaning old t was is s in_ = subst (λ u. Means u (Some s)) (sym (is ∙ old_same_tables old in_.tables was in_.is_station)) (means (read_as First old) s in_)
+
+pub migrated_by : (old : Database) (db : Trees) → IsOldStation old → MeansUpgraded old.trees db → IsMigrated old db
+migrated_by old db was up = record { own = up.own; means = same_meaning old (tables_of db) was up.tables }
+
+pub has_migrated : (old new : sqlite.State) → IsOldStation old.now → IsUpgraded old new → (IsTrue new.is_open → new.now.schema ≡ station_schema → IsOwn new.now.trees)
+    → ((db : Trees) → IsTrue new.is_open → new.may_leave db → db ≡ new.committed.trees) → HasMigrated old.now new
+has_migrated old new was up own alone =
+    let same = same_meaning old.now (tables_of new.now.trees) was up.tables in
+    record {
+      is_open = up.is_open;
+      settled = record { outside = up.outside; settled = λ _. sym up.settled };
+      migrated = record { own = own up.is_open up.station.schema; means = same };
+      kept = λ s in_. in_state new.now s up.station (record { means = same s in_ }) (is_lawful (read_as First old.now) s in_);
+      alone = λ db left. alone db up.is_open left ∙ ap (λ (d : Database). d.trees) up.settled;
+    }
+
+-- nothing was written in between
+pub left_of : (a d : sqlite.State) → sqlite.Survives a d (λ _. ⊥) → HasCleanDisk d → (db : Trees) → d.may_leave db → a.may_leave db
+left_of a d first clean db left = either (first.crash clean db left)
+
+-- the connection was looked at before: what it was is what it is
+module _ {K C : Type 0} (at_ok : K → sqlite.State) (at_err : C → sqlite.State) (a d : sqlite.State) (judged : Result FoundState Unfit)
+    (look : HasCleanDisk d → IsSeen a d × IsJudged (read_as First d.now) judged) where
+  pub was_on : (r : Result K (C × AttachFault)) → IfOk r (λ k. HasCleanDisk (at_ok k) → HasCleanDisk d)
+      → (IsJudged (read_as First d.now) judged → IfOk r (λ k. (s : State) × IsOldStateIn d.now s)) → IfOk r (λ k. HasCleanDisk (at_ok k) → (s : State) × IsOldStateIn a.now s)
+  was_on (Ok k) clean was = λ on.
+      let l = look (clean on) in
+      let it = was l.1 in
+      (it.0, subst (λ db. IsOldStateIn db it.0) l.0.same it.1)
+  was_on (Err e) clean was = tt
+
+  pub moved_on : (L : Type 0) (r : Result K (C × AttachFault)) → IfOk r (λ k. HasCleanDisk (at_ok k) → HasCleanDisk d)
+      → IfOk r (λ k. HasCleanDisk (at_ok k) → IsOldStation d.now → HasMigrated d.now (at_ok k))
+      → (IsOldOwn a.now.trees → IsTrue a.is_open → a.now ≡ a.committed → L → IsOldStation a.now)
+      → IfOk r (λ k. HasCleanDisk (at_ok k) → IsOldOwn a.now.trees → L → HasMigrated a.now (at_ok k))
+  moved_on L (Ok k) clean moved own = λ on is lies.
+      let l = look (clean on) in
+      let was = own is l.0.was_open l.0.was_at_rest lies in
+      subst (λ db. HasMigrated db (at_ok k)) l.0.same (moved on (subst IsOldStation (sym l.0.same) was))
+  moved_on L (Err e) clean moved own = tt
+
+  pub refused_old : (r : Result K (C × AttachFault)) → (Commits : Trees → Type 0) → IfErr r (λ e. sqlite.Survives d (at_err e.0) Commits)
+      → (IsJudged (read_as First d.now) judged → IfErr r (λ e. RefusesAs First d.now e.1)) → IfErr r (λ e. HasCleanDisk (at_err e.0) → RefusesAs First a.now e.1)
+  refused_old (Ok k) Commits survives why = tt
+  refused_old (Err e) Commits survives why = λ clean.
+      let l = look (clean_before d (at_err e.0) Commits survives clean) in
+      subst (λ db. RefusesAs First db e.1) l.0.same (why l.1)
+
+  pub fit_old : (r : Result K (C × AttachFault)) → (Commits : Trees → Type 0) → IfErr r (λ e. sqlite.Survives d (at_err e.0) Commits)
+      → (IsJudged (read_as First d.now) judged → IfErr r (λ e. RefusesAs First d.now e.1))
+      → IfErr r (λ e. HasCleanDisk (at_err e.0) → (s : State) → IsOldStateIn a.now s → IsBreakdown e.1)
+  fit_old (Ok k) Commits survives why = tt
+  fit_old (Err e) Commits survives why = λ clean s in_.
+      let l = look (clean_before d (at_err e.0) Commits survives clean) in
+      old_breaks_down a.now s e.1 in_ (subst (λ db. RefusesAs First db e.1) l.0.same (why l.1))
+
+  -- and a crash leaves what it left, or the tables of version 2
+  pub leaves_old : (L : Type 0) → sqlite.Survives a d (λ _. ⊥) → (IsOldOwn a.now.trees → IsTrue a.is_open → a.now ≡ a.committed → L → IsOldStation a.now)
+      → (r : Result K (C × AttachFault)) → IfErr r (λ e. sqlite.Survives d (at_err e.0) (λ db. IsOldStation d.now → MeansUpgraded d.now.trees db))
+      → IfErr r (λ e. HasCleanDisk (at_err e.0) → IsOldOwn a.now.trees → L → (db : Trees) → (at_err e.0).may_leave db → a.may_leave db ⊎ IsMigrated a.now db)
+  leaves_old L first own (Ok k) survives = tt
+  leaves_old L first own (Err e) survives = λ clean is lies db left.
+      let on = clean_before d (at_err e.0) _ survives clean in
+      let l = look on in
+      let was = own is l.0.was_open l.0.was_at_rest lies in
+      let was_d = subst IsOldStation (sym l.0.same) was in
+      ⊎_elim
+      (λ at_d. inl (left_of a d first on db at_d))
+      (λ up. inr (subst (λ d_db. IsMigrated d_db db) l.0.same (migrated_by d.now db was_d (up was_d))))
+      (survives.crash clean db left)
+
+pub spares_old : {K C : Type 0} (at_err : C → sqlite.State) (a d : sqlite.State) → sqlite.Survives a d (λ _. ⊥) → (r : Result K (C × AttachFault))
+    → IfErr r (λ e. (e.1 ≢ fault.Store) → sqlite.Survives d (at_err e.0) (λ _. ⊥)) → IfErr r (λ e. (e.1 ≢ fault.Store) → sqlite.Survives a (at_err e.0) (λ _. ⊥))
+spares_old at_err a d first (Ok k) spares = tt
+spares_old at_err a d first (Err e) spares = λ other. survives_both a d (at_err e.0) first (spares other)
+
+-- what was found is the state that it had
+pub found_was : {K E : Type 0} (db : Database) (found : FoundState) → IsFoundIn (read_as First db) found → (r : Result K E) → IfOk r (λ _. (s : State) × IsOldStateIn db s)
+found_was db found at (Ok k) = (at.state, at.is_in)
+found_was db found at (Err e) = tt
+
+pub store_says : {K C : Type 0} (db : Database) (r : Result K (C × AttachFault)) → IfErr r (λ e. e.1 ≡ fault.Store) → IfErr r (λ e. RefusesAs First db e.1)
+store_says db (Ok k) is = tt
+store_says db (Err e) is = subst (RefusesAs First db) (sym is) tt
+
+pub not_store : {K C : Type 0} (P : C → Type 0) (r : Result K (C × AttachFault)) → IfErr r (λ e. e.1 ≡ fault.Store) → IfErr r (λ e. (e.1 ≢ fault.Store) → P e.0)
+not_store P (Ok k) is = tt
+not_store P (Err e) is = λ other. absurd (other is)
+
+-- a connection that nothing was done to
+pub same_after : (s : sqlite.State) (Commits : Trees → Type 0) → sqlite.Survives s s Commits
+same_after s Commits = record { clean = omega arith; shield = λ h. h; counts = omega arith; limit = refl; closes = λ clean is. inl is; crash = λ clean db left. inl left }

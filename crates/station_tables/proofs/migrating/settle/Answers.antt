@@ -1,0 +1,26 @@
+use Rattle.std.proofs.Common.{◌≡◌, subst}
+use Rattle.sqlite.specs.Held.{state}
+use Rattle.found_station.specs.Reading.{read_as}
+use Rattle.found_tables.specs.declared.station.FileVersion.TheVariants.{First}
+use Rattle.station_tables.specs.Attached.{IsJudged}
+use Rattle.station_tables.proofs.Looked.{survives_same}
+use Rattle.station_tables.proofs.Migrated.{found_was, store_says, not_store, same_after}
+use Rattle.station_tables.proofs.migrating.settle.Goals as goal
+
+pub returns-in-Ok-clause-was : goal.returns-in-Ok-clause-was
+returns-in-Ok-clause-was g c = λ at. found_was _ _ (subst (IsJudged (read_as First (state g.S.Store c.args.conn).now)) c.in-Ok.is at) _
+
+pub returns-in-Ok-clause-refused : goal.returns-in-Ok-clause-refused
+returns-in-Ok-clause-refused g c = λ at. store_says _ _ c.upgrade.ensures.fault
+
+pub returns-in-Ok-clause-spares : goal.returns-in-Ok-clause-spares
+returns-in-Ok-clause-spares g c = not_store _ _ c.upgrade.ensures.fault
+
+pub returns-in-Err-clause-refused : goal.returns-in-Err-clause-refused
+returns-in-Err-clause-refused g c = λ at. c.old_fault.ensures.refuses _ (subst (IsJudged (read_as First (state g.S.Store c.args.conn).now)) c.in-Err.is at)
+
+pub returns-in-Err-clause-survives : goal.returns-in-Err-clause-survives
+returns-in-Err-clause-survives g c = same_after _ _
+
+pub returns-in-Err-clause-spares : goal.returns-in-Err-clause-spares
+returns-in-Err-clause-spares g c = λ other. survives_same _

@@ -1,0 +1,24 @@
+-- What a migration does to a file of version 1.
+use Rattle.std.specs.Prelude.{◌≡◌, Some, IsTrue}
+use Rattle.sqlite.specs.Effect.{Database}
+use Rattle.sqlite.specs.Tree.{Trees}
+use Rattle.sqlite.specs.State as sqlite
+use Rattle.row_laws.specs.Calls.{IsSettled}
+use Rattle.row_schema.specs.Own.{IsOwn}
+use Rattle.row_schema.specs.Tables.{tables_of}
+use Rattle.row_values.specs.Meaning.{Means}
+use Rattle.station_core.specs.Step.{State}
+use Rattle.station_tables.specs.Attached.{IsStateIn, IsOldStateIn}
+
+-- the trees are of version 2, as a station declares it, and mean the state that the database had as one of version 1
+pub record IsMigrated (old : Database) (db : Trees) : Type 0 where
+  pub own : IsOwn db
+  pub means : (s : State) → IsOldStateIn old s → Means (tables_of db) (Some s)
+
+-- the file is of version 2 and keeps that state, the connection is open and at rest, and a crash leaves nothing else
+pub record HasMigrated (old : Database) (new : sqlite.State) : Type 0 where
+  pub is_open : IsTrue new.is_open
+  pub settled : IsSettled new
+  pub migrated : IsMigrated old new.now.trees
+  pub kept : (s : State) → IsOldStateIn old s → IsStateIn new.now s
+  pub alone : (db : Trees) → new.may_leave db → db ≡ new.now.trees
