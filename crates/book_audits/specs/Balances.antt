@@ -19,11 +19,13 @@ use Rattle.book_audits.specs.declared.sums.CountPlace.{CountPlace}
 use Rattle.book_audits.specs.declared.sums.BuildPlace.{BuildPlace}
 use Rattle.book_audits.specs.declared.sums.BookSums.{BookSums}
 
--- no place of the station gave more than it got, what came is within bounds, a closed flight is empty, and at most 500 waybills are built on one
+-- no place of the station gave more than it got, what came is within bounds, a closed flight is
+-- empty, and at most 500 waybills are built on one
 pub record AreBalances (t : Tables) : Type 0 where
   pub stocked : (w : ℕ) (p : Place) → is_outside p ≡ false → IsStocked (cargo_in t).book w p
   pub within : (w : ℕ) → IsTrue (fits (taken_and_found (cargo_in t).book w))
-  pub empty : (flight : FlightDate) (w : ℕ) → IsTrue (is_closed ((cargo_in t).flights flight)) → (built (cargo_in t).book w flight).pieces ≡ 0
+  pub empty : (flight : FlightDate) (w : ℕ) → IsTrue (is_closed ((cargo_in t).flights flight))
+      → (built (cargo_in t).book w flight).pieces ≡ 0
   pub room : (flight : FlightDate) → length (waybills_on (cargo_in t).book flight) ≤ 500
 
 -- ---- at a place of the station

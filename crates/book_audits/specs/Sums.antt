@@ -82,7 +82,8 @@ AreDistinct flights = (i j : ℕ) (f : FlightDate) → slice_get flights i ≡ S
 pub record AreSums (flights : List FlightDate) (sums : BookSums) (s : Sums) : Type 0 where
   pub counts : (q : CountKey) → count_told sums q ≡ count_in s q
   pub builds : (i : ℕ) (awb : ℤ) → build_told sums i awb ≡ build_due s awb (slice_get flights i)
-  pub others : (w : ℕ) (f : FlightDate) → ((i : ℕ) → slice_get flights i ≢ Some f) → unless_nothing (s w (Built f)) ≡ None
+  pub others : (w : ℕ) (f : FlightDate) → ((i : ℕ) → slice_get flights i ≢ Some f)
+      → unless_nothing (s w (Built f)) ≡ None
 
 -- ---- moves
 

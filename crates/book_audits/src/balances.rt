@@ -34,8 +34,10 @@ fn overdrawn(balance: &i64) -> u64
 
 /// What came from a place outside.
 fn drawn_at(sums: &BookSums, place: &CountPlace) -> Drawn
-    ensures pieces { result.pieces ≡ (drawn_by (get count_place_cmp sums.now.counts place.now)).pieces }
-    ensures tenths { result.tenths ≡ (drawn_by (get count_place_cmp sums.now.counts place.now)).tenths }
+    ensures pieces { result.pieces ≡ (drawn_by
+        (get count_place_cmp sums.now.counts place.now)).pieces }
+    ensures tenths { result.tenths ≡ (drawn_by
+        (get count_place_cmp sums.now.counts place.now)).tenths }
 {
     match sums.counts.get(place) {
         None => Drawn {
@@ -59,7 +61,8 @@ fn are_at_most(one: u64, other: u64, most: u64) -> bool
     other <= most - one
 }
 
-/// Whether what came of the waybill by hand and as surplus is within 9,999 pieces and 999,999 tenths.
+/// Whether what came of the waybill by hand and as surplus is within 9,999 pieces and 999,999
+/// tenths.
 fn is_within(sums: &BookSums, place: &CountPlace) -> bool
     ensures { result ≡ is_within sums.now place.now.awb }
 {
@@ -130,7 +133,8 @@ fn is_lawful_build(flights: &[FlightEntry], place: &BuildPlace, tally: &Tally) -
 
 /// Whether each sum on a flight is lawful.
 fn are_builds_lawful(sums: &BookSums, flights: &[FlightEntry]) -> bool
-    ensures each { result ≡ list_all (is_lawful_build (map flight_entry flights.now)) sums.now.builds.entries }
+    ensures each { result ≡ list_all (is_lawful_build (map flight_entry flights.now))
+        sums.now.builds.entries }
     ensures ordered { IsOrdered build_place_cmp sums.now.builds }
 {
     for (place, tally) in &sums.builds {
@@ -161,11 +165,13 @@ fn is_room_kept(sums: &BookSums) -> bool
     true
 }
 
-/// Whether the balances of a station are lawful: no place of the station gave more than it got, at most 9,999 pieces
-/// and 999,999 tenths of a waybill came, nothing is on a closed flight, and at most 500 waybills are on a flight. The
-/// flights are those of the table `flight`, whole.
+/// Whether the balances of a station are lawful: no place of the station gave more than it got, at
+/// most 9,999 pieces and 999,999 tenths of a waybill came, nothing is on a closed flight, and at
+/// most 500 waybills are on a flight. The flights are those of the table `flight`, whole.
 pub fn are_balances_lawful(sums: &BookSums, flights: &[FlightEntry]) -> bool
-    ensures exact { (t : Tables) (listed : List FlightDate) → IsTrue (list_all is_flight_row (entries t.flights)) → entries t.flights ≡ map flight_entry flights.now → AreFlightsOf listed (entries t.flights)
+    ensures exact { (t : Tables) (listed : List FlightDate)
+        → IsTrue (list_all is_flight_row (entries t.flights))
+        → entries t.flights ≡ map flight_entry flights.now → AreFlightsOf listed (entries t.flights)
         → AreSums listed sums.now (running (book_in t.moves)) → (IsTrue result ↔ AreBalances t) }
 {
     if !are_counts_lawful(sums) {

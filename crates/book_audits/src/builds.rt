@@ -26,7 +26,9 @@ fn says(row: &BuildRow, on: &FlightEntry, awb: i64, tally: &Tally) -> bool
 
 /// Whether a row says this of this flight.
 fn is_row(row: &BuildRow, place: &BuildPlace, tally: &Tally, flights: &[FlightEntry]) -> bool
-    ensures { IsTrue result ↔ (Some (build_meant row.now) ≡ build_entry (map flight_entry flights.now) (place.now, tally.now)) }
+    ensures { IsTrue result ↔
+        (Some (build_meant row.now) ≡ build_entry (map flight_entry flights.now)
+        (place.now, tally.now)) }
 {
     match flights.get(place.flight) {
         None => false,
@@ -36,7 +38,9 @@ fn is_row(row: &BuildRow, place: &BuildPlace, tally: &Tally, flights: &[FlightEn
 
 /// Whether the rows of `build` are the sums, each in the order of its key.
 fn are_same(sums: &BookSums, flights: &[FlightEntry], rows: &[BuildRow]) -> bool
-    ensures same { IsTrue result ↔ (map (λ row. Some (build_meant row)) rows.now ≡ map (build_entry (map flight_entry flights.now)) sums.now.builds.entries) }
+    ensures same { IsTrue result ↔
+        (map (λ row. Some (build_meant row)) rows.now ≡ map
+        (build_entry (map flight_entry flights.now)) sums.now.builds.entries) }
     ensures ordered { IsOrdered build_place_cmp sums.now.builds }
 {
     let mut ahead = sums.builds.iter();
@@ -51,10 +55,13 @@ fn are_same(sums: &BookSums, flights: &[FlightEntry], rows: &[BuildRow]) -> bool
     ahead.next().is_none()
 }
 
-/// Whether the rows of `build` are what a book comes to: each waybill has a row for each flight on which it has pieces or
-/// tenths, and there is no other row. The flights are those of the table `flight`, whole.
+/// Whether the rows of `build` are what a book comes to: each waybill has a row for each flight on
+/// which it has pieces or tenths, and there is no other row. The flights are those of the table
+/// `flight`, whole.
 pub fn are_builds(sums: &BookSums, flights: &[FlightEntry], rows: &[BuildRow]) -> bool
-    ensures exact { (t : Tables) (listed : List FlightDate) (book : List Move) → AreFlightsOf listed (map flight_entry flights.now) → AreSums listed sums.now (running book) → entries t.builds ≡ map build_meant rows.now
+    ensures exact { (t : Tables) (listed : List FlightDate) (book : List Move)
+        → AreFlightsOf listed (map flight_entry flights.now)
+        → AreSums listed sums.now (running book) → entries t.builds ≡ map build_meant rows.now
         → (IsTrue result ↔ AreBuilds t.builds book) }
 {
     are_same(sums, flights, rows)

@@ -24,7 +24,8 @@ fn is_row(row: &CountRow, place: &CountPlace, tally: &Tally) -> bool
 
 /// Whether the rows of `counts` are the sums, each in the order of its key.
 fn are_same(sums: &BookSums, rows: &[CountRow]) -> bool
-    ensures same { IsTrue result ↔ (map count_meant rows.now ≡ map count_entry sums.now.counts.entries) }
+    ensures same { IsTrue result ↔
+        (map count_meant rows.now ≡ map count_entry sums.now.counts.entries) }
     ensures ordered { IsOrdered count_place_cmp sums.now.counts }
 {
     let mut ahead = sums.counts.iter();
@@ -39,10 +40,11 @@ fn are_same(sums: &BookSums, rows: &[CountRow]) -> bool
     ahead.next().is_none()
 }
 
-/// Whether the rows of `counts` are what a book comes to: each waybill has a row for each place where it has pieces or
-/// tenths, and there is no other row.
+/// Whether the rows of `counts` are what a book comes to: each waybill has a row for each place
+/// where it has pieces or tenths, and there is no other row.
 pub fn are_counts(sums: &BookSums, rows: &[CountRow]) -> bool
-    ensures exact { (t : Tables) (flights : List FlightDate) (book : List Move) → AreSums flights sums.now (running book) → entries t.counts ≡ map count_meant rows.now
+    ensures exact { (t : Tables) (flights : List FlightDate) (book : List Move)
+        → AreSums flights sums.now (running book) → entries t.counts ≡ map count_meant rows.now
         → (IsTrue result ↔ AreCounts t.counts book) }
 {
     are_same(sums, rows)

@@ -26,7 +26,9 @@ pub(crate) fn post<K: Ord + Drop>(
     key: K,
     by: Tally,
 ) -> Result<(), NoRoom>
-    ensures { OnOk result ((q : K) → get K.cmp tallies.new q ≡ cond (eq_by_cmp K.cmp key q) (unless_zero (come_to (get K.cmp tallies.old key) by)) (get K.cmp tallies.old q)) }
+    ensures { OnOk result ((q : K)
+        → get K.cmp tallies.new q ≡ cond (eq_by_cmp K.cmp key q)
+        (unless_zero (come_to (get K.cmp tallies.old key) by)) (get K.cmp tallies.old q)) }
 {
     let sum = come_to(tallies, &key, by)?;
     if sum.is_nothing() {

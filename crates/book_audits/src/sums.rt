@@ -67,7 +67,9 @@ impl BookSums {
 
     /// Adds an amount to what a waybill has at a place that isn't built.
     fn post_count(&mut self, key: CountPlace, by: Tally) -> Result<(), NoRoom>
-        ensures { (flights : List FlightDate) (s : Sums) → AreSums flights self.old s → (a : ℕ) (p : Place) → key.awb ≡ pos a → key.place ≡ pos (place_code p) → is_built p ≡ false
+        ensures { (flights : List FlightDate) (s : Sums) → AreSums flights self.old s
+            → (a : ℕ) (p : Place) → key.awb ≡ pos a → key.place ≡ pos (place_code p)
+            → is_built p ≡ false
             → OnOk result (AreSums flights self.new (posting a p (meant by) s)) }
     {
         post(&mut self.counts, key, by)
@@ -75,7 +77,9 @@ impl BookSums {
 
     /// Adds an amount to what is built of a waybill on a flight.
     fn post_build(&mut self, key: BuildPlace, by: Tally) -> Result<(), NoRoom>
-        ensures { (flights : List FlightDate) (s : Sums) → AreDistinct flights → AreSums flights self.old s → (a : ℕ) (f : FlightDate) → key.awb ≡ pos a → slice_get flights key.flight ≡ Some f
+        ensures { (flights : List FlightDate) (s : Sums) → AreDistinct flights
+            → AreSums flights self.old s → (a : ℕ) (f : FlightDate) → key.awb ≡ pos a
+            → slice_get flights key.flight ≡ Some f
             → OnOk result (AreSums flights self.new (posting a (Built f) (meant by) s)) }
     {
         post(&mut self.builds, key, by)
@@ -83,7 +87,9 @@ impl BookSums {
 
     /// Adds an amount to what a waybill has at a place.
     fn post_at(&mut self, awb: i64, spot: &Spot, by: Tally) -> Result<(), NoRoom>
-        ensures { (flights : List FlightDate) (s : Sums) → AreDistinct flights → AreSums flights self.old s → (a : ℕ) (p : Place) → awb ≡ pos a → IsSpot flights spot.now p
+        ensures { (flights : List FlightDate) (s : Sums) → AreDistinct flights
+            → AreSums flights self.old s → (a : ℕ) (p : Place) → awb ≡ pos a
+            → IsSpot flights spot.now p
             → OnOk result (AreSums flights self.new (posting a p (meant by) s)) }
     {
         match *spot {
@@ -92,10 +98,12 @@ impl BookSums {
         }
     }
 
-    /// Takes what a move moves from the place that it leaves, and brings it to the place that it comes to.
+    /// Takes what a move moves from the place that it leaves, and brings it to the place that it
+    /// comes to.
     #[tactic(auto, using(crate::proofs::Posted::moved))]
     fn add(&mut self, movement: &Posting) -> Result<(), NoRoom>
-        ensures { (flights : List FlightDate) (book : List Move) (m : Move) → AreDistinct flights → AreSums flights self.old (running book) → IsPosting flights movement.now m
+        ensures { (flights : List FlightDate) (book : List Move) (m : Move) → AreDistinct flights
+            → AreSums flights self.old (running book) → IsPosting flights movement.now m
             → OnOk result (AreSums flights self.new (running (book ++ m ∷ []))) }
     {
         let Some(gone) = movement.amount.negated() else {
@@ -109,7 +117,9 @@ impl BookSums {
 /// What the moves of a book come to.
 #[tactic(auto, using(crate::proofs::Walk::begun, crate::proofs::Walk::ended))]
 pub fn sums_of(alloc: Global, moves: &[Posting]) -> Result<BookSums, NoRoom>
-    ensures { (flights : List FlightDate) (book : List Move) → AreDistinct flights → ArePostings flights moves.now book → IfOk result (λ sums. AreSums flights sums (running book)) }
+    ensures { (flights : List FlightDate) (book : List Move) → AreDistinct flights
+        → ArePostings flights moves.now book
+        → IfOk result (λ sums. AreSums flights sums (running book)) }
 {
     let mut sums = BookSums::new(alloc);
     for movement in moves {

@@ -2,7 +2,8 @@ ghost use Rattle.std.specs.Prelude.{◌≡◌, neg_ℤ, IfSome};
 ghost use Rattle.row_values.specs.Counts.{is_nothing};
 ghost use Rattle.book_audits.specs.Sums.{meant, plus_tally};
 
-/// There is no room for a book's sums: out of memory, or a sum doesn't fit 64 bits, which takes more than 10^12 moves.
+/// There is no room for a book's sums: out of memory, or a sum doesn't fit 64 bits, which takes
+/// more than 10^12 moves.
 #[derive(Clone, Copy, Debug, PartialEq, Eq)]
 pub struct NoRoom;
 
@@ -26,7 +27,8 @@ impl Tally {
 
     /// As much the other way. `None`: it doesn't fit 64 bits.
     pub(crate) fn negated(&self) -> Option<Tally>
-        ensures { IfSome result (λ back. back ≡ record { pieces = neg_ℤ self.now.pieces; tenths = neg_ℤ self.now.tenths }) }
+        ensures { IfSome result (λ back. back ≡ record
+            { pieces = neg_ℤ self.now.pieces; tenths = neg_ℤ self.now.tenths }) }
     {
         Some(Tally {
             pieces: self.pieces.checked_neg()?,

@@ -29,7 +29,8 @@ fn tell(rt: &HostRuntime, text: &str) -> u8 {
     }
 }
 
-/// Ends a call by what is said of its words: a usage on standard error, or the help or the version on standard output.
+/// Ends a call by what is said of its words: a usage on standard error, or the help or the version
+/// on standard output.
 fn refuse_words(rt: &HostRuntime, fault: &WordsFault) -> u8 {
     match fault {
         WordsFault::Help(text) => tell(rt, text.as_str()),

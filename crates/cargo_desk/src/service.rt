@@ -50,8 +50,8 @@ fn run_service<K: Keeper>(
     }
 }
 
-/// Serves the station of a line over a connection. It returns the exit status and gives the connection back; a fault is reported on
-/// standard error.
+/// Serves the station of a line over a connection. It returns the exit status and gives the
+/// connection back; a fault is reported on standard error.
 pub fn serve_line<S: Alter>(
     rt: &HostRuntime,
     line: &Line<'_>,

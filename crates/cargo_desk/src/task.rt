@@ -31,7 +31,8 @@ pub fn faulted(rt: &HostRuntime, fault: RunFault) -> u8 {
     end_call(rt, Err(DeskFault::Run(fault)))
 }
 
-/// Ends a call that ran, and failed behind that. One that was stopped by a fault has reported it, and reports no other.
+/// Ends a call that ran, and failed behind that. One that was stopped by a fault has reported it,
+/// and reports no other.
 fn failed_late(rt: &HostRuntime, status: u8, fault: RunFault) -> u8 {
     if status > 1 {
         status
@@ -62,7 +63,8 @@ fn run_direct<S: Alter, R: Read + Drop>(
     )
 }
 
-/// Runs a line over a connection. What it writes is gathered, and goes out before its input is read again, and before the end.
+/// Runs a line over a connection. What it writes is gathered, and goes out before its input is read
+/// again, and before the end.
 fn run_gathered<S: Alter, R: Read + Drop>(
     rt: &HostRuntime,
     line: &Line<'_>,

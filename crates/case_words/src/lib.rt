@@ -1,5 +1,5 @@
-//! What cases ask with and are answered in: commands as inputs, inputs and outputs that fail, and texts of holders, runs, waybills, and
-//! of a station's replies and rows.
+//! What cases ask with and are answered in: commands as inputs, inputs and outputs that fail, and
+//! texts of holders, runs, waybills, and of a station's replies and rows.
 #![tactic(auto)]
 
 mod failing_ends;

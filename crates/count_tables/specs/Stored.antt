@@ -13,7 +13,8 @@ abbrev pub meant : Tally → Running
 meant t = record { pieces = t.pieces; tenths = t.tenths }
 
 -- a value at a key that has one or none, or no value where it is nothing
-abbrev pub stored : {K V : Type 0} {R : K → K → Ordering} → FinMap R V → Bool → Bool → K → V → FinMap R V
+abbrev pub stored : {K V : Type 0} {R : K → K → Ordering} → FinMap R V → Bool → Bool → K → V
+    → FinMap R V
 stored m nothing there key v = if nothing then remove m key else (if there then adjust m key (λ _. v) else insert m key v)
 
 -- what a row comes to by an amount more

@@ -22,7 +22,8 @@ fn row_of(
     awb: i64,
     sum: Tally,
 ) -> Result<BuildRow, StoreFault>
-    ensures { IfOk result (λ row. build_meant row ≡ ((flight.now, (day, awb)), build_row (meant sum))) }
+    ensures { IfOk result (λ row. build_meant
+        row ≡ ((flight.now, (day, awb)), build_row (meant sum))) }
 {
     match String::from_str(alloc, flight) {
         Ok(flight) => Ok(BuildRow {
@@ -43,7 +44,9 @@ fn at_flight<S: TableStore>(
     day: i64,
     awb: i64,
 ) -> Result<Option<Tally>, StoreFault>
-    ensures read { TellsOf (S.view store.old) (S.view store.new) result (λ tables found. option_map meant found ≡ option_map running_on (get tables.builds (flight.now, (day, awb)))) }
+    ensures read { TellsOf (S.view store.old) (S.view store.new) result
+        (λ tables found. option_map meant found ≡ option_map running_on
+        (get tables.builds (flight.now, (day, awb)))) }
     ensures same { ShowsStill (S.view store.old) (S.view store.new) result }
     ensures open { WasOpen (S.view store.old) (S.view store.new) result }
     ensures rests { (S.view store.new).IsSound → Rests (S.view store.old) (S.view store.new) }
@@ -65,7 +68,8 @@ fn put_build<S: TableStore>(
     awb: i64,
     sum: Tally,
 ) -> Result<(), StoreFault>
-    ensures done { ShowsChange (S.view store.old) (S.view store.new) result (storing_build is_there ((flight.now, (day, awb)), build_row (meant sum))) }
+    ensures done { ShowsChange (S.view store.old) (S.view store.new) result
+        (storing_build is_there ((flight.now, (day, awb)), build_row (meant sum))) }
     ensures survives { Survives (S.view store.old) (S.view store.new) }
 {
     if sum.is_nothing() {
@@ -88,7 +92,8 @@ pub(crate) fn post_build<S: TableStore>(
     awb: i64,
     by: Tally,
 ) -> Result<(), StoreFault>
-    ensures done { ShowsChange (S.view store.old) (S.view store.new) result (posting_build (flight.now, (day, awb)) (meant by)) }
+    ensures done { ShowsChange (S.view store.old) (S.view store.new) result
+        (posting_build (flight.now, (day, awb)) (meant by)) }
     ensures survives { Survives (S.view store.old) (S.view store.new) }
 {
     let found = at_flight(store, flight, day, awb)?;
@@ -97,15 +102,17 @@ pub(crate) fn post_build<S: TableStore>(
     Ok(())
 }
 
-/// What of a waybill is built on a flight, inside a transaction or outside. A fault: the database call failed, memory ran
-/// out, or an amount is out of range. A fault outside changes nothing while the store is open.
+/// What of a waybill is built on a flight, inside a transaction or outside. A fault: the database
+/// call failed, memory ran out, or an amount is out of range. A fault outside changes nothing while
+/// the store is open.
 pub fn load<S: TableStore>(
     alloc: Global,
     store: &mut S,
     awb: &Awb,
     flight: &FlightDate,
 ) -> Result<Amount, StoreFault>
-    ensures value { (x : Seen) → IsShowing (S.view store.old) x → (S.view store.new).IsSound → (book : List Move) → AreBuilds x.now.builds book
+    ensures value { (x : Seen) → IsShowing (S.view store.old) x → (S.view store.new).IsSound
+        → (book : List Move) → AreBuilds x.now.builds book
         → IfOk result (λ load. load ≡ built book awb.now flight.now) }
     ensures same { ShowsStill (S.view store.old) (S.view store.new) result }
     ensures open { WasOpen (S.view store.old) (S.view store.new) result }

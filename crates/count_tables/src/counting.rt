@@ -27,7 +27,8 @@ fn first_at(rows: &[CountRow], place: i64) -> Option<&CountRow>
 
 /// What the row of a place has, among the rows of a waybill.
 fn at_place(rows: &[CountRow], place: i64) -> Option<Tally>
-    ensures { (counts : FinMap count_cmp Count) (awb : ℤ) → map count_meant rows.now ≡ filter (counts_for awb) (entries counts)
+    ensures { (counts : FinMap count_cmp Count) (awb : ℤ)
+        → map count_meant rows.now ≡ filter (counts_for awb) (entries counts)
         → option_map meant result ≡ option_map running_in (get counts (awb, place)) }
 {
     match first_at(rows, place) {
@@ -56,7 +57,8 @@ fn put_count<S: TableStore>(
     place: i64,
     sum: Tally,
 ) -> Result<(), StoreFault>
-    ensures done { ShowsChange (S.view store.old) (S.view store.new) result (storing_count is_there ((awb, place), count_row (meant sum))) }
+    ensures done { ShowsChange (S.view store.old) (S.view store.new) result
+        (storing_count is_there ((awb, place), count_row (meant sum))) }
     ensures survives { Survives (S.view store.old) (S.view store.new) }
 {
     if sum.is_nothing() {
@@ -77,7 +79,8 @@ pub(crate) fn post_count<S: TableStore>(
     place: i64,
     by: Tally,
 ) -> Result<(), StoreFault>
-    ensures done { ShowsChange (S.view store.old) (S.view store.new) result (posting_count (awb, place) (meant by)) }
+    ensures done { ShowsChange (S.view store.old) (S.view store.new) result
+        (posting_count (awb, place) (meant by)) }
     ensures survives { Survives (S.view store.old) (S.view store.new) }
 {
     let rows = store.counts_of(awb)?;
@@ -89,8 +92,11 @@ pub(crate) fn post_count<S: TableStore>(
 
 /// What is at a place of the station, by the rows of a waybill.
 fn held(rows: &[CountRow], place: &Place) -> Result<Amount, StoreFault>
-    ensures { (counts : FinMap count_cmp Count) (book : List Move) (w : ℕ) → map count_meant rows.now ≡ filter (counts_for (pos w)) (entries counts) → AreCounts counts book
-        → is_built place.now ≡ false → IfOk result (λ amount. amount ≡ held book w (same_place place.now)) }
+    ensures { (counts : FinMap count_cmp Count) (book : List Move) (w : ℕ)
+        → map count_meant rows.now ≡ filter (counts_for (pos w)) (entries counts)
+        → AreCounts counts book
+        → is_built place.now ≡ false
+        → IfOk result (λ amount. amount ≡ held book w (same_place place.now)) }
 {
     let code = place_code(place);
     match at_place(rows, code) {
@@ -104,8 +110,11 @@ fn held(rows: &[CountRow], place: &Place) -> Result<Amount, StoreFault>
 
 /// What came from a place outside, by the rows of a waybill.
 fn drawn(rows: &[CountRow], place: &Place) -> Result<Amount, StoreFault>
-    ensures { (counts : FinMap count_cmp Count) (book : List Move) (w : ℕ) → map count_meant rows.now ≡ filter (counts_for (pos w)) (entries counts) → AreCounts counts book
-        → is_built place.now ≡ false → IfOk result (λ amount. amount ≡ drawn book w (same_place place.now)) }
+    ensures { (counts : FinMap count_cmp Count) (book : List Move) (w : ℕ)
+        → map count_meant rows.now ≡ filter (counts_for (pos w)) (entries counts)
+        → AreCounts counts book
+        → is_built place.now ≡ false
+        → IfOk result (λ amount. amount ≡ drawn book w (same_place place.now)) }
 {
     let code = place_code(place);
     match at_place(rows, code) {
@@ -119,7 +128,9 @@ fn drawn(rows: &[CountRow], place: &Place) -> Result<Amount, StoreFault>
 
 /// The balances, by the rows of a waybill.
 fn balances_by(rows: &[CountRow]) -> Result<Balances, StoreFault>
-    ensures { (counts : FinMap count_cmp Count) (book : List Move) (w : ℕ) → map count_meant rows.now ≡ filter (counts_for (pos w)) (entries counts) → AreCounts counts book
+    ensures { (counts : FinMap count_cmp Count) (book : List Move) (w : ℕ)
+        → map count_meant rows.now ≡ filter (counts_for (pos w)) (entries counts)
+        → AreCounts counts book
         → IfOk result (λ balances. balances ≡ balances_of book w) }
 {
     let taken = drawn(rows, &Place::Hand)?;
@@ -140,10 +151,12 @@ fn balances_by(rows: &[CountRow]) -> Result<Balances, StoreFault>
     })
 }
 
-/// What the moves of a waybill add up to, inside a transaction or outside. A fault: the database call failed, or a
-/// balance is out of range. A fault outside changes nothing while the store is open.
+/// What the moves of a waybill add up to, inside a transaction or outside. A fault: the database
+/// call failed, or a balance is out of range. A fault outside changes nothing while the store is
+/// open.
 pub fn balances<S: TableStore>(store: &mut S, awb: &Awb) -> Result<Balances, StoreFault>
-    ensures value { (x : Seen) → IsShowing (S.view store.old) x → (S.view store.new).IsSound → (book : List Move) → AreCounts x.now.counts book
+    ensures value { (x : Seen) → IsShowing (S.view store.old) x → (S.view store.new).IsSound
+        → (book : List Move) → AreCounts x.now.counts book
         → IfOk result (λ balances. balances ≡ balances_of book awb.now) }
     ensures same { ShowsStill (S.view store.old) (S.view store.new) result }
     ensures open { WasOpen (S.view store.old) (S.view store.new) result }

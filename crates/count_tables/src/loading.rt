@@ -56,7 +56,8 @@ fn add(loads: &mut Vec<Load>, load: Load) -> Result<(), StoreFault>
 
 /// The loads of rows, where there are pieces in them.
 fn loads_in(alloc: Global, rows: &[BuildRow]) -> Result<Vec<Load>, StoreFault>
-    ensures { IfOk result (λ loads. map load_said loads.items ≡ filter is_loaded (map row_said (map build_meant rows.now))) }
+    ensures { IfOk result (λ loads. map load_said loads.items ≡ filter is_loaded
+        (map row_said (map build_meant rows.now))) }
 {
     let mut loads = Vec::new(alloc);
     for row in rows {
@@ -68,15 +69,16 @@ fn loads_in(alloc: Global, rows: &[BuildRow]) -> Result<Vec<Load>, StoreFault>
     Ok(loads)
 }
 
-/// The waybills of which something is built on a flight, ascending, each with its load, inside a transaction or outside. A
-/// fault: the database call failed, memory ran out, or a row is out of range. A fault outside changes nothing while the
-/// store is open.
+/// The waybills of which something is built on a flight, ascending, each with its load, inside a
+/// transaction or outside. A fault: the database call failed, memory ran out, or a row is out of
+/// range. A fault outside changes nothing while the store is open.
 pub fn aboard<S: TableStore>(
     alloc: Global,
     store: &mut S,
     flight: &FlightDate,
 ) -> Result<Vec<Load>, StoreFault>
-    ensures value { (x : Seen) → IsShowing (S.view store.old) x → (S.view store.new).IsSound → (book : List Move) → AreBuilds x.now.builds book
+    ensures value { (x : Seen) → IsShowing (S.view store.old) x → (S.view store.new).IsSound
+        → (book : List Move) → AreBuilds x.now.builds book
         → IfOk result (λ loads. loads.items ≡ loads_on book flight.now) }
     ensures same { ShowsStill (S.view store.old) (S.view store.new) result }
     ensures open { WasOpen (S.view store.old) (S.view store.new) result }
@@ -97,15 +99,17 @@ fn count_loaded(pieces: &[i64]) -> usize
     pieces.iter().filter(|count| 0 < **count).count()
 }
 
-/// How many waybills have something built on a flight, inside a transaction or outside. A departure reads each load, by
-/// `aboard`; where their number alone is needed, this reads less of each row. A fault: the database call failed, or memory
-/// ran out. A fault outside changes nothing while the store is open.
+/// How many waybills have something built on a flight, inside a transaction or outside. A departure
+/// reads each load, by `aboard`; where their number alone is needed, this reads less of each row. A
+/// fault: the database call failed, or memory ran out. A fault outside changes nothing while the
+/// store is open.
 pub fn waybills_on<S: TableStore>(
     alloc: Global,
     store: &mut S,
     flight: &FlightDate,
 ) -> Result<usize, StoreFault>
-    ensures value { (x : Seen) → IsShowing (S.view store.old) x → (S.view store.new).IsSound → (book : List Move) → AreBuilds x.now.builds book
+    ensures value { (x : Seen) → IsShowing (S.view store.old) x → (S.view store.new).IsSound
+        → (book : List Move) → AreBuilds x.now.builds book
         → IfOk result (λ number. number ≡ length (waybills_on book flight.now)) }
     ensures same { ShowsStill (S.view store.old) (S.view store.new) result }
     ensures open { WasOpen (S.view store.old) (S.view store.new) result }

@@ -25,7 +25,8 @@ fn post<S: TableStore>(
     by: Tally,
 ) -> Result<(), StoreFault>
     ensures done { (before now : Tables) (sums : Sums) → Keeps (S.view store.old) before now sums
-        → OnOk result (Keeps (S.view store.new) before now (posting awb.now place.now (meant by) sums)) }
+        → OnOk result (Keeps (S.view store.new) before now
+        (posting awb.now place.now (meant by) sums)) }
     ensures survives { Survives (S.view store.old) (S.view store.new) }
 {
     let number = number_of(awb);
@@ -61,15 +62,16 @@ fn gone(movement: &Move) -> Tally
     }
 }
 
-/// Takes what a move moves from the place that it leaves and brings it to the place that it comes to, in a transaction.
-/// A place of a waybill where nothing is left has no row. A fault: no transaction is open, a database call failed, memory
-/// ran out, or a sum is out of range.
+/// Takes what a move moves from the place that it leaves and brings it to the place that it comes
+/// to, in a transaction. A place of a waybill where nothing is left has no row. A fault: no
+/// transaction is open, a database call failed, memory ran out, or a sum is out of range.
 pub fn post_move<S: TableStore>(
     alloc: Global,
     store: &mut S,
     movement: &Move,
 ) -> Result<(), StoreFault>
-    ensures done { (before now : Tables) → IsShowing (S.view store.old) (inside before now) → (book : List Move) → AreCounts now.counts book → AreBuilds now.builds book
+    ensures done { (before now : Tables) → IsShowing (S.view store.old) (inside before now)
+        → (book : List Move) → AreCounts now.counts book → AreBuilds now.builds book
         → OnOk result (Posted (S.view store.new) before now (book ++ movement.now ∷ [])) }
     ensures survives { Survives (S.view store.old) (S.view store.new) }
 {

@@ -42,13 +42,15 @@ abbrev pub run_ended : Result Bool RunFault → Result Bool DeskFault
 run_ended (Ok good) = Ok good
 run_ended (Err e) = Err (fault.Run e)
 
--- the exit status where there is no station: the store failed or memory ran out, or the file has none
+-- the exit status where there is no station: the store failed or memory ran out, or the file has
+-- none
 abbrev pub attach_status : AttachFault → ℕ
 attach_status attach.Store = 3
 attach_status attach.Memory = 3
 attach_status _ = 4
 
--- the exit status: all was accepted, something wasn't, the call ended before its end, or there was no station
+-- the exit status: all was accepted, something wasn't, the call ended before its end, or there was
+-- no station
 abbrev pub status_of : Result Bool DeskFault → ℕ
 status_of (Ok true) = 0
 status_of (Ok false) = 1
@@ -61,7 +63,8 @@ pub record HasToldEnd {E : Type 0} (taken : E → Given) (ended : Result Bool Ru
   pub told : IfErr ended (λ e. HasTold (fault.Run e) (taken errors_old) (taken errors_new))
   pub silent : OnOk ended (errors_new ≡ errors_old)
 
--- There is no station, and the fault is reported. Nothing was read or printed, and the connection comes back as it came with the fault.
+-- There is no station, and the fault is reported. Nothing was read or printed, and the connection
+-- comes back as it came with the fault.
 pub record HasNoStation {C I W : Type 0} (none : C × AttachFault) (read_old read_new : I) (output_old output_new : W) (told_old told_new : Given) (result : ℕ × C) : Type 0 where
   pub unread : read_new ≡ read_old
   pub unprinted : output_new ≡ output_old

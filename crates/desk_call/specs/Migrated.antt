@@ -32,7 +32,8 @@ pub record HasMoved {S : Type 0} (g : Ghosts S) (conn : Held S)
       → tables.HasMigrated (state g conn).now (state g new))
   -- A fault names what is so. Where the tables are lawful ones of version 1, the store failed or
   -- memory was out.
-  pub refused : IfErr migrated (λ e. HasCleanDisk (state g e.0) → RefusesAs First (state g conn).now e.1)
+  pub refused : IfErr migrated (λ e. HasCleanDisk (state g e.0)
+      → RefusesAs First (state g conn).now e.1)
   pub fit : IfErr migrated (λ e. HasCleanDisk (state g e.0)
       → (s : State) → IsOldStateIn (state g conn).now s → IsBreakdown e.1)
   pub never : IfErr migrated (λ e. e.1 ≢ fault.Occupied)
@@ -58,7 +59,8 @@ pub record HasToldVersion (sent_old sent_new : Given) (result : Result Bool RunF
   pub why : IfErr result (λ e. e ≡ run.Write)
   pub cause : OnErr result (HasCause sent_old sent_new)
 
--- The version was told, how that ended was reported, and the connection comes back. Nothing was read.
+-- The version was told, how that ended was reported, and the connection comes back. Nothing was
+-- read.
 pub record HasToldMoved {C I E : Type 0} (moved : C) (read_old read_new : I)
     (sent_old sent_new : Given) (taken : E → Given) (errors_old errors_new : E)
     (result : ℕ × C) : Type 0 where

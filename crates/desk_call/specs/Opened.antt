@@ -31,31 +31,42 @@ pub record HasMade {S : Type 0} (g : Ghosts S) (keeps : Station S g → State �
   pub taken : IfErr opened (λ e. e.1 ≡ fault.Occupied → takes_name (state g conn).now.schema ≡ true)
   pub faults : IfErr opened (λ e. (e.1 ≡ fault.Occupied) ⊎ (e.1 ≡ fault.Store))
   -- a crash leaves what it left before, or where the store was empty the opening station
-  pub leaves : IfErr opened (λ e. IsVacant g conn → (connection_view g e.0).IsSound → (found : Option State)
+  pub leaves : IfErr opened (λ e. IsVacant g conn → (connection_view g e.0).IsSound
+      → (found : Option State)
       → Finds (connection_view g e.0) found → Finds (connection_view g conn) found ⊎ (IsVacant g conn × (found ≡ Some (opening here))))
   -- beside other tables it leaves what it left before, or one database more
   pub step : IfErr opened (λ e. ¬ (IsVacant g conn) → IsOneStep (state g conn) (state g e.0))
 
--- The station that is there was found over a connection, or there is none: what `attach` says of it.
+-- The station that is there was found over a connection, or there is none: what `attach` says of
+-- it.
 pub record HasFound {S : Type 0} (g : Ghosts S) (keeps : Station S g → State → Type 0) (is_sound : Station S g → Type 0) (is_broken : Station S g → Bool)
     (conn : Held S) (opened : Result (Station S g) (Held S × AttachFault)) : Type 0 where
   pub inside : (connection_view g conn).in_transaction ≡ true → opened ≡ Err (conn, fault.Store)
   pub works : IfOk opened (λ station. is_broken station ≡ false)
   pub sound : IfOk opened (λ station. is_sound station → (connection_view g conn).IsSound)
-  -- the tables are a station's of version 2, all of them lawful, and it keeps the state that they mean
-  pub found : IfOk opened (λ station. HasCleanDisk (state g (connection_in station)) → (s : State) × IsStateIn (state g conn).now s × keeps station s)
-  pub own : IfOk opened (λ station. HasCleanDisk (state g (connection_in station)) → IsOwn (state g conn).now.trees → are_declared station.stored.store.store ≡ true)
-  pub typed : IfOk opened (λ station. is_sound station → (s : State) → IsStateIn (state g conn).now s → IsTypedState (state g conn).now s)
-  -- A fault names what is so. Where the tables are a station's and lawful, the store failed or memory was out.
+  -- the tables are a station's of version 2, all of them lawful, and it keeps the state that they
+  -- mean
+  pub found : IfOk opened (λ station. HasCleanDisk (state g (connection_in station)) → (s : State)
+      × IsStateIn (state g conn).now s × keeps station s)
+  pub own : IfOk opened (λ station. HasCleanDisk (state g (connection_in station))
+      → IsOwn (state g conn).now.trees → are_declared station.stored.store.store ≡ true)
+  pub typed : IfOk opened (λ station. is_sound station → (s : State)
+      → IsStateIn (state g conn).now s → IsTypedState (state g conn).now s)
+  -- A fault names what is so. Where the tables are a station's and lawful, the store failed or
+  -- memory was out.
   pub refused : IfErr opened (λ e. HasCleanDisk (state g e.0) → Refuses (state g conn).now e.1)
-  pub fit : IfErr opened (λ e. HasCleanDisk (state g e.0) → (s : State) → IsStateIn (state g conn).now s → IsBreakdown e.1)
-  pub own_fit : IfErr opened (λ e. HasCleanDisk (state g e.0) → IsOwn (state g conn).now.trees → LiesInOrder g
+  pub fit : IfErr opened (λ e. HasCleanDisk (state g e.0) → (s : State)
+      → IsStateIn (state g conn).now s → IsBreakdown e.1)
+  pub own_fit : IfErr opened (λ e. HasCleanDisk (state g e.0) → IsOwn (state g conn).now.trees
+      → LiesInOrder g
       → (s : State) → IsTypedState (state g conn).now s → IsLawfulState s → IsBreakdown e.1)
   -- a crash leaves what it left before
-  pub leaves : IfErr opened (λ e. (connection_view g e.0).IsSound → (found : Option State) → Finds (connection_view g e.0) found → Finds (connection_view g conn) found)
+  pub leaves : IfErr opened (λ e. (connection_view g e.0).IsSound → (found : Option State)
+      → Finds (connection_view g e.0) found → Finds (connection_view g conn) found)
 
 -- the station of a line: a new one, or the one that is there
-abbrev pub HasOpened : {S : Type 0} → (g : Ghosts S) → (Station S g → State → Type 0) → (Station S g → Type 0) → (Station S g → Bool)
+abbrev pub HasOpened : {S : Type 0} → (g : Ghosts S) → (Station S g → State → Type 0)
+    → (Station S g → Type 0) → (Station S g → Bool)
     → Bool → Held S → List ℕ → Result (Station S g) (Held S × AttachFault) → Type 0
 HasOpened g keeps is_sound is_broken true conn here opened = HasMade g keeps is_sound is_broken conn here opened
 HasOpened g keeps is_sound is_broken false conn here opened = HasFound g keeps is_sound is_broken conn opened

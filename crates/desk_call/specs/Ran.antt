@@ -23,11 +23,15 @@ use Rattle.desk_call.specs.Opened.{HasOpened}
 -- A station gave its connection back: what `release` says of it.
 pub record HasReleased {S : Type 0} {g : Ghosts S} (keeps : Station S g → State → Type 0) (is_sound : Station S g → Type 0)
     (may_find : Station S g → Option State → Type 0) (station : Station S g) (conn : Held S) : Type 0 where
-  pub leaves : (connection_view g conn).IsSound → (found : Option State) → Finds (connection_view g conn) found → may_find station found
-  pub sound : (rows_view g conn (are_declared station.stored.store.store)).IsSound → is_sound station
-  pub shown : (s : State) → keeps station s → IfGivenBack (rows_view g conn (are_declared station.stored.store.store)) s
+  pub leaves : (connection_view g conn).IsSound → (found : Option State)
+      → Finds (connection_view g conn) found → may_find station found
+  pub sound : (rows_view g conn (are_declared station.stored.store.store)).IsSound
+      → is_sound station
+  pub shown : (s : State) → keeps station s
+      → IfGivenBack (rows_view g conn (are_declared station.stored.store.store)) s
 
--- The line's command ran over its station, how it ended was reported, and the station gave its connection back.
+-- The line's command ran over its station, how it ended was reported, and the station gave its
+-- connection back.
 pub record HasRunLine {S E : Type 0} {g : Ghosts S} (line : Line) (keeps : Station S g → State → Type 0) (is_sound : Station S g → Type 0) (is_broken : Station S g → Bool)
     (may_find : Station S g → Option State → Type 0) (at : LocalMinute) (station : Station S g) (left : Option (List ℕ)) (read_old read_new sent_old sent_new : Given)
     (taken : E → Given) (errors_old errors_new : E) (result : ℕ × Held S) : Type 0 where
@@ -40,7 +44,8 @@ pub record HasRunLine {S E : Type 0} {g : Ghosts S} (line : Line) (keeps : Stati
   pub released : HasReleased keeps is_sound may_find last result.1
 
 -- a call over what its opening came to
-abbrev pub HasEndedCall : {S I W E : Type 0} {g : Ghosts S} → Line → (Station S g → State → Type 0) → (Station S g → Type 0) → (Station S g → Bool)
+abbrev pub HasEndedCall : {S I W E : Type 0} {g : Ghosts S} → Line → (Station S g → State → Type 0)
+    → (Station S g → Type 0) → (Station S g → Bool)
     → (Station S g → Option State → Type 0) → LocalMinute → (I → Option (List ℕ)) → (I → Given) → (W → Given) → (E → Given)
     → Result (Station S g) (Held S × AttachFault) → I → I → W → W → E → E → ℕ × Held S → Type 0
 HasEndedCall line keeps is_sound is_broken may_find at remaining given printed told (Ok station) read_old read_new output_old output_new errors_old errors_new result =
@@ -48,7 +53,8 @@ HasEndedCall line keeps is_sound is_broken may_find at remaining given printed t
 HasEndedCall line keeps is_sound is_broken may_find at remaining given printed told (Err none) read_old read_new output_old output_new errors_old errors_new result =
     HasNoStation none read_old read_new output_old output_new (told errors_old) (told errors_new) result
 
--- A line's call over a connection: its station was opened, or there is none; then its command ran, or that was reported.
+-- A line's call over a connection: its station was opened, or there is none; then its command ran,
+-- or that was reported.
 pub record HasCalledStation {S I W E : Type 0} (g : Ghosts S) (line : Line) (keeps : Station S g → State → Type 0) (is_sound : Station S g → Type 0) (is_broken : Station S g → Bool)
     (may_find : Station S g → Option State → Type 0) (at : LocalMinute) (remaining : I → Option (List ℕ)) (given : I → Given) (printed : W → Given) (told : E → Given)
     (conn : Held S) (read_old read_new : I) (output_old output_new : W) (errors_old errors_new : E) (result : ℕ × Held S) : Type 0 where

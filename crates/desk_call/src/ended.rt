@@ -84,7 +84,8 @@ fn tell<E: ByteOut>(errors: &mut E, fault: DeskFault)
     }
 }
 
-/// The exit status where there is no station. 3: the store failed, or memory ran out; 4: the file has none.
+/// The exit status where there is no station. 3: the store failed, or memory ran out; 4: the file
+/// has none.
 fn attach_status(fault: AttachFault) -> u8
     ensures { result ≡ attach_status fault }
 {
@@ -94,7 +95,8 @@ fn attach_status(fault: AttachFault) -> u8
     }
 }
 
-/// The exit status of a call. 0: all was accepted; 1: something wasn't; 3: it ended before its end; 4: the file has no station for it.
+/// The exit status of a call. 0: all was accepted; 1: something wasn't; 3: it ended before its end;
+/// 4: the file has no station for it.
 fn status_of(ended: Result<bool, DeskFault>) -> u8
     ensures { result ≡ status_of ended }
 {
@@ -132,7 +134,8 @@ pub(crate) fn refuse_line<S: Alter, I, W, E: ByteOut>(
     errors: &mut E,
     none: (Connection<S>, AttachFault),
 ) -> (u8, Connection<S>)
-    ensures { HasNoStation none _reader.old _reader.new _output.old _output.new (E.taken errors.old) (E.taken errors.new) result }
+    ensures { HasNoStation none _reader.old _reader.new _output.old _output.new (E.taken errors.old)
+        (E.taken errors.new) result }
 {
     let (conn, fault) = none;
     (end(errors, Err(DeskFault::Attach(fault))), conn)

@@ -1,4 +1,5 @@
-//! A call of the program over a connection: its station is opened, its command runs, and its end is reported.
+//! A call of the program over a connection: its station is opened, its command runs, and its end is
+//! reported.
 #![tactic(auto)]
 
 mod ended;

@@ -16,7 +16,8 @@ fn make_station<S: Alter>(
     conn: Connection<S>,
     here: Airport,
 ) -> Result<Station<S>, (Connection<S>, AttachFault)>
-    ensures { HasMade S.Store ⟦<Station<S> as Keeper>⟧.keeps ⟦<Station<S> as Keeper>⟧.is_sound ⟦<Station<S> as Keeper>⟧.is_broken conn here result }
+    ensures { HasMade S.Store ⟦<Station<S> as Keeper>⟧.keeps ⟦<Station<S> as Keeper>⟧.is_sound
+        ⟦<Station<S> as Keeper>⟧.is_broken conn here result }
 {
     create(alloc, conn, here)
 }
@@ -26,7 +27,8 @@ fn find_station<S: Alter>(
     alloc: Global,
     conn: Connection<S>,
 ) -> Result<Station<S>, (Connection<S>, AttachFault)>
-    ensures { HasFound S.Store ⟦<Station<S> as Keeper>⟧.keeps ⟦<Station<S> as Keeper>⟧.is_sound ⟦<Station<S> as Keeper>⟧.is_broken conn result }
+    ensures { HasFound S.Store ⟦<Station<S> as Keeper>⟧.keeps ⟦<Station<S> as Keeper>⟧.is_sound
+        ⟦<Station<S> as Keeper>⟧.is_broken conn result }
 {
     attach(alloc, conn)
 }
@@ -37,7 +39,8 @@ pub fn open_station<S: Alter>(
     line: &Line<'_>,
     conn: Connection<S>,
 ) -> Result<Station<S>, (Connection<S>, AttachFault)>
-    ensures { HasOpened S.Store ⟦<Station<S> as Keeper>⟧.keeps ⟦<Station<S> as Keeper>⟧.is_sound ⟦<Station<S> as Keeper>⟧.is_broken
+    ensures { HasOpened S.Store ⟦<Station<S> as Keeper>⟧.keeps ⟦<Station<S> as Keeper>⟧.is_sound
+        ⟦<Station<S> as Keeper>⟧.is_broken
         (is_new line.now.db line.now.command) conn (here_of line.now.station) result }
 {
     if is_opening(line) {

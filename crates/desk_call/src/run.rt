@@ -18,7 +18,8 @@ use stock_list::Watched;
 
 /// Gives the connection of a station back.
 fn give_back<S: Alter>(station: Station<S>) -> Connection<S>
-    ensures { HasReleased ⟦<Station<S> as Keeper>⟧.keeps ⟦<Station<S> as Keeper>⟧.is_sound ⟦<Station<S> as Keeper>⟧.may_find station result }
+    ensures { HasReleased ⟦<Station<S> as Keeper>⟧.keeps ⟦<Station<S> as Keeper>⟧.is_sound
+        ⟦<Station<S> as Keeper>⟧.may_find station result }
 {
     station.release()
 }
@@ -33,8 +34,10 @@ fn run_station<S: Alter, I: Watched + Read, W: ByteOut, E: ByteOut>(
     errors: &mut E,
     at: Moment,
 ) -> (u8, Connection<S>)
-    ensures { HasRunLine line.now ⟦<Station<S> as Keeper>⟧.keeps ⟦<Station<S> as Keeper>⟧.is_sound ⟦<Station<S> as Keeper>⟧.is_broken ⟦<Station<S> as Keeper>⟧.may_find at
-        station (I.remaining reader.old) (I.given reader.old) (I.given reader.new) (W.taken output.old) (W.taken output.new) E.taken errors.old errors.new result }
+    ensures { HasRunLine line.now ⟦<Station<S> as Keeper>⟧.keeps ⟦<Station<S> as Keeper>⟧.is_sound
+        ⟦<Station<S> as Keeper>⟧.is_broken ⟦<Station<S> as Keeper>⟧.may_find at
+        station (I.remaining reader.old) (I.given reader.old) (I.given reader.new)
+        (W.taken output.old) (W.taken output.new) E.taken errors.old errors.new result }
 {
     let ended = run_over(alloc, &mut station, line, reader, output, at);
     let status = end_run(errors, ended);
@@ -51,8 +54,10 @@ fn run_opened<S: Alter, I: Watched + Read, W: ByteOut, E: ByteOut>(
     errors: &mut E,
     at: Moment,
 ) -> (u8, Connection<S>)
-    ensures { HasEndedCall line.now ⟦<Station<S> as Keeper>⟧.keeps ⟦<Station<S> as Keeper>⟧.is_sound ⟦<Station<S> as Keeper>⟧.is_broken ⟦<Station<S> as Keeper>⟧.may_find at
-        I.remaining I.given W.taken E.taken opened reader.old reader.new output.old output.new errors.old errors.new result }
+    ensures { HasEndedCall line.now ⟦<Station<S> as Keeper>⟧.keeps ⟦<Station<S> as Keeper>⟧.is_sound
+        ⟦<Station<S> as Keeper>⟧.is_broken ⟦<Station<S> as Keeper>⟧.may_find at
+        I.remaining I.given W.taken E.taken opened reader.old reader.new output.old output.new
+        errors.old errors.new result }
 {
     match opened {
         Ok(station) => run_station(alloc, line, station, reader, output, errors, at),
@@ -79,11 +84,12 @@ fn call_station<S: Alter, I: Watched + Read, W: ByteOut, E: ByteOut>(
     run_opened(alloc, line, opened, reader, output, errors, at)
 }
 
-/// Runs a line over a connection, at a moment: every command but `serve`. It returns the exit status and the connection.
+/// Runs a line over a connection, at a moment: every command but `serve`. It returns the exit
+/// status and the connection.
 ///
 /// `migrate` makes the tables of version 1 that the connection has those of version 2, and prints
-/// `ok 2`. A fault is reported on `errors`: status 3, or 4 where the connection has no station for the
-/// line.
+/// `ok 2`. A fault is reported on `errors`: status 3, or 4 where the connection has no station for
+/// the line.
 pub fn run_line<S: Alter, I: Watched + Read, W: ByteOut, E: ByteOut>(
     alloc: Global,
     line: &Line<'_>,

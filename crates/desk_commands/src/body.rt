@@ -27,8 +27,10 @@ pub struct BadBody;
 /// `BadBody` where it says no command of the verb.
 pub fn read_command(verb: Verb, value: &Value) -> Result<Command, BadBody>
     ensures ok { IfOk result (λ command. IsBodyOf verb (view value.now) command) }
-    ensures only { (command : AnyCommand) → IsBodyOf verb (view value.now) command → result ≡ Ok command }
-    ensures bad { IfErr result (λ fault. (command : AnyCommand) → ¬ (IsBodyOf verb (view value.now) command)) }
+    ensures only { (command : AnyCommand) → IsBodyOf verb (view value.now) command
+        → result ≡ Ok command }
+    ensures bad { IfErr result (λ fault. (command : AnyCommand)
+        → ¬ (IsBodyOf verb (view value.now) command)) }
 {
     match read(verb, value) {
         Some(command) => Ok(command),

@@ -415,8 +415,8 @@ fn desk_range(command: &DeskCommand)
     }
 }
 
-/// Every command is in range, as its types keep it: so [`command_text_law`](crate::command_text_law) holds of any two
-/// commands.
+/// Every command is in range, as its types keep it: so
+/// [`command_text_law`](crate::command_text_law) holds of any two commands.
 pub fn command_range_law(command: &Command)
     ensures { IsCommand command.now }
 {

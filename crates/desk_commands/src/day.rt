@@ -61,7 +61,8 @@ fn day_month(day: u32, month: u32) -> Option<DayMonth>
 
 /// The date that ten bytes such as `2026-01-12` write, with its year.
 fn read_date(text: &[u8]) -> Option<(DayMonth, u16)>
-    ensures date { result ≡ option_map (λ date. (date, decimal_value (year_part text.now))) (date_in text.now) }
+    ensures date { result ≡ option_map (λ date. (date, decimal_value (year_part text.now)))
+        (date_in text.now) }
     ensures year { IfSome result (λ r. r.1 ≤ 9999) }
 {
     if text.len() != 10 {

@@ -110,7 +110,8 @@ pub(crate) fn field_values<'a>(
     line_5: Option<Text<'a>>,
 ) -> Option<[FieldValue<'a>; 6]>
     ensures { result ≡ places_say places
-        (line_0.entry ∷ line_1.entry ∷ line_2.entry ∷ line_3.entry ∷ line_4.entry ∷ line_5.entry ∷ []) }
+        (line_0.entry ∷ line_1.entry ∷ line_2.entry ∷ line_3.entry ∷ line_4.entry ∷ line_5.entry ∷
+        []) }
 {
     let [field_0, field_1, field_2, field_3, field_4, field_5] = places;
     Some([

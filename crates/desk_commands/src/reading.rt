@@ -13,7 +13,8 @@ use crate::verb::{Verb, places};
 /// The command whose text this is, if it is one. It takes no memory.
 pub fn read_command_text(text: &[u8]) -> Option<Command>
     // What is read is a command with this text, and a command's text is read as that command.
-    ensures some { IfSome result (λ command. IsCommand command × (command_text command ≡ text.now)) }
+    ensures some { IfSome result (λ command. IsCommand command
+        × (command_text command ≡ text.now)) }
     ensures only { (command : AnyCommand) → IsCommand command → command_text command ≡ text.now
         → result ≡ Some command }
 {
@@ -48,7 +49,8 @@ fn read_lines<'a>(
     line_5: Option<Text<'a>>,
 ) -> Option<Command>
     ensures { result ≡ lines_say word.entry
-        (line_0.entry ∷ line_1.entry ∷ line_2.entry ∷ line_3.entry ∷ line_4.entry ∷ line_5.entry ∷ []) }
+        (line_0.entry ∷ line_1.entry ∷ line_2.entry ∷ line_3.entry ∷ line_4.entry ∷ line_5.entry ∷
+        []) }
 {
     let verb = Verb::of_word(word.as_bytes())?;
     let values = field_values(places(verb), line_0, line_1, line_2, line_3, line_4, line_5)?;

@@ -27,7 +27,8 @@ pub fn command_text(alloc: Global, command: &Command) -> Result<String, AllocErr
 
 /// Commands with one text are one command: a key is known by its command's text alone.
 pub fn command_text_law()
-    ensures { (c d : AnyCommand) → IsCommand c → IsCommand d → command_text c ≡ command_text d → c ≡ d }
+    ensures { (c d : AnyCommand) → IsCommand c → IsCommand d → command_text c ≡ command_text d
+        → c ≡ d }
 {}
 
 fn order_text(alloc: Global, order: &Order) -> Result<String, AllocError>
@@ -212,7 +213,8 @@ fn manifest_text(
     unload: &Airport,
     pieces: Pieces,
 ) -> Result<String, AllocError>
-    ensures { Writes result (desk_text (DeskCommand.Manifest awb.now flight.now unload.now pieces)) }
+    ensures { Writes result (desk_text
+        (DeskCommand.Manifest awb.now flight.now unload.now pieces)) }
 {
     let flight = flight_lines(alloc, flight)?;
     let unload = unload.letters();

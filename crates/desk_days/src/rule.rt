@@ -1,4 +1,5 @@
-//! Inputs by a fixed rule: each keeper has to give the same answers, one by one and to the list of all, and to hand out the same rows.
+//! Inputs by a fixed rule: each keeper has to give the same answers, one by one and to the list of
+//! all, and to hand out the same rows.
 use crate::day::Report;
 use crate::desk::{Desk, Kind};
 use crate::objects::{holder_object, waybill_object};
@@ -119,7 +120,8 @@ fn telegram_text(alloc: Global, rule: &mut Rule, awb: Awb) -> Option<String> {
     }
 }
 
-/// The n-th input: the first ones declare the waybills, and each eighth one has the key of an earlier one.
+/// The n-th input: the first ones declare the waybills, and each eighth one has the key of an
+/// earlier one.
 fn next_asked(alloc: Global, rule: &mut Rule, n: u32) -> Option<Asked> {
     if n <= LAST - FIRST {
         let text = booking_text(alloc, Awb::new(20, FIRST + n)?)?;
@@ -323,8 +325,8 @@ fn number_told(
     Ok(())
 }
 
-/// All that a keeper of a kind answers and hands out, where the inputs come one by one or as a list; nothing where too few of them
-/// are accepted or refused.
+/// All that a keeper of a kind answers and hands out, where the inputs come one by one or as a
+/// list; nothing where too few of them are accepted or refused.
 fn told(
     alloc: Global,
     kind: Kind,
@@ -351,7 +353,8 @@ fn is_mixed(inputs: usize, accepted: usize) -> bool {
     accepted >= fifth && inputs.saturating_sub(accepted) >= fifth
 }
 
-/// Whether each keeper answers these inputs alike, in either way. A station is opened again before each input where there are few.
+/// Whether each keeper answers these inputs alike, in either way. A station is opened again before
+/// each input where there are few.
 pub fn are_equal(alloc: Global, given: Inputs) -> Option<bool> {
     let all = match given {
         Inputs::Mixed => all_mixed(alloc)?,

@@ -33,7 +33,8 @@ IsCommandAsked verb key bytes (asked.Input i) = (command : Command) × IsSaid ve
 IsCommandAsked verb key bytes asked.Bad = (command : Command) → ¬ (IsSaid verb bytes command)
 IsCommandAsked verb key bytes (asked.Refused refusal) = ⊥
 
--- the text of what is asked at a moment: the answer of the station's step, or a text that wants no station
+-- the text of what is asked at a moment: the answer of the station's step, or a text that wants no
+-- station
 abbrev pub asked_text : State → Asked → LocalMinute → List ℕ
 asked_text s (asked.Input i) at = answer_text (step s i at).answer
 asked_text s (asked.Refused refusal) at = refusal_text refusal

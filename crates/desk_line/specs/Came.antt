@@ -14,7 +14,8 @@ pub record HasGrown (old new : Given) (before after : List ℕ) : Type 0 where
   pub failures : new.failures ≡ old.failures
   pub idle : old.idle ≤ new.idle
 
--- These bytes have come, and no read failed. The input has ended: a read that had room brought nothing; or it is too long.
+-- These bytes have come, and no read failed. The input has ended: a read that had room brought
+-- nothing; or it is too long.
 pub record HasCome (old new : Given) (bytes : List ℕ) : Type 0 where
   pub given : new.bytes ≡ old.bytes ++ bytes
   pub failures : new.failures ≡ old.failures

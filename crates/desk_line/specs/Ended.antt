@@ -11,7 +11,8 @@ use Rattle.desk_line.specs.declared.asked.Asked.{Asked}
 use Rattle.desk_line.specs.Asked.{asked_line, asked_good, asked_after}
 use Rattle.desk_line.specs.Came.{HasCome}
 
--- A beginning of a line went out: the writer failed or took no byte, or memory for the line ran out.
+-- A beginning of a line went out: the writer failed or took no byte, or memory for the line ran
+-- out.
 pub record HasToldPart (line : List ℕ) (old new : Given) (e : RunFault) : Type 0 where
   pub why : (e ≡ fault.Write) ⊎ (e ≡ fault.Memory)
   pub sent : ℕ
@@ -24,7 +25,8 @@ pub record IsAnswered (s : State) (asks : Asked) (at : LocalMinute) (good : Bool
   pub good_is : good ≡ asked_good s asks at
   pub state : keeps (asked_after s asks at)
 
--- What was asked was done, and a beginning of its line was written: the writer failed, or memory for the line ran out.
+-- What was asked was done, and a beginning of its line was written: the writer failed, or memory
+-- for the line ran out.
 pub record HasActed (s : State) (asks : Asked) (at : LocalMinute) (e : RunFault) (before after : List ℕ) (keeps : State → Type 0) : Type 0 where
   pub why : (e ≡ fault.Write) ⊎ (e ≡ fault.Memory)
   pub sent : ℕ
@@ -36,9 +38,11 @@ pub record HasNotActed (s : State) (asks : Asked) (at : LocalMinute) (e : RunFau
   pub why : (e ≡ fault.Memory) ⊎ (e ≡ fault.Store)
   pub nothing : after ≡ before
   pub memory : e ≡ fault.Memory → keeps s
-  pub states : (found : Option State) → may_find found → (found ≡ Some s) ⊎ ((e ≡ fault.Store) × (found ≡ Some (asked_after s asks at)))
+  pub states : (found : Option State) → may_find found → (found ≡ Some s)
+      ⊎ ((e ≡ fault.Store) × (found ≡ Some (asked_after s asks at)))
 
-abbrev pub IsStopped : State → Asked → LocalMinute → RunFault → List ℕ → List ℕ → (State → Type 0) → (Option State → Type 0) → Type 0
+abbrev pub IsStopped : State → Asked → LocalMinute → RunFault → List ℕ → List ℕ → (State → Type 0)
+    → (Option State → Type 0) → Type 0
 IsStopped s asks at e before after keeps may_find = HasActed s asks at e before after keeps ⊎ HasNotActed s asks at e before after keeps may_find
 
 -- the input didn't come whole, and nothing was asked or written
@@ -47,9 +51,10 @@ pub record HasNotBegun (s : State) (e : RunFault) (before after : List ℕ) (kee
   pub nothing : after ≡ before
   pub state : keeps s
 
--- A command over an input has run. At Ok the line of what its bytes ask was written, and the state is the one after it; at Err the
--- command stopped there, or before.
-abbrev pub HasRun : (List ℕ → Asked → Type 0) → State → LocalMinute → Given → Given → List ℕ → List ℕ → (State → Type 0) → (Option State → Type 0) → Result Bool RunFault → Type 0
+-- A command over an input has run. At Ok the line of what its bytes ask was written, and the state
+-- is the one after it; at Err the command stopped there, or before.
+abbrev pub HasRun : (List ℕ → Asked → Type 0) → State → LocalMinute → Given → Given → List ℕ
+    → List ℕ → (State → Type 0) → (Option State → Type 0) → Result Bool RunFault → Type 0
 HasRun IsAsked s at read_before read_after before after keeps may_find (Ok good) =
     (bytes : List ℕ) × HasCome read_before read_after bytes × ((asks : Asked) × IsAsked bytes asks × IsAnswered s asks at good before after keeps)
 HasRun IsAsked s at read_before read_after before after keeps may_find (Err e) =

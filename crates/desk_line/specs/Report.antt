@@ -39,7 +39,8 @@ abbrev pub run_ended : Result (Unit {0}) ReportFault → Result (Unit {0}) RunFa
 run_ended (Ok x) = Ok x
 run_ended (Err e) = Err (cause_fault e.cause)
 
--- The text went out; or a beginning of it, where the writer failed or took no byte, or the keeper failed, or memory ran out.
+-- The text went out; or a beginning of it, where the writer failed or took no byte, or the keeper
+-- failed, or memory ran out.
 abbrev pub HasReported : List ℕ → Given → Given → Result (Unit {0}) RunFault → Type 0
 HasReported text old new (Ok x) = new.bytes ≡ old.bytes ++ text
 HasReported text old new (Err e) = ((sent : ℕ) × (new.bytes ≡ old.bytes ++ take sent text)) × (e ≡ fault.Write → HasCause old new) × (e ≡ fault.Read → ⊥)

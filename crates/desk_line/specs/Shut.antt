@@ -15,7 +15,8 @@ abbrev pub HasToldLine : List ℕ → Given → Given → Result Bool RunFault �
 HasToldLine line old new (Ok good) = (good ≡ false) × (new.bytes ≡ old.bytes ++ line)
 HasToldLine line old new (Err e) = HasToldPart line old new e
 
--- What asks nothing of the station has its line; an input is answered Store, and nothing is written.
+-- What asks nothing of the station has its line; an input is answered Store, and nothing is
+-- written.
 abbrev pub IsAnsweredShut : Asked → Given → Given → Result Bool RunFault → Type 0
 IsAnsweredShut (asked.Refused refusal) old new r = HasToldLine (refusal_text refusal ++ 10 ∷ []) old new r
 IsAnsweredShut asked.Bad old new r = HasToldLine (codes "body bad\n") old new r
@@ -23,12 +24,14 @@ IsAnsweredShut (asked.Input i) old new (Ok good) = ⊥
 IsAnsweredShut (asked.Input i) old new (Err e) = (e ≡ fault.Store) × (new ≡ old)
 
 -- the input has come, and what it asks is answered so
-abbrev pub HasAnsweredShut : (List ℕ → Asked → Type 0) → Given → Given → Given → Given → Result Bool RunFault → Type 0
+abbrev pub HasAnsweredShut : (List ℕ → Asked → Type 0) → Given → Given → Given → Given
+    → Result Bool RunFault → Type 0
 HasAnsweredShut IsAsked read_old read_new old new r =
     (bytes : List ℕ) × (HasCome read_old read_new bytes × ((asks : Asked) × (IsAsked bytes asks × IsAnsweredShut asks old new r)))
 
 -- a command has run; or its input didn't come whole, and nothing was written
-abbrev pub HasRunShut : (List ℕ → Asked → Type 0) → Given → Given → Given → Given → Result Bool RunFault → Type 0
+abbrev pub HasRunShut : (List ℕ → Asked → Type 0) → Given → Given → Given → Given
+    → Result Bool RunFault → Type 0
 HasRunShut IsAsked read_old read_new old new (Ok good) = HasAnsweredShut IsAsked read_old read_new old new (Ok good)
 HasRunShut IsAsked read_old read_new old new (Err e) =
     (IsReadersFault e × (new ≡ old)) ⊎ HasAnsweredShut IsAsked read_old read_new old new (Err e)

@@ -46,17 +46,23 @@ fn answer_input<K: Keeper, O: ByteOut>(
     ensures works { K.is_broken keeper.old ≡ false → OnOk result (K.is_broken keeper.new ≡ false) }
     ensures breaks { K.is_broken keeper.old ≡ false
         → IfErr result (λ e. IsShutAfter e (K.is_broken keeper.new)) }
-    ensures answered { (s : State) → K.keeps keeper.old s → K.is_broken keeper.old ≡ false → K.is_sound keeper.new
-        → IfOk result (λ good. IsAnswered s (Asked.Input input.now) at good (O.taken writer.old).bytes (O.taken writer.new).bytes (K.keeps keeper.new)) }
-    ensures stopped { (s : State) → K.keeps keeper.old s → K.is_broken keeper.old ≡ false → K.is_sound keeper.new
-        → IfErr result (λ e. IsStopped s (Asked.Input input.now) at e (O.taken writer.old).bytes (O.taken writer.new).bytes (K.keeps keeper.new) (K.may_find keeper.new)) }
+    ensures answered { (s : State) → K.keeps keeper.old s → K.is_broken keeper.old ≡ false
+        → K.is_sound keeper.new
+        → IfOk result (λ good. IsAnswered s (Asked.Input input.now) at good
+        (O.taken writer.old).bytes (O.taken writer.new).bytes (K.keeps keeper.new)) }
+    ensures stopped { (s : State) → K.keeps keeper.old s → K.is_broken keeper.old ≡ false
+        → K.is_sound keeper.new
+        → IfErr result (λ e. IsStopped s (Asked.Input input.now) at e (O.taken writer.old).bytes
+        (O.taken writer.new).bytes (K.keeps keeper.new) (K.may_find keeper.new)) }
     ensures read { result ≡ Err RunFault.Read → ⊥ }
-    ensures write { result ≡ Err RunFault.Write → HasCause (O.taken writer.old) (O.taken writer.new) }
+    ensures write { result ≡ Err RunFault.Write
+        → HasCause (O.taken writer.old) (O.taken writer.new) }
     ensures write_told { IfErr result (λ e. (e ≡ RunFault.Write)
         ⊎ IsUntroubled (O.taken writer.old) (O.taken writer.new)) }
     ensures untroubled { OnOk result (IsUntroubled (O.taken writer.old) (O.taken writer.new)) }
     ensures same { K.is_broken keeper.old ≡ true → keeper.new ≡ keeper.old }
-    ensures reopen { K.is_broken keeper.old ≡ true → IsAnsweredShut (Asked.Input input.now) (O.taken writer.old) (O.taken writer.new) result }
+    ensures reopen { K.is_broken keeper.old ≡ true
+        → IsAnsweredShut (Asked.Input input.now) (O.taken writer.old) (O.taken writer.new) result }
 {
     let answer = match answer_one(keeper, input, at) {
         Ok(answer) => answer,
@@ -75,9 +81,14 @@ fn answer_refusal<O: ByteOut>(
     writer: &mut O,
     refusal: &Refusal,
 ) -> Result<bool, RunFault>
-    ensures answered { IfOk result (λ good. (good ≡ false) × ((O.taken writer.new).bytes ≡ (O.taken writer.old).bytes ++ (refusal_text refusal.now ++ 10 ∷ []))) }
-    ensures stopped { IfErr result (HasToldPart (refusal_text refusal.now ++ 10 ∷ []) (O.taken writer.old) (O.taken writer.new)) }
-    ensures told { HasToldLine (refusal_text refusal.now ++ 10 ∷ []) (O.taken writer.old) (O.taken writer.new) result }
+    ensures answered { IfOk result (λ good. (good ≡ false)
+        × ((O.taken writer.new).bytes ≡ (O.taken writer.old).bytes ++
+        (refusal_text refusal.now ++ 10 ∷ []))) }
+    ensures stopped { IfErr result
+        (HasToldPart (refusal_text refusal.now ++ 10 ∷ []) (O.taken writer.old)
+        (O.taken writer.new)) }
+    ensures told { HasToldLine (refusal_text refusal.now ++ 10 ∷ []) (O.taken writer.old)
+        (O.taken writer.new) result }
     ensures write_told { IfErr result (λ e. (e ≡ RunFault.Write)
         ⊎ IsUntroubled (O.taken writer.old) (O.taken writer.new)) }
     ensures untroubled { OnOk result (IsUntroubled (O.taken writer.old) (O.taken writer.new)) }
@@ -91,9 +102,12 @@ fn answer_refusal<O: ByteOut>(
 
 /// Writes the line of a bad body.
 fn answer_bad<O: ByteOut>(writer: &mut O) -> Result<bool, RunFault>
-    ensures answered { IfOk result (λ good. (good ≡ false) × ((O.taken writer.new).bytes ≡ (O.taken writer.old).bytes ++ codes "body bad\n")) }
-    ensures stopped { IfErr result (HasToldPart (codes "body bad\n") (O.taken writer.old) (O.taken writer.new)) }
-    ensures told { HasToldLine (codes "body bad\n") (O.taken writer.old) (O.taken writer.new) result }
+    ensures answered { IfOk result (λ good. (good ≡ false)
+        × ((O.taken writer.new).bytes ≡ (O.taken writer.old).bytes ++ codes "body bad\n")) }
+    ensures stopped { IfErr result
+        (HasToldPart (codes "body bad\n") (O.taken writer.old) (O.taken writer.new)) }
+    ensures told { HasToldLine (codes "body bad\n") (O.taken writer.old) (O.taken writer.new)
+        result }
     ensures write_told { IfErr result (λ e. (e ≡ RunFault.Write)
         ⊎ IsUntroubled (O.taken writer.old) (O.taken writer.new)) }
     ensures untroubled { OnOk result (IsUntroubled (O.taken writer.old) (O.taken writer.new)) }
@@ -114,17 +128,23 @@ pub(crate) fn answer_asked<K: Keeper, O: ByteOut>(
     ensures works { K.is_broken keeper.old ≡ false → OnOk result (K.is_broken keeper.new ≡ false) }
     ensures breaks { K.is_broken keeper.old ≡ false
         → IfErr result (λ e. IsShutAfter e (K.is_broken keeper.new)) }
-    ensures answered { (s : State) → K.keeps keeper.old s → K.is_broken keeper.old ≡ false → K.is_sound keeper.new
-        → IfOk result (λ good. IsAnswered s asked.now at good (O.taken writer.old).bytes (O.taken writer.new).bytes (K.keeps keeper.new)) }
-    ensures stopped { (s : State) → K.keeps keeper.old s → K.is_broken keeper.old ≡ false → K.is_sound keeper.new
-        → IfErr result (λ e. IsStopped s asked.now at e (O.taken writer.old).bytes (O.taken writer.new).bytes (K.keeps keeper.new) (K.may_find keeper.new)) }
+    ensures answered { (s : State) → K.keeps keeper.old s → K.is_broken keeper.old ≡ false
+        → K.is_sound keeper.new
+        → IfOk result (λ good. IsAnswered s asked.now at good (O.taken writer.old).bytes
+        (O.taken writer.new).bytes (K.keeps keeper.new)) }
+    ensures stopped { (s : State) → K.keeps keeper.old s → K.is_broken keeper.old ≡ false
+        → K.is_sound keeper.new
+        → IfErr result (λ e. IsStopped s asked.now at e (O.taken writer.old).bytes
+        (O.taken writer.new).bytes (K.keeps keeper.new) (K.may_find keeper.new)) }
     ensures read { result ≡ Err RunFault.Read → ⊥ }
-    ensures write { result ≡ Err RunFault.Write → HasCause (O.taken writer.old) (O.taken writer.new) }
+    ensures write { result ≡ Err RunFault.Write
+        → HasCause (O.taken writer.old) (O.taken writer.new) }
     ensures write_told { IfErr result (λ e. (e ≡ RunFault.Write)
         ⊎ IsUntroubled (O.taken writer.old) (O.taken writer.new)) }
     ensures untroubled { OnOk result (IsUntroubled (O.taken writer.old) (O.taken writer.new)) }
     ensures same { K.is_broken keeper.old ≡ true → keeper.new ≡ keeper.old }
-    ensures reopen { K.is_broken keeper.old ≡ true → IsAnsweredShut asked.now (O.taken writer.old) (O.taken writer.new) result }
+    ensures reopen { K.is_broken keeper.old ≡ true
+        → IsAnsweredShut asked.now (O.taken writer.old) (O.taken writer.new) result }
 {
     match asked {
         Asked::Input(input) => answer_input(alloc, keeper, writer, input, at),

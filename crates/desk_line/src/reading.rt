@@ -14,13 +14,17 @@ pub(crate) const LONGEST: usize = 65_536;
 /// The most bytes of one read.
 const CHUNK: usize = 4096;
 
-/// One read behind the bytes that have come. `true`: the input has ended. An interrupted read brings nothing.
+/// One read behind the bytes that have come. `true`: the input has ended. An interrupted read
+/// brings nothing.
 fn read_more<I: ByteIn>(reader: &mut I, bytes: &mut Vec<u8>) -> Result<bool, RunFault>
-    ensures come { OnOk result (HasGrown (I.given reader.old) (I.given reader.new) bytes.old.items bytes.new.items) }
+    ensures come { OnOk result
+        (HasGrown (I.given reader.old) (I.given reader.new) bytes.old.items bytes.new.items) }
     ensures calls { OnOk result ((I.given reader.new).calls ≡ (I.given reader.old).calls + 1) }
-    ensures ended { IfOk result (λ ended. ended ≡ true → (I.given reader.old).idle < (I.given reader.new).idle) }
+    ensures ended { IfOk result (λ ended. ended ≡ true
+        → (I.given reader.old).idle < (I.given reader.new).idle) }
     ensures fault { IfErr result IsReadersFault }
-    ensures failed { result ≡ Err RunFault.Read → (I.given reader.old).failures < (I.given reader.new).failures }
+    ensures failed { result ≡ Err RunFault.Read
+        → (I.given reader.old).failures < (I.given reader.new).failures }
     ensures told { IfErr result (λ e. (e ≡ RunFault.Read)
         ⊎ ((I.given reader.new).failures ≡ (I.given reader.old).failures)) }
 {
@@ -38,9 +42,11 @@ fn read_more<I: ByteIn>(reader: &mut I, bytes: &mut Vec<u8>) -> Result<bool, Run
 
 /// Reads an input to its end, or until more bytes have come than a telegram or a body has.
 pub(crate) fn read_input<I: ByteIn>(alloc: Global, reader: &mut I) -> Result<Vec<u8>, RunFault>
-    ensures come { IfOk result (λ bytes. HasCome (I.given reader.old) (I.given reader.new) bytes.items) }
+    ensures come { IfOk result
+        (λ bytes. HasCome (I.given reader.old) (I.given reader.new) bytes.items) }
     ensures fault { IfErr result IsReadersFault }
-    ensures failed { result ≡ Err RunFault.Read → HasFailed (I.given reader.old) (I.given reader.new) }
+    ensures failed { result ≡ Err RunFault.Read
+        → HasFailed (I.given reader.old) (I.given reader.new) }
     ensures told { IfErr result (λ e. (e ≡ RunFault.Read)
         ⊎ ((I.given reader.new).failures ≡ (I.given reader.old).failures)) }
 {

@@ -72,11 +72,14 @@ fn run_stock_report<K: Keeper, W: ByteOut>(
     writer: &mut W,
 ) -> Result<(), RunFault>
     ensures reads { OnlyReads K.keeps K.is_sound K.is_broken K.may_find keeper.old keeper.new }
-    ensures reopen { K.is_broken keeper.old ≡ true → (result ≡ Err RunFault.Store) × (keeper.new ≡ keeper.old) × (W.taken writer.new ≡ W.taken writer.old) }
+    ensures reopen { K.is_broken keeper.old ≡ true → (result ≡ Err RunFault.Store)
+        × (keeper.new ≡ keeper.old) × (W.taken writer.new ≡ W.taken writer.old) }
     ensures writes { StopsReport (W.taken writer.old) (W.taken writer.new) result }
     ensures told { (s : State) → K.keeps keeper.old s → K.is_sound keeper.new
-        → OnOk result ((text : List ℕ) × IsReport s ReportName.Stock text × HasReported text (W.taken writer.old) (W.taken writer.new) result) }
-    ensures each { (s : State) → K.keeps keeper.old s → K.is_sound keeper.new → (text : List ℕ) → IsReport s ReportName.Stock text
+        → OnOk result ((text : List ℕ) × IsReport s ReportName.Stock text
+        × HasReported text (W.taken writer.old) (W.taken writer.new) result) }
+    ensures each { (s : State) → K.keeps keeper.old s → K.is_sound keeper.new → (text : List ℕ)
+        → IsReport s ReportName.Stock text
         → HasReported text (W.taken writer.old) (W.taken writer.new) result }
 {
     run_ended(stock_report(alloc, keeper, writer))
@@ -89,10 +92,12 @@ fn run_irregularity_report<K: Keeper, W: ByteOut>(
     writer: &mut W,
 ) -> Result<(), RunFault>
     ensures reads { OnlyReads K.keeps K.is_sound K.is_broken K.may_find keeper.old keeper.new }
-    ensures reopen { K.is_broken keeper.old ≡ true → (result ≡ Err RunFault.Store) × (keeper.new ≡ keeper.old) × (W.taken writer.new ≡ W.taken writer.old) }
+    ensures reopen { K.is_broken keeper.old ≡ true → (result ≡ Err RunFault.Store)
+        × (keeper.new ≡ keeper.old) × (W.taken writer.new ≡ W.taken writer.old) }
     ensures writes { StopsReport (W.taken writer.old) (W.taken writer.new) result }
     ensures told { (s : State) → K.keeps keeper.old s → K.is_sound keeper.new
-        → HasReported (irregularity_report s.cargo) (W.taken writer.old) (W.taken writer.new) result }
+        → HasReported (irregularity_report s.cargo) (W.taken writer.old) (W.taken writer.new)
+        result }
 {
     run_ended(irregularity_report(alloc, keeper, writer))
 }
@@ -104,7 +109,8 @@ fn run_movement_book<K: Keeper, W: ByteOut>(
     writer: &mut W,
 ) -> Result<(), RunFault>
     ensures reads { OnlyReads K.keeps K.is_sound K.is_broken K.may_find keeper.old keeper.new }
-    ensures reopen { K.is_broken keeper.old ≡ true → (result ≡ Err RunFault.Store) × (keeper.new ≡ keeper.old) × (W.taken writer.new ≡ W.taken writer.old) }
+    ensures reopen { K.is_broken keeper.old ≡ true → (result ≡ Err RunFault.Store)
+        × (keeper.new ≡ keeper.old) × (W.taken writer.new ≡ W.taken writer.old) }
     ensures writes { StopsReport (W.taken writer.old) (W.taken writer.new) result }
     ensures told { (s : State) → K.keeps keeper.old s → K.is_sound keeper.new
         → HasReported (movement_book s.cargo) (W.taken writer.old) (W.taken writer.new) result }
@@ -119,7 +125,8 @@ fn run_trail_report<K: Keeper, W: ByteOut>(
     writer: &mut W,
 ) -> Result<(), RunFault>
     ensures reads { OnlyReads K.keeps K.is_sound K.is_broken K.may_find keeper.old keeper.new }
-    ensures reopen { K.is_broken keeper.old ≡ true → (result ≡ Err RunFault.Store) × (keeper.new ≡ keeper.old) × (W.taken writer.new ≡ W.taken writer.old) }
+    ensures reopen { K.is_broken keeper.old ≡ true → (result ≡ Err RunFault.Store)
+        × (keeper.new ≡ keeper.old) × (W.taken writer.new ≡ W.taken writer.old) }
     ensures writes { StopsReport (W.taken writer.old) (W.taken writer.new) result }
     ensures told { (s : State) → K.keeps keeper.old s → K.is_sound keeper.new
         → HasReported (trail_report s.cargo) (W.taken writer.old) (W.taken writer.new) result }
@@ -129,8 +136,9 @@ fn run_trail_report<K: Keeper, W: ByteOut>(
 
 /// Writes the report of a name.
 ///
-/// Returns [`RunFault::Write`] where the writer fails or takes no byte, [`RunFault::Memory`] when out of memory, and
-/// [`RunFault::Store`] where the store fails, or failed before. A beginning of the report was written, and nothing has changed.
+/// Returns [`RunFault::Write`] where the writer fails or takes no byte, [`RunFault::Memory`] when
+/// out of memory, and [`RunFault::Store`] where the store fails, or failed before. A beginning of
+/// the report was written, and nothing has changed.
 pub fn run_report<K: Keeper, W: ByteOut>(
     alloc: Global,
     keeper: &mut K,
@@ -138,14 +146,17 @@ pub fn run_report<K: Keeper, W: ByteOut>(
     writer: &mut W,
 ) -> Result<(), RunFault>
     ensures reads { OnlyReads K.keeps K.is_sound K.is_broken K.may_find keeper.old keeper.new }
-    ensures reopen { K.is_broken keeper.old ≡ true → (result ≡ Err RunFault.Store) × (keeper.new ≡ keeper.old) × (W.taken writer.new ≡ W.taken writer.old) }
+    ensures reopen { K.is_broken keeper.old ≡ true → (result ≡ Err RunFault.Store)
+        × (keeper.new ≡ keeper.old) × (W.taken writer.new ≡ W.taken writer.old) }
     ensures writes { StopsReport (W.taken writer.old) (W.taken writer.new) result }
 
     // A text is the report that went out.
     ensures told { (s : State) → K.keeps keeper.old s → K.is_sound keeper.new
-        → OnOk result ((text : List ℕ) × IsReport s name text × HasReported text (W.taken writer.old) (W.taken writer.new) result) }
+        → OnOk result ((text : List ℕ) × IsReport s name text
+        × HasReported text (W.taken writer.old) (W.taken writer.new) result) }
     // Of each text that is the report, it went out, or a beginning of it.
-    ensures each { (s : State) → K.keeps keeper.old s → K.is_sound keeper.new → (text : List ℕ) → IsReport s name text
+    ensures each { (s : State) → K.keeps keeper.old s → K.is_sound keeper.new → (text : List ℕ)
+        → IsReport s name text
         → HasReported text (W.taken writer.old) (W.taken writer.new) result }
 {
     match name {
@@ -158,15 +169,17 @@ pub fn run_report<K: Keeper, W: ByteOut>(
 
 /// Writes the pending report: each message that was not confirmed yet.
 ///
-/// Returns [`RunFault::Write`] where the writer fails or takes no byte, [`RunFault::Memory`] when out of memory, and
-/// [`RunFault::Store`] where the store fails, or failed before. A beginning of the report was written, and nothing has changed.
+/// Returns [`RunFault::Write`] where the writer fails or takes no byte, [`RunFault::Memory`] when
+/// out of memory, and [`RunFault::Store`] where the store fails, or failed before. A beginning of
+/// the report was written, and nothing has changed.
 pub fn run_outbox<K: Keeper, W: ByteOut>(
     alloc: Global,
     keeper: &mut K,
     writer: &mut W,
 ) -> Result<(), RunFault>
     ensures reads { OnlyReads K.keeps K.is_sound K.is_broken K.may_find keeper.old keeper.new }
-    ensures reopen { K.is_broken keeper.old ≡ true → (result ≡ Err RunFault.Store) × (keeper.new ≡ keeper.old) × (W.taken writer.new ≡ W.taken writer.old) }
+    ensures reopen { K.is_broken keeper.old ≡ true → (result ≡ Err RunFault.Store)
+        × (keeper.new ≡ keeper.old) × (W.taken writer.new ≡ W.taken writer.old) }
     ensures writes { StopsReport (W.taken writer.old) (W.taken writer.new) result }
     ensures told { (s : State) → K.keeps keeper.old s → K.is_sound keeper.new
         → HasReported (pending_report s.cargo) (W.taken writer.old) (W.taken writer.new) result }

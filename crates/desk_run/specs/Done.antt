@@ -32,7 +32,8 @@ good_of (Err e) = Err e
 abbrev pub made_line : List ℕ → List ℕ
 made_line here = codes "ok " ++ here ++ codes "\n"
 
--- The line of the new station went out; or a beginning of it, where the writer failed or took no byte. The station stays as it was made.
+-- The line of the new station went out; or a beginning of it, where the writer failed or took no
+-- byte. The station stays as it was made.
 pub record HasToldMade {K : Type 0} (here : List ℕ) (old new : K) (sent_old sent_new : Given) (result : Result Bool RunFault) : Type 0 where
   pub same : new ≡ old
   pub good : IfOk result (λ good. good ≡ true)
@@ -78,15 +79,19 @@ pub record HasAnsweredAsked {K : Type 0} (IsAsked : List ℕ → Asked → Type 
   pub same : is_broken old ≡ true → new ≡ old
   pub reopen : is_broken old ≡ true → HasRunShut IsAsked read_old read_new sent_old sent_new result
 
--- The report went out, or a beginning of it, and nothing changed. A station that has to be opened again returns nothing.
+-- The report went out, or a beginning of it, and nothing changed. A station that has to be opened
+-- again returns nothing.
 pub record HasToldReport {K : Type 0} (IsText : State → List ℕ → Type 0) (keeps : K → State → Type 0) (is_sound : K → Type 0) (is_broken : K → Bool)
     (may_find : K → Option State → Type 0) (old new : K) (sent_old sent_new : Given) (ended : Result (Unit {0}) RunFault) : Type 0 where
   pub reads : OnlyReads keeps is_sound is_broken may_find old new
-  pub reopen : is_broken old ≡ true → (ended ≡ Err fault.Store) × (new ≡ old) × (sent_new ≡ sent_old)
+  pub reopen : is_broken old ≡ true → (ended ≡ Err fault.Store) × (new ≡ old)
+      × (sent_new ≡ sent_old)
   -- one text is the report that went out
-  pub told : (s : State) → keeps old s → is_sound new → OnOk ended ((text : List ℕ) × IsText s text × HasReported text sent_old sent_new ended)
+  pub told : (s : State) → keeps old s → is_sound new
+      → OnOk ended ((text : List ℕ) × IsText s text × HasReported text sent_old sent_new ended)
   -- of each text that is the report, it went out, or a beginning of it
-  pub each : (s : State) → keeps old s → is_sound new → (text : List ℕ) → IsText s text → HasReported text sent_old sent_new ended
+  pub each : (s : State) → keeps old s → is_sound new → (text : List ℕ) → IsText s text
+      → HasReported text sent_old sent_new ended
 
 -- the same, where the run returns whether all was accepted: a report refuses nothing
 pub record HasReportedGood {K : Type 0} (IsText : State → List ℕ → Type 0) (keeps : K → State → Type 0) (is_sound : K → Type 0) (is_broken : K → Bool)
@@ -104,9 +109,10 @@ pub record HasIdled {K : Type 0} (old new : K) (sent_old sent_new : Given) (resu
 abbrev pub IsPending : State → List ℕ → Type 0
 IsPending s text = text ≡ pending_report s.cargo
 
--- What a run of each command leaves of its keeper, its reader and its writer, and what it returns. The service and the
--- migration of a file don't run here.
-abbrev pub HasDone : {K : Type 0} → LineCommand → List ℕ → (K → State → Type 0) → (K → Type 0) → (K → Bool) → (K → Option State → Type 0) → LocalMinute → K → K
+-- What a run of each command leaves of its keeper, its reader and its writer, and what it returns.
+-- The service and the migration of a file don't run here.
+abbrev pub HasDone : {K : Type 0} → LineCommand → List ℕ → (K → State → Type 0) → (K → Type 0)
+    → (K → Bool) → (K → Option State → Type 0) → LocalMinute → K → K
     → Option (List ℕ) → Given → Given → Given → Given → Result Bool RunFault → Type 0
 HasDone command.Init here keeps is_sound is_broken may_find at old new left read_old read_new sent_old sent_new r = HasToldMade here old new sent_old sent_new r
 HasDone command.Migrate here keeps is_sound is_broken may_find at old new left

@@ -12,7 +12,8 @@ use std::io::{ErrorKind, Read};
 use std::marker::Model;
 use stock_list::Watched;
 
-/// What feeds a command: a reader of std, with a count of what it gave that contracts alone see. It knows whether a read has failed.
+/// What feeds a command: a reader of std, with a count of what it gave that contracts alone see. It
+/// knows whether a read has failed.
 #[derive(Drop)]
 pub struct Feed<R> {
     counted: Counted<R>,
@@ -46,7 +47,8 @@ impl<R: Read> ByteIn for Feed<R> {
     fn read(&mut self, buf: &mut [u8]) -> Result<usize, ReadFault>
         ensures step { ReadStep (fed_of self.old) (fed_of self.new) result buf.new }
         // What is known to be left of the reader loses these bytes, and no others.
-        ensures inner { ReadConsumes (R.remaining (reader_of self.old)) (R.remaining (reader_of self.new)) result buf.new }
+        ensures inner { ReadConsumes (R.remaining (reader_of self.old))
+            (R.remaining (reader_of self.new)) result buf.new }
     {
         match self.counted.read(buf) {
             Ok(n) => Ok(n),

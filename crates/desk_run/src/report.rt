@@ -25,7 +25,8 @@ fn send_report<K: Keeper, W: ByteOut>(
     name: ReportName,
     output: &mut W,
 ) -> Result<(), RunFault>
-    ensures { HasToldReport (λ s. IsReport s name) K.keeps K.is_sound K.is_broken K.may_find keeper.old keeper.new (W.taken output.old) (W.taken output.new) result }
+    ensures { HasToldReport (λ s. IsReport s name) K.keeps K.is_sound K.is_broken K.may_find
+        keeper.old keeper.new (W.taken output.old) (W.taken output.new) result }
 {
     run_report(alloc, keeper, name, output)
 }
@@ -36,7 +37,8 @@ fn send_outbox<K: Keeper, W: ByteOut>(
     keeper: &mut K,
     output: &mut W,
 ) -> Result<(), RunFault>
-    ensures { HasToldReport IsPending K.keeps K.is_sound K.is_broken K.may_find keeper.old keeper.new (W.taken output.old) (W.taken output.new) result }
+    ensures { HasToldReport IsPending K.keeps K.is_sound K.is_broken K.may_find keeper.old
+        keeper.new (W.taken output.old) (W.taken output.new) result }
 {
     run_outbox(alloc, keeper, output)
 }
@@ -50,7 +52,8 @@ pub(crate) fn do_report<K: Keeper, W: ByteOut>(
 ) -> Result<bool, RunFault>
     ensures sound { K.is_sound keeper.new → K.is_sound keeper.old }
     ensures works { K.is_broken keeper.old ≡ false → OnOk result (K.is_broken keeper.new ≡ false) }
-    ensures reported { HasReportedGood (λ s. IsReport s name) K.keeps K.is_sound K.is_broken K.may_find keeper.old keeper.new (W.taken output.old) (W.taken output.new) result }
+    ensures reported { HasReportedGood (λ s. IsReport s name) K.keeps K.is_sound K.is_broken
+        K.may_find keeper.old keeper.new (W.taken output.old) (W.taken output.new) result }
 {
     good_of(send_report(alloc, keeper, name, output))
 }
@@ -63,7 +66,8 @@ pub(crate) fn do_outbox<K: Keeper, W: ByteOut>(
 ) -> Result<bool, RunFault>
     ensures sound { K.is_sound keeper.new → K.is_sound keeper.old }
     ensures works { K.is_broken keeper.old ≡ false → OnOk result (K.is_broken keeper.new ≡ false) }
-    ensures reported { HasReportedGood IsPending K.keeps K.is_sound K.is_broken K.may_find keeper.old keeper.new (W.taken output.old) (W.taken output.new) result }
+    ensures reported { HasReportedGood IsPending K.keeps K.is_sound K.is_broken K.may_find
+        keeper.old keeper.new (W.taken output.old) (W.taken output.new) result }
 {
     good_of(send_outbox(alloc, keeper, output))
 }

@@ -23,7 +23,8 @@ fn do_init<K: Keeper, W: ByteOut>(
     here: Airport,
     output: &mut W,
 ) -> Result<bool, RunFault>
-    ensures { HasToldMade here _keeper.old _keeper.new (W.taken output.old) (W.taken output.new) result }
+    ensures { HasToldMade here _keeper.old _keeper.new (W.taken output.old) (W.taken output.new)
+        result }
 {
     match send_word(output, "ok ", &here.letters()) {
         Ok(()) => Ok(true),
@@ -41,7 +42,8 @@ fn do_stock<K: Keeper, I: Watched + Read, W: ByteOut>(
 ) -> Result<bool, RunFault>
     ensures sound { K.is_sound keeper.new → K.is_sound keeper.old }
     ensures works { K.is_broken keeper.old ≡ false → OnOk result (K.is_broken keeper.new ≡ false) }
-    ensures answered { HasAnsweredRows K.keeps K.is_sound K.is_broken K.may_find (I.remaining reader.old) at keeper.old keeper.new
+    ensures answered { HasAnsweredRows K.keeps K.is_sound K.is_broken K.may_find
+        (I.remaining reader.old) at keeper.old keeper.new
         (I.given reader.new) (W.taken output.old) (W.taken output.new) result }
 {
     run_stock(alloc, keeper, reader, output, at)
@@ -57,7 +59,8 @@ fn do_take<K: Keeper, I: ByteIn, W: ByteOut>(
 ) -> Result<bool, RunFault>
     ensures sound { K.is_sound keeper.new → K.is_sound keeper.old }
     ensures works { K.is_broken keeper.old ≡ false → OnOk result (K.is_broken keeper.new ≡ false) }
-    ensures answered { HasAnsweredAsked IsTelegramAsked K.keeps K.is_sound K.is_broken K.may_find at keeper.old keeper.new
+    ensures answered { HasAnsweredAsked IsTelegramAsked K.keeps K.is_sound K.is_broken K.may_find at
+        keeper.old keeper.new
         (I.given reader.old) (I.given reader.new) (W.taken output.old) (W.taken output.new) result }
 {
     run_take(alloc, keeper, reader, output, at)
@@ -75,7 +78,8 @@ fn do_act<K: Keeper, I: ByteIn, W: ByteOut>(
 ) -> Result<bool, RunFault>
     ensures sound { K.is_sound keeper.new → K.is_sound keeper.old }
     ensures works { K.is_broken keeper.old ≡ false → OnOk result (K.is_broken keeper.new ≡ false) }
-    ensures answered { HasAnsweredAsked (IsCommandAsked verb key) K.keeps K.is_sound K.is_broken K.may_find at keeper.old keeper.new
+    ensures answered { HasAnsweredAsked (IsCommandAsked verb key) K.keeps K.is_sound K.is_broken
+        K.may_find at keeper.old keeper.new
         (I.given reader.old) (I.given reader.new) (W.taken output.old) (W.taken output.new) result }
 {
     run_act(alloc, keeper, verb, key, reader, output, at)
@@ -84,8 +88,9 @@ fn do_act<K: Keeper, I: ByteIn, W: ByteOut>(
 /// Runs the command of a line over its station, at a moment. `serve` and `migrate` aren't run here:
 /// nothing is done or written.
 ///
-/// `Ok` says whether all was accepted. Returns [`RunFault::Read`], [`RunFault::Write`], [`RunFault::Memory`] or
-/// [`RunFault::Store`] where the run stopped, as its command's own call says.
+/// `Ok` says whether all was accepted. Returns [`RunFault::Read`], [`RunFault::Write`],
+/// [`RunFault::Memory`] or [`RunFault::Store`] where the run stopped, as its command's own call
+/// says.
 pub fn run_over<K: Keeper, I: Watched + Read, W: ByteOut>(
     alloc: Global,
     keeper: &mut K,
@@ -96,8 +101,10 @@ pub fn run_over<K: Keeper, I: Watched + Read, W: ByteOut>(
 ) -> Result<bool, RunFault>
     ensures sound { K.is_sound keeper.new → K.is_sound keeper.old }
     ensures works { K.is_broken keeper.old ≡ false → OnOk result (K.is_broken keeper.new ≡ false) }
-    ensures done { HasDone line.now.command (here_of line.now.station) K.keeps K.is_sound K.is_broken K.may_find at keeper.old keeper.new
-        (I.remaining reader.old) (I.given reader.old) (I.given reader.new) (W.taken output.old) (W.taken output.new) result }
+    ensures done { HasDone line.now.command (here_of line.now.station) K.keeps K.is_sound
+        K.is_broken K.may_find at keeper.old keeper.new
+        (I.remaining reader.old) (I.given reader.old) (I.given reader.new) (W.taken output.old)
+        (W.taken output.new) result }
 {
     match line.command {
         LineCommand::Init => do_init(keeper, airport_of_line(line), output),

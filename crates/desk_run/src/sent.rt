@@ -11,7 +11,8 @@ use stock_list::RunFault;
 ///
 /// Returns [`RunFault::Write`] where the writer fails or takes no byte: a beginning of it went out.
 pub fn send_part<W: ByteOut>(writer: &mut W, part: &[u8]) -> Result<(), RunFault>
-    ensures all { OnOk result ((W.taken writer.new).bytes ≡ (W.taken writer.old).bytes ++ part.now) }
+    ensures all { OnOk result
+        ((W.taken writer.new).bytes ≡ (W.taken writer.old).bytes ++ part.now) }
     ensures sent { HasSent part.now (W.taken writer.old) (W.taken writer.new) }
     ensures untroubled { OnOk result (IsUntroubled (W.taken writer.old) (W.taken writer.new)) }
     ensures why { IfErr result (λ e. e ≡ RunFault.Write) }
@@ -28,8 +29,11 @@ pub fn send_part<W: ByteOut>(writer: &mut W, part: &[u8]) -> Result<(), RunFault
 /// Returns [`RunFault::Write`] where the writer fails or takes no byte: a beginning of it went out.
 #[tactic(auto, using(crate::proofs::Parts::cause_behind, crate::proofs::Parts::cause_behind_two))]
 pub fn send_word<W: ByteOut>(writer: &mut W, head: &str, word: &[u8]) -> Result<(), RunFault>
-    ensures all { OnOk result ((W.taken writer.new).bytes ≡ (W.taken writer.old).bytes ++ (head.now ++ word.now ++ 10 ∷ [])) }
-    ensures sent { HasSent (head.now ++ word.now ++ 10 ∷ []) (W.taken writer.old) (W.taken writer.new) }
+    ensures all { OnOk result
+        ((W.taken writer.new).bytes ≡ (W.taken writer.old).bytes ++
+        (head.now ++ word.now ++ 10 ∷ [])) }
+    ensures sent { HasSent (head.now ++ word.now ++ 10 ∷ []) (W.taken writer.old)
+        (W.taken writer.new) }
     ensures why { IfErr result (λ e. e ≡ RunFault.Write) }
     ensures cause { OnErr result (HasCause (W.taken writer.old) (W.taken writer.new)) }
 {

@@ -9,20 +9,23 @@ use std::rc::Rc;
 /// What was written and hasn't gone out.
 type Gathered<W> = Rc<RefCell<BufWriter<W>>>;
 
-/// The output of a command. What is written is gathered, and goes out when the buffer is full, the tied input is read, or it is flushed.
+/// The output of a command. What is written is gathered, and goes out when the buffer is full, the
+/// tied input is read, or it is flushed.
 #[derive(Drop)]
 pub struct TiedOutput<W: Write + Drop> {
     gathered: Gathered<W>,
 }
 
-/// The input of a command. Before each read, which may wait, what was written to the tied output goes out.
+/// The input of a command. Before each read, which may wait, what was written to the tied output
+/// goes out.
 #[derive(Drop)]
 pub struct TiedInput<R, W: Write + Drop> {
     reader: R,
     gathered: Gathered<W>,
 }
 
-/// Ties an output to an input, so that who writes the one and reads the other has each answer before the next question.
+/// Ties an output to an input, so that who writes the one and reads the other has each answer
+/// before the next question.
 ///
 /// Returns [`AllocError`] when out of memory.
 pub fn tie<R: Read + Drop, W: Write + Drop>(
@@ -50,7 +53,8 @@ impl<R: Read, W: Write + Drop> Read for TiedInput<R, W> {
     ghost remaining = { λ t. R.remaining t.reader };
 
     fn read(&mut self, buf: &mut [u8]) -> io::Result<usize> {
-        // A failure is told by the next write, or by the last flush: what didn't go out is still there.
+        // A failure is told by the next write, or by the last flush: what didn't go out is still
+        // there.
         if let Ok(mut gathered) = self.gathered.try_borrow_mut() {
             let _told_later = gathered.flush();
         }

@@ -11,8 +11,8 @@ use std::io::{ErrorKind, Read};
 use std::net::{Ipv4Addr, Net, Shutdown, SocketAddr, TcpListener, TcpStream};
 use std::time::{Clock, Duration};
 
-/// How long a connection may wait for its first byte, in milliseconds. Others wait meanwhile, and most that send nothing
-/// by then never do: eight of them hold the next one up for 1.6 seconds.
+/// How long a connection may wait for its first byte, in milliseconds. Others wait meanwhile, and
+/// most that send nothing by then never do: eight of them hold the next one up for 1.6 seconds.
 const MOST_SILENCE: u64 = 200;
 
 /// How long a read behind the first byte, or a write, may wait, in seconds.
@@ -60,7 +60,8 @@ fn timed<'a, C: Clock>(clock: &'a C, stream: &'a TcpStream) -> io::Result<Timed<
     Timed::new(clock, stream, waits)
 }
 
-/// Ends the answer, and reads what the peer still sends: a close over unread bytes would take the answer back.
+/// Ends the answer, and reads what the peer still sends: a close over unread bytes would take the
+/// answer back.
 fn finish<C: Clock>(clock: &C, stream: &TcpStream) -> io::Result<()> {
     stream.shutdown(Shutdown::Write)?;
     let waits = Waits {
@@ -100,7 +101,8 @@ fn answer<C: Clock, K: Keeper>(
     Ok(served)
 }
 
-/// Serves a connection, at the moment that the clock shows now. A read or a write that fails ends the connection alone.
+/// Serves a connection, at the moment that the clock shows now. A read or a write that fails ends
+/// the connection alone.
 fn serve_stream<C: Clock, K: Keeper>(
     alloc: Global,
     clock: &C,
@@ -117,9 +119,11 @@ fn serve_stream<C: Clock, K: Keeper>(
     }
 }
 
-/// Serves one connection after another: without a count for good, else so many. The clock is read once for each.
+/// Serves one connection after another: without a count for good, else so many. The clock is read
+/// once for each.
 ///
-/// A connection that was given up before its turn counts as one. Returns a [`ServerFault`] where the service can't go on.
+/// A connection that was given up before its turn counts as one. Returns a [`ServerFault`] where
+/// the service can't go on.
 pub fn serve<C: Clock, K: Keeper>(
     alloc: Global,
     clock: &C,

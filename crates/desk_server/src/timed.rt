@@ -16,7 +16,8 @@ pub(crate) struct Waits {
     pub(crate) all: Duration,
 }
 
-/// A reader of a connection. No read waits longer than it may, nor past the time that the reader has in all.
+/// A reader of a connection. No read waits longer than it may, nor past the time that the reader
+/// has in all.
 #[derive(Drop)]
 pub(crate) struct Timed<'a, C: Clock> {
     clock: &'a C,

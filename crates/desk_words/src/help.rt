@@ -95,7 +95,8 @@ pub(crate) const VERBS: [Verb; 16] = [
     Verb::Confirm,
 ];
 
-/// What a verb does, the fields of its body, a body, and its refusals in the order in which they are tested.
+/// What a verb does, the fields of its body, a body, and its refusals in the order in which they
+/// are tested.
 pub(crate) fn verb<'a>(verb: Verb) -> &'a str {
     match verb {
         Verb::TakeIn => TAKE_IN,

@@ -99,7 +99,8 @@ fn read_command<'a>(
     has_airport: bool,
 ) -> Result<LineCommand<'a>, BadValue<'a>>
     ensures means { IfOk result (Means request.entry) }
-    ensures called { IfOk result (λ command. IsCalled command (has_file ≡ true) (has_airport ≡ true)) }
+    ensures called { IfOk result
+        (λ command. IsCalled command (has_file ≡ true) (has_airport ≡ true)) }
 {
     match request {
         Request::Init if has_file && has_airport => Ok(LineCommand::Init),

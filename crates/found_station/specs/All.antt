@@ -48,6 +48,7 @@ pub record AreTables (r : Reading) (found : FoundTables) : Type 0 where
   pub counts : AreCounts r.database found.counts
 
 -- a call that reads some tables, and changes nothing
-abbrev pub FindsTables : {S X : Type 0} → Ghosts S → Held S → Held S → Result X Error → (Database → X → Type 0) → Type 0
+abbrev pub FindsTables : {S X : Type 0} → Ghosts S → Held S → Held S → Result X Error
+    → (Database → X → Type 0) → Type 0
 FindsTables g old new result Are =
     HasCleanDisk (state g new) → IsTrue (state g old).is_open → Reads (state g old) (state g new) result (Are (state g old).now)

@@ -86,7 +86,8 @@ fn read_old_waybills<S: Alter>(
     conn: &mut Connection<S>,
     version: FileVersion,
 ) -> Result<Option<Vec<OldWaybillEntry>>, Error>
-    ensures read { FindsTables S.Store conn.old conn.new result (λ db. TellsTable old_waybill_entry (HoldsOldWaybills version db)) }
+    ensures read { FindsTables S.Store conn.old conn.new result
+        (λ db. TellsTable old_waybill_entry (HoldsOldWaybills version db)) }
     ensures survives { Survives (state S.Store conn.old) (state S.Store conn.new) (λ _. ⊥) }
 {
     match version {
@@ -101,7 +102,8 @@ fn read_waybills<S: Alter>(
     conn: &mut Connection<S>,
     version: FileVersion,
 ) -> Result<Option<Vec<WaybillRow>>, Error>
-    ensures read { FindsTables S.Store conn.old conn.new result (λ db. TellsTable waybill_meant (HoldsWaybills version db)) }
+    ensures read { FindsTables S.Store conn.old conn.new result
+        (λ db. TellsTable waybill_meant (HoldsWaybills version db)) }
     ensures survives { Survives (state S.Store conn.old) (state S.Store conn.new) (λ _. ⊥) }
 {
     match version {
@@ -119,7 +121,8 @@ fn found_cargo<S: Alter>(
     conn: &mut Connection<S>,
     version: FileVersion,
 ) -> Result<FoundCargo, Error>
-    ensures read { FindsTables S.Store conn.old conn.new result (λ db. AreCargo (read_as version db)) }
+    ensures read { FindsTables S.Store conn.old conn.new result
+        (λ db. AreCargo (read_as version db)) }
     ensures survives { Survives (state S.Store conn.old) (state S.Store conn.new) (λ _. ⊥) }
 {
     let old_waybills = read_old_waybills(alloc, conn, version)?;
@@ -176,17 +179,19 @@ fn found_sums<S: Alter>(alloc: Global, conn: &mut Connection<S>) -> Result<Found
     Ok(FoundCounts { counts, builds })
 }
 
-/// All tables of a station in any database but `station` itself, each by one statement, in the order of its keys, as those
-/// of a file of version 2: the waybills of one of version 1 are given with no day. Nothing
-/// stands for a table where it or a column is missing, a value is of another type or a text that is no UTF-8, or a key
-/// stands twice. The connection is open. On error memory is out or the database could not be read: nothing was done, or the
-/// transaction that was open is undone.
+/// All tables of a station in any database but `station` itself, each by one statement, in the
+/// order of its keys, as those of a file of version 2: the waybills of one of version 1 are given
+/// with no day. Nothing stands for a table where it or a column is missing, a value is of another
+/// type or a text that is no UTF-8, or a key stands twice. The connection is open. On error memory
+/// is out or the database could not be read: nothing was done, or the transaction that was open is
+/// undone.
 pub fn all_tables<S: Alter>(
     alloc: Global,
     conn: &mut Connection<S>,
     version: FileVersion,
 ) -> Result<FoundTables, Error>
-    ensures read { FindsTables S.Store conn.old conn.new result (λ db. AreTables (read_as version db)) }
+    ensures read { FindsTables S.Store conn.old conn.new result
+        (λ db. AreTables (read_as version db)) }
     ensures survives { Survives (state S.Store conn.old) (state S.Store conn.new) (λ _. ⊥) }
 {
     let cargo = found_cargo(alloc, conn, version)?;

@@ -18,7 +18,8 @@ use Rattle.text_rows.specs.Shown.{trail_shown, message_shown}
 use Rattle.found_tables.specs.declared.kept_key.KeptKeyEntry.{KeptKeyEntry}
 use Rattle.found_tables.specs.declared.kept_text.KeptTextEntry.{KeptTextEntry}
 
--- Of each table: its name, its columns with the key first, and its entries in the order of their keys.
+-- Of each table: its name, its columns with the key first, and its entries in the order of their
+-- keys.
 
 abbrev pub by_key : {K V : Type 0} → (K → K → Ordering) → K × V → K × V → Ordering
 by_key R a b = R a.0 b.0

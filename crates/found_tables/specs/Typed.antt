@@ -5,13 +5,16 @@ use Rattle.sqlite.specs.Effect.{Database}
 use Rattle.row_schema.specs.Tables.{Tables, IsStation, IsOldStation, tables_of, old_tables_of}
 
 -- nothing is held but this list, and it is held where its texts are texts
-abbrev pub IsHeldBy : {E : Type 0} → (Database → List E → Type 0) → (E → Type 0) → Database → List E → Type 0
+abbrev pub IsHeldBy : {E : Type 0} → (Database → List E → Type 0) → (E → Type 0) → Database → List E
+    → Type 0
 IsHeldBy {E} Holds HasTexts db list = ((es : List E) → Holds db es → list ≡ es) × (AllByRecursion HasTexts list → Holds db list)
 
 -- so it is of a list of the typed tables, in a file of version 2
-abbrev pub HoldsTyped : {E : Type 0} → (Database → List E → Type 0) → (E → Type 0) → (Tables → List E) → Type 0
+abbrev pub HoldsTyped : {E : Type 0} → (Database → List E → Type 0) → (E → Type 0)
+    → (Tables → List E) → Type 0
 HoldsTyped Holds HasTexts list = (db : Database) → IsStation db → IsHeldBy Holds HasTexts db (list (tables_of db.trees))
 
 -- and of version 1
-abbrev pub HoldsOld : {E : Type 0} → (Database → List E → Type 0) → (E → Type 0) → (Tables → List E) → Type 0
+abbrev pub HoldsOld : {E : Type 0} → (Database → List E → Type 0) → (E → Type 0) → (Tables → List E)
+    → Type 0
 HoldsOld Holds HasTexts list = (db : Database) → IsOldStation db → IsHeldBy Holds HasTexts db (list (old_tables_of db.trees))

@@ -54,7 +54,8 @@ found_in_rows wanted [] = no_station
 found_in_rows wanted (row ∷ []) = found_in_row wanted row
 found_in_rows wanted (row ∷ other ∷ more) = damaged
 
--- no table or no row, then a missing column or a second row, then the version, and then the other values
+-- no table or no row, then a missing column or a second row, then the version, and then the other
+-- values
 abbrev pub station_found : FileVersion → Found → Verdict
 station_found wanted no_table = no_station
 station_found wanted no_column = damaged

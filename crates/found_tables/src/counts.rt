@@ -63,9 +63,10 @@ impl KeyedTable for CountsTable {
     }
 }
 
-/// All rows of `counts` in any database, by `awb` and then by `place`. Nothing where the table or a column is
-/// missing, a value is of another type, or a key stands twice. The connection is open. On error memory is out
-/// or the database could not be read: nothing was done, or the transaction that was open is undone.
+/// All rows of `counts` in any database, by `awb` and then by `place`. Nothing where the table or a
+/// column is missing, a value is of another type, or a key stands twice. The connection is open. On
+/// error memory is out or the database could not be read: nothing was done, or the transaction that
+/// was open is undone.
 #[tactic(auto, using(crate::proofs::Texts::counts_is, crate::proofs::Orders::counts_agrees))]
 pub fn found_counts<S: Alter>(
     alloc: Global,

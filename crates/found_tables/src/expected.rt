@@ -90,10 +90,10 @@ impl KeyedTable for ExpectedTable {
     }
 }
 
-/// All rows of `expected` in any database, by `flight`, `day` and then `awb`. Nothing where the table or a
-/// column is missing, a value is of another type or a text that is no UTF-8, or a key stands twice. The
-/// connection is open. On error memory is out or the database could not be read: nothing was done, or the
-/// transaction that was open is undone.
+/// All rows of `expected` in any database, by `flight`, `day` and then `awb`. Nothing where the
+/// table or a column is missing, a value is of another type or a text that is no UTF-8, or a key
+/// stands twice. The connection is open. On error memory is out or the database could not be read:
+/// nothing was done, or the transaction that was open is undone.
 #[tactic(auto, using(crate::proofs::Texts::expected_is, crate::proofs::Orders::expected_agrees))]
 pub fn found_expected<S: Alter>(
     alloc: Global,

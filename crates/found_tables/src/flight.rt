@@ -78,10 +78,10 @@ impl KeyedTable for FlightTable {
     }
 }
 
-/// All rows of `flight` in any database, by `flight` and then by `day`. Nothing where the table or a column
-/// is missing, a value is of another type or a text that is no UTF-8, or a key stands twice. The connection
-/// is open. On error memory is out or the database could not be read: nothing was done, or the transaction
-/// that was open is undone.
+/// All rows of `flight` in any database, by `flight` and then by `day`. Nothing where the table or
+/// a column is missing, a value is of another type or a text that is no UTF-8, or a key stands
+/// twice. The connection is open. On error memory is out or the database could not be read: nothing
+/// was done, or the transaction that was open is undone.
 #[tactic(auto, using(crate::proofs::Texts::flight_is, crate::proofs::Orders::flight_agrees))]
 pub fn found_flights<S: Alter>(
     alloc: Global,

@@ -63,10 +63,10 @@ impl KeyedTable for KeptKeyTable {
     }
 }
 
-/// All rows of `kept_key` in any database, by `id`. Nothing where the table or a column is missing, a value
-/// is of another type or a text that is no UTF-8, or a key stands twice. The connection is open. On error
-/// memory is out or the database could not be read: nothing was done, or the transaction that was open is
-/// undone.
+/// All rows of `kept_key` in any database, by `id`. Nothing where the table or a column is missing,
+/// a value is of another type or a text that is no UTF-8, or a key stands twice. The connection is
+/// open. On error memory is out or the database could not be read: nothing was done, or the
+/// transaction that was open is undone.
 #[tactic(auto, using(crate::proofs::Texts::kept_key_is, crate::proofs::Orders::kept_key_agrees))]
 pub fn found_kept_keys<S: Alter>(
     alloc: Global,

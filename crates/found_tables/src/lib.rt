@@ -1,5 +1,6 @@
-//! The tables of a station in any database, whatever its schema is: each is read whole, in the order of its
-//! keys, as typed rows. What is read is what the database holds under the names of the table and of its columns.
+//! The tables of a station in any database, whatever its schema is: each is read whole, in the
+//! order of its keys, as typed rows. What is read is what the database holds under the names of the
+//! table and of its columns.
 #![tactic(auto)]
 
 mod build;

@@ -77,10 +77,10 @@ fn move_on(row: &Row, flight: String) -> Option<MoveRow>
     })
 }
 
-/// All rows of `moves` in any database, by `number`. Nothing where the table or a column is missing, a value
-/// is of another type or a text that is no UTF-8, or a key stands twice. The connection is open. On error
-/// memory is out or the database could not be read: nothing was done, or the transaction that was open is
-/// undone.
+/// All rows of `moves` in any database, by `number`. Nothing where the table or a column is
+/// missing, a value is of another type or a text that is no UTF-8, or a key stands twice. The
+/// connection is open. On error memory is out or the database could not be read: nothing was done,
+/// or the transaction that was open is undone.
 #[tactic(auto, using(crate::proofs::Texts::moves_is, crate::proofs::Orders::moves_agrees))]
 pub fn found_moves<S: Alter>(
     alloc: Global,

@@ -56,10 +56,10 @@ impl KeyedTable for OutboxTable {
     }
 }
 
-/// All rows of `outbox` in any database, by `number`. Nothing where the table or a column is missing, a value
-/// is of another type or a text that is no UTF-8, or a key stands twice. The connection is open. On error
-/// memory is out or the database could not be read: nothing was done, or the transaction that was open is
-/// undone.
+/// All rows of `outbox` in any database, by `number`. Nothing where the table or a column is
+/// missing, a value is of another type or a text that is no UTF-8, or a key stands twice. The
+/// connection is open. On error memory is out or the database could not be read: nothing was done,
+/// or the transaction that was open is undone.
 #[tactic(auto, using(crate::proofs::Texts::outbox_is, crate::proofs::Orders::outbox_agrees))]
 pub fn found_outbox<S: Alter>(
     alloc: Global,

@@ -7,8 +7,8 @@ ghost use Rattle.found_tables.specs.Typed.{HoldsTyped, HoldsOld};
 ghost use Rattle.found_tables.specs.Verdict.{station_of, row_of_version, one_row};
 ghost use Rattle.found_tables.specs.declared.station.FileVersion.TheVariants.{First, Second};
 
-/// In a database with the tables that a station declares, in a file of version 2, the entries that it holds are those of its typed
-/// tables, and these are held where their texts are texts.
+/// In a database with the tables that a station declares, in a file of version 2, the entries that
+/// it holds are those of its typed tables, and these are held where their texts are texts.
 pub fn held_is_typed()
     ensures station { (db : Database) (airport : List ℕ) (confirmed : ℤ) → IsStation db
         → (tables_of db.trees).stations ≡ row_of_version Second airport confirmed ∷ []

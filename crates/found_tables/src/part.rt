@@ -92,10 +92,10 @@ impl KeyedTable for PartTable {
     }
 }
 
-/// All rows of `part` in any database, by `flight`, `day`, `airport` and then `seq`. Nothing where the table
-/// or a column is missing, a value is of another type or a text that is no UTF-8, or a key stands twice. The
-/// connection is open. On error memory is out or the database could not be read: nothing was done, or the
-/// transaction that was open is undone.
+/// All rows of `part` in any database, by `flight`, `day`, `airport` and then `seq`. Nothing where
+/// the table or a column is missing, a value is of another type or a text that is no UTF-8, or a
+/// key stands twice. The connection is open. On error memory is out or the database could not be
+/// read: nothing was done, or the transaction that was open is undone.
 #[tactic(auto, using(crate::proofs::Texts::part_is, crate::proofs::Orders::part_agrees))]
 pub fn found_parts<S: Alter>(
     alloc: Global,

@@ -15,7 +15,8 @@ use std::alloc::Global;
 pub enum FileVersion {
     /// The waybills are in `waybill`, without a day.
     First,
-    /// They are in `waybill2`, with the day on which each was last declared, and `waybill` is empty.
+    /// They are in `waybill2`, with the day on which each was last declared, and `waybill` is
+    /// empty.
     Second,
 }
 
@@ -94,10 +95,10 @@ fn judged_rows(alloc: Global, rows: &[Row], wanted: FileVersion) -> Result<Stati
     }
 }
 
-/// What the table `station` says of any database: whether there is a row, then whether it is the only one and
-/// has the columns, then whether it is of this version, and then its values. The connection is open. On error
-/// memory is out or the database could not be read: nothing was done, or the transaction that was open is
-/// undone.
+/// What the table `station` says of any database: whether there is a row, then whether it is the
+/// only one and has the columns, then whether it is of this version, and then its values. The
+/// connection is open. On error memory is out or the database could not be read: nothing was done,
+/// or the transaction that was open is undone.
 #[tactic(auto, using(crate::proofs::Texts::station_is))]
 pub fn found_station<S: Alter>(
     alloc: Global,

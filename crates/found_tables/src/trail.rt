@@ -60,10 +60,10 @@ impl KeyedTable for TrailTable {
     }
 }
 
-/// All rows of `trail` in any database, by `number`. Nothing where the table or a column is missing, a value
-/// is of another type or a text that is no UTF-8, or a key stands twice. The connection is open. On error
-/// memory is out or the database could not be read: nothing was done, or the transaction that was open is
-/// undone.
+/// All rows of `trail` in any database, by `number`. Nothing where the table or a column is
+/// missing, a value is of another type or a text that is no UTF-8, or a key stands twice. The
+/// connection is open. On error memory is out or the database could not be read: nothing was done,
+/// or the transaction that was open is undone.
 #[tactic(auto, using(crate::proofs::Texts::trail_is, crate::proofs::Orders::trail_agrees))]
 pub fn found_trail<S: Alter>(
     alloc: Global,

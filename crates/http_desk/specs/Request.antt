@@ -18,13 +18,15 @@ use Rattle.station_core.specs.declared.input.Input.{Input}
 use Rattle.station_core.specs.declared.input.Input.TheVariants.{Keyed, Wire}
 use Rattle.http_desk.specs.Routes.{Posted, posted_command, posted_telegram, Got, Place, posts, gets, place_of}
 
--- a request's head, as far as it is read: the fields are names and values without blanks and tabs round them
+-- a request's head, as far as it is read: the fields are names and values without blanks and tabs
+-- round them
 pub record Head : Type 0 where
   pub method : List ℕ
   pub target : List ℕ
   pub fields : List (List ℕ × List ℕ)
 
--- A fault is answered by its status and a word, or none; at a wrong method the right one stands in a line of its own.
+-- A fault is answered by its status and a word, or none; at a wrong method the right one stands in
+-- a line of its own.
 pub record Fault : Type 0 where
   pub status : ℕ
   pub word : List ℕ
@@ -86,7 +88,8 @@ place_asks head None = refuses (fault 404 [])
 place_asks head (Some (posts posted)) = if bytes_eq head.method (codes "POST") then sends_body posted (body_length head.fields) else refuses (wrong_method (codes "POST"))
 place_asks head (Some (gets got)) = if bytes_eq head.method (codes "GET") then looks_up got else refuses (wrong_method (codes "GET"))
 
--- Which page a request comes from, where a browser tells it. Only the host's own pages may ask: this scheme, and then the host.
+-- Which page a request comes from, where a browser tells it. Only the host's own pages may ask:
+-- this scheme, and then the host.
 abbrev pub is_at : List ℕ → List ℕ → List ℕ → Bool
 is_at scheme host origin = bytes_eq (take (length scheme) origin) scheme && bytes_eq (drop (length scheme) origin) host
 

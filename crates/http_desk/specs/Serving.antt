@@ -25,7 +25,8 @@ added old new = drop (length old.bytes) new.bytes
 abbrev pub unavailable : List ℕ
 unavailable = json_answer 503 None (compact_text (refused_data 503 []))
 
--- The bytes are no whole request: no head is there yet, and there is room for one; or its head sends a body that hasn't come whole.
+-- The bytes are no whole request: no head is there yet, and there is room for one; or its head
+-- sends a body that hasn't come whole.
 abbrev pub LacksBody : List ℕ → Type 0
 LacksBody bytes =
     (h : RequestHead) × (HasHead bytes h × ((posted : Posted) × ((size : ℕ) × ((head_asks (head_of h) ≡ sends posted size)
@@ -38,11 +39,13 @@ IsUnfinished bytes = HasNoHeadYet bytes ⊎ LacksBody bytes
 abbrev pub GetsReport : List ℕ → Report → Type 0
 GetsReport bytes name = (h : RequestHead) × HasHead bytes h × (head_asks (head_of h) ≡ looks_up (got_report name))
 
--- What holds of a report's bytes behind its head: of one text of it, or of each. The text of a stock is known by its runs.
+-- What holds of a report's bytes behind its head: of one text of it, or of each. The text of a
+-- stock is known by its runs.
 abbrev pub SomeOrEach : State → Report → (List ℕ → Type 0) → Type 0
 SomeOrEach s name P = ((text : List ℕ) × IsReport s name text × P (report_head ++ text)) ⊎ ((text : List ℕ) → IsReport s name text → P (report_head ++ text))
 
--- The request asks this input of the station: its head sends a body, all of which has come, and the body says the input.
+-- The request asks this input of the station: its head sends a body, all of which has come, and the
+-- body says the input.
 pub record AsksInput (bytes : List ℕ) (i : Input) : Type 0 where
   pub head : RequestHead
   pub has : HasHead bytes head
@@ -56,39 +59,49 @@ pub record AsksInput (bytes : List ℕ) (i : Input) : Type 0 where
 abbrev pub IsKept : Bool → (State → Type 0) → State → Type 0
 IsKept broken keeps s = (broken ≡ false) × keeps s
 
--- The station broke at the very input that the request asks: a reopening finds the state before it, or the one after.
+-- The station broke at the very input that the request asks: a reopening finds the state before it,
+-- or the one after.
 abbrev pub IsBrokenAt : List ℕ → State → LocalMinute → Bool → (Option State → Type 0) → Type 0
 IsBrokenAt bytes s at broken may_find =
     (broken ≡ true) × ((i : Input) × AsksInput bytes i × ((found : Option State) → may_find found → (found ≡ Some s) ⊎ (found ≡ Some (step s i at).state)))
 
--- what 503 says of the station: it works and nothing has changed, or it broke at the request's input
-abbrev pub IsUnchangedOrBroken : List ℕ → State → LocalMinute → Bool → (State → Type 0) → (Option State → Type 0) → Type 0
+-- what 503 says of the station: it works and nothing has changed, or it broke at the request's
+-- input
+abbrev pub IsUnchangedOrBroken : List ℕ → State → LocalMinute → Bool → (State → Type 0)
+    → (Option State → Type 0) → Type 0
 IsUnchangedOrBroken bytes s at broken keeps may_find = IsKept broken keeps s ⊎ IsBrokenAt bytes s at broken may_find
 
--- the bytes are a beginning of an answer with a report: all of its head, and a byte of the report or more
+-- the bytes are a beginning of an answer with a report: all of its head, and a byte of the report
+-- or more
 abbrev pub IsBeginning : List ℕ → List ℕ → Type 0
 IsBeginning out whole = (n : ℕ) × ((length report_head < n) × (n ≤ length whole) × (out ≡ take n whole))
 
--- In place of an answer: 503; or the head of the report that the request gets, and a byte of the report or more, and nothing has changed.
-abbrev pub IsExcuse : List ℕ → State → LocalMinute → List ℕ → ℕ → Bool → (State → Type 0) → (Option State → Type 0) → Type 0
+-- In place of an answer: 503; or the head of the report that the request gets, and a byte of the
+-- report or more, and nothing has changed.
+abbrev pub IsExcuse : List ℕ → State → LocalMinute → List ℕ → ℕ → Bool → (State → Type 0)
+    → (Option State → Type 0) → Type 0
 IsExcuse bytes s at out status broken keeps may_find =
     ((out ≡ unavailable) × (status ≡ 503) × IsUnchangedOrBroken bytes s at broken keeps may_find)
     ⊎ ((name : Report) × GetsReport bytes name × SomeOrEach s name (IsBeginning out) × (status ≡ 200) × IsKept broken keeps s)
 
 -- the answer to the bytes of a request, and what is kept after it
-abbrev pub IsAnswer : State → LocalMinute → List ℕ → ℕ → List ℕ → Bool → (State → Type 0) → (Option State → Type 0) → Type 0
+abbrev pub IsAnswer : State → LocalMinute → List ℕ → ℕ → List ℕ → Bool → (State → Type 0)
+    → (Option State → Type 0) → Type 0
 IsAnswer s at bytes status out broken keeps may_find =
     ((after : State) × Answers bytes s at status out after × IsKept broken keeps after) ⊎ IsExcuse bytes s at out status broken keeps may_find
 
 -- so many bytes of an answer went out, since the writer failed or took none
-abbrev pub IsPartOut : State → LocalMinute → List ℕ → ℕ → Given → Given → Bool → (State → Type 0) → (Option State → Type 0) → Type 0
+abbrev pub IsPartOut : State → LocalMinute → List ℕ → ℕ → Given → Given → Bool → (State → Type 0)
+    → (Option State → Type 0) → Type 0
 IsPartOut s at bytes sent before after broken keeps may_find =
     ((status : ℕ) × (out : List ℕ) × IsAnswer s at bytes status out broken keeps may_find × Sent before after out sent)
     ⊎ ((name : Report) × GetsReport bytes name × IsKept broken keeps s × SomeOrEach s name (λ whole. Sent before after whole sent))
 
--- It was written whole, with its status returned; or its first bytes, as many as are returned, since the writer failed or took none. At a
--- writer's fault the keeper keeps the state after it, also where no byte went out.
-abbrev pub HasServed : State → LocalMinute → Given → Given → Given → Given → Bool → (State → Type 0) → (Option State → Type 0) → Result Served ServeFault → Type 0
+-- It was written whole, with its status returned; or its first bytes, as many as are returned,
+-- since the writer failed or took none. At a writer's fault the keeper keeps the state after it,
+-- also where no byte went out.
+abbrev pub HasServed : State → LocalMinute → Given → Given → Given → Given → Bool → (State → Type 0)
+    → (Option State → Type 0) → Result Served ServeFault → Type 0
 HasServed s at read_before read_after before after broken keeps may_find (Ok served) =
     IsAnswer s at (added read_before read_after) served.status (added before after) broken keeps may_find
 HasServed s at read_before read_after before after broken keeps may_find (Err serve.Read) = IsKept broken keeps s
@@ -101,9 +114,10 @@ StopsServing old new (Ok served) = NoneFailed old new
 StopsServing old new (Err serve.Read) = NoneFailed old new
 StopsServing old new (Err (serve.Write sent)) = OneFailed old new
 
--- On a station that has to be opened again the answer holds of each state, and leaves it as it is: one that asks nothing of the station,
--- or 503.
-abbrev pub HasServedShut : LocalMinute → Given → Given → Given → Given → Result Served ServeFault → Type 0
+-- On a station that has to be opened again the answer holds of each state, and leaves it as it is:
+-- one that asks nothing of the station, or 503.
+abbrev pub HasServedShut : LocalMinute → Given → Given → Given → Given → Result Served ServeFault
+    → Type 0
 HasServedShut at read_before read_after before after r =
     (s : State) → HasServed s at read_before read_after before after false (λ next. next ≡ s) (λ found. found ≡ Some s) r
 

@@ -18,10 +18,12 @@ IsToldAs reply (told.Json status text) = (status ≡ status_of reply) × ((s : S
 IsToldAs reply (told.Report name) = ⊥
 IsToldAs reply (told.Unavailable reopen) = reopen ≡ false
 
--- What is wanted is replied, and the station works and keeps the state after it, which is another only where an input was accepted; a
--- report is still to be read. Where nothing can be replied, nothing has changed; or the station broke at an input, and a reopening
--- finds the state before it or the one after.
-abbrev pub HasAsked : State → LocalMinute → Wanted → Told → Bool → (State → Type 0) → (Option State → Type 0) → Type 0
+-- What is wanted is replied, and the station works and keeps the state after it, which is another
+-- only where an input was accepted; a report is still to be read. Where nothing can be replied,
+-- nothing has changed; or the station broke at an input, and a reopening finds the state before it
+-- or the one after.
+abbrev pub HasAsked : State → LocalMinute → Wanted → Told → Bool → (State → Type 0)
+    → (Option State → Type 0) → Type 0
 HasAsked s at w (told.Accepted count) broken keeps may_find = (wanted_reply s at w ≡ json_reply 200 None (ok_data count)) × IsKept broken keeps (wanted_state s at w)
 HasAsked s at w (told.Json status text) broken keeps may_find =
     (status ≡ status_of (wanted_reply s at w)) × IsWritten s (wanted_reply s at w) (string_bytes text) × (wanted_state s at w ≡ s) × IsKept broken keeps s
@@ -40,6 +42,7 @@ abbrev pub IsUnavailable : Told → Type 0
 IsUnavailable (told.Unavailable reopen) = reopen ≡ true
 IsUnavailable _ = ⊥
 
--- What is replied there holds of each state, and leaves it as it is: nothing was asked of the station, or nothing is replied.
+-- What is replied there holds of each state, and leaves it as it is: nothing was asked of the
+-- station, or nothing is replied.
 abbrev pub HasAskedShut : LocalMinute → Wanted → Told → Type 0
 HasAskedShut at w t = (s : State) → HasAsked s at w t false (λ next. next ≡ s) (λ found. found ≡ Some s)

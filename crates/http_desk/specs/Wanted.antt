@@ -31,10 +31,12 @@ abbrev pub wanted_state : State → LocalMinute → Wanted → State
 wanted_state s at (wanted.Input i) = (step s i at).state
 wanted_state s at _ = s
 
--- The request with these bytes is answered by the reply to what it wants; a report is wanted only where it is got, and an input only
--- where it is asked.
+-- The request with these bytes is answered by the reply to what it wants; a report is wanted only
+-- where it is got, and an input only where it is asked.
 pub record Wants (bytes : List ℕ) (w : Wanted) : Type 0 where
-  pub answered : (s : State) (at : LocalMinute) (status : ℕ) (out : List ℕ) (after : State) → Replied s (wanted_reply s at w) (wanted_state s at w) status out after → Answers bytes s at status out after
+  pub answered : (s : State) (at : LocalMinute) (status : ℕ) (out : List ℕ) (after : State)
+      → Replied s (wanted_reply s at w) (wanted_state s at w) status out after
+      → Answers bytes s at status out after
   pub report : (name : Report) → w ≡ wanted.Report name → GetsReport bytes name
   pub input : (i : Input) → w ≡ wanted.Input i → AsksInput bytes i
 

@@ -18,9 +18,10 @@ use Rattle.http_desk.specs.Reply.{ok_answer, report_head, IsReport}
 use Rattle.http_desk.specs.Answer.{Answers}
 use Rattle.http_desk.specs.Serving.{unavailable, GetsReport, SomeOrEach, IsKept, IsUnchangedOrBroken}
 
--- What the request with these bytes is answered with is its answer, and the state after it is kept. It is another only where an input was
--- accepted.
-abbrev pub IsToldFor : List ℕ → State → LocalMinute → Told → Bool → (State → Type 0) → (Option State → Type 0) → Type 0
+-- What the request with these bytes is answered with is its answer, and the state after it is kept.
+-- It is another only where an input was accepted.
+abbrev pub IsToldFor : List ℕ → State → LocalMinute → Told → Bool → (State → Type 0)
+    → (Option State → Type 0) → Type 0
 IsToldFor bytes s at (told.Accepted count) broken keeps may_find = (after : State) × Answers bytes s at 200 (ok_answer count) after × IsKept broken keeps after
 IsToldFor bytes s at (told.Json status text) broken keeps may_find = Answers bytes s at status (string_bytes text) s × IsKept broken keeps s
 IsToldFor bytes s at (told.Report name) broken keeps may_find =
@@ -34,7 +35,8 @@ HasSent status reopen bytes old new (Err serve.Read) = ⊥
 HasSent status reopen bytes old new (Err (serve.Write sent)) = Sent old new bytes sent × HasCause old new
 
 -- a report ended behind what stands in front of it
-abbrev pub HasEndedReport : Type 0 → State → Report → List ℕ → Given → Given → Result (Unit {0}) ReportFault → Type 0
+abbrev pub HasEndedReport : Type 0 → State → Report → List ℕ → Given → Given
+    → Result (Unit {0}) ReportFault → Type 0
 HasEndedReport open_station s report.Stock front old new r = HasEndedStock open_station s.cargo.holders front old new r
 HasEndedReport open_station s report.Irregularities front old new r = HasEnded open_station (front ++ irregularity_report s.cargo) old new r
 HasEndedReport open_station s report.Movements front old new r = HasEnded open_station (front ++ movement_book s.cargo) old new r

@@ -1,5 +1,5 @@
-//! The answer to an accepted input. It is written into an array on the stack, so that nothing that wants memory stands between the act
-//! and the first byte of the 200.
+//! The answer to an accepted input. It is written into an array on the stack, so that nothing that
+//! wants memory stands between the act and the first byte of the 200.
 ghost use Rattle.std.specs.Prelude.{◌≡◌, ◌+◌, ◌≤◌, ◌<◌, ◌++◌, ◌∷◌, [], length, take, decimal};
 ghost use Rattle.serde_json.specs.Written.{compact_text};
 ghost use Rattle.http_desk.specs.Reply.{ok_data, ok_answer};
@@ -52,7 +52,8 @@ fn put_body(out: &mut [u8; BODY_ROOM], count: u32) -> usize
     put(out, at, b",\"reply\":\"ok\"}")
 }
 
-/// Writes the answer to an accepted input of that count to the front of a buffer, and returns how many bytes it has.
+/// Writes the answer to an accepted input of that count to the front of a buffer, and returns how
+/// many bytes it has.
 pub(crate) fn put_accepted(out: &mut [u8; ROOM], count: u32) -> usize
     ensures bound { result ≤ 128 }
     ensures text { take result out.new ≡ ok_answer count }

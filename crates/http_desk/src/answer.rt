@@ -30,7 +30,8 @@ fn status_line(alloc: Global, status: u16) -> Result<String, AllocError>
 
 /// The line of the method that is allowed.
 fn allow_line(alloc: Global, allow: Option<&str>) -> Result<String, AllocError>
-    ensures { IfOk result (λ line. string_bytes line ≡ allow_line (option_map (λ method. method.now) allow.entry)) }
+    ensures { IfOk result (λ line. string_bytes line ≡ allow_line
+        (option_map (λ method. method.now) allow.entry)) }
 {
     match allow {
         Some(method) => format!(in alloc; "Allow: {method}\r\n"),
@@ -55,7 +56,8 @@ pub(crate) fn json_answer(
     body: &str,
 ) -> Result<String, AllocError>
     requires { IsStatusCode status }
-    ensures { IfOk result (λ text. string_bytes text ≡ json_answer status (option_map (λ method. method.now) allow.entry) body.now) }
+    ensures { IfOk result (λ text. string_bytes text ≡ json_answer status
+        (option_map (λ method. method.now) allow.entry) body.now) }
 {
     let first = status_line(alloc, status)?;
     let allow = allow_line(alloc, allow)?;
@@ -73,7 +75,8 @@ pub(crate) fn report_head(alloc: Global) -> Result<String, AllocError>
 
 /// The body of a fault or a refusal.
 pub(crate) fn refused_text(alloc: Global, refused: u16, detail: &str) -> Result<String, AllocError>
-    ensures { IfOk result (λ text. string_bytes text ≡ compact_text (refused_data refused detail.now)) }
+    ensures { IfOk result (λ text. string_bytes text ≡ compact_text
+        (refused_data refused detail.now)) }
 {
     json!(in alloc; {"detail": detail, "refused": refused})?.to_string(alloc)
 }
@@ -99,16 +102,19 @@ fn holder_name(holder: &Holder) -> &str
 }
 
 fn holding_text(alloc: Global, awb: &str, holder: &str, name: &str) -> Result<String, AllocError>
-    ensures { IfOk result (λ text. string_bytes text ≡ compact_text (holding_data awb.now holder.now name.now)) }
+    ensures { IfOk result (λ text. string_bytes text ≡ compact_text
+        (holding_data awb.now holder.now name.now)) }
 {
     json!(in alloc; {"awb": awb, "holder": holder, "name": name})?.to_string(alloc)
 }
 
-/// The JSON object that says who holds a number: the body that GET `/v1/stock/{awb}` is answered by.
+/// The JSON object that says who holds a number: the body that GET `/v1/stock/{awb}` is answered
+/// by.
 ///
 /// Returns [`AllocError`] when out of memory.
 pub fn holder_text(alloc: Global, number: &Awb, holder: &Holder) -> Result<String, AllocError>
-    ensures { IfOk result (λ text. string_bytes text ≡ compact_text (holder_data number.now holder.now)) }
+    ensures { IfOk result (λ text. string_bytes text ≡ compact_text
+        (holder_data number.now holder.now)) }
 {
     let awb = number.write();
     holding_text(
@@ -214,11 +220,13 @@ fn last_members(alloc: Global, known: &Waybill) -> Result<String, AllocError>
     )
 }
 
-/// The JSON object that says what is known of a waybill: the body that GET `/v1/waybills/{awb}` is answered by.
+/// The JSON object that says what is known of a waybill: the body that GET `/v1/waybills/{awb}` is
+/// answered by.
 ///
 /// Returns [`AllocError`] when out of memory.
 pub fn waybill_text(alloc: Global, number: &Awb, known: &Waybill) -> Result<String, AllocError>
-    ensures { IfOk result (λ text. string_bytes text ≡ compact_text (waybill_data number.now known.now)) }
+    ensures { IfOk result (λ text. string_bytes text ≡ compact_text
+        (waybill_data number.now known.now)) }
 {
     let first = first_members(alloc, number, known)?;
     let second = second_members(alloc, known)?;

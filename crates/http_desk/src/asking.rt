@@ -43,7 +43,8 @@ fn json_told(
     body: Result<String, AllocError>,
 ) -> Told
     requires { IsStatusCode status }
-    ensures { (d : Data) → IfOk body (λ text. string_bytes text ≡ compact_text d) → IsToldAs (json_reply status (option_map (λ method. method.now) allow.entry) d) result }
+    ensures { (d : Data) → IfOk body (λ text. string_bytes text ≡ compact_text d)
+        → IsToldAs (json_reply status (option_map (λ method. method.now) allow.entry) d) result }
 {
     let Ok(body) = body else {
         return Told::Unavailable(false);
@@ -78,7 +79,8 @@ fn refusal_status(refused: u16) -> u16
 
 /// The body of a refusal.
 fn refusal_text(alloc: Global, refusal: &Refusal) -> Result<String, AllocError>
-    ensures { IfOk result (λ text. string_bytes text ≡ compact_text (refused_data refusal.now.number (detail_text refusal.now.detail))) }
+    ensures { IfOk result (λ text. string_bytes text ≡ compact_text
+        (refused_data refusal.now.number (detail_text refusal.now.detail))) }
 {
     let detail = detail_text(alloc, &refusal.detail)?;
     refused_text(alloc, refusal.number, detail.as_str())
@@ -116,10 +118,13 @@ fn waybill_told(alloc: Global, number: &Awb, waybill: &Option<Waybill>) -> Told
 fn ask_holder<K: Keeper>(alloc: Global, keeper: &mut K, number: &Awb) -> Told
     ensures sound { K.is_sound keeper.new → K.is_sound keeper.old }
     ensures breaks { K.is_broken keeper.new ≡ K.is_broken keeper.old }
-    ensures asked { (s : State) (at : LocalMinute) → K.keeps keeper.old s → K.is_broken keeper.old ≡ false → K.is_sound keeper.new
-        → HasAsked s at (Wanted.Holder number.now) result (K.is_broken keeper.new) (K.keeps keeper.new) (K.may_find keeper.new) }
+    ensures asked { (s : State) (at : LocalMinute) → K.keeps keeper.old s
+        → K.is_broken keeper.old ≡ false → K.is_sound keeper.new
+        → HasAsked s at (Wanted.Holder number.now) result (K.is_broken keeper.new)
+        (K.keeps keeper.new) (K.may_find keeper.new) }
     ensures reopen { tells_reopen result ≡ K.is_broken keeper.new }
-    ensures shut { K.is_broken keeper.old ≡ true → (keeper.new ≡ keeper.old) × IsUnavailable result }
+    ensures shut { K.is_broken keeper.old ≡ true → (keeper.new ≡ keeper.old)
+        × IsUnavailable result }
 {
     match keeper.holder(number) {
         Ok(holder) => holder_told(alloc, number, &holder),
@@ -131,10 +136,13 @@ fn ask_holder<K: Keeper>(alloc: Global, keeper: &mut K, number: &Awb) -> Told
 fn ask_waybill<K: Keeper>(alloc: Global, keeper: &mut K, number: &Awb) -> Told
     ensures sound { K.is_sound keeper.new → K.is_sound keeper.old }
     ensures breaks { K.is_broken keeper.new ≡ K.is_broken keeper.old }
-    ensures asked { (s : State) (at : LocalMinute) → K.keeps keeper.old s → K.is_broken keeper.old ≡ false → K.is_sound keeper.new
-        → HasAsked s at (Wanted.Waybill number.now) result (K.is_broken keeper.new) (K.keeps keeper.new) (K.may_find keeper.new) }
+    ensures asked { (s : State) (at : LocalMinute) → K.keeps keeper.old s
+        → K.is_broken keeper.old ≡ false → K.is_sound keeper.new
+        → HasAsked s at (Wanted.Waybill number.now) result (K.is_broken keeper.new)
+        (K.keeps keeper.new) (K.may_find keeper.new) }
     ensures reopen { tells_reopen result ≡ K.is_broken keeper.new }
-    ensures shut { K.is_broken keeper.old ≡ true → (keeper.new ≡ keeper.old) × IsUnavailable result }
+    ensures shut { K.is_broken keeper.old ≡ true → (keeper.new ≡ keeper.old)
+        × IsUnavailable result }
 {
     match keeper.waybill(number) {
         Ok(waybill) => waybill_told(alloc, number, &waybill),
@@ -145,10 +153,13 @@ fn ask_waybill<K: Keeper>(alloc: Global, keeper: &mut K, number: &Awb) -> Told
 /// Hands the station an input.
 fn ask_input<K: Keeper>(alloc: Global, keeper: &mut K, input: &Input<'_>, at: Moment) -> Told
     ensures sound { K.is_sound keeper.new → K.is_sound keeper.old }
-    ensures asked { (s : State) → K.keeps keeper.old s → K.is_broken keeper.old ≡ false → K.is_sound keeper.new
-        → HasAsked s at (Wanted.Input input.now) result (K.is_broken keeper.new) (K.keeps keeper.new) (K.may_find keeper.new) }
+    ensures asked { (s : State) → K.keeps keeper.old s → K.is_broken keeper.old ≡ false
+        → K.is_sound keeper.new
+        → HasAsked s at (Wanted.Input input.now) result (K.is_broken keeper.new)
+        (K.keeps keeper.new) (K.may_find keeper.new) }
     ensures reopen { tells_reopen result ≡ K.is_broken keeper.new }
-    ensures shut { K.is_broken keeper.old ≡ true → (keeper.new ≡ keeper.old) × IsUnavailable result }
+    ensures shut { K.is_broken keeper.old ≡ true → (keeper.new ≡ keeper.old)
+        × IsUnavailable result }
 {
     match answer_one(keeper, input, at) {
         Ok(Answer::Done(reply)) => Told::Accepted(reply.count),
@@ -160,8 +171,10 @@ fn ask_input<K: Keeper>(alloc: Global, keeper: &mut K, input: &Input<'_>, at: Mo
 /// Asks the station for what is wanted. A report is left to be read while it is written.
 pub(crate) fn ask<K: Keeper>(alloc: Global, keeper: &mut K, wanted: &Wanted<'_>, at: Moment) -> Told
     ensures sound { K.is_sound keeper.new → K.is_sound keeper.old }
-    ensures asked { (s : State) → K.keeps keeper.old s → K.is_broken keeper.old ≡ false → K.is_sound keeper.new
-        → HasAsked s at wanted.now result (K.is_broken keeper.new) (K.keeps keeper.new) (K.may_find keeper.new) }
+    ensures asked { (s : State) → K.keeps keeper.old s → K.is_broken keeper.old ≡ false
+        → K.is_sound keeper.new
+        → HasAsked s at wanted.now result (K.is_broken keeper.new) (K.keeps keeper.new)
+        (K.may_find keeper.new) }
     ensures told { K.is_broken keeper.old ≡ false → tells_reopen result ≡ K.is_broken keeper.new }
     ensures same { K.is_broken keeper.old ≡ true → keeper.new ≡ keeper.old }
     ensures shut { K.is_broken keeper.old ≡ true → HasAskedShut at wanted.now result }

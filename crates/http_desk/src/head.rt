@@ -45,7 +45,13 @@ pub(crate) enum Asks {
 fn post(route: Route, method: &[u8], buf: &[u8], fields: &[HeaderSpan]) -> Asks
     requires { All (IsHeaderWithin (length buf.now)) fields.now }
     ensures { (path target : List ℕ) (posted : Posted) → place_told path route ≡ posts posted
-        → asks_meant path result ≡ place_asks (record { method = method.now; target = target; fields = map (header_bytes buf.now) fields.now }) (Some (posts posted)) }
+        → asks_meant path result ≡ place_asks
+        (record {
+          method = method.now;
+          target = target;
+          fields = map (header_bytes buf.now)
+              fields.now;
+        }) (Some (posts posted)) }
 {
     if method != b"POST".as_slice() {
         return Asks::Refused(ALLOW_POST);
@@ -58,8 +64,10 @@ fn post(route: Route, method: &[u8], buf: &[u8], fields: &[HeaderSpan]) -> Asks
 
 /// A route that takes none.
 fn get(route: Route, method: &[u8]) -> Asks
-    ensures { (path target : List ℕ) (fields : List (List ℕ × List ℕ)) (got : Got) → place_told path route ≡ gets got
-        → asks_meant path result ≡ place_asks (record { method = method.now; target = target; fields = fields }) (Some (gets got)) }
+    ensures { (path target : List ℕ) (fields : List (List ℕ × List ℕ)) (got : Got)
+        → place_told path route ≡ gets got
+        → asks_meant path result ≡ place_asks
+        (record { method = method.now; target = target; fields = fields }) (Some (gets got)) }
 {
     if method != b"GET".as_slice() {
         return Asks::Refused(ALLOW_GET);
@@ -76,7 +84,13 @@ pub(crate) fn head_asks(
 ) -> Asks
     requires { All (IsHeaderWithin (length buf.now)) fields.now }
     ensures { (path target : List ℕ)
-        → asks_meant path result ≡ place_asks (record { method = method.now; target = target; fields = map (header_bytes buf.now) fields.now }) (option_map (place_told path) route) }
+        → asks_meant path result ≡ place_asks
+        (record {
+          method = method.now;
+          target = target;
+          fields = map (header_bytes buf.now)
+              fields.now;
+        }) (option_map (place_told path) route) }
 {
     let Some(route) = route else {
         return Asks::Refused(NOT_FOUND);

@@ -30,11 +30,13 @@ pub(crate) enum ReadEnd {
 /// One read behind the bytes that have come. An interrupted read brings nothing.
 fn read_more<I: ByteIn>(reader: &mut I, bytes: &mut Vec<u8>, most: usize) -> Result<(), ReadEnd>
     requires { length bytes.old.items < most }
-    ensures come { OnOk result (HasCome (I.given reader.old) (I.given reader.new) bytes.old.items bytes.new.items) }
+    ensures come { OnOk result
+        (HasCome (I.given reader.old) (I.given reader.new) bytes.old.items bytes.new.items) }
     ensures room { OnOk result (length bytes.new.items ≤ most) }
     ensures calls { (I.given reader.new).calls ≡ (I.given reader.old).calls + 1 }
     ensures read { result ≡ Err ReadEnd.Read → HasCause (I.given reader.old) (I.given reader.new) }
-    ensures still { result ≡ Err ReadEnd.Read → (bytes.new.items ≡ bytes.old.items) × ((I.given reader.new).bytes ≡ (I.given reader.old).bytes) }
+    ensures still { result ≡ Err ReadEnd.Read → (bytes.new.items ≡ bytes.old.items)
+        × ((I.given reader.new).bytes ≡ (I.given reader.old).bytes) }
     ensures no_head { result ≡ Err ReadEnd.Head → ⊥ }
 {
     let mut room = [0; CHUNK];
@@ -50,7 +52,8 @@ fn read_more<I: ByteIn>(reader: &mut I, bytes: &mut Vec<u8>, most: usize) -> Res
     }
 }
 
-/// Reads until a head is whole. It returns where the head's parts are, and how many reads were made.
+/// Reads until a head is whole. It returns where the head's parts are, and how many reads were
+/// made.
 pub(crate) fn read_head<I: ByteIn>(
     reader: &mut I,
     bytes: &mut Vec<u8>,
@@ -58,20 +61,25 @@ pub(crate) fn read_head<I: ByteIn>(
 ) -> Result<(RequestSpans, u32), ReadEnd>
     requires empty { bytes.old.items ≡ [] }
     requires room { length headers.old ≡ 64 }
-    ensures come { OnOk result ((I.given reader.new).bytes ≡ (I.given reader.old).bytes ++ bytes.new.items) }
+    ensures come { OnOk result
+        ((I.given reader.new).bytes ≡ (I.given reader.old).bytes ++ bytes.new.items) }
     ensures within { IfOk result (λ head. IsRequestWithin bytes.new.items headers.new head.0) }
     ensures head { IfOk result (λ head. IsRequestOf bytes.new.items headers.new head.0) }
     ensures room { OnOk result (length bytes.new.items ≤ 16_384) }
     ensures few { OnOk result (length headers.new ≡ 64) }
     ensures turns { IfOk result (λ head. head.1 ≤ 100_000) }
-    ensures calls { IfOk result (λ head. (I.given reader.new).calls ≡ (I.given reader.old).calls + head.1) }
+    ensures calls { IfOk result
+        (λ head. (I.given reader.new).calls ≡ (I.given reader.old).calls + head.1) }
     ensures most { (I.given reader.new).calls ≤ (I.given reader.old).calls + most_reads }
     ensures failures { OnOk result ((I.given reader.new).failures ≡ (I.given reader.old).failures) }
     ensures idle { OnOk result ((I.given reader.new).idle ≡ (I.given reader.old).idle) }
-    ensures none { result ≡ Err ReadEnd.Head → HasNoHead bytes.new.items × ((I.given reader.new).bytes ≡ (I.given reader.old).bytes ++ bytes.new.items) }
-    ensures read { result ≡ Err ReadEnd.Read → HasEndedEarly (I.given reader.old) (I.given reader.new) }
+    ensures none { result ≡ Err ReadEnd.Head → HasNoHead bytes.new.items
+        × ((I.given reader.new).bytes ≡ (I.given reader.old).bytes ++ bytes.new.items) }
+    ensures read { result ≡ Err ReadEnd.Read
+        → HasEndedEarly (I.given reader.old) (I.given reader.new) }
     ensures unfinished { result ≡ Err ReadEnd.Read
-        → HasNoHeadYet bytes.new.items × ((I.given reader.new).bytes ≡ (I.given reader.old).bytes ++ bytes.new.items) }
+        → HasNoHeadYet bytes.new.items
+        × ((I.given reader.new).bytes ≡ (I.given reader.old).bytes ++ bytes.new.items) }
 {
     for turn in 0..MOST_READS {
         read_more(reader, bytes, HEAD_ROOM)?;
@@ -96,12 +104,15 @@ pub(crate) fn read_on<I: ByteIn>(
     turns: u32,
 ) -> Result<(), ReadEnd>
     requires { turns ≤ 100_000 }
-    ensures come { OnOk result (HasGrown (I.given reader.old) (I.given reader.new) bytes.old.items bytes.new.items) }
+    ensures come { OnOk result
+        (HasGrown (I.given reader.old) (I.given reader.new) bytes.old.items bytes.new.items) }
     ensures whole { OnOk result (whole ≤ length bytes.new.items) }
     ensures most { (I.given reader.new).calls ≤ (I.given reader.old).calls + (most_reads - turns) }
-    ensures read { result ≡ Err ReadEnd.Read → HasEndedAfter turns (I.given reader.old) (I.given reader.new) }
+    ensures read { result ≡ Err ReadEnd.Read
+        → HasEndedAfter turns (I.given reader.old) (I.given reader.new) }
     ensures unfinished { result ≡ Err ReadEnd.Read
-        → (length bytes.new.items < whole) × HasMore (I.given reader.old) (I.given reader.new) bytes.old.items bytes.new.items }
+        → (length bytes.new.items < whole)
+        × HasMore (I.given reader.old) (I.given reader.new) bytes.old.items bytes.new.items }
     ensures no_head { result ≡ Err ReadEnd.Head → ⊥ }
 {
     for _turn in turns..MOST_READS {

@@ -56,10 +56,12 @@ fn read_body<I: ByteIn>(
     turns: u32,
 ) -> Result<(), ReadEnd>
     requires { turns ≤ 100_000 }
-    ensures come { OnOk result (HasGrown (I.given reader.old) (I.given reader.new) bytes.old.items bytes.new.items) }
+    ensures come { OnOk result
+        (HasGrown (I.given reader.old) (I.given reader.new) bytes.old.items bytes.new.items) }
     ensures body { OnOk result (HasBody wants.now start bytes.new.items) }
     ensures most { (I.given reader.new).calls ≤ (I.given reader.old).calls + (most_reads - turns) }
-    ensures read { result ≡ Err ReadEnd.Read → HasEndedAfter turns (I.given reader.old) (I.given reader.new) }
+    ensures read { result ≡ Err ReadEnd.Read
+        → HasEndedAfter turns (I.given reader.old) (I.given reader.new) }
     ensures unfinished { result ≡ Err ReadEnd.Read → HasPartBody wants.now start bytes.new.items
         × HasMore (I.given reader.old) (I.given reader.new) bytes.old.items bytes.new.items }
     ensures no_head { result ≡ Err ReadEnd.Head → ⊥ }
@@ -80,12 +82,15 @@ pub(crate) fn read_request<I: ByteIn>(
     bytes: &mut Vec<u8>,
 ) -> Result<Came, ReadEnd>
     requires { bytes.old.items ≡ [] }
-    ensures come { OnOk result ((I.given reader.new).bytes ≡ (I.given reader.old).bytes ++ bytes.new.items) }
+    ensures come { OnOk result
+        ((I.given reader.new).bytes ≡ (I.given reader.old).bytes ++ bytes.new.items) }
     ensures request { IfOk result (HasRequest bytes.new.items) }
     ensures most { (I.given reader.new).calls ≤ (I.given reader.old).calls + most_reads }
-    ensures read { result ≡ Err ReadEnd.Read → HasEndedEarly (I.given reader.old) (I.given reader.new) }
+    ensures read { result ≡ Err ReadEnd.Read
+        → HasEndedEarly (I.given reader.old) (I.given reader.new) }
     ensures unfinished { result ≡ Err ReadEnd.Read
-        → IsUnfinished bytes.new.items × ((I.given reader.new).bytes ≡ (I.given reader.old).bytes ++ bytes.new.items) }
+        → IsUnfinished bytes.new.items
+        × ((I.given reader.new).bytes ≡ (I.given reader.old).bytes ++ bytes.new.items) }
     ensures no_head { result ≡ Err ReadEnd.Head → ⊥ }
 {
     let mut headers = [EMPTY_HEADER_SPAN; 64];

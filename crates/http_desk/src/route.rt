@@ -110,7 +110,8 @@ fn route_at(page: Page, path: &str) -> Option<Route>
 
 /// What a path leads to.
 pub(crate) fn route_of(router: &Router<Page>, path: &str) -> Option<Route>
-    ensures { option_map (place_told path.now) result ≡ option_and_then (place_at path.now) (page_of router.now path.now) }
+    ensures { option_map (place_told path.now) result ≡ option_and_then (place_at path.now)
+        (page_of router.now path.now) }
 {
     match found_page(router, path) {
         Some(page) => route_at(page, path),

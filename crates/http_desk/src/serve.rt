@@ -26,7 +26,8 @@ pub struct Served {
 /// Why a connection wasn't answered whole.
 #[derive(Clone, Copy, Debug, PartialEq, Eq)]
 pub enum ServeFault {
-    /// The reader failed, the input ended within the request, or 100,000 reads were made. Nothing was written or changed.
+    /// The reader failed, the input ended within the request, or 100,000 reads were made. Nothing
+    /// was written or changed.
     Read,
     /// The writer failed or took no byte. These are the bytes of the answer that went out.
     Write { sent: u64 },
@@ -36,8 +37,10 @@ pub enum ServeFault {
 fn told_for<K: Keeper>(alloc: Global, keeper: &mut K, bytes: &[u8], came: Came, at: Moment) -> Told
     requires request { HasRequest bytes.now came }
     ensures sound { K.is_sound keeper.new → K.is_sound keeper.old }
-    ensures told { (s : State) → K.keeps keeper.old s → K.is_broken keeper.old ≡ false → K.is_sound keeper.new
-        → IsToldFor bytes.now s at result (K.is_broken keeper.new) (K.keeps keeper.new) (K.may_find keeper.new) }
+    ensures told { (s : State) → K.keeps keeper.old s → K.is_broken keeper.old ≡ false
+        → K.is_sound keeper.new
+        → IsToldFor bytes.now s at result (K.is_broken keeper.new) (K.keeps keeper.new)
+        (K.may_find keeper.new) }
     ensures tells { K.is_broken keeper.old ≡ false → tells_reopen result ≡ K.is_broken keeper.new }
     ensures same { K.is_broken keeper.old ≡ true → keeper.new ≡ keeper.old }
     ensures shut { K.is_broken keeper.old ≡ true → IsToldShut bytes.now at result }
@@ -58,38 +61,53 @@ pub fn serve_one<K: Keeper, I: ByteIn, O: ByteOut>(
 ) -> Result<Served, ServeFault>
     ensures sound { K.is_sound keeper.new → K.is_sound keeper.old }
 
-    // Reading ended within the request: nothing was written, nothing was changed. There are at most so many reads, however it ends.
-    ensures unread { result ≡ Err ServeFault.Read → (O.taken writer.new ≡ O.taken writer.old) × (keeper.new ≡ keeper.old) }
-    ensures read_cause { result ≡ Err ServeFault.Read → HasEndedEarly (I.given reader.old) (I.given reader.new) }
-    ensures unfinished { result ≡ Err ServeFault.Read → IsUnfinished (added (I.given reader.old) (I.given reader.new)) }
+    // Reading ended within the request: nothing was written, nothing was changed. There are at most
+    // so many reads, however it ends.
+    ensures unread { result ≡ Err ServeFault.Read → (O.taken writer.new ≡ O.taken writer.old)
+        × (keeper.new ≡ keeper.old) }
+    ensures read_cause { result ≡ Err ServeFault.Read
+        → HasEndedEarly (I.given reader.old) (I.given reader.new) }
+    ensures unfinished { result ≡ Err ServeFault.Read
+        → IsUnfinished (added (I.given reader.old) (I.given reader.new)) }
     ensures most { (I.given reader.new).calls ≤ (I.given reader.old).calls + most_reads }
 
     // One write failed where the writer's fault is returned, and else none.
     ensures writes { StopsServing (O.taken writer.old) (O.taken writer.new) result }
 
-    // The answer to the bytes that were read, or a beginning of it; and the keeper keeps the state after it.
-    ensures served { (s : State) → K.keeps keeper.old s → K.is_broken keeper.old ≡ false → K.is_sound keeper.new
-        → HasServed s at (I.given reader.old) (I.given reader.new) (O.taken writer.old) (O.taken writer.new)
+    // The answer to the bytes that were read, or a beginning of it; and the keeper keeps the state
+    // after it.
+    ensures served { (s : State) → K.keeps keeper.old s → K.is_broken keeper.old ≡ false
+        → K.is_sound keeper.new
+        → HasServed s at (I.given reader.old) (I.given reader.new) (O.taken writer.old)
+        (O.taken writer.new)
         (K.is_broken keeper.new) (K.keeps keeper.new) (K.may_find keeper.new) result }
 
     // Once a 200 to a POST has begun, a reopening finds the state after that step, and no other.
-    ensures begun { (s : State) → K.keeps keeper.old s → K.is_broken keeper.old ≡ false → K.is_sound keeper.new
-        → IsPosted (added (I.given reader.old) (I.given reader.new)) → BeginsAs200 (added (O.taken writer.old) (O.taken writer.new))
-        → IsAfterStep (added (I.given reader.old) (I.given reader.new)) s at (K.may_find keeper.new) }
+    ensures begun { (s : State) → K.keeps keeper.old s → K.is_broken keeper.old ≡ false
+        → K.is_sound keeper.new
+        → IsPosted (added (I.given reader.old) (I.given reader.new))
+        → BeginsAs200 (added (O.taken writer.old) (O.taken writer.new))
+        → IsAfterStep (added (I.given reader.old) (I.given reader.new)) s at
+        (K.may_find keeper.new) }
 
-    // Once 503 has begun, the station works and nothing has changed, or it broke at the very input that the request asks.
-    ensures unavailable { (s : State) → K.keeps keeper.old s → K.is_broken keeper.old ≡ false → K.is_sound keeper.new
+    // Once 503 has begun, the station works and nothing has changed, or it broke at the very input
+    // that the request asks.
+    ensures unavailable { (s : State) → K.keeps keeper.old s → K.is_broken keeper.old ≡ false
+        → K.is_sound keeper.new
         → BeginsAs503 (added (O.taken writer.old) (O.taken writer.new))
-        → IsUnchangedOrBroken (added (I.given reader.old) (I.given reader.new)) s at (K.is_broken keeper.new) (K.keeps keeper.new) (K.may_find keeper.new) }
+        → IsUnchangedOrBroken (added (I.given reader.old) (I.given reader.new)) s at
+        (K.is_broken keeper.new) (K.keeps keeper.new) (K.may_find keeper.new) }
 
     // It asks to open the station again exactly where this connection broke it.
-    ensures told { (s : State) → K.keeps keeper.old s → K.is_broken keeper.old ≡ false → K.is_sound keeper.new
+    ensures told { (s : State) → K.keeps keeper.old s → K.is_broken keeper.old ≡ false
+        → K.is_sound keeper.new
         → IfOk result (λ served. served.reopen ≡ K.is_broken keeper.new) }
 
     // A station that has to be opened again stays as it is, and nothing of it is told.
     ensures same { K.is_broken keeper.old ≡ true → keeper.new ≡ keeper.old }
     ensures reopen { K.is_broken keeper.old ≡ true
-        → HasServedShut at (I.given reader.old) (I.given reader.new) (O.taken writer.old) (O.taken writer.new) result }
+        → HasServedShut at (I.given reader.old) (I.given reader.new) (O.taken writer.old)
+        (O.taken writer.new) result }
 {
     let mut bytes = Vec::new(alloc);
     match read_request(alloc, reader, &mut bytes) {

@@ -122,7 +122,8 @@ fn got(route: Route, path: &str) -> Wanted<'static>
 
 /// What a path leads to.
 fn routed(alloc: Global, path: &str) -> Result<Option<Route>, AllocError>
-    ensures { IfOk result (λ route. option_map (place_told path.now) route ≡ option_and_then (place_at path.now) (page_of desk_rows path.now)) }
+    ensures { IfOk result (λ route. option_map (place_told path.now) route ≡ option_and_then
+        (place_at path.now) (page_of desk_rows path.now)) }
 {
     match desk_router(alloc) {
         Ok(router) => Ok(route_of(&router, path)),
@@ -134,7 +135,8 @@ fn routed(alloc: Global, path: &str) -> Result<Option<Route>, AllocError>
 fn target_of<'a>(bytes: &'a [u8], spans: &RequestSpans, headers: &[HeaderSpan]) -> &'a str
     requires within { IsRequestWithin bytes.now headers.now spans.now }
     requires head { IsRequestOf bytes.now headers.now spans.now }
-    ensures { (h : RequestHead) → IsRequestAt bytes.entry.now headers.now spans.now h → result.now ≡ h.target }
+    ensures { (h : RequestHead) → IsRequestAt bytes.entry.now headers.now spans.now h
+        → result.now ≡ h.target }
 {
     match str::from_utf8(spans.path.of(bytes)) {
         Ok(target) => target,
@@ -166,7 +168,8 @@ fn own_wants(
 ) -> Result<HeadWants, AllocError>
     requires within { IsRequestWithin bytes.now headers.now spans.now }
     requires head { IsRequestOf bytes.now headers.now spans.now }
-    ensures { (h : RequestHead) → IsRequestAt bytes.now headers.now spans.now h → IfOk result (HasWants (own_asks (head_of h))) }
+    ensures { (h : RequestHead) → IsRequestAt bytes.now headers.now spans.now h
+        → IfOk result (HasWants (own_asks (head_of h))) }
 {
     let path = path_in(target_of(bytes, spans, headers));
     let route = routed(alloc, path)?;
@@ -184,7 +187,8 @@ pub(crate) fn head_wants(
 ) -> Result<HeadWants, AllocError>
     requires within { IsRequestWithin bytes.now headers.now spans.now }
     requires head { IsRequestOf bytes.now headers.now spans.now }
-    ensures { (h : RequestHead) → IsRequestAt bytes.now headers.now spans.now h → IfOk result (HasWants (head_asks (head_of h))) }
+    ensures { (h : RequestHead) → IsRequestAt bytes.now headers.now spans.now h
+        → IfOk result (HasWants (head_asks (head_of h))) }
 {
     if is_foreign(bytes, &headers[..spans.headers]) {
         return Ok(HeadWants::Now(Wanted::Fault(BAD_ORIGIN)));
@@ -199,7 +203,8 @@ fn asked<'a>(
     key: Option<Key>,
     body: &'a [u8],
 ) -> Result<Body<'a>, AllocError>
-    ensures { IfOk result (λ asked. IsAskedUnder (posted_of post) key body.entry.now (body_meant asked)) }
+    ensures { IfOk result (λ asked. IsAskedUnder (posted_of post) key body.entry.now
+        (body_meant asked)) }
 {
     if let Post::Command(verb) = post {
         return command_asked(alloc, verb, key, body);

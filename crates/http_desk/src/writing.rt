@@ -39,7 +39,8 @@ fn send_answer<O: ByteOut>(
     bytes: &[u8],
     reopen: bool,
 ) -> Result<Served, ServeFault>
-    ensures sent { HasSent status reopen bytes.now (O.taken writer.old) (O.taken writer.new) result }
+    ensures sent { HasSent status reopen bytes.now (O.taken writer.old) (O.taken writer.new)
+        result }
     ensures writes { StopsServing (O.taken writer.old) (O.taken writer.new) result }
 {
     match send(writer, bytes) {
@@ -50,7 +51,8 @@ fn send_answer<O: ByteOut>(
 
 /// Writes the answer to an accepted input.
 fn send_accepted<O: ByteOut>(writer: &mut O, count: u32) -> Result<Served, ServeFault>
-    ensures sent { HasSent 200 false (ok_answer count) (O.taken writer.old) (O.taken writer.new) result }
+    ensures sent { HasSent 200 false (ok_answer count) (O.taken writer.old) (O.taken writer.new)
+        result }
     ensures writes { StopsServing (O.taken writer.old) (O.taken writer.new) result }
 {
     let mut room = [0; ROOM];
@@ -67,10 +69,12 @@ fn send_report<K: Keeper, O: ByteOut>(
     head: &[u8],
 ) -> Result<(), ReportFault>
     ensures reads { OnlyReads K.keeps K.is_sound K.is_broken K.may_find keeper.old keeper.new }
-    ensures reopen { K.is_broken keeper.old ≡ true → IsReopen result × (keeper.new ≡ keeper.old) × (O.taken writer.new ≡ O.taken writer.old) }
+    ensures reopen { K.is_broken keeper.old ≡ true → IsReopen result × (keeper.new ≡ keeper.old)
+        × (O.taken writer.new ≡ O.taken writer.old) }
     ensures writes { StopsWriting head.now (O.taken writer.old) (O.taken writer.new) result }
     ensures ended { (s : State) → K.keeps keeper.old s → K.is_sound keeper.new
-        → HasEndedReport (K.is_broken keeper.old ≡ false) s report head.now (O.taken writer.old) (O.taken writer.new) result }
+        → HasEndedReport (K.is_broken keeper.old ≡ false) s report head.now (O.taken writer.old)
+        (O.taken writer.new) result }
 {
     match report {
         Report::Stock => stock_report_behind(alloc, keeper, writer, head),
@@ -100,11 +104,13 @@ fn write_report<K: Keeper, O: ByteOut>(
 ) -> Result<Served, ServeFault>
     ensures reads { OnlyReads K.keeps K.is_sound K.is_broken K.may_find keeper.old keeper.new }
     ensures writes { StopsServing (O.taken writer.old) (O.taken writer.new) result }
-    ensures reported { (s : State) → K.keeps keeper.old s → K.is_broken keeper.old ≡ false → K.is_sound keeper.new
+    ensures reported { (s : State) → K.keeps keeper.old s → K.is_broken keeper.old ≡ false
+        → K.is_sound keeper.new
         → HasReported s report (O.taken writer.old) (O.taken writer.new) result }
     ensures same { K.is_broken keeper.old ≡ true → keeper.new ≡ keeper.old }
     ensures shut { K.is_broken keeper.old ≡ true
-        → (reopen : Bool) × HasSent 503 reopen unavailable (O.taken writer.old) (O.taken writer.new) result }
+        → (reopen : Bool) × HasSent 503 reopen unavailable (O.taken writer.old) (O.taken writer.new)
+        result }
     ensures read { result ≡ Err ServeFault.Read → ⊥ }
 {
     let Ok(head) = report_head(alloc) else {
@@ -139,10 +145,13 @@ pub(crate) fn write_told<K: Keeper, O: ByteOut>(
 ) -> Result<Served, ServeFault>
     ensures reads { OnlyReads K.keeps K.is_sound K.is_broken K.may_find keeper.old keeper.new }
     ensures writes { StopsServing (O.taken writer.old) (O.taken writer.new) result }
-    ensures written { (s : State) → ((name : AnyReport) → told.now ≡ Told.Report name → K.keeps keeper.old s × (K.is_broken keeper.old ≡ false)) → K.is_sound keeper.new
+    ensures written { (s : State)
+        → ((name : AnyReport) → told.now ≡ Told.Report name → K.keeps keeper.old s
+        × (K.is_broken keeper.old ≡ false)) → K.is_sound keeper.new
         → HasWritten told.now s (O.taken writer.old) (O.taken writer.new) result }
     ensures same { K.is_broken keeper.old ≡ true → keeper.new ≡ keeper.old }
-    ensures shut { K.is_broken keeper.old ≡ true → HasWrittenShut told.now (O.taken writer.old) (O.taken writer.new) result }
+    ensures shut { K.is_broken keeper.old ≡ true
+        → HasWrittenShut told.now (O.taken writer.old) (O.taken writer.new) result }
     ensures read { result ≡ Err ServeFault.Read → ⊥ }
 {
     match told {

@@ -1,30 +1,36 @@
-//! Requests at the desk of a station over HTTP, as scripts. Each answer is compared byte for byte with the one that the script says.
-//! The word `service` has the service on a port of this machine played, and its answers printed.
+//! Requests at the desk of a station over HTTP, as scripts. Each answer is compared byte for byte
+//! with the one that the script says. The word `service` has the service on a port of this machine
+//! played, and its answers printed.
 //!
 //! A script is plain text. Its statements, one a line:
 //!
 //! - `station FRA`: a new station with nothing in it;
 //! - `at 2026-01-12 10:30`: the moment of all that follows;
 //! - `act VERB KEY BODY`: a command, its body one line of JSON. The station must do it;
-//! - `request`: a connection. Its bytes are the `|` and `>` lines below, and its answer the `=` lines. With no `=` line it is answered
-//!   by nothing.
+//! - `request`: a connection. Its bytes are the `|` and `>` lines below, and its answer the `=`
+//!   lines. With no `=` line it is answered by nothing.
 //!
-//! `| TEXT` sends a text with CR and LF behind it, `|/ TEXT` with LF alone, and `|+ TEXT` with nothing. `|x DIGITS` sends the bytes
-//! that their digits write. A number behind the sign, as in `|64 A: 1` or `|+300 x`, sends it so many times. `> TEXT` sends bytes in the
-//! same way that stand behind the request: it is answered without them. `= TEXT` is part of the answer in the same way. Empty lines
-//! and those that begin with `#` are for the reader.
+//! `| TEXT` sends a text with CR and LF behind it, `|/ TEXT` with LF alone, and `|+ TEXT` with
+//! nothing. `|x DIGITS` sends the bytes that their digits write. A number behind the sign, as in
+//! `|64 A: 1` or `|+300 x`, sends it so many times. `> TEXT` sends bytes in the same way that stand
+//! behind the request: it is answered without them. `= TEXT` is part of the answer in the same way.
+//! Empty lines and those that begin with `#` are for the reader.
 //!
-//! What was asked before stays. A request is played many times, each time on a station to which the same was done. Only what is posted
-//! and answered by 200 changes it:
+//! What was asked before stays. A request is played many times, each time on a station to which the
+//! same was done. Only what is posted and answered by 200 changes it:
 //!
-//! - its bytes in one piece, one byte a read and one byte a write, and with an interrupted read before each byte;
-//! - beginnings of it: where the request isn't whole nothing is written and the station stays as it was;
-//! - for beginnings of the answer, with a writer that takes these bytes and then fails, and with one that then takes none. These
-//!   bytes went out, the station is as after the whole answer, and the same request again is answered in the same way.
+//! - its bytes in one piece, one byte a read and one byte a write, and with an interrupted read
+//!   before each byte;
+//! - beginnings of it: where the request isn't whole nothing is written and the station stays as it
+//!   was;
+//! - for beginnings of the answer, with a writer that takes these bytes and then fails, and with
+//!   one that then takes none. These bytes went out, the station is as after the whole answer, and
+//!   the same request again is answered in the same way.
 //!
-//! Of the beginnings the empty one, half of it, and all but a byte are played, and each one of a `request every`. `request early` may be
-//! answered before all of its `|` bytes came, since nothing can follow that makes it good. `request long` is played in one piece and in
-//! reads of 64 bytes alone. `request after 9` is played once, behind nine interrupted reads.
+//! Of the beginnings the empty one, half of it, and all but a byte are played, and each one of a
+//! `request every`. `request early` may be answered before all of its `|` bytes came, since nothing
+//! can follow that makes it good. `request long` is played in one piece and in reads of 64 bytes
+//! alone. `request after 9` is played once, behind nine interrupted reads.
 #![tactic(auto)]
 
 mod desk;
@@ -89,8 +95,8 @@ fn play_word(rt: &HostRuntime, word: &str) -> Result<u8, io::Error> {
     play_file(rt, word)
 }
 
-/// Status 0: all went as the scripts say; 1: an answer differed, or the service couldn't be played; 2: a script can't be read or
-/// played, or no word was given.
+/// Status 0: all went as the scripts say; 1: an answer differed, or the service couldn't be played;
+/// 2: a script can't be read or played, or no word was given.
 fn main(rt: HostRuntime) -> Result<ExitCode, io::Error> {
     let words: Vec<String> = env::args(&rt)?.collect(rt.alloc())?;
     let mut status = 0;

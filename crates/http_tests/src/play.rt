@@ -96,7 +96,8 @@ impl Case<'_> {
         Ok(state_of(self.alloc, &mut station, self.step.at)?)
     }
 
-    /// It comes in reads of at most so many bytes, behind so many interrupted reads each, and is answered one byte a write.
+    /// It comes in reads of at most so many bytes, behind so many interrupted reads each, and is
+    /// answered one byte a write.
     fn play_reads(
         &self,
         log: &mut Log,
@@ -164,7 +165,8 @@ impl Case<'_> {
         count == 0 || count == all / 2 || count == all || count.saturating_add(1) == all
     }
 
-    /// Beginnings of it. Those that aren't whole leave the station as it was, and any other is answered as the whole.
+    /// Beginnings of it. Those that aren't whole leave the station as it was, and any other is
+    /// answered as the whole.
     fn play_beginnings(&self, log: &mut Log, before: &[u8]) -> Result<(), ScriptFault> {
         let mut station = self.station()?;
         let mut is_whole = false;
@@ -211,7 +213,8 @@ impl Case<'_> {
         self.check(log, Way::Room(room, stop), ends, written, &came)
     }
 
-    /// The same on a station of its own, which is then as after the whole answer, and answers the same request in the same way.
+    /// The same on a station of its own, which is then as after the whole answer, and answers the
+    /// same request in the same way.
     fn play_room_alone(
         &self,
         log: &mut Log,
@@ -243,7 +246,8 @@ impl Case<'_> {
         }
     }
 
-    /// Writers that take a beginning of the answer. Where the request changes nothing they share a station.
+    /// Writers that take a beginning of the answer. Where the request changes nothing they share a
+    /// station.
     fn play_rooms(&self, log: &mut Log, after: &[u8]) -> Result<(), ScriptFault> {
         let mut station = self.station()?;
         for room in 0..self.step.answer.len() {

@@ -1,7 +1,8 @@
-//! The service on a port of this machine: listened for, connected to, asked, served and read, all in one process and one thread.
+//! The service on a port of this machine: listened for, connected to, asked, served and read, all
+//! in one process and one thread.
 //!
-//! A case is printed by its name, with the lines of each answer behind `|`, and how the service ended. The connections of a case
-//! wait in the listener's queue until they are served.
+//! A case is printed by its name, with the lines of each answer behind `|`, and how the service
+//! ended. The connections of a case wait in the listener's queue until they are served.
 mod clock;
 mod failing;
 
@@ -118,8 +119,8 @@ fn long_request(rt: &HostRuntime, tens: u32) -> io::Result<String> {
     Ok(request)
 }
 
-/// Eight connections that send nothing stand before one that asks. It is answered before one read may have waited its ten
-/// seconds.
+/// Eight connections that send nothing stand before one that asks. It is answered before one read
+/// may have waited its ten seconds.
 fn play_silent(rt: &HostRuntime, station: &mut PlainStation) -> io::Result<()> {
     println!(rt; "eight connections that send nothing")?;
     let listener = listen(rt, 0)?;

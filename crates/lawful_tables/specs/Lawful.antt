@@ -1,4 +1,5 @@
--- What is lawful of each table of a station: its own values, and what they owe to the tables before it.
+-- What is lawful of each table of a station: its own values, and what they owe to the tables before
+-- it.
 use Rattle.std.specs.Prelude.{◌≡◌, ◌≤◌, ℕ, [], false, ◌↔◌, IsTrue, IsSome, IfSome, Some, length}
 use Rattle.std.specs.List.{AllByRecursion, list_all, list_any}
 use Rattle.std.specs.Str.{bytes_eq}
@@ -44,25 +45,30 @@ pub record AreStocks (t : Tables) : Type 0 where
 -- each flight is within range, and isn't to be unloaded here
 pub record AreFlights (t : Tables) : Type 0 where
   pub rows : IsTrue (list_all is_flight_row (entries t.flights))
-  pub outbound : (flight : FlightDate) → IfSome ((cargo_in t).flights flight) (λ o. bytes_eq o.unload (cargo_in t).here ≡ false)
+  pub outbound : (flight : FlightDate)
+      → IfSome ((cargo_in t).flights flight) (λ o. bytes_eq o.unload (cargo_in t).here ≡ false)
 
--- The book: moves numbered from 1, each lawful by itself, balances that no more left than came, and flights that are closed exactly
--- where they departed.
+-- The book: moves numbered from 1, each lawful by itself, balances that no more left than came, and
+-- flights that are closed exactly where they departed.
 pub record AreMoves (t : Tables) : Type 0 where
   pub rows : IsTrue (list_all is_move_row t.moves)
   pub numbers : AreNumbered move_id t.moves
   pub moves : AllByRecursion (IsLawfulMove (cargo_in t)) (cargo_in t).book
   pub stocked : (w : ℕ) (p : Place) → is_outside p ≡ false → IsStocked (cargo_in t).book w p
   pub within : (w : ℕ) → IsTrue (fits (taken_and_found (cargo_in t).book w))
-  pub closed : (flight : FlightDate) → IsTrue (is_closed ((cargo_in t).flights flight)) ↔ IsTrue (list_any (departs_with flight) (cargo_in t).book)
+  pub closed : (flight : FlightDate)
+      → IsTrue (is_closed ((cargo_in t).flights flight)) ↔ IsTrue (list_any (departs_with flight) (cargo_in t).book)
   pub departed : (flight : FlightDate) → StaysDeparted flight (cargo_in t).book
-  pub empty : (flight : FlightDate) (w : ℕ) → IsTrue (is_closed ((cargo_in t).flights flight)) → (built (cargo_in t).book w flight).pieces ≡ 0
+  pub empty : (flight : FlightDate) (w : ℕ) → IsTrue (is_closed ((cargo_in t).flights flight))
+      → (built (cargo_in t).book w flight).pieces ≡ 0
   pub room : (flight : FlightDate) → length (waybills_on (cargo_in t).book flight) ≤ 500
 
 -- what is expected is within range, weighs at least a tenth a piece, and is of a declared waybill
 pub record AreExpected (t : Tables) : Type 0 where
   pub rows : IsTrue (list_all is_expected_row (entries t.expected))
-  pub expectations : (flight : FlightDate) (w : ℕ) → IfSome ((cargo_in t).expected flight w) (λ e. IsLawfulAmount e.pieces e.tenths × IsSome ((cargo_in t).declared w))
+  pub expectations : (flight : FlightDate) (w : ℕ)
+      → IfSome ((cargo_in t).expected flight w) (λ e. IsLawfulAmount e.pieces e.tenths
+      × IsSome ((cargo_in t).declared w))
 
 -- each part is within range, and its telegram is a text
 pub record AreParts (t : Tables) : Type 0 where
@@ -72,7 +78,8 @@ pub record AreParts (t : Tables) : Type 0 where
 pub record AreTrailLines (t : Tables) : Type 0 where
   pub rows : IsTrue (list_all is_trail_row t.trail)
   pub numbers : AreNumbered trail_id t.trail
-  pub lines : AllByRecursion (λ row. IsSome ((cargo_in t).declared row.0) × IsTrue (is_line row.1)) (cargo_in t).trail
+  pub lines : AllByRecursion (λ row. IsSome ((cargo_in t).declared row.0)
+      × IsTrue (is_line row.1)) (cargo_in t).trail
 
 -- messages that are texts, numbered from 1, of which the confirmed ones are some of the first
 pub record AreMessages (t : Tables) : Type 0 where
@@ -88,7 +95,8 @@ pub record AreKeptKeys (t : Tables) : Type 0 where
 -- the telegram of each part is among those that were accepted
 pub record AreKeptTexts (t : Tables) : Type 0 where
   pub rows : IsTrue (list_all is_kept_text_row (entries t.kept_texts))
-  pub parts : (part : Part) → IfSome ((cargo_in t).parts part) (λ text. IsSome ((meaning_of t).kept_texts text))
+  pub parts : (part : Part)
+      → IfSome ((cargo_in t).parts part) (λ text. IsSome ((meaning_of t).kept_texts text))
 
 -- whether a table is lawful: its own values, against those of the tables before it
 abbrev pub IsLawfulTable : TableName → Tables → Type 0

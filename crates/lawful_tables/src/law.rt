@@ -7,5 +7,6 @@ ghost use Rattle.lawful_tables.specs.Lawful.{IsLawfulTable};
 
 /// The law that tables which are lawful one by one are those that mean a lawful state.
 pub fn lawful_tables_mean()
-    ensures { (t : Tables) → ((name : TableName) → IsLawfulTable name t) ↔ (IsReadable t × IsLawfulState (meaning_of t)) }
+    ensures { (t : Tables) → ((name : TableName) → IsLawfulTable name t) ↔ (IsReadable t
+        × IsLawfulState (meaning_of t)) }
 {}

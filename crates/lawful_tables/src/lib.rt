@@ -1,4 +1,5 @@
-//! What is lawful of each table of a station: its own values, and what they owe to the tables before it.
+//! What is lawful of each table of a station: its own values, and what they owe to the tables
+//! before it.
 #![tactic(auto)]
 
 mod law;

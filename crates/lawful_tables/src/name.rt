@@ -3,10 +3,12 @@ ghost use Rattle.lawful_tables.specs.Names.{name_text};
 
 use std::fmt;
 
-/// The tables of a station, in the order in which they are audited: each is tested against those before it.
+/// The tables of a station, in the order in which they are audited: each is tested against those
+/// before it.
 #[derive(Clone, Copy, Debug, PartialEq, Eq)]
 pub enum TableName {
-    /// The station's one row: its airport, the version of the file, the last message that was confirmed.
+    /// The station's one row: its airport, the version of the file, the last message that was
+    /// confirmed.
     Station,
     /// What was declared of each air waybill in files of version 1: it is empty.
     Waybill,

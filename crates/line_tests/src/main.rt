@@ -1,4 +1,5 @@
-//! Calls of the program: what their words are read as, what they print, and how they end. Each is asked as a file of cases says.
+//! Calls of the program: what their words are read as, what they print, and how they end. Each is
+//! asked as a file of cases says.
 //!
 //! The station of `--db` is in memory, and is the same for all calls of a file of cases.
 #![tactic(auto)]

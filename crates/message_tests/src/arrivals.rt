@@ -50,7 +50,8 @@ fn cargo(alloc: Global, line: &CargoLine) -> Option<String> {
     format!(in alloc; "{number} {origin} {destination} {pieces} {tenths} {total} [{goods}]").ok()
 }
 
-/// The part's number, the flight, its date and where it was loaded, and each line with where it is unloaded.
+/// The part's number, the flight, its date and where it was loaded, and each line with where it is
+/// unloaded.
 fn manifest(alloc: Global, part: &PartContent) -> Option<String> {
     let mut flight = [0; 7];
     let end = part.flight.write(&mut flight);

@@ -4,8 +4,8 @@ use desk_commands::{Verb, command_text, read_command, read_command_text};
 use serde_json::Value;
 use std::alloc::Global;
 
-/// What comes of what is asked: the text of the command that a verb has with this body, from which it is read again, or
-/// `none`.
+/// What comes of what is asked: the text of the command that a verb has with this body, from which
+/// it is read again, or `none`.
 pub fn answer(alloc: Global, asked: &str, body: &[u8]) -> Option<String> {
     let verb = Verb::read(asked.as_bytes())?;
     let value = Value::from_str(alloc, shown(body)).ok()?;

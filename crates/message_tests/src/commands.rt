@@ -8,8 +8,8 @@ use shipment_machine::{Airline, DeskCommand, FlightDate, PieceCount};
 use std::alloc::Global;
 use std::str::SplitWhitespace;
 
-/// What comes of what is asked: whether a word is a verb, whether a text is a command's, or the text of the command with these
-/// fields. A day is given by its number.
+/// What comes of what is asked: whether a word is a verb, whether a text is a command's, or the
+/// text of the command with these fields. A day is given by its number.
 pub fn answer(alloc: Global, asked: &str, text: &[u8]) -> Option<String> {
     match asked {
         "verb" => verb(alloc, text),

@@ -93,7 +93,8 @@ fn fault(alloc: Global, text: &[u8]) -> Option<TextFault> {
     }
 }
 
-/// A load of a waybill from FRA to JFK that weighs 40.0 kg: its number, its pieces, those declared, and perhaps its goods.
+/// A load of a waybill from FRA to JFK that weighs 40.0 kg: its number, its pieces, those declared,
+/// and perhaps its goods.
 fn load(text: &str) -> Option<Load> {
     let mut words = text.split_whitespace();
     Some(Load {
@@ -107,7 +108,8 @@ fn load(text: &str) -> Option<Load> {
     })
 }
 
-/// The manifest of a flight from FRA to JFK on 12 January, behind a letter X: a flight, and its loads line by line.
+/// The manifest of a flight from FRA to JFK on 12 January, behind a letter X: a flight, and its
+/// loads line by line.
 fn written(alloc: Global, text: &[u8]) -> Option<String> {
     let mut lines = shown(text).lines();
     let flight = Flight::read(lines.next()?.as_bytes())?;

@@ -51,7 +51,8 @@ fn fault(alloc: Global, text: &[u8]) -> Option<String> {
     }
 }
 
-/// The faults of a text of three lines with a byte put in at each place, from the end of the first line to that of the second.
+/// The faults of a text of three lines with a byte put in at each place, from the end of the first
+/// line to that of the second.
 fn at_each_place(alloc: Global, byte: &[u8]) -> Option<String> {
     let text = b"FWB/16\nABCDEFGHIJKLMNOPQRSTUVWXYZ".as_slice();
     let mut runs = Runs::new(alloc, 6);

@@ -1,6 +1,8 @@
-//! Numbers, fields, messages, commands, orders and replies, each read or written as a file of cases says.
+//! Numbers, fields, messages, commands, orders and replies, each read or written as a file of cases
+//! says.
 //!
-//! A line of `data/NAME.cases` is a case: what is asked, the text that is given, and what must come, as `airport 'FRA' = FRA`.
+//! A line of `data/NAME.cases` is a case: what is asked, the text that is given, and what must
+//! come, as `airport 'FRA' = FRA`.
 #![tactic(auto)]
 
 mod arrivals;

@@ -10,8 +10,9 @@ use std::slice;
 use std::str::SplitWhitespace;
 use telegrams::notice_text;
 
-/// What comes of what is asked: the text of a notice on ten pieces of 100 kilograms from FRA to JFK. It is given by the airport
-/// here, its pieces, their tenths and what happened. A flight is LH400 on 2026-01-12, which has the number 20465.
+/// What comes of what is asked: the text of a notice on ten pieces of 100 kilograms from FRA to
+/// JFK. It is given by the airport here, its pieces, their tenths and what happened. A flight is
+/// LH400 on 2026-01-12, which has the number 20465.
 pub fn answer(alloc: Global, asked: &str, text: &[u8]) -> Option<String> {
     let mut words = words(text)?;
     let here = Airport::read(words.next()?.as_bytes())?;

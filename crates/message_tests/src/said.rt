@@ -48,7 +48,8 @@ pub fn token_said(alloc: Global, token: &Token<'_>) -> Option<String> {
     format!(in alloc; "{start}-{end} [{text}]").ok()
 }
 
-/// The text that a list of numbers is, without the zeros at its end, where it is one of bytes of a text.
+/// The text that a list of numbers is, without the zeros at its end, where it is one of bytes of a
+/// text.
 fn text_of(alloc: Global, list: &str) -> Option<String> {
     let mut bytes = Vec::new(alloc);
     for number in list.split(", ") {
@@ -67,7 +68,8 @@ fn push_list(alloc: Global, said: &mut String, list: &str, rest: &str) -> Option
     said.push_str(rest).ok()
 }
 
-/// What is written of a value, with its lists of bytes as texts: `letters: [70, 82, 65]` as `letters: [FRA]`.
+/// What is written of a value, with its lists of bytes as texts: `letters: [70, 82, 65]` as
+/// `letters: [FRA]`.
 pub fn readable(alloc: Global, written: &str) -> Option<String> {
     let mut said = String::new(alloc);
     let mut parts = written.split('[');

@@ -9,8 +9,9 @@ use imp_fields::{
 use std::alloc::Global;
 use std::str::SplitWhitespace;
 
-/// What comes of what is asked: the text of an update on ten pieces of 100 kilograms from FRA to JFK, written behind a letter
-/// X and read again. It is given by the airport, its pieces, their tenths and what happened.
+/// What comes of what is asked: the text of an update on ten pieces of 100 kilograms from FRA to
+/// JFK, written behind a letter X and read again. It is given by the airport, its pieces, their
+/// tenths and what happened.
 pub fn answer(alloc: Global, asked: &str, text: &[u8]) -> Option<String> {
     let mut words = words(text)?;
     let here = Airport::read(words.next()?.as_bytes())?;

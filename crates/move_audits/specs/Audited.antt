@@ -33,7 +33,8 @@ pub record AreMoveRows (t : Tables) : Type 0 where
 
 -- flights are closed exactly where they departed, and nothing is built on them after that
 pub record AreDepartures (t : Tables) : Type 0 where
-  pub closed : (flight : FlightDate) → IsTrue (is_closed ((cargo_in t).flights flight)) ↔ IsTrue (list_any (departs_with flight) (cargo_in t).book)
+  pub closed : (flight : FlightDate)
+      → IsTrue (is_closed ((cargo_in t).flights flight)) ↔ IsTrue (list_any (departs_with flight) (cargo_in t).book)
   pub departed : (flight : FlightDate) → StaysDeparted flight (cargo_in t).book
 
 -- ---- tests of a row

@@ -55,13 +55,15 @@ fn no_marks(alloc: Global, count: usize) -> Result<Vec<bool>, NoRoom>
     }
 }
 
-/// Of each of so many flights, whether a move departs with it. `None`: a move builds on a flight that has departed.
+/// Of each of so many flights, whether a move departs with it. `None`: a move builds on a flight
+/// that has departed.
 fn departed_flights(
     alloc: Global,
     postings: &[Posting],
     count: usize,
 ) -> Result<Option<Vec<bool>>, NoRoom>
-    ensures { (flights : List FlightDate) (book : List Move) → AreDistinct flights → length flights ≡ count → ArePostings flights postings.now book
+    ensures { (flights : List FlightDate) (book : List Move) → AreDistinct flights
+        → length flights ≡ count → ArePostings flights postings.now book
         → IfOk result (λ found. IsWalked flights book (option_map (λ marks. marks.items) found)) }
 {
     let mut marks = no_marks(alloc, count)?;
@@ -76,7 +78,9 @@ fn departed_flights(
 
 /// Whether the marks are those of the flights that are closed.
 fn are_closed(flights: &[FlightEntry], marks: &[bool]) -> bool
-    ensures { IsTrue result ↔ (map (λ row. is_set (flight_entry row).1.closed) flights.now ≡ map (λ mark. mark) marks.now) }
+    ensures { IsTrue result ↔
+        (map (λ row. is_set (flight_entry row).1.closed) flights.now ≡ map (λ mark. mark)
+        marks.now) }
 {
     let mut ahead = marks.iter();
     for row in flights {
@@ -90,14 +94,16 @@ fn are_closed(flights: &[FlightEntry], marks: &[bool]) -> bool
     ahead.next().is_none()
 }
 
-/// Whether flights are closed exactly where they departed, and nothing is built on them after that. The postings are those
-/// of the book, and the rows of `flight`, which are within range, stand in the order of their keys.
+/// Whether flights are closed exactly where they departed, and nothing is built on them after that.
+/// The postings are those of the book, and the rows of `flight`, which are within range, stand in
+/// the order of their keys.
 pub fn are_departures_lawful(
     alloc: Global,
     postings: &[Posting],
     flights: &[FlightEntry],
 ) -> Result<bool, NoRoom>
-    ensures exact { (t : Tables) → IsTrue (list_all is_flight_row (entries t.flights)) → entries t.flights ≡ map flight_entry flights.now
+    ensures exact { (t : Tables) → IsTrue (list_all is_flight_row (entries t.flights))
+        → entries t.flights ≡ map flight_entry flights.now
         → ArePostings (flights_of (entries t.flights)) postings.now (book_in t.moves)
         → IfOk result (λ lawful. IsTrue lawful ↔ AreDepartures t) }
 {

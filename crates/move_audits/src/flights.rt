@@ -7,9 +7,11 @@ ghost use Rattle.row_values.specs.Flights.{is_flight_row};
 ghost use Rattle.book_audits.specs.Sums.{AreDistinct, AreFlightsOf};
 ghost use Rattle.move_audits.specs.Audited.{flights_of};
 
-/// The law that rows of `flight` within range name flights in the order of their keys, and that flights so named stand
-/// once each.
+/// The law that rows of `flight` within range name flights in the order of their keys, and that
+/// flights so named stand once each.
 pub fn flights_listed()
-    ensures listed { (m : FinMap flight_cmp Flight) → IsTrue (list_all is_flight_row (entries m)) → AreFlightsOf (flights_of (entries m)) (entries m) }
-    ensures distinct { (flights : List FlightDate) (rows : List (FlightKey × Flight)) → AreFlightsOf flights rows → AreDistinct flights }
+    ensures listed { (m : FinMap flight_cmp Flight) → IsTrue (list_all is_flight_row (entries m))
+        → AreFlightsOf (flights_of (entries m)) (entries m) }
+    ensures distinct { (flights : List FlightDate) (rows : List (FlightKey × Flight))
+        → AreFlightsOf flights rows → AreDistinct flights }
 {}

@@ -1,5 +1,6 @@
-//! The audit of the table `moves` of a station that is opened, beside its waybills and its flights: whether each row is a
-//! lawful move, and whether flights are closed where they departed. Balances are audited elsewhere.
+//! The audit of the table `moves` of a station that is opened, beside its waybills and its flights:
+//! whether each row is a lawful move, and whether flights are closed where they departed. Balances
+//! are audited elsewhere.
 #![tactic(auto)]
 
 mod departures;

@@ -37,7 +37,8 @@ fn posted(row: &MoveRow, from: Spot, to: Spot) -> Posting
 
 /// A row as it is posted. `None`: it isn't within range, or not a lawful move.
 fn posting_of(row: &MoveRow, waybills: &[WaybillRow], flights: &[FlightEntry]) -> Option<Posting>
-    ensures { (t : Tables) → AreBeside t (map waybill_meant waybills.now) (map flight_entry flights.now) → IsPostedOr t (move_meant row.now) result }
+    ensures { (t : Tables) → AreBeside t (map waybill_meant waybills.now)
+        (map flight_entry flights.now) → IsPostedOr t (move_meant row.now) result }
 {
     if !is_fit(row, waybills) {
         return None;
@@ -64,8 +65,10 @@ fn all_posted(
     waybills: &[WaybillRow],
     flights: &[FlightEntry],
 ) -> Result<Option<Vec<Posting>>, NoRoom>
-    ensures { (t : Tables) → AreBeside t (map waybill_meant waybills.now) (map flight_entry flights.now)
-        → IfOk result (λ found. ArePosted t (map move_meant rows.now) (option_map (λ postings. postings.items) found)) }
+    ensures { (t : Tables) → AreBeside t (map waybill_meant waybills.now)
+        (map flight_entry flights.now)
+        → IfOk result (λ found. ArePosted t (map move_meant rows.now)
+        (option_map (λ postings. postings.items) found)) }
 {
     let mut postings = Vec::new(alloc);
     for row in rows {
@@ -77,21 +80,28 @@ fn all_posted(
     Ok(Some(postings))
 }
 
-/// The moves of these rows as they are posted, where the rows are lawful: within range, numbered from 1, and each a move that
-/// may be made. Whether a place has what is taken from it isn't asked. The rows of `moves` and of `waybill` are in the
-/// order of their numbers, and those of `flight`, which are within range, in the order of their keys. `None`: a row isn't lawful.
+/// The moves of these rows as they are posted, where the rows are lawful: within range, numbered
+/// from 1, and each a move that may be made. Whether a place has what is taken from it isn't asked.
+/// The rows of `moves` and of `waybill` are in the order of their numbers, and those of `flight`,
+/// which are within range, in the order of their keys. `None`: a row isn't lawful.
 pub fn postings_of(
     alloc: Global,
     rows: &[MoveRow],
     waybills: &[WaybillRow],
     flights: &[FlightEntry],
 ) -> Result<Option<Vec<Posting>>, NoRoom>
-    ensures exact { (t : Tables) → RisesByNumber (map waybill_meant waybills.now) → t.waybills ≡ map waybill_meant waybills.now
-        → IsTrue (list_all is_flight_row (entries t.flights)) → entries t.flights ≡ map flight_entry flights.now → t.moves ≡ map move_meant rows.now
+    ensures exact { (t : Tables) → RisesByNumber (map waybill_meant waybills.now)
+        → t.waybills ≡ map waybill_meant waybills.now
+        → IsTrue (list_all is_flight_row (entries t.flights))
+        → entries t.flights ≡ map flight_entry flights.now → t.moves ≡ map move_meant rows.now
         → IfOk result (λ found. IsSome found ↔ AreMoveRows t) }
-    ensures posted { (t : Tables) → RisesByNumber (map waybill_meant waybills.now) → t.waybills ≡ map waybill_meant waybills.now
-        → IsTrue (list_all is_flight_row (entries t.flights)) → entries t.flights ≡ map flight_entry flights.now → t.moves ≡ map move_meant rows.now
-        → IfOk result (λ found. IfSome found (λ postings. ArePostings (flights_of (entries t.flights)) postings.items (book_in t.moves))) }
+    ensures posted { (t : Tables) → RisesByNumber (map waybill_meant waybills.now)
+        → t.waybills ≡ map waybill_meant waybills.now
+        → IsTrue (list_all is_flight_row (entries t.flights))
+        → entries t.flights ≡ map flight_entry flights.now → t.moves ≡ map move_meant rows.now
+        → IfOk result (λ found. IfSome found
+        (λ postings. ArePostings (flights_of (entries t.flights)) postings.items
+        (book_in t.moves))) }
 {
     if !are_moves_numbered(rows) {
         return Ok(None);

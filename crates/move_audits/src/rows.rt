@@ -59,10 +59,11 @@ fn is_code_pair(row: &MoveRow) -> bool
     }
 }
 
-/// Whether the row is within range by itself, apart from its flight, a pair of places that is allowed, and of a declared
-/// waybill.
+/// Whether the row is within range by itself, apart from its flight, a pair of places that is
+/// allowed, and of a declared waybill.
 pub(crate) fn is_fit(row: &MoveRow, waybills: &[WaybillRow]) -> bool
-    ensures { RisesByNumber (map waybill_meant waybills.now) → result ≡ is_fit_move (map waybill_meant waybills.now) (move_meant row.now) }
+    ensures { RisesByNumber (map waybill_meant waybills.now)
+        → result ≡ is_fit_move (map waybill_meant waybills.now) (move_meant row.now) }
 {
     if !has_numbers(row) {
         return false;

@@ -27,7 +27,8 @@ fn is_plain(code: &i64) -> bool
 
 /// The row's flight, by the place of its row in the table.
 fn flight_spot(row: &MoveRow, flights: &[FlightEntry]) -> Option<Spot>
-    ensures { (t : Tables) (ws : List Waybill) → AreBeside t ws (map flight_entry flights.now) → are_flight_columns (move_meant row.now).flight row.now.fday ≡ true
+    ensures { (t : Tables) (ws : List Waybill) → AreBeside t ws (map flight_entry flights.now)
+        → are_flight_columns (move_meant row.now).flight row.now.fday ≡ true
         → IsSpotFound t (move_meant row.now) (pos 3) result }
 {
     match flight_place(flights, &row.flight, &row.fday) {
@@ -36,9 +37,11 @@ fn flight_spot(row: &MoveRow, flights: &[FlightEntry]) -> Option<Spot>
     }
 }
 
-/// The place of a code of a row. `None`: there is no such place, or no row of the flight on which it is built.
+/// The place of a code of a row. `None`: there is no such place, or no row of the flight on which
+/// it is built.
 pub(crate) fn spot_of(code: &i64, row: &MoveRow, flights: &[FlightEntry]) -> Option<Spot>
-    ensures { (t : Tables) (ws : List Waybill) → AreBeside t ws (map flight_entry flights.now) → are_flight_columns (move_meant row.now).flight row.now.fday ≡ true
+    ensures { (t : Tables) (ws : List Waybill) → AreBeside t ws (map flight_entry flights.now)
+        → are_flight_columns (move_meant row.now).flight row.now.fday ≡ true
         → IsSpotFound t (move_meant row.now) code.now result }
 {
     if is_built(code) {

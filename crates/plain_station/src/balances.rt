@@ -56,7 +56,11 @@ impl Total {
     fn less(&self, other: &Total) -> Amount
         requires pieces { self.now.pieces - other.now.pieces ≤ 9999 }
         requires tenths { self.now.tenths - other.now.tenths ≤ 999999 }
-        ensures { result ≡ record { pieces = self.now.pieces - other.now.pieces; tenths = self.now.tenths - other.now.tenths } }
+        ensures { result ≡ record {
+          pieces = self.now.pieces - other.now.pieces;
+          tenths = self.now.tenths -
+              other.now.tenths;
+        } }
     {
         Amount {
             pieces: self.pieces.saturating_sub(other.pieces) as u32,

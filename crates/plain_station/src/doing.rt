@@ -21,7 +21,9 @@ use telegrams::Telegram;
 impl PlainCargo {
     /// Does an order on the stock.
     fn do_order(&mut self, order: &Order) -> Result<u32, ActFault>
-        ensures { Does (stock_acted (cargo_of self.old.lists) order.now (order_refusal (cargo_of self.old.lists).holders order.now)) (cargo_of self.old.lists) result (cargo_of self.new.lists) }
+        ensures { Does (stock_acted (cargo_of self.old.lists) order.now
+            (order_refusal (cargo_of self.old.lists).holders order.now)) (cargo_of self.old.lists)
+            result (cargo_of self.new.lists) }
     {
         let Ok(mut stock) = self.lists.stock.try_clone() else {
             return Err(ActFault::Memory);
@@ -45,7 +47,9 @@ impl PlainCargo {
         command: &ShipmentCommand<'_>,
         at: Moment,
     ) -> Result<u32, ActFault>
-        ensures { Does (cargo_acted text.now (cargo_of self.old.lists) (effect (cargo_of self.old.lists) command.now at)) (cargo_of self.old.lists) result (cargo_of self.new.lists) }
+        ensures { Does (cargo_acted text.now (cargo_of self.old.lists)
+            (effect (cargo_of self.old.lists) command.now at)) (cargo_of self.old.lists) result
+            (cargo_of self.new.lists) }
     {
         match self.plan(command, at) {
             Ok(plan) => self.lists.carry_out(text, &plan),
@@ -58,7 +62,8 @@ impl PlainCargo {
 
     /// Does a command of a caller.
     pub(crate) fn do_command(&mut self, command: &Command, at: Moment) -> Result<u32, ActFault>
-        ensures { (key : List ℕ) → Does (acted (cargo_of self.old.lists) (Keyed key command.now) at) (cargo_of self.old.lists) result (cargo_of self.new.lists) }
+        ensures { (key : List ℕ) → Does (acted (cargo_of self.old.lists) (Keyed key command.now) at)
+            (cargo_of self.old.lists) result (cargo_of self.new.lists) }
     {
         match command {
             Command::Stock(order) => self.do_order(order),
@@ -75,7 +80,8 @@ impl PlainCargo {
         telegram: &'a Telegram<'a>,
         at: Moment,
     ) -> Result<u32, ActFault>
-        ensures { Does (acted (cargo_of self.old.lists) (Wire telegram.now) at) (cargo_of self.old.lists) result (cargo_of self.new.lists) }
+        ensures { Does (acted (cargo_of self.old.lists) (Wire telegram.now) at)
+            (cargo_of self.old.lists) result (cargo_of self.new.lists) }
     {
         let command = shipment_of(telegram.content());
         self.do_shipment(telegram.text().as_bytes(), &command, at)

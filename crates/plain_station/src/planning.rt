@@ -11,17 +11,21 @@ use imp_fields::Moment;
 use shipment_machine::{Plan, PlanFault, ShipmentCommand, plan};
 
 impl PlainCargo {
-    /// What a command does at a moment, or the first refusal that is due, with its detail. Out of memory, nothing is said
-    /// of the command.
+    /// What a command does at a moment, or the first refusal that is due, with its detail. Out of
+    /// memory, nothing is said of the command.
     pub(crate) fn plan<'a>(
         &self,
         command: &ShipmentCommand<'a>,
         at: Moment,
     ) -> Result<Plan<'a>, PlanFault>
-        ensures planned { IfOk result (λ plan. effect (cargo_of self.now.lists) command.now at ≡ Ok (outcome_of plan)) }
-        ensures refused { IfErr result (RefusesAs (effect (cargo_of self.now.lists) command.now at)) }
+        ensures planned { IfOk result
+            (λ plan. effect (cargo_of self.now.lists) command.now at ≡ Ok (outcome_of plan)) }
+        ensures refused { IfErr result
+            (RefusesAs (effect (cargo_of self.now.lists) command.now at)) }
         // The text of a part that the telegram is has yet to be kept.
-        ensures stays_lawful { IfOk result (λ plan. (text : List ℕ) (messages : List (List ℕ)) → IsLawful (sent messages (carried_out text (outcome_of plan) (cargo_of self.now.lists)))) }
+        ensures stays_lawful { IfOk result (λ plan. (text : List ℕ) (messages : List (List ℕ))
+            → IsLawful (sent messages
+            (carried_out text (outcome_of plan) (cargo_of self.now.lists)))) }
     {
         let view = self.view(command, at)?;
         plan(self.lists.alloc, &view, command, at)

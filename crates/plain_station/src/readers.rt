@@ -25,11 +25,15 @@ impl PlainCargo {
         self.lists.stock.get(number)
     }
 
-    /// Hands out the stock as its maximal runs of one holder, ascending, until the sink takes no more. Out of memory, it
-    /// hands out none.
+    /// Hands out the stock as its maximal runs of one holder, ascending, until the sink takes no
+    /// more. Out of memory, it hands out none.
     pub(crate) fn stock<S: Sink<StockRun>>(&self, sink: &mut S) -> Result<(), ActFault>
-        ensures rows { OnOk result ((rows : List StockRun) × AreStockRuns (cargo_of self.now.lists).holders rows × HandedOut S.takes rows sink.old sink.new) }
-        ensures beginning { OnErr result ((rows : List StockRun) → AreStockRuns (cargo_of self.now.lists).holders rows → (n : ℕ) × HandedOut S.takes (take n rows) sink.old sink.new) }
+        ensures rows { OnOk result ((rows : List StockRun)
+            × AreStockRuns (cargo_of self.now.lists).holders rows
+            × HandedOut S.takes rows sink.old sink.new) }
+        ensures beginning { OnErr result ((rows : List StockRun)
+            → AreStockRuns (cargo_of self.now.lists).holders rows → (n : ℕ)
+            × HandedOut S.takes (take n rows) sink.old sink.new) }
         ensures memory { IfErr result (λ fault. fault ≡ ActFault.Memory) }
         ensures none { OnErr result (sink.new ≡ sink.old) }
     {
@@ -84,7 +88,9 @@ impl PlainCargo {
     /// Puts a waybill behind the others, if pieces are missing or were found.
     fn put_irregular(&self, rows: &mut Vec<IrregularRow>, number: &Awb) -> Result<(), AllocError>
         requires declared { IsSome ((cargo_of self.now.lists).declared number.now) }
-        ensures { OnOk result (rows.new.items ≡ rows.old.items ++ (if is_irregular (cargo_of self.now.lists) number.now then irregular_row (cargo_of self.now.lists) number.now ∷ [] else [])) }
+        ensures { OnOk result (rows.new.items ≡ rows.old.items ++
+            (if is_irregular (cargo_of self.now.lists) number.now then irregular_row
+            (cargo_of self.now.lists) number.now ∷ [] else [])) }
     {
         let row = self.irregular_row(number);
         if row.missing.pieces > 0 || row.found.pieces > 0 {
@@ -104,11 +110,14 @@ impl PlainCargo {
         Ok(rows)
     }
 
-    /// Hands out the waybills of which pieces are missing or were found, ascending, until the sink takes no more. Out of
-    /// memory, it hands out none.
+    /// Hands out the waybills of which pieces are missing or were found, ascending, until the sink
+    /// takes no more. Out of memory, it hands out none.
     pub(crate) fn irregular<S: Sink<IrregularRow>>(&self, sink: &mut S) -> Result<(), ActFault>
-        ensures rows { OnOk result (HandedOut S.takes (irregular_rows (cargo_of self.now.lists)) sink.old sink.new) }
-        ensures beginning { OnErr result ((n : ℕ) × HandedOut S.takes (take n (irregular_rows (cargo_of self.now.lists))) sink.old sink.new) }
+        ensures rows { OnOk result
+            (HandedOut S.takes (irregular_rows (cargo_of self.now.lists)) sink.old sink.new) }
+        ensures beginning { OnErr result ((n : ℕ)
+            × HandedOut S.takes (take n (irregular_rows (cargo_of self.now.lists))) sink.old
+            sink.new) }
         ensures memory { IfErr result (λ fault. fault ≡ ActFault.Memory) }
         ensures none { OnErr result (sink.new ≡ sink.old) }
     {
@@ -135,10 +144,13 @@ impl PlainCargo {
         Ok(rows)
     }
 
-    /// Hands out the movement book, numbered from 1, until the sink takes no more. Out of memory, it hands out nothing.
+    /// Hands out the movement book, numbered from 1, until the sink takes no more. Out of memory,
+    /// it hands out nothing.
     pub(crate) fn book<S: Sink<BookRow>>(&self, sink: &mut S) -> Result<(), ActFault>
-        ensures rows { OnOk result (HandedOut S.takes (book_rows (cargo_of self.now.lists)) sink.old sink.new) }
-        ensures beginning { OnErr result ((n : ℕ) × HandedOut S.takes (take n (book_rows (cargo_of self.now.lists))) sink.old sink.new) }
+        ensures rows { OnOk result
+            (HandedOut S.takes (book_rows (cargo_of self.now.lists)) sink.old sink.new) }
+        ensures beginning { OnErr result ((n : ℕ)
+            × HandedOut S.takes (take n (book_rows (cargo_of self.now.lists))) sink.old sink.new) }
         ensures memory { IfErr result (λ fault. fault ≡ ActFault.Memory) }
         ensures none { OnErr result (sink.new ≡ sink.old) }
     {
@@ -152,7 +164,8 @@ impl PlainCargo {
     /// The message at a place of the outbox, numbered from 1.
     fn message_at(&self, at: usize) -> Result<Message, AllocError>
         requires within { at < length self.now.lists.outbox.items }
-        ensures { IfOk result (λ row. row ≡ message (at + 1) (get_or (texts_in self.now.lists.outbox.items) at [])) }
+        ensures { IfOk result (λ row. row ≡ message (at + 1)
+            (get_or (texts_in self.now.lists.outbox.items) at [])) }
     {
         Ok(Message {
             number: at as u32 + 1,
@@ -171,11 +184,14 @@ impl PlainCargo {
         Ok(rows)
     }
 
-    /// Hands out the messages that weren't confirmed yet, with their places in the outbox from 1, until the sink takes no
-    /// more. Out of memory, it hands out none.
+    /// Hands out the messages that weren't confirmed yet, with their places in the outbox from 1,
+    /// until the sink takes no more. Out of memory, it hands out none.
     pub(crate) fn pending<S: Sink<Message>>(&self, sink: &mut S) -> Result<(), ActFault>
-        ensures rows { OnOk result (HandedOut S.takes (pending_messages (cargo_of self.now.lists)) sink.old sink.new) }
-        ensures beginning { OnErr result ((n : ℕ) × HandedOut S.takes (take n (pending_messages (cargo_of self.now.lists))) sink.old sink.new) }
+        ensures rows { OnOk result
+            (HandedOut S.takes (pending_messages (cargo_of self.now.lists)) sink.old sink.new) }
+        ensures beginning { OnErr result ((n : ℕ)
+            × HandedOut S.takes (take n (pending_messages (cargo_of self.now.lists))) sink.old
+            sink.new) }
         ensures memory { IfErr result (λ fault. fault ≡ ActFault.Memory) }
         ensures none { OnErr result (sink.new ≡ sink.old) }
     {
@@ -207,10 +223,13 @@ impl PlainCargo {
         Ok(rows)
     }
 
-    /// Hands out the trail, in order, until the sink takes no more. Out of memory, it hands out nothing.
+    /// Hands out the trail, in order, until the sink takes no more. Out of memory, it hands out
+    /// nothing.
     pub(crate) fn trail<S: Sink<TrailRow>>(&self, sink: &mut S) -> Result<(), ActFault>
-        ensures rows { OnOk result (HandedOut S.takes (trail_rows (cargo_of self.now.lists)) sink.old sink.new) }
-        ensures beginning { OnErr result ((n : ℕ) × HandedOut S.takes (take n (trail_rows (cargo_of self.now.lists))) sink.old sink.new) }
+        ensures rows { OnOk result
+            (HandedOut S.takes (trail_rows (cargo_of self.now.lists)) sink.old sink.new) }
+        ensures beginning { OnErr result ((n : ℕ)
+            × HandedOut S.takes (take n (trail_rows (cargo_of self.now.lists))) sink.old sink.new) }
         ensures memory { IfErr result (λ fault. fault ≡ ActFault.Memory) }
         ensures none { OnErr result (sink.new ≡ sink.old) }
     {

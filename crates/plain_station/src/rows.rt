@@ -31,7 +31,8 @@ pub(crate) struct ExpectedRow {
 impl ExpectedRow {
     /// Whether it is of this waybill on this flight.
     pub(crate) fn is_of(&self, flight: &FlightDate, awb: &Awb) -> bool
-        ensures { result ≡ same_flight_date flight.now self.now.flight && (awb.now == self.now.awb) }
+        ensures { result ≡ same_flight_date flight.now self.now.flight &&
+            (awb.now == self.now.awb) }
     {
         is_flight(flight, &self.flight) && *awb == self.awb
     }

@@ -22,7 +22,8 @@ use station_core::{
 use std::alloc::Global;
 use telegrams::Telegram;
 
-/// A station in memory alone. Its faults are `Refused` and `Memory`, and after both it is as before.
+/// A station in memory alone. Its faults are `Refused` and `Memory`, and after both it is as
+/// before.
 #[derive(Drop)]
 pub struct PlainStation {
     alloc: Global,
@@ -55,7 +56,8 @@ impl PlainStation {
     ) -> Result<Reply, ActFault>
         requires new_key { (state_of self.old).kept_keys key.now ≡ None }
         requires request { string_bytes request ≡ command_text command.now }
-        ensures acts { Acts (state_of self.old) (Keyed key.now command.now) at result (λ s. state_of self.new ≡ s) }
+        ensures acts { Acts (state_of self.old) (Keyed key.now command.now) at result
+            (λ s. state_of self.new ≡ s) }
         ensures works { Breaks result false }
     {
         if self.kept_keys.try_reserve(1).is_err() {
@@ -79,7 +81,8 @@ impl PlainStation {
     /// Does what a new telegram says.
     fn act_wire<'a>(&mut self, telegram: &'a Telegram<'a>, at: Moment) -> Result<Reply, ActFault>
         requires new_text { (state_of self.old).kept_texts telegram.now.text ≡ None }
-        ensures acts { Acts (state_of self.old) (Wire telegram.now) at result (λ s. state_of self.new ≡ s) }
+        ensures acts { Acts (state_of self.old) (Wire telegram.now) at result
+            (λ s. state_of self.new ≡ s) }
         ensures works { Breaks result false }
     {
         let Ok(text) = telegram.text().as_bytes().to_vec(self.alloc) else {
@@ -105,7 +108,8 @@ impl PlainStation {
         command: &Command,
         at: Moment,
     ) -> Result<Reply, ActFault>
-        ensures acts { Acts (state_of self.old) (Keyed key.now command.now) at result (λ s. state_of self.new ≡ s) }
+        ensures acts { Acts (state_of self.old) (Keyed key.now command.now) at result
+            (λ s. state_of self.new ≡ s) }
         ensures works { Breaks result false }
     {
         let Ok(request) = command_text(self.alloc, command) else {
@@ -124,7 +128,8 @@ impl PlainStation {
         telegram: &'a Telegram<'a>,
         at: Moment,
     ) -> Result<Reply, ActFault>
-        ensures acts { Acts (state_of self.old) (Wire telegram.now) at result (λ s. state_of self.new ≡ s) }
+        ensures acts { Acts (state_of self.old) (Wire telegram.now) at result
+            (λ s. state_of self.new ≡ s) }
         ensures works { Breaks result false }
     {
         match count_of(&self.kept_texts, telegram.text().as_bytes()) {
@@ -171,8 +176,12 @@ impl Keeper for PlainStation {
     }
 
     fn stock<S: Sink<StockRun>>(&mut self, sink: &mut S) -> Result<(), ActFault>
-        ensures rows { OnOk result ((rows : List AnyRun) × AreStockRuns (state_of self.old).cargo.holders rows × HandedOut S.takes rows sink.old sink.new) }
-        ensures beginning { OnErr result ((rows : List AnyRun) → AreStockRuns (state_of self.old).cargo.holders rows → (n : ℕ) × HandedOut S.takes (take n rows) sink.old sink.new) }
+        ensures rows { OnOk result ((rows : List AnyRun)
+            × AreStockRuns (state_of self.old).cargo.holders rows
+            × HandedOut S.takes rows sink.old sink.new) }
+        ensures beginning { OnErr result ((rows : List AnyRun)
+            → AreStockRuns (state_of self.old).cargo.holders rows → (n : ℕ)
+            × HandedOut S.takes (take n rows) sink.old sink.new) }
         ensures memory { IfErr result (λ fault. fault ≡ ActFault.Memory) }
         ensures none { OnErr result (sink.new ≡ sink.old) }
         ensures as_before { self.new ≡ self.old }
@@ -181,8 +190,11 @@ impl Keeper for PlainStation {
     }
 
     fn irregular<S: Sink<IrregularRow>>(&mut self, sink: &mut S) -> Result<(), ActFault>
-        ensures rows { OnOk result (HandedOut S.takes (irregular_rows (state_of self.old).cargo) sink.old sink.new) }
-        ensures beginning { OnErr result ((n : ℕ) × HandedOut S.takes (take n (irregular_rows (state_of self.old).cargo)) sink.old sink.new) }
+        ensures rows { OnOk result
+            (HandedOut S.takes (irregular_rows (state_of self.old).cargo) sink.old sink.new) }
+        ensures beginning { OnErr result ((n : ℕ)
+            × HandedOut S.takes (take n (irregular_rows (state_of self.old).cargo)) sink.old
+            sink.new) }
         ensures memory { IfErr result (λ fault. fault ≡ ActFault.Memory) }
         ensures none { OnErr result (sink.new ≡ sink.old) }
         ensures as_before { self.new ≡ self.old }
@@ -191,8 +203,10 @@ impl Keeper for PlainStation {
     }
 
     fn book<S: Sink<BookRow>>(&mut self, sink: &mut S) -> Result<(), ActFault>
-        ensures rows { OnOk result (HandedOut S.takes (book_rows (state_of self.old).cargo) sink.old sink.new) }
-        ensures beginning { OnErr result ((n : ℕ) × HandedOut S.takes (take n (book_rows (state_of self.old).cargo)) sink.old sink.new) }
+        ensures rows { OnOk result
+            (HandedOut S.takes (book_rows (state_of self.old).cargo) sink.old sink.new) }
+        ensures beginning { OnErr result ((n : ℕ)
+            × HandedOut S.takes (take n (book_rows (state_of self.old).cargo)) sink.old sink.new) }
         ensures memory { IfErr result (λ fault. fault ≡ ActFault.Memory) }
         ensures none { OnErr result (sink.new ≡ sink.old) }
         ensures as_before { self.new ≡ self.old }
@@ -201,8 +215,11 @@ impl Keeper for PlainStation {
     }
 
     fn pending<S: Sink<Message>>(&mut self, sink: &mut S) -> Result<(), ActFault>
-        ensures rows { OnOk result (HandedOut S.takes (pending_messages (state_of self.old).cargo) sink.old sink.new) }
-        ensures beginning { OnErr result ((n : ℕ) × HandedOut S.takes (take n (pending_messages (state_of self.old).cargo)) sink.old sink.new) }
+        ensures rows { OnOk result
+            (HandedOut S.takes (pending_messages (state_of self.old).cargo) sink.old sink.new) }
+        ensures beginning { OnErr result ((n : ℕ)
+            × HandedOut S.takes (take n (pending_messages (state_of self.old).cargo)) sink.old
+            sink.new) }
         ensures memory { IfErr result (λ fault. fault ≡ ActFault.Memory) }
         ensures none { OnErr result (sink.new ≡ sink.old) }
         ensures as_before { self.new ≡ self.old }
@@ -211,8 +228,10 @@ impl Keeper for PlainStation {
     }
 
     fn trail<S: Sink<TrailRow>>(&mut self, sink: &mut S) -> Result<(), ActFault>
-        ensures rows { OnOk result (HandedOut S.takes (trail_rows (state_of self.old).cargo) sink.old sink.new) }
-        ensures beginning { OnErr result ((n : ℕ) × HandedOut S.takes (take n (trail_rows (state_of self.old).cargo)) sink.old sink.new) }
+        ensures rows { OnOk result
+            (HandedOut S.takes (trail_rows (state_of self.old).cargo) sink.old sink.new) }
+        ensures beginning { OnErr result ((n : ℕ)
+            × HandedOut S.takes (take n (trail_rows (state_of self.old).cargo)) sink.old sink.new) }
         ensures memory { IfErr result (λ fault. fault ≡ ActFault.Memory) }
         ensures none { OnErr result (sink.new ≡ sink.old) }
         ensures as_before { self.new ≡ self.old }

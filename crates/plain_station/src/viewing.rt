@@ -34,7 +34,8 @@ fn is_onto(flight: &FlightDate, movement: &Move) -> bool
 
 /// The day that a date means, where it is one of a Moment.
 fn day_meant(date: DayMonth, at: Moment) -> Option<LocalDay>
-    ensures some { IfSome result (λ day. (resolved date at.day ≡ Some day) × (is_day (resolved date at.day) ≡ true)) }
+    ensures some { IfSome result (λ day. (resolved date at.day ≡ Some day)
+        × (is_day (resolved date at.day) ≡ true)) }
     ensures none { result ≡ None → is_day (resolved date at.day) ≡ false }
 {
     let number = resolve(date, at.day)?;
@@ -44,7 +45,8 @@ fn day_meant(date: DayMonth, at: Moment) -> Option<LocalDay>
 impl PlainCargo {
     /// The moves onto a flight, in their order.
     fn moves_onto(&self, flight: &FlightDate) -> Result<Vec<Move>, AllocError>
-        ensures { IfOk result (λ moves. moves.items ≡ filter (is_onto flight.now) self.now.lists.book.items) }
+        ensures { IfOk result (λ moves. moves.items ≡ filter (is_onto flight.now)
+            self.now.lists.book.items) }
     {
         let mut moves = Vec::new(self.lists.alloc);
         for movement in &self.lists.book {
@@ -55,10 +57,11 @@ impl PlainCargo {
         Ok(moves)
     }
 
-    /// The waybills that are built on a flight, ascending: of those that were ever built on it, the ones of which something is there
-    /// yet.
+    /// The waybills that are built on a flight, ascending: of those that were ever built on it, the
+    /// ones of which something is there yet.
     fn numbers_on(&self, flight: &FlightDate) -> Result<Vec<Awb>, AllocError>
-        ensures { IfOk result (λ numbers. numbers.items ≡ waybills_on self.now.lists.book.items flight.now) }
+        ensures { IfOk result (λ numbers. numbers.items ≡ waybills_on self.now.lists.book.items
+            flight.now) }
     {
         let mut numbers = Vec::new(self.lists.alloc);
         let onto = self.moves_onto(flight)?;
@@ -86,7 +89,8 @@ impl PlainCargo {
 
     /// A flight, seen from a waybill that is to be built on it.
     fn flight_view(&self, awb: &Awb, flight: &FlightDate) -> Result<FlightView, AllocError>
-        ensures { IfOk result (λ view. view ≡ flight_view (cargo_of self.now.lists) awb.now flight.now) }
+        ensures { IfOk result (λ view. view ≡ flight_view (cargo_of self.now.lists) awb.now
+            flight.now) }
     {
         let numbers = self.numbers_on(flight)?;
         Ok(FlightView {
@@ -122,7 +126,9 @@ impl PlainCargo {
 
     /// What is kept of each line of a manifest that is for here.
     fn line_rows(&self, flight: &FlightDate, lines: &[InboundLine]) -> Result<LineViews, AllocError>
-        ensures { IfOk result (λ rows. rows ≡ map (line_view_of (cargo_of self.now.lists) flight.now) (lines_for self.now.lists.here lines.now)) }
+        ensures { IfOk result (λ rows. rows ≡ map
+            (line_view_of (cargo_of self.now.lists) flight.now)
+            (lines_for self.now.lists.here lines.now)) }
     {
         let mut rows = Vec::new(self.lists.alloc);
         for line in lines {
@@ -174,7 +180,9 @@ impl PlainCargo {
 
     /// What the building of a waybill on a flight is planned from.
     fn manifest_rows(&self, awb: &Awb, flight: &FlightDate) -> Result<Rows, AllocError>
-        ensures { IfOk result (λ made. made ≡ rows.Manifest (waybill_view (cargo_of self.now.lists) awb.now) (flight_view (cargo_of self.now.lists) awb.now flight.now)) }
+        ensures { IfOk result (λ made. made ≡ rows.Manifest
+            (waybill_view (cargo_of self.now.lists) awb.now)
+            (flight_view (cargo_of self.now.lists) awb.now flight.now)) }
     {
         Ok(Rows::Manifest {
             waybill: self.waybill_view(awb),
@@ -184,7 +192,9 @@ impl PlainCargo {
 
     /// What taking a waybill off a flight is planned from.
     fn offload_rows(&self, awb: &Awb, flight: &FlightDate) -> Rows
-        ensures { result ≡ rows.Offload ((cargo_of self.now.lists).declared awb.now) ((cargo_of self.now.lists).flights flight.now) (built self.now.lists.book.items awb.now flight.now) }
+        ensures { result ≡ rows.Offload ((cargo_of self.now.lists).declared awb.now)
+            ((cargo_of self.now.lists).flights flight.now)
+            (built self.now.lists.book.items awb.now flight.now) }
     {
         Rows::Offload {
             declared: self.lists.declared_of(awb),
@@ -195,7 +205,8 @@ impl PlainCargo {
 
     /// What the check-in of a waybill is planned from.
     fn check_in_rows(&self, awb: &Awb, flight: &FlightDate) -> Rows
-        ensures { result ≡ rows.CheckIn (waybill_view (cargo_of self.now.lists) awb.now) ((cargo_of self.now.lists).expected flight.now awb.now) }
+        ensures { result ≡ rows.CheckIn (waybill_view (cargo_of self.now.lists) awb.now)
+            ((cargo_of self.now.lists).expected flight.now awb.now) }
     {
         Rows::CheckIn {
             waybill: self.waybill_view(awb),
@@ -224,7 +235,8 @@ impl PlainCargo {
 
     /// What a part of a manifest is planned from: nothing where its date names no day.
     fn part_rows(&self, part: &InboundPart<'_>, at: Moment) -> Result<Rows, AllocError>
-        ensures { IfOk result (λ made. made ≡ rows_for (cargo_of self.now.lists) (order.Ffm part.now) at) }
+        ensures { IfOk result (λ made. made ≡ rows_for (cargo_of self.now.lists)
+            (order.Ffm part.now) at) }
     {
         let Some(day) = day_meant(part.date, at) else {
             return Ok(self.no_lines());

@@ -22,7 +22,8 @@ use telegrams::notice_text;
 
 /// An agent's number is used up.
 fn use_up(stock: &mut PlainRows, awb: &Awb) -> Result<(), AllocError>
-    ensures { OnOk result ((q : ℕ) → holders_of stock.new q ≡ (if q == awb.now then Some Used else holders_of stock.old q)) }
+    ensures { OnOk result ((q : ℕ)
+        → holders_of stock.new q ≡ (if q == awb.now then Some Used else holders_of stock.old q)) }
 {
     stock.assign(&Run::of_one(*awb), &Holder::Used)
 }
@@ -60,7 +61,9 @@ impl Next {
 
     /// Writes a row, where the telegram in work has this text.
     fn write(&mut self, text: &[u8], change: &Change<'_>) -> Result<(), AllocError>
-        ensures { (c : CargoLists) → OnOk result (cargo_with c self.new ≡ written text.now change.now (cargo_with c self.old)) }
+        ensures { (c : CargoLists)
+            → OnOk result (cargo_with c self.new ≡ written text.now change.now
+            (cargo_with c self.old)) }
     {
         match change {
             Change::Declare { awb, declared } => {
@@ -111,7 +114,8 @@ impl Next {
 
     /// The rows after some were written, in order.
     fn after(cargo: &CargoLists, text: &[u8], changes: &[Change<'_>]) -> Result<Next, AllocError>
-        ensures { IfOk result (λ next. cargo_with cargo.now next ≡ written_all text.now changes.now (cargo_of cargo.now)) }
+        ensures { IfOk result (λ next. cargo_with cargo.now next ≡ written_all text.now changes.now
+            (cargo_of cargo.now)) }
     {
         let mut next = Next::of(cargo)?;
         for change in changes {
@@ -123,7 +127,8 @@ impl Next {
 
 /// Appends the text of a message.
 fn put_text(alloc: Global, texts: &mut Vec<Vec<u8>>, notice: &Notice) -> Result<(), AllocError>
-    ensures { OnOk result (texts_in texts.new.items ≡ texts_in texts.old.items ++ notice_text notice.now ∷ []) }
+    ensures { OnOk result (texts_in texts.new.items ≡ texts_in texts.old.items ++ notice_text
+        notice.now ∷ []) }
 {
     let text = notice_text(alloc, notice)?;
     texts.push(text)?;
@@ -152,7 +157,9 @@ fn can_be_numbered(rows: usize, more: usize) -> bool
 impl CargoLists {
     /// Whether the moves, the trail and the messages can be numbered once rows are taken over.
     fn has_room_for(&self, next: &Next, moves: &[Move], messages: &Vec<Vec<u8>>) -> bool
-        ensures { result ≡ has_room (sent (texts_in messages.now.items) (record (cargo_with self.now next.now) { book = self.now.book.items ++ moves.now })) }
+        ensures { result ≡ has_room
+            (sent (texts_in messages.now.items)
+            (record (cargo_with self.now next.now) { book = self.now.book.items ++ moves.now })) }
     {
         can_be_numbered(self.book.len(), moves.len())
             && can_be_numbered(self.trail.len(), next.trail.len())
@@ -166,7 +173,8 @@ impl CargoLists {
         moves: &[Move],
         mut messages: Vec<Vec<u8>>,
     ) -> Result<(), AllocError>
-        ensures ok { OnOk result (cargo_of self.new ≡ sent (texts_in messages.items) (record (cargo_with self.old next) { book = self.old.book.items ++ moves.now })) }
+        ensures ok { OnOk result (cargo_of self.new ≡ sent (texts_in messages.items)
+            (record (cargo_with self.old next) { book = self.old.book.items ++ moves.now })) }
         ensures err { OnErr result (cargo_of self.new ≡ cargo_of self.old) }
     {
         self.book.try_reserve(moves.len())?;
@@ -191,10 +199,12 @@ impl CargoLists {
         Ok(())
     }
 
-    /// Does what a plan says, where the telegram in work has this text: its rows are written, and its moves and its messages
-    /// stand behind the others. A fault changes nothing: it is refused where the rows couldn't all be numbered afterwards.
+    /// Does what a plan says, where the telegram in work has this text: its rows are written, and
+    /// its moves and its messages stand behind the others. A fault changes nothing: it is refused
+    /// where the rows couldn't all be numbered afterwards.
     pub(crate) fn carry_out(&mut self, text: &[u8], plan: &Plan<'_>) -> Result<u32, ActFault>
-        ensures { Does (cargo_acted text.now (cargo_of self.old) (Ok (outcome_of plan.now))) (cargo_of self.old) result (cargo_of self.new) }
+        ensures { Does (cargo_acted text.now (cargo_of self.old) (Ok (outcome_of plan.now)))
+            (cargo_of self.old) result (cargo_of self.new) }
     {
         let Ok(messages) = texts_of(self.alloc, &plan.notices) else {
             return Err(ActFault::Memory);

@@ -27,8 +27,8 @@ abbrev pub HasTold : ReportCause → Given → Given → Type 0
 HasTold cause.Write old new = HasCause old new
 HasTold (cause.Act e) old new = (new.failures ≡ old.failures) × (new.idle ≡ old.idle)
 
--- At a fault of the writer one write failed. At another none did, and nothing went out, or all that stands in front and a byte of the
--- report at least.
+-- At a fault of the writer one write failed. At another none did, and nothing went out, or all that
+-- stands in front and a byte of the report at least.
 abbrev pub StopsBy : List ℕ → ReportCause → ℕ → Given → Given → Type 0
 StopsBy front cause.Write sent old new = OneFailed old new
 StopsBy front (cause.Act e) sent old new = NoneFailed old new × ((sent ≡ 0) ⊎ (length front < sent))
@@ -46,22 +46,26 @@ IsBegun text e old new = Sent old new text e.sent × HasTold e.cause old new
 abbrev pub HaveGone : ℕ → Given → Given → Type 0
 HaveGone sent old new = (out : List ℕ) × (length out ≡ sent) × (new.bytes ≡ old.bytes ++ out)
 
--- the same of the report of a stock, behind what stands in front: of one list of its runs, or of each
+-- the same of the report of a stock, behind what stands in front: of one list of its runs, or of
+-- each
 abbrev pub IsBegunStock : Holders → List ℕ → ReportFault → Given → Given → Type 0
 IsBegunStock holders front e old new =
     ((text : List ℕ) × IsStockReport holders text × IsBegun (front ++ text) e old new)
     ⊎ ((text : List ℕ) → IsStockReport holders text → IsBegun (front ++ text) e old new)
 
--- A report ended: its text went out, or a beginning of it. A fault is no refusal, nor Reopen of a station that is open.
+-- A report ended: its text went out, or a beginning of it. A fault is no refusal, nor Reopen of a
+-- station that is open.
 abbrev pub HasEnded : Type 0 → List ℕ → Given → Given → Result (Unit {0}) ReportFault → Type 0
 HasEnded open_station text old new (Ok x) = new.bytes ≡ old.bytes ++ text
 HasEnded open_station text old new (Err e) = IsBegun text e old new × (open_station → IsCause e.cause)
 
 -- the same of the report of a stock, behind what stands in front
-abbrev pub HasEndedStock : Type 0 → Holders → List ℕ → Given → Given → Result (Unit {0}) ReportFault → Type 0
+abbrev pub HasEndedStock : Type 0 → Holders → List ℕ → Given → Given → Result (Unit {0}) ReportFault
+    → Type 0
 HasEndedStock open_station holders front old new (Ok x) = (text : List ℕ) × IsStockReport holders text × (new.bytes ≡ old.bytes ++ (front ++ text))
 HasEndedStock open_station holders front old new (Err e) = IsBegunStock holders front e old new × HaveGone e.sent old new × HasTold e.cause old new × (open_station → IsCause e.cause)
 
 -- the same of each text that is the report of a stock: there is one at most
 pub record HasEndedEach (open_station : Type 0) (holders : Holders) (front : List ℕ) (old new : Given) (result : Result (Unit {0}) ReportFault) : Type 0 where
-  pub text : (text : List ℕ) → IsStockReport holders text → HasEnded open_station (front ++ text) old new result
+  pub text : (text : List ℕ) → IsStockReport holders text
+      → HasEnded open_station (front ++ text) old new result

@@ -7,6 +7,8 @@ ghost use Rattle.reports.specs.Reports.{IsStockReport};
 
 /// A stock has one list of maximal runs, and its report has one text.
 pub fn stock_report_law()
-    ensures runs { (holders : Holders) (rows others : List StockRun) → AreStockRuns holders rows → AreStockRuns holders others → rows ≡ others }
-    ensures text { (holders : Holders) (text other : List ℕ) → IsStockReport holders text → IsStockReport holders other → text ≡ other }
+    ensures runs { (holders : Holders) (rows others : List StockRun) → AreStockRuns holders rows
+        → AreStockRuns holders others → rows ≡ others }
+    ensures text { (holders : Holders) (text other : List ℕ) → IsStockReport holders text
+        → IsStockReport holders other → text ≡ other }
 {}

@@ -1,4 +1,5 @@
--- Running counts: what the moves of a waybill come to at each place, by the rows of `counts` and `build`.
+-- Running counts: what the moves of a waybill come to at each place, by the rows of `counts` and
+-- `build`.
 use Rattle.std.specs.Prelude.{◌≡◌, ℕ, ℤ, pos, negsuc, Bool, ◌&&◌, if◌then◌else◌, Option, Some, None, List}
 use Rattle.std.specs.Option.{option_map}
 use Rattle.std.specs.Ordering.{int_eq}

@@ -51,8 +51,9 @@ meaning_of t = record {
   kept_texts = kept_texts_in t.kept_texts;
 }
 
--- Every value is within range, `waybill` is empty, no number is in two rows of the stock, what is numbered has the numbers from 1, what was accepted
--- under a key is a command, and the running counts are the book's sums.
+-- Every value is within range, `waybill` is empty, no number is in two rows of the stock, what is
+-- numbered has the numbers from 1, what was accepted under a key is a command, and the running
+-- counts are the book's sums.
 pub record IsReadable (t : Tables) : Type 0 where
   pub station : IsTrue (is_station t.stations)
   pub old : t.old_waybills ≡ []

@@ -34,7 +34,8 @@ pub fn day_number(day: LocalDay) -> i64
     i64::from(day.number())
 }
 
-/// A flight as a column has it: carrier, at least three digits, and perhaps a letter. A fault: out of memory.
+/// A flight as a column has it: carrier, at least three digits, and perhaps a letter. A fault: out
+/// of memory.
 #[tactic(auto, using(crate::proofs::FlightKeys::designator_test, crate::proofs::FlightKeys::written_reads))]
 pub fn flight_text(alloc: Global, flight: &Flight) -> Result<String, StoreFault>
     ensures text { IfOk result (λ text. string_bytes text ≡ flight_text flight.now) }

@@ -1,7 +1,7 @@
 //! The rows of a station's tables as values, and back. No call of a store is made here.
 //!
-//! A row whose columns are out of range stands for no value: reading it returns `None`. Writing takes memory for the
-//! texts, and fails where there is none.
+//! A row whose columns are out of range stands for no value: reading it returns `None`. Writing
+//! takes memory for the texts, and fails where there is none.
 #![tactic(auto)]
 
 mod flights;

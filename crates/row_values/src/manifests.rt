@@ -38,7 +38,8 @@ pub fn expected_row(expected: &Expected) -> ExpectedRow
 #[tactic(auto, using(crate::proofs::Fits::expected_fits))]
 pub fn expected_range(flight: &FlightDate, awb: &Awb, expected: &Expected)
     ensures designator { IsTrue (is_designator flight.now.flight) }
-    ensures lawful { IsTrue (is_expected_row (expected_key flight.now awb.now, expected_row expected.now)) }
+    ensures lawful { IsTrue (is_expected_row
+        (expected_key flight.now awb.now, expected_row expected.now)) }
 {
     flight_range(&flight.flight);
     let _day = day_number(flight.day);
@@ -51,7 +52,8 @@ pub fn expected_range(flight: &FlightDate, awb: &Awb, expected: &Expected)
 #[tactic(auto, using(crate::proofs::Fits::part_fits))]
 pub fn part_range(part: &Part)
     ensures designator { IsTrue (is_designator part.now.flight.flight) }
-    ensures lawful { (telegram : List ℕ) → IsTrue (is_utf8 telegram) → IsTrue (is_part_row (part_key part.now, telegram)) }
+    ensures lawful { (telegram : List ℕ) → IsTrue (is_utf8 telegram)
+        → IsTrue (is_part_row (part_key part.now, telegram)) }
 {
     flight_range(&part.flight.flight);
     let _day = day_number(part.flight.day);

@@ -73,7 +73,8 @@ pub fn move_by(row: &MoveRow) -> Option<Move>
 
 /// The move in a row with its number, as readers are given it. `None`: a column is out of range.
 pub fn book_row_by(row: &MoveRow) -> Option<BookRow>
-    ensures { IfSome result (λ one. one ≡ book_row (natural row.now.number) (move_by (move_meant row.now))) }
+    ensures { IfSome result (λ one. one ≡ book_row (natural row.now.number)
+        (move_by (move_meant row.now))) }
 {
     Some(BookRow {
         number: count_of(row.number)?,
@@ -148,7 +149,8 @@ fn day_column(flight: &Option<FlightDate>) -> i64
 #[tactic(auto, using(crate::proofs::MoveRows::columns_again, crate::proofs::MoveRows::columns_fit))]
 fn flight_columns_range(flight: &Option<FlightDate>)
     ensures again { flight_date_of (flight_column flight.now) (day_column flight.now) ≡ flight.now }
-    ensures lawful { IsTrue (are_flight_columns (flight_column flight.now) (day_column flight.now)) }
+    ensures lawful { IsTrue (are_flight_columns (flight_column flight.now)
+        (day_column flight.now)) }
 {
     if let Some(flight) = flight {
         flight_range(&flight.flight);
@@ -163,7 +165,8 @@ fn moment_range(at: Moment)
     ensures minute { at.minute < 1440 }
 {}
 
-/// Whether a move's row is within range and means that move: a place that is built names the move's flight.
+/// Whether a move's row is within range and means that move: a place that is built names the move's
+/// flight.
 #[tactic(auto, using(crate::proofs::MoveRows::row_fits, crate::proofs::MoveRows::move_again))]
 fn is_lawful(number: u32, movement: &Move) -> bool
     ensures lawful { result ≡ true → IsTrue (is_move_row (move_row number movement.now)) }
@@ -179,8 +182,8 @@ fn is_lawful(number: u32, movement: &Move) -> bool
     from && to
 }
 
-/// The row of a move, under its number from 1. A fault: a place of it is built on another flight than the move's, or
-/// out of memory.
+/// The row of a move, under its number from 1. A fault: a place of it is built on another flight
+/// than the move's, or out of memory.
 pub fn move_row(alloc: Global, number: u32, movement: &Move) -> Result<MoveRow, StoreFault>
     ensures value { IfOk result (λ row. move_meant row ≡ move_row number movement.now) }
     ensures lawful { OnOk result (IsTrue (is_move_row (move_row number movement.now))) }

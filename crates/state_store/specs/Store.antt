@@ -18,7 +18,8 @@ at_rest s = record { now = s; committed = s; in_transaction = false }
 abbrev pub inside : State → State → Seen
 inside before s = record { now = s; committed = before; in_transaction = true }
 
--- whatever a call returns: no fault is forgotten, what was sound and is clean is sound, and a reopening finds what it found before
+-- whatever a call returns: no fault is forgotten, what was sound and is clean is sound, and a
+-- reopening finds what it found before
 pub record Survives {K : Type 0} (is_clean is_sound : K → Type 0) (may_find : K → Option State → Type 0) (old new : K) : Type 0 where
   pub clean : is_clean new → is_clean old
   pub still : is_sound old → is_clean new → is_sound new
@@ -28,7 +29,8 @@ pub record Survives {K : Type 0} (is_clean is_sound : K → Type 0) (may_find : 
 -- the same, but that a commit may have left this state
 pub record MayLeave {K : Type 0} (is_sound : K → Type 0) (may_find : K → Option State → Type 0) (after : State) (old new : K) : Type 0 where
   pub sound : is_sound new → is_sound old
-  pub leaves : is_sound new → (found : Option State) → may_find new found → may_find old found ⊎ (found ≡ Some after)
+  pub leaves : is_sound new → (found : Option State) → may_find new found → may_find old found
+      ⊎ (found ≡ Some after)
 
 -- a refusal of an order that is returned is the one that is due
 abbrev pub RefusesBy : {F : Type 0} → Option (ℕ × Option ℕ) → StockFault F → Type 0

@@ -1,4 +1,5 @@
-//! The state of a station in a store, and what is read from it: what a command is planned from, and what readers return.
+//! The state of a station in a store, and what is read from it: what a command is planned from, and
+//! what readers return.
 #![tactic(auto)]
 
 mod lines;

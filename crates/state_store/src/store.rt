@@ -49,8 +49,9 @@ pub struct Sizes {
 
 /// The state of a station in a store, by what short calls read of it and do to it.
 ///
-/// A call's clauses hand on what the store showed: whatever it showed before, it shows this now. Where a call returns a
-/// fault inside a transaction nothing is said of what the store shows; a reader's fault outside changes nothing.
+/// A call's clauses hand on what the store showed: whatever it showed before, it shows this now.
+/// Where a call returns a fault inside a transaction nothing is said of what the store shows; a
+/// reader's fault outside changes nothing.
 pub trait StateStore {
     ghost use Rattle.std.specs.Prelude.{◌≡◌, ◌∷◌, [], true, length, List, ℕ, Option, Some, None, OnOk, IfOk, IfErr, is_some};
     ghost use Rattle.std.specs.Option.{option_map};
@@ -73,8 +74,8 @@ pub trait StateStore {
     /// The disk has returned what was written, and kept what it confirmed.
     ghost is_clean: { Self → Type 0 };
 
-    /// The premise of what the calls say: it is clean, and nothing else is wrong with what it lies in. A call changes it only
-    /// where the disk fails.
+    /// The premise of what the calls say: it is clean, and nothing else is wrong with what it lies
+    /// in. A call changes it only where the disk fails.
     ghost is_sound: { Self → Type 0 };
 
     /// What a reopening after a crash at this moment may find: a state, or what means none.
@@ -155,8 +156,8 @@ pub trait StateStore {
         ensures same { (x : Seen) → shows self.old x → OnOk result (shows self.new x) }
         ensures survives { Survives is_clean is_sound may_find self.old self.new };
 
-    /// How many waybills have something built on a flight: a departure reads each load, by `aboard`, and the building of a
-    /// waybill needs their number alone.
+    /// How many waybills have something built on a flight: a departure reads each load, by
+    /// `aboard`, and the building of a waybill needs their number alone.
     fn waybills_on(&mut self, flight: &FlightDate) -> Result<usize, StoreFault>
         ensures value { (x : Seen) → shows self.old x → is_sound self.new
             → IfOk result (λ number. number ≡ length (waybills_on x.now.cargo.book flight.now)) }
@@ -230,7 +231,8 @@ pub trait StateStore {
             → OnOk result (shows self.new (inside before (with_text text.now count s))) }
         ensures survives { Survives is_clean is_sound may_find self.old self.new };
 
-    /// Does an order on the stock in a transaction that it begins; where the order is refused, none is begun.
+    /// Does an order on the stock in a transaction that it begins; where the order is refused, none
+    /// is begun.
     fn carry_out_order(&mut self, order: &Order) -> Result<(), StockFault<StoreFault>>
         ensures accepted { (s : State) → shows self.old (at_rest s) → is_sound self.new
             → OnOk result (order_refusal s.cargo.holders order.now ≡ None) }
@@ -264,7 +266,8 @@ pub trait StateStore {
         ensures rests { (s : State) → shows self.old (at_rest s) → shows self.new (at_rest s) }
         ensures survives { Survives is_clean is_sound may_find self.old self.new };
 
-    /// Hands out the messages that weren't confirmed yet, in order, as they are read, until the sink takes no more.
+    /// Hands out the messages that weren't confirmed yet, in order, as they are read, until the
+    /// sink takes no more.
     fn pending<K: Sink<Message>>(&mut self, sink: &mut K) -> Result<(), StoreFault>
         ensures rows { (s : State) → shows self.old (at_rest s) → is_sound self.new
             → Hands K.takes (pending_messages s.cargo) sink.old sink.new result }

@@ -41,7 +41,8 @@ fn left(
     }
 }
 
-/// What of a waybill is in the store: what was taken over or found, and hasn't departed, wasn't delivered or transferred and isn't missing.
+/// What of a waybill is in the store: what was taken over or found, and hasn't departed, wasn't
+/// delivered or transferred and isn't missing.
 fn stored(balances: &Balances) -> Result<Amount, StoreFault>
     ensures { (s : AnyCargo) (w : ℕ) → IsLawful s → balances.now ≡ balances_of s.book w
         → IfOk result (λ amount. amount ≡ store s.book w) }
@@ -94,8 +95,9 @@ fn told_of(declared: Declared, balances: &Balances) -> Result<Waybill, StoreFaul
     })
 }
 
-/// What is known of a waybill, if it was declared: two reads. What is in the store follows from the other balances. A fault
-/// says that a call of the store failed, or that what it returned is no lawful state's.
+/// What is known of a waybill, if it was declared: two reads. What is in the store follows from the
+/// other balances. A fault says that a call of the store failed, or that what it returned is no
+/// lawful state's.
 pub fn waybill_in<S: StateStore>(store: &mut S, number: &Awb) -> Result<Option<Waybill>, StoreFault>
     ensures value { (s : State) → S.shows store.old (at_rest s) → IsLawful s.cargo
         → S.is_sound store.new → IfOk result (λ waybill. waybill ≡ waybill_of s.cargo number.now) }
@@ -170,8 +172,9 @@ fn irregular_among<S: StateStore>(
     Ok(rows)
 }
 
-/// The waybills of which pieces are missing or were found, ascending: two reads for each waybill that has a move. A fault says
-/// that a call of the store failed, that memory ran out, or that a waybill with a move isn't declared.
+/// The waybills of which pieces are missing or were found, ascending: two reads for each waybill
+/// that has a move. A fault says that a call of the store failed, that memory ran out, or that a
+/// waybill with a move isn't declared.
 pub fn irregular_rows<S: StateStore>(
     alloc: Global,
     store: &mut S,

@@ -1,4 +1,5 @@
-//! What a command is planned from: each view asks the store for what its command reads, and no more.
+//! What a command is planned from: each view asks the store for what its command reads, and no
+//! more.
 ghost use Rattle.std.specs.Prelude.{◌≡◌, OnOk, IfOk, length};
 ghost use Rattle.shipment_machine.specs.Agreement.{rows_for, view_of};
 ghost use Rattle.shipment_machine.specs.Book.{built};
@@ -232,8 +233,8 @@ fn rows_for<S: StateStore>(
     }
 }
 
-/// What a command is planned from: all that the state has for it, and what it doesn't read is not asked of the store.
-/// A fault says that a call of the store failed, or that memory ran out.
+/// What a command is planned from: all that the state has for it, and what it doesn't read is not
+/// asked of the store. A fault says that a call of the store failed, or that memory ran out.
 pub fn view<S: StateStore>(
     alloc: Global,
     store: &mut S,

@@ -1,4 +1,5 @@
--- What it is that a database, read as of a version, holds the tables of a station, and that they are lawful, table by table.
+-- What it is that a database, read as of a version, holds the tables of a station, and that they
+-- are lawful, table by table.
 use Rattle.std.specs.Prelude.{◌≡◌, ℕ, ℤ, List, [], ◌∷◌}
 use Rattle.std.specs.List.{AllByRecursion}
 use Rattle.std.specs.FinMap.{entries}
@@ -10,7 +11,8 @@ use Rattle.lawful_tables.specs.declared.name.TableName.{TableName}
 use Rattle.lawful_tables.specs.declared.name.TableName.TheVariants.{Station, Waybill, Waybill2, Stock, Flight, Moves, Expected, Part, Trail, Outbox, KeptKey, KeptText, Counts, Build}
 use Rattle.lawful_tables.specs.Lawful.{IsLawfulTable}
 
--- the table `station` has one row, of the version as which it is read, and these tables have it as version 2 has it
+-- the table `station` has one row, of the version as which it is read, and these tables have it as
+-- version 2 has it
 abbrev pub HoldsStation : Reading → Tables → Type 0
 HoldsStation db t = (airport : List ℕ) × (confirmed : ℤ) × (station_read db ≡ one_row airport confirmed) × (t.stations ≡ new_row airport confirmed ∷ [])
 

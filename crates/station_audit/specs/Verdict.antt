@@ -9,7 +9,8 @@ use Rattle.station_audit.specs.declared.unfit.Unfit.TheVariants.{NoStation, Othe
 use Rattle.station_audit.specs.declared.state.FoundState.{FoundState}
 use Rattle.station_audit.specs.Good.{IsStationOf, IsFirstBad}
 
--- whether the table `station` has a row, and if it is the only one it is of the version as which it is read
+-- whether the table `station` has a row, and if it is the only one it is of the version as which it
+-- is read
 abbrev pub is_ours : Verdict → Bool
 is_ours no_station = false
 is_ours damaged = true

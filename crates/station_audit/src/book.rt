@@ -30,12 +30,17 @@ fn lawful_sums(
     waybills: &[WaybillRow],
     flights: &[FlightEntry],
 ) -> Result<Option<BookSums>, NoRoom>
-    ensures exact { (t : Tables) → RisesByNumber (map waybill_meant waybills.now) → t.waybills ≡ map waybill_meant waybills.now
-        → IsTrue (list_all is_flight_row (entries t.flights)) → entries t.flights ≡ map flight_entry flights.now → t.moves ≡ map move_meant moves.now
+    ensures exact { (t : Tables) → RisesByNumber (map waybill_meant waybills.now)
+        → t.waybills ≡ map waybill_meant waybills.now
+        → IsTrue (list_all is_flight_row (entries t.flights))
+        → entries t.flights ≡ map flight_entry flights.now → t.moves ≡ map move_meant moves.now
         → IfOk result (λ sums. IsSome sums ↔ AreMoves t) }
-    ensures sums { (t : Tables) → RisesByNumber (map waybill_meant waybills.now) → t.waybills ≡ map waybill_meant waybills.now
-        → IsTrue (list_all is_flight_row (entries t.flights)) → entries t.flights ≡ map flight_entry flights.now → t.moves ≡ map move_meant moves.now
-        → IfOk result (λ sums. IfSome sums (λ s. AreSums (flights_of (entries t.flights)) s (running (book_in t.moves)))) }
+    ensures sums { (t : Tables) → RisesByNumber (map waybill_meant waybills.now)
+        → t.waybills ≡ map waybill_meant waybills.now
+        → IsTrue (list_all is_flight_row (entries t.flights))
+        → entries t.flights ≡ map flight_entry flights.now → t.moves ≡ map move_meant moves.now
+        → IfOk result (λ sums. IfSome sums
+        (λ s. AreSums (flights_of (entries t.flights)) s (running (book_in t.moves)))) }
 {
     let Some(postings) = postings_of(alloc, moves, waybills, flights)? else {
         return Ok(None);
@@ -54,9 +59,13 @@ fn lawful_sums(
 /// What the moves of the book that was found come to. `None`: it is missing or not lawful.
 pub(crate) fn good_book(alloc: Global, found: &FoundTables) -> Result<Option<BookSums>, NoRoom>
     ensures some { IfOk result (λ sums. IsSome sums → IsSome found.now.cargo.moves) }
-    ensures exact { (db : Reading) (t : Tables) → AreTables db found.now → AreGood db t (before table.Moves) → IsHeld table.Moves db t → IfOk result (λ sums. IsSome sums ↔ AreMoves t) }
-    ensures sums { (db : Reading) (t : Tables) → AreTables db found.now → AreGood db t (before table.Moves) → IsHeld table.Moves db t
-        → IfOk result (λ sums. IfSome sums (λ s. AreSums (flights_of (entries t.flights)) s (running (book_in t.moves)))) }
+    ensures exact { (db : Reading) (t : Tables) → AreTables db found.now
+        → AreGood db t (before table.Moves) → IsHeld table.Moves db t
+        → IfOk result (λ sums. IsSome sums ↔ AreMoves t) }
+    ensures sums { (db : Reading) (t : Tables) → AreTables db found.now
+        → AreGood db t (before table.Moves) → IsHeld table.Moves db t
+        → IfOk result (λ sums. IfSome sums
+        (λ s. AreSums (flights_of (entries t.flights)) s (running (book_in t.moves)))) }
 {
     let cargo = &found.cargo;
     let Some(waybills) = &cargo.waybills else {

@@ -18,8 +18,10 @@ pub(crate) struct OwnRow {
 
 /// Reads the station's own row. `None`: it isn't lawful.
 pub(crate) fn own_row(airport: &str, confirmed: i64) -> Option<OwnRow>
-    ensures exact { (t : Tables) → t.stations ≡ new_row airport.now confirmed ∷ [] → (IsSome result ↔ IsLawfulTable table.Station t) }
-    ensures told { IfSome result (λ own. (own.here ≡ airport.now) × (own.confirmed ≡ natural confirmed)) }
+    ensures exact { (t : Tables) → t.stations ≡ new_row airport.now confirmed ∷ []
+        → (IsSome result ↔ IsLawfulTable table.Station t) }
+    ensures told { IfSome result (λ own. (own.here ≡ airport.now)
+        × (own.confirmed ≡ natural confirmed)) }
 {
     if !is_station_lawful(airport, confirmed) {
         return None;

@@ -24,7 +24,9 @@ use table_audits::{
 /// Whether `waybill` is there and lawful.
 pub(crate) fn are_old_waybills_good(found: &FoundTables) -> bool
     ensures some { IsTrue result → IsSome found.now.cargo.old_waybills }
-    ensures exact { (db : Reading) (t : Tables) → AreTables db found.now → AreGood db t (before table.Waybill) → IsHeld table.Waybill db t → (IsTrue result ↔ IsLawfulTable table.Waybill t) }
+    ensures exact { (db : Reading) (t : Tables) → AreTables db found.now
+        → AreGood db t (before table.Waybill) → IsHeld table.Waybill db t
+        → (IsTrue result ↔ IsLawfulTable table.Waybill t) }
 {
     match &found.cargo.old_waybills {
         None => false,
@@ -35,7 +37,9 @@ pub(crate) fn are_old_waybills_good(found: &FoundTables) -> bool
 /// Whether the waybills are there and lawful.
 pub(crate) fn are_waybills_good(found: &FoundTables) -> bool
     ensures some { IsTrue result → IsSome found.now.cargo.waybills }
-    ensures exact { (db : Reading) (t : Tables) → AreTables db found.now → AreGood db t (before table.Waybill2) → IsHeld table.Waybill2 db t → (IsTrue result ↔ IsLawfulTable table.Waybill2 t) }
+    ensures exact { (db : Reading) (t : Tables) → AreTables db found.now
+        → AreGood db t (before table.Waybill2) → IsHeld table.Waybill2 db t
+        → (IsTrue result ↔ IsLawfulTable table.Waybill2 t) }
 {
     match &found.cargo.waybills {
         None => false,
@@ -46,7 +50,9 @@ pub(crate) fn are_waybills_good(found: &FoundTables) -> bool
 /// Whether `stock` is there and lawful.
 pub(crate) fn are_stock_good(found: &FoundTables) -> bool
     ensures some { IsTrue result → IsSome found.now.cargo.stock }
-    ensures exact { (db : Reading) (t : Tables) → AreTables db found.now → AreGood db t (before table.Stock) → IsHeld table.Stock db t → (IsTrue result ↔ IsLawfulTable table.Stock t) }
+    ensures exact { (db : Reading) (t : Tables) → AreTables db found.now
+        → AreGood db t (before table.Stock) → IsHeld table.Stock db t
+        → (IsTrue result ↔ IsLawfulTable table.Stock t) }
 {
     let Some(waybills) = &found.cargo.waybills else {
         return false;
@@ -60,7 +66,9 @@ pub(crate) fn are_stock_good(found: &FoundTables) -> bool
 /// Whether `flight` is there and lawful.
 pub(crate) fn are_flights_good(found: &FoundTables, here: &str) -> bool
     ensures some { IsTrue result → IsSome found.now.cargo.flights }
-    ensures exact { (db : Reading) (t : Tables) → AreTables db found.now → AreGood db t (before table.Flight) → IsHeld table.Flight db t → airport_in t.stations ≡ here.now → (IsTrue result ↔ IsLawfulTable table.Flight t) }
+    ensures exact { (db : Reading) (t : Tables) → AreTables db found.now
+        → AreGood db t (before table.Flight) → IsHeld table.Flight db t
+        → airport_in t.stations ≡ here.now → (IsTrue result ↔ IsLawfulTable table.Flight t) }
 {
     match &found.cargo.flights {
         None => false,
@@ -71,7 +79,9 @@ pub(crate) fn are_flights_good(found: &FoundTables, here: &str) -> bool
 /// Whether `expected` is there and lawful.
 pub(crate) fn are_expected_good(found: &FoundTables) -> bool
     ensures some { IsTrue result → IsSome found.now.messages.expected }
-    ensures exact { (db : Reading) (t : Tables) → AreTables db found.now → AreGood db t (before table.Expected) → IsHeld table.Expected db t → (IsTrue result ↔ IsLawfulTable table.Expected t) }
+    ensures exact { (db : Reading) (t : Tables) → AreTables db found.now
+        → AreGood db t (before table.Expected) → IsHeld table.Expected db t
+        → (IsTrue result ↔ IsLawfulTable table.Expected t) }
 {
     let Some(waybills) = &found.cargo.waybills else {
         return false;
@@ -85,7 +95,9 @@ pub(crate) fn are_expected_good(found: &FoundTables) -> bool
 /// Whether `part` is there and lawful.
 pub(crate) fn are_parts_good(found: &FoundTables) -> bool
     ensures some { IsTrue result → IsSome found.now.messages.parts }
-    ensures exact { (db : Reading) (t : Tables) → AreTables db found.now → AreGood db t (before table.Part) → IsHeld table.Part db t → (IsTrue result ↔ IsLawfulTable table.Part t) }
+    ensures exact { (db : Reading) (t : Tables) → AreTables db found.now
+        → AreGood db t (before table.Part) → IsHeld table.Part db t
+        → (IsTrue result ↔ IsLawfulTable table.Part t) }
 {
     match &found.messages.parts {
         None => false,
@@ -96,7 +108,9 @@ pub(crate) fn are_parts_good(found: &FoundTables) -> bool
 /// Whether `trail` is there and lawful.
 pub(crate) fn is_trail_good(found: &FoundTables) -> bool
     ensures some { IsTrue result → IsSome found.now.messages.trail }
-    ensures exact { (db : Reading) (t : Tables) → AreTables db found.now → AreGood db t (before table.Trail) → IsHeld table.Trail db t → (IsTrue result ↔ IsLawfulTable table.Trail t) }
+    ensures exact { (db : Reading) (t : Tables) → AreTables db found.now
+        → AreGood db t (before table.Trail) → IsHeld table.Trail db t
+        → (IsTrue result ↔ IsLawfulTable table.Trail t) }
 {
     let Some(waybills) = &found.cargo.waybills else {
         return false;
@@ -110,7 +124,10 @@ pub(crate) fn is_trail_good(found: &FoundTables) -> bool
 /// Whether `outbox` is there and lawful.
 pub(crate) fn is_outbox_good(found: &FoundTables, confirmed: i64) -> bool
     ensures some { IsTrue result → IsSome found.now.messages.outbox }
-    ensures exact { (db : Reading) (t : Tables) → AreTables db found.now → AreGood db t (before table.Outbox) → IsHeld table.Outbox db t → confirmed_in t.stations ≡ natural confirmed → (IsTrue result ↔ IsLawfulTable table.Outbox t) }
+    ensures exact { (db : Reading) (t : Tables) → AreTables db found.now
+        → AreGood db t (before table.Outbox) → IsHeld table.Outbox db t
+        → confirmed_in t.stations ≡ natural confirmed
+        → (IsTrue result ↔ IsLawfulTable table.Outbox t) }
 {
     match &found.messages.outbox {
         None => false,
@@ -121,7 +138,9 @@ pub(crate) fn is_outbox_good(found: &FoundTables, confirmed: i64) -> bool
 /// Whether `kept_key` is there and lawful.
 pub(crate) fn are_kept_keys_good(found: &FoundTables) -> bool
     ensures some { IsTrue result → IsSome found.now.replies.kept_keys }
-    ensures exact { (db : Reading) (t : Tables) → AreTables db found.now → AreGood db t (before table.KeptKey) → IsHeld table.KeptKey db t → (IsTrue result ↔ IsLawfulTable table.KeptKey t) }
+    ensures exact { (db : Reading) (t : Tables) → AreTables db found.now
+        → AreGood db t (before table.KeptKey) → IsHeld table.KeptKey db t
+        → (IsTrue result ↔ IsLawfulTable table.KeptKey t) }
 {
     match &found.replies.kept_keys {
         None => false,
@@ -132,7 +151,9 @@ pub(crate) fn are_kept_keys_good(found: &FoundTables) -> bool
 /// Whether `kept_text` is there and lawful.
 pub(crate) fn are_kept_texts_good(found: &FoundTables) -> bool
     ensures some { IsTrue result → IsSome found.now.replies.kept_texts }
-    ensures exact { (db : Reading) (t : Tables) → AreTables db found.now → AreGood db t (before table.KeptText) → IsHeld table.KeptText db t → (IsTrue result ↔ IsLawfulTable table.KeptText t) }
+    ensures exact { (db : Reading) (t : Tables) → AreTables db found.now
+        → AreGood db t (before table.KeptText) → IsHeld table.KeptText db t
+        → (IsTrue result ↔ IsLawfulTable table.KeptText t) }
 {
     let Some(parts) = &found.messages.parts else {
         return false;
@@ -146,7 +167,10 @@ pub(crate) fn are_kept_texts_good(found: &FoundTables) -> bool
 /// Whether `counts` is there and lawful.
 pub(crate) fn are_counts_good(found: &FoundTables, sums: &BookSums) -> bool
     ensures some { IsTrue result → IsSome found.now.counts.counts }
-    ensures exact { (db : Reading) (t : Tables) → AreTables db found.now → AreGood db t (before table.Counts) → IsHeld table.Counts db t → AreSums (flights_of (entries t.flights)) sums.now (running (book_in t.moves)) → (IsTrue result ↔ IsLawfulTable table.Counts t) }
+    ensures exact { (db : Reading) (t : Tables) → AreTables db found.now
+        → AreGood db t (before table.Counts) → IsHeld table.Counts db t
+        → AreSums (flights_of (entries t.flights)) sums.now (running (book_in t.moves))
+        → (IsTrue result ↔ IsLawfulTable table.Counts t) }
 {
     match &found.counts.counts {
         None => false,
@@ -157,7 +181,10 @@ pub(crate) fn are_counts_good(found: &FoundTables, sums: &BookSums) -> bool
 /// Whether `build` is there and lawful.
 pub(crate) fn are_builds_good(found: &FoundTables, sums: &BookSums) -> bool
     ensures some { IsTrue result → IsSome found.now.counts.builds }
-    ensures exact { (db : Reading) (t : Tables) → AreTables db found.now → AreGood db t (before table.Build) → IsHeld table.Build db t → AreSums (flights_of (entries t.flights)) sums.now (running (book_in t.moves)) → (IsTrue result ↔ IsLawfulTable table.Build t) }
+    ensures exact { (db : Reading) (t : Tables) → AreTables db found.now
+        → AreGood db t (before table.Build) → IsHeld table.Build db t
+        → AreSums (flights_of (entries t.flights)) sums.now (running (book_in t.moves))
+        → (IsTrue result ↔ IsLawfulTable table.Build t) }
 {
     let Some(flights) = &found.cargo.flights else {
         return false;

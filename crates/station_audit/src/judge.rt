@@ -20,7 +20,8 @@ use std::alloc::Global;
 /// The first table that isn't good, from `counts` on.
 fn bad_count(found: &FoundTables, sums: &BookSums) -> Option<TableName>
     ensures { (db : Reading) (airport : List ℕ) (confirmed : ℤ) → AreTables db found.now
-        → AreSumsOf db sums.now → AreGood db (tables_from airport confirmed found.now) (before table.Counts)
+        → AreSumsOf db sums.now → AreGood db (tables_from airport confirmed found.now)
+        (before table.Counts)
         → NamesFirst db (tables_from airport confirmed found.now) (Ok result) }
 {
     if !are_counts_good(found, sums) {
@@ -35,7 +36,8 @@ fn bad_count(found: &FoundTables, sums: &BookSums) -> Option<TableName>
 /// The first table that isn't good, from `kept_key` on.
 fn bad_reply(found: &FoundTables, sums: &BookSums) -> Option<TableName>
     ensures { (db : Reading) (airport : List ℕ) (confirmed : ℤ) → AreTables db found.now
-        → AreSumsOf db sums.now → AreGood db (tables_from airport confirmed found.now) (before table.KeptKey)
+        → AreSumsOf db sums.now → AreGood db (tables_from airport confirmed found.now)
+        (before table.KeptKey)
         → NamesFirst db (tables_from airport confirmed found.now) (Ok result) }
 {
     if !are_kept_keys_good(found) {
@@ -49,8 +51,10 @@ fn bad_reply(found: &FoundTables, sums: &BookSums) -> Option<TableName>
 
 /// The first table that isn't good, from `trail` on.
 fn bad_log(found: &FoundTables, confirmed: i64, sums: &BookSums) -> Option<TableName>
-    ensures { (db : Reading) (airport : List ℕ) → AreTables db found.now → station_read db ≡ one_row airport confirmed
-        → AreSumsOf db sums.now → AreGood db (tables_from airport confirmed found.now) (before table.Trail)
+    ensures { (db : Reading) (airport : List ℕ) → AreTables db found.now
+        → station_read db ≡ one_row airport confirmed
+        → AreSumsOf db sums.now → AreGood db (tables_from airport confirmed found.now)
+        (before table.Trail)
         → NamesFirst db (tables_from airport confirmed found.now) (Ok result) }
 {
     if !is_trail_good(found) {
@@ -64,8 +68,10 @@ fn bad_log(found: &FoundTables, confirmed: i64, sums: &BookSums) -> Option<Table
 
 /// The first table that isn't good, from `expected` on.
 fn bad_message(found: &FoundTables, confirmed: i64, sums: &BookSums) -> Option<TableName>
-    ensures { (db : Reading) (airport : List ℕ) → AreTables db found.now → station_read db ≡ one_row airport confirmed
-        → AreSumsOf db sums.now → AreGood db (tables_from airport confirmed found.now) (before table.Expected)
+    ensures { (db : Reading) (airport : List ℕ) → AreTables db found.now
+        → station_read db ≡ one_row airport confirmed
+        → AreSumsOf db sums.now → AreGood db (tables_from airport confirmed found.now)
+        (before table.Expected)
         → NamesFirst db (tables_from airport confirmed found.now) (Ok result) }
 {
     if !are_expected_good(found) {
@@ -79,7 +85,8 @@ fn bad_message(found: &FoundTables, confirmed: i64, sums: &BookSums) -> Option<T
 
 /// The first table that isn't good, from `moves` on.
 fn bad_move(alloc: Global, found: &FoundTables, confirmed: i64) -> Result<Option<TableName>, NoRoom>
-    ensures { (db : Reading) (airport : List ℕ) → AreTables db found.now → station_read db ≡ one_row airport confirmed
+    ensures { (db : Reading) (airport : List ℕ) → AreTables db found.now
+        → station_read db ≡ one_row airport confirmed
         → AreGood db (tables_from airport confirmed found.now) (before table.Moves)
         → NamesFirst db (tables_from airport confirmed found.now) result }
 {
@@ -109,8 +116,8 @@ fn bad_stock(
     bad_move(alloc, found, confirmed)
 }
 
-/// The first of the tables that were read that isn't good: it is missing, or it isn't lawful beside those before it. The row
-/// of `station` is.
+/// The first of the tables that were read that isn't good: it is missing, or it isn't lawful beside
+/// those before it. The row of `station` is.
 pub(crate) fn first_bad(
     alloc: Global,
     found: &FoundTables,

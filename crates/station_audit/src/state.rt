@@ -43,11 +43,18 @@ fn size_of<T>(rows: &Option<Vec<T>>) -> Result<u32, Error>
     }
 }
 
-/// How many moves, lines of the trail and messages were found. On error there are more than 4,294,967,295.
+/// How many moves, lines of the trail and messages were found. On error there are more than
+/// 4,294,967,295.
 fn sizes_of(found: &FoundTables) -> Result<Sizes, Error>
-    ensures moves { (airport : List ℕ) (confirmed : ℤ) → IfOk result (λ sizes. sizes.moves ≡ length (tables_from airport confirmed found.now).moves) }
-    ensures lines { (airport : List ℕ) (confirmed : ℤ) → IfOk result (λ sizes. sizes.lines ≡ length (tables_from airport confirmed found.now).trail) }
-    ensures messages { (airport : List ℕ) (confirmed : ℤ) → IfOk result (λ sizes. sizes.messages ≡ length (tables_from airport confirmed found.now).outbox) }
+    ensures moves { (airport : List ℕ) (confirmed : ℤ)
+        → IfOk result (λ sizes. sizes.moves ≡ length
+        (tables_from airport confirmed found.now).moves) }
+    ensures lines { (airport : List ℕ) (confirmed : ℤ)
+        → IfOk result (λ sizes. sizes.lines ≡ length
+        (tables_from airport confirmed found.now).trail) }
+    ensures messages { (airport : List ℕ) (confirmed : ℤ)
+        → IfOk result (λ sizes. sizes.messages ≡ length
+        (tables_from airport confirmed found.now).outbox) }
 {
     let moves = size_of(&found.cargo.moves)?;
     let lines = size_of(&found.messages.trail)?;
@@ -59,8 +66,8 @@ fn sizes_of(found: &FoundTables) -> Result<Sizes, Error>
     })
 }
 
-/// What the tables that were read say of a database whose table `station` has this row. On error memory is out, or there is
-/// no number for a row.
+/// What the tables that were read say of a database whose table `station` has this row. On error
+/// memory is out, or there is no number for a row.
 fn judged(
     alloc: Global,
     found: &FoundTables,
@@ -68,7 +75,9 @@ fn judged(
     confirmed: i64,
     own: OwnRow,
 ) -> Result<Result<FoundState, Unfit>, Error>
-    ensures { (db : Reading) → AreTables db found.now → station_read db ≡ one_row airport.now confirmed → IsLawfulTable table.Station (tables_from airport.now confirmed found.now)
+    ensures { (db : Reading) → AreTables db found.now
+        → station_read db ≡ one_row airport.now confirmed
+        → IsLawfulTable table.Station (tables_from airport.now confirmed found.now)
         → own.here ≡ airport.now → own.confirmed ≡ natural confirmed → IfOk result (Judges db) }
 {
     let Ok(bad) = first_bad(alloc, found, airport, confirmed) else {
@@ -93,8 +102,11 @@ fn found_from<S: Alter>(
     airport: &str,
     confirmed: i64,
 ) -> Result<Result<FoundState, Unfit>, Error>
-    ensures read { HasCleanDisk (state S.Store conn.new) → IsTrue (state S.Store conn.old).is_open → station_read (read_as version (state S.Store conn.old).now) ≡ one_row airport.now confirmed
-        → Reads (state S.Store conn.old) (state S.Store conn.new) result (Judges (read_as version (state S.Store conn.old).now)) }
+    ensures read { HasCleanDisk (state S.Store conn.new) → IsTrue (state S.Store conn.old).is_open
+        → station_read (read_as version (state S.Store conn.old).now) ≡ one_row airport.now
+        confirmed
+        → Reads (state S.Store conn.old) (state S.Store conn.new) result
+        (Judges (read_as version (state S.Store conn.old).now)) }
     ensures survives { Survives (state S.Store conn.old) (state S.Store conn.new) (λ _. ⊥) }
 {
     let Some(own) = own_row(airport, confirmed) else {
@@ -104,17 +116,19 @@ fn found_from<S: Alter>(
     judged(alloc, &found, airport, confirmed, own)
 }
 
-/// Reads and judges any database as of a version: its tables are those of a station and lawful, or why they aren't. The table `station` is
-/// looked at first; the others are read whole, each by one statement, and tested in their order, each beside those before
-/// it. The connection is open. On error memory is out, there is no number for a row, or the database could not be read:
-/// nothing was done, or the transaction that was open is undone.
+/// Reads and judges any database as of a version: its tables are those of a station and lawful, or
+/// why they aren't. The table `station` is looked at first; the others are read whole, each by one
+/// statement, and tested in their order, each beside those before it. The connection is open. On
+/// error memory is out, there is no number for a row, or the database could not be read: nothing
+/// was done, or the transaction that was open is undone.
 pub fn found_state<S: Alter>(
     alloc: Global,
     conn: &mut Connection<S>,
     version: FileVersion,
 ) -> Result<Result<FoundState, Unfit>, Error>
     ensures read { HasCleanDisk (state S.Store conn.new) → IsTrue (state S.Store conn.old).is_open
-        → Reads (state S.Store conn.old) (state S.Store conn.new) result (Judges (read_as version (state S.Store conn.old).now)) }
+        → Reads (state S.Store conn.old) (state S.Store conn.new) result
+        (Judges (read_as version (state S.Store conn.old).now)) }
     ensures survives { Survives (state S.Store conn.old) (state S.Store conn.new) (λ _. ⊥) }
 {
     match found_station(alloc, conn, version)? {

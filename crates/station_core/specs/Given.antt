@@ -2,8 +2,8 @@
 use Rattle.std.specs.Prelude.{ℕ, List, [], refl}
 use Rattle.std.specs.Coded.{Coded, code_by, coded×, coded_ℕ, coded_list}
 
--- the bytes that were moved, how many calls were made, how many of them failed, and how many moved no
--- byte of a buffer that was not empty
+-- the bytes that were moved, how many calls were made, how many of them failed, and how many moved
+-- no byte of a buffer that was not empty
 pub record Given : Type 0 where
   pub bytes : List ℕ
   pub calls : ℕ

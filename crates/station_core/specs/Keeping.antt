@@ -27,7 +27,8 @@ Acts old i at (Err fault.Memory) keeps = keeps old
 Acts old i at (Err fault.Store) keeps = Unit {0}
 Acts old i at (Err fault.Reopen) keeps = ⊥
 
--- What a reopening may find: after Ok the state after, after Refused or Memory the one before, after Store one of the two.
+-- What a reopening may find: after Ok the state after, after Refused or Memory the one before,
+-- after Store one of the two.
 abbrev pub Leaves : State → Input → LocalMinute → Result Reply ActFault → Option State → Type 0
 Leaves old i at (Ok reply) found = found ≡ Some (step old i at).state
 Leaves old i at (Err (fault.Refused refusal)) found = found ≡ Some old
@@ -36,7 +37,8 @@ Leaves old i at (Err fault.Store) found = (found ≡ Some old) ⊎ (found ≡ So
 Leaves old i at (Err fault.Reopen) found = ⊥
 
 -- the same, where a refusal is an answer
-abbrev pub Answers : State → Input → LocalMinute → Result Answer ActFault → (State → Type 0) → Type 0
+abbrev pub Answers : State → Input → LocalMinute → Result Answer ActFault → (State → Type 0)
+    → Type 0
 Answers old i at (Ok given) keeps = ((step old i at).answer ≡ given) × keeps (step old i at).state
 Answers old i at (Err fault.Memory) keeps = keeps old
 Answers old i at (Err e) keeps = Unit {0}
@@ -51,7 +53,8 @@ IsMemoryOrStore fault.Memory = Unit {0}
 IsMemoryOrStore fault.Store = Unit {0}
 IsMemoryOrStore _ = ⊥
 
--- whether it returns Reopen after a fault, or after a list of inputs: where a Store ended them, and then only
+-- whether it returns Reopen after a fault, or after a list of inputs: where a Store ended them, and
+-- then only
 abbrev pub IsBrokenAfter : ActFault → Bool → Type 0
 IsBrokenAfter fault.Store broken = broken ≡ true
 IsBrokenAfter _ broken = broken ≡ false
@@ -73,26 +76,32 @@ IsReadersFault fault.Store = Unit {0}
 IsReadersFault _ = ⊥
 
 -- The state after the inputs that were answered, or where they ended by Store, after one more.
-abbrev pub IsAfterAnswered : State → List (Input × LocalMinute) → ℕ → Option ActFault → Option State → Type 0
+abbrev pub IsAfterAnswered : State → List (Input × LocalMinute) → ℕ → Option ActFault → Option State
+    → Type 0
 IsAfterAnswered s inputs answered ended found =
     (found ≡ Some (after_all s (take answered inputs)))
     ⊎ ((ended ≡ Some fault.Store) × (answered < length inputs) × (found ≡ Some (after_all s (take (answered + 1) inputs))))
 
--- A reader changes nothing: what is kept stays, a reopening finds what it found before, and no other call returns anything else.
+-- A reader changes nothing: what is kept stays, a reopening finds what it found before, and no
+-- other call returns anything else.
 pub record OnlyReads {K : Type 0} (keeps : K → State → Type 0) (is_sound : K → Type 0) (is_broken : K → Bool) (may_find : K → Option State → Type 0) (old new : K) : Type 0 where
   pub breaks : is_broken new ≡ is_broken old
   pub sound : is_sound new → is_sound old
   pub same : (s : State) → keeps old s → is_sound new → keeps new s
   pub leaves : is_sound new → (found : Option State) → may_find new found → may_find old found
 
--- A reader of rows changes nothing. At Ok its sink took the rows in order, or those up to one after which it wanted no more; at Err
--- a beginning of them. A station that has to be opened again hands out nothing.
+-- A reader of rows changes nothing. At Ok its sink took the rows in order, or those up to one after
+-- which it wanted no more; at Err a beginning of them. A station that has to be opened again hands
+-- out nothing.
 pub record HandsOut {K S Row : Type 0} (keeps : K → State → Type 0) (is_sound : K → Type 0) (is_broken : K → Bool) (may_find : K → Option State → Type 0)
     (old new : K) (result : Result (Unit {0}) ActFault) (takes : S → Row → Bool → S → Type 0) (AreRows : Cargo → List Row → Type 0) (from to : S) : Type 0 where
   pub reopen : is_broken old ≡ true → (result ≡ Err fault.Reopen) × (new ≡ old) × (to ≡ from)
   pub fault : is_broken old ≡ false → IfErr result IsReadersFault
   pub reads : OnlyReads keeps is_sound is_broken may_find old new
-  pub rows : (s : State) → keeps old s → is_sound new → OnOk result ((rows : List Row) × AreRows s.cargo rows × HandedOut takes rows from to)
-  pub beginning : (s : State) → keeps old s → is_sound new → OnErr result ((rows : List Row) → AreRows s.cargo rows → (n : ℕ) × HandedOut takes (take n rows) from to)
+  pub rows : (s : State) → keeps old s → is_sound new
+      → OnOk result ((rows : List Row) × AreRows s.cargo rows × HandedOut takes rows from to)
+  pub beginning : (s : State) → keeps old s → is_sound new
+      → OnErr result ((rows : List Row) → AreRows s.cargo rows → (n : ℕ)
+      × HandedOut takes (take n rows) from to)
   -- whatever it returns, the sink took some rows, one after another
   pub took : (rows : List Row) × HandedOut takes rows from to

@@ -11,7 +11,8 @@ use Rattle.station_core.specs.declared.answer.Answer.{Answer}
 use Rattle.station_core.specs.declared.answer.Answer.TheVariants.{Done, Refused}
 use Rattle.station_core.specs.Step.{State, opening, repeated, step, after_all, answers_of}
 
--- an input is sent and answered; it is cut off before or after its commit; the station is opened again
+-- an input is sent and answered; it is cut off before or after its commit; the station is opened
+-- again
 pub data RetryEvent : Type 0 where
   sent : Input → LocalMinute → RetryEvent
   cut_before : Input → LocalMinute → RetryEvent
@@ -85,8 +86,10 @@ IfDone (Refused refusal) P = Unit {0}
 abbrev pub started : List ℕ → World
 started here = record { state = opening here; is_up = true; told = [] }
 
--- Whatever is sent, cut off and repeated: the state is that of the committed inputs, each once, in their order; and each reply that was given is the run's.
+-- Whatever is sent, cut off and repeated: the state is that of the committed inputs, each once, in
+-- their order; and each reply that was given is the run's.
 pub record ActsOnce (here : List ℕ) (events : List RetryEvent) : Type 0 where
   pub state : (after_events (started here) events).state ≡ after_all (opening here) (committed (started here) events)
   pub once : EachOnce (committed (started here) events)
-  pub told : AllByRecursion (λ (t : Input × Answer). IfDone t.1 (λ reply. StandsIn (committed (started here) events) (answers_of (opening here) (committed (started here) events)) t.0 reply)) (after_events (started here) events).told
+  pub told : AllByRecursion (λ (t : Input
+      × Answer). IfDone t.1 (λ reply. StandsIn (committed (started here) events) (answers_of (opening here) (committed (started here) events)) t.0 reply)) (after_events (started here) events).told

@@ -29,7 +29,8 @@ pub record Kept : Type 0 where
   pub request : List ℕ
   pub count : ℕ
 
--- The state of a station: its cargo and its stock, and what it accepted under each key and of each telegram's text.
+-- The state of a station: its cargo and its stock, and what it accepted under each key and of each
+-- telegram's text.
 pub record State : Type 0 where
   pub cargo : Cargo
   pub kept_keys : List ℕ → Option Kept

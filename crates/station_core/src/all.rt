@@ -19,11 +19,16 @@ pub fn answer_one<K: Keeper>(
 ) -> Result<Answer, ActFault>
     ensures sound { K.is_sound keeper.new → K.is_sound keeper.old }
     ensures works { K.is_broken keeper.old ≡ false → OnOk result (K.is_broken keeper.new ≡ false) }
-    ensures reopen { K.is_broken keeper.old ≡ true → (result ≡ Err ActFault.Reopen) × (keeper.new ≡ keeper.old) }
+    ensures reopen { K.is_broken keeper.old ≡ true → (result ≡ Err ActFault.Reopen)
+        × (keeper.new ≡ keeper.old) }
     ensures fault { K.is_broken keeper.old ≡ false → IfErr result IsMemoryOrStore }
-    ensures breaks { K.is_broken keeper.old ≡ false → IfErr result (λ e. IsBrokenAfter e (K.is_broken keeper.new)) }
-    ensures answers { (s : State) → K.keeps keeper.old s → K.is_broken keeper.old ≡ false → K.is_sound keeper.new → Answers s input.now at result (K.keeps keeper.new) }
-    ensures leaves { (s : State) → K.keeps keeper.old s → K.is_broken keeper.old ≡ false → K.is_sound keeper.new → (found : Option State) → K.may_find keeper.new found → MayLeave s input.now at result found }
+    ensures breaks { K.is_broken keeper.old ≡ false
+        → IfErr result (λ e. IsBrokenAfter e (K.is_broken keeper.new)) }
+    ensures answers { (s : State) → K.keeps keeper.old s → K.is_broken keeper.old ≡ false
+        → K.is_sound keeper.new → Answers s input.now at result (K.keeps keeper.new) }
+    ensures leaves { (s : State) → K.keeps keeper.old s → K.is_broken keeper.old ≡ false
+        → K.is_sound keeper.new → (found : Option State) → K.may_find keeper.new found
+        → MayLeave s input.now at result found }
 {
     match keeper.act(input, at) {
         Ok(reply) => Ok(Answer::Done(reply)),
@@ -34,28 +39,37 @@ pub fn answer_one<K: Keeper>(
     }
 }
 
-/// Gives inputs, each at its moment, to a keeper in order, up to the first fault that is no refusal. It makes room for each answer
-/// before it acts.
+/// Gives inputs, each at its moment, to a keeper in order, up to the first fault that is no
+/// refusal. It makes room for each answer before it acts.
 pub fn act_all<K: Keeper>(
     alloc: Global,
     keeper: &mut K,
     inputs: &[(Input<'_>, Moment)],
 ) -> AllAnswers
-    ensures answers { (s : State) → K.keeps keeper.old s → K.is_broken keeper.old ≡ false → K.is_sound keeper.new
+    ensures answers { (s : State) → K.keeps keeper.old s → K.is_broken keeper.old ≡ false
+        → K.is_sound keeper.new
         → result.answers.items ≡ answers_of s (take (length result.answers.items) inputs.now) }
     ensures all { result.fault ≡ None → length result.answers.items ≡ length inputs.now }
-    ensures state { (s : State) → K.keeps keeper.old s → K.is_broken keeper.old ≡ false → K.is_sound keeper.new → (result.fault ≡ Some ActFault.Store → ⊥)
+    ensures state { (s : State) → K.keeps keeper.old s → K.is_broken keeper.old ≡ false
+        → K.is_sound keeper.new → (result.fault ≡ Some ActFault.Store → ⊥)
         → K.keeps keeper.new (after_all s (take (length result.answers.items) inputs.now)) }
     // A fault stands for an input that wasn't answered.
-    ensures part { (e : ActFault) → result.fault ≡ Some e → length result.answers.items < length inputs.now }
-    ensures fault { K.is_broken keeper.old ≡ false → (e : ActFault) → result.fault ≡ Some e → IsMemoryOrStore e }
-    ensures breaks { K.is_broken keeper.old ≡ false → IsBrokenAtEnd result.fault (K.is_broken keeper.new) }
-    ensures reopen { K.is_broken keeper.old ≡ true → (result.answers.items ≡ []) × (keeper.new ≡ keeper.old) }
-    ensures reopen_fault { K.is_broken keeper.old ≡ true → (e : ActFault) → result.fault ≡ Some e → IsMemoryOrReopen e }
+    ensures part { (e : ActFault) → result.fault ≡ Some e
+        → length result.answers.items < length inputs.now }
+    ensures fault { K.is_broken keeper.old ≡ false → (e : ActFault) → result.fault ≡ Some e
+        → IsMemoryOrStore e }
+    ensures breaks { K.is_broken keeper.old ≡ false
+        → IsBrokenAtEnd result.fault (K.is_broken keeper.new) }
+    ensures reopen { K.is_broken keeper.old ≡ true → (result.answers.items ≡ [])
+        × (keeper.new ≡ keeper.old) }
+    ensures reopen_fault { K.is_broken keeper.old ≡ true → (e : ActFault) → result.fault ≡ Some e
+        → IsMemoryOrReopen e }
     ensures sound { K.is_sound keeper.new → K.is_sound keeper.old }
 
-    // A reopening finds the state after the inputs that were answered, or where it ended by `Store`, after one more.
-    ensures leaves { (s : State) → K.keeps keeper.old s → K.is_broken keeper.old ≡ false → K.is_sound keeper.new → (found : Option State) → K.may_find keeper.new found
+    // A reopening finds the state after the inputs that were answered, or where it ended by
+    // `Store`, after one more.
+    ensures leaves { (s : State) → K.keeps keeper.old s → K.is_broken keeper.old ≡ false
+        → K.is_sound keeper.new → (found : Option State) → K.may_find keeper.new found
         → IsAfterAnswered s inputs.now (length result.answers.items) result.fault found }
 {
     let mut answers = Vec::new(alloc);

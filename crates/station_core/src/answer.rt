@@ -3,8 +3,8 @@ use shipment_machine::Refusal;
 /// The reply to an accepted input.
 #[derive(Clone, Copy, Debug, PartialEq, Eq)]
 pub struct Reply {
-    /// The numbers of an order's run, the pieces of a desk command, the messages newly confirmed, or the lines of a
-    /// telegram.
+    /// The numbers of an order's run, the pieces of a desk command, the messages newly confirmed,
+    /// or the lines of a telegram.
     pub count: u32,
 }
 
@@ -22,13 +22,15 @@ pub enum ActFault {
     Refused(Refusal),
     /// Memory ran out: in `act`, before the store was asked. Nothing changed.
     Memory,
-    /// A call of the store failed: it holds the state before the input or after it, and has to be opened again.
+    /// A call of the store failed: it holds the state before the input or after it, and has to be
+    /// opened again.
     Store,
     /// A call before this one answered `Store`. Nothing changed.
     Reopen,
 }
 
-/// The answers to a list of inputs, and the fault that ended it before its end. `Refused` is an answer and never the fault.
+/// The answers to a list of inputs, and the fault that ended it before its end. `Refused` is an
+/// answer and never the fault.
 #[derive(Debug, Drop)]
 pub struct AllAnswers {
     pub answers: Vec<Answer>,

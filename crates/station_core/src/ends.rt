@@ -21,7 +21,8 @@ pub enum ReadFault {
 #[derive(Clone, Copy, Debug, PartialEq, Eq)]
 pub struct WriteFault;
 
-/// A reader, by what it has given: the bytes, the calls, the failures, and the calls that moved no byte.
+/// A reader, by what it has given: the bytes, the calls, the failures, and the calls that moved no
+/// byte.
 pub trait ByteIn {
     ghost given: { Self → Given };
 
@@ -30,7 +31,8 @@ pub trait ByteIn {
         ensures { ReadStep (given self.old) (given self.new) result buf.new };
 }
 
-/// A writer, by what it has taken: the bytes, the calls, the failures, and the calls that moved no byte.
+/// A writer, by what it has taken: the bytes, the calls, the failures, and the calls that moved no
+/// byte.
 pub trait ByteOut {
     ghost taken: { Self → Given };
 
@@ -73,7 +75,8 @@ impl<T: Read> ByteIn for Counted<T> {
     fn read(&mut self, buf: &mut [u8]) -> Result<usize, ReadFault>
         ensures step { ReadStep (given_of self.old) (given_of self.new) result buf.new }
         // Where it is known what the reader has left, these bytes are gone from it, and no others.
-        ensures inner { ReadConsumes (T.remaining (inner_of self.old)) (T.remaining (inner_of self.new)) result buf.new }
+        ensures inner { ReadConsumes (T.remaining (inner_of self.old))
+            (T.remaining (inner_of self.new)) result buf.new }
     {
         let room = buf.len();
         match self.inner.read(buf) {
@@ -99,7 +102,8 @@ impl<T: Write> ByteOut for Counted<T> {
     fn write(&mut self, buf: &[u8]) -> Result<usize, WriteFault>
         ensures step { WriteStep (given_of self.old) (given_of self.new) result buf.now }
         // Where it is known what the writer holds, it grew by these bytes, once.
-        ensures inner { WriteAppends (T.contents (inner_of self.old)) (T.contents (inner_of self.new)) result buf.now }
+        ensures inner { WriteAppends (T.contents (inner_of self.old))
+            (T.contents (inner_of self.new)) result buf.now }
     {
         match self.inner.write(buf) {
             Ok(n) => {
@@ -116,7 +120,8 @@ impl<T: Write> ByteOut for Counted<T> {
 
 /// Writes all of the bytes, or returns how many went out before the writer failed or took none.
 pub fn send<W: ByteOut>(writer: &mut W, bytes: &[u8]) -> Result<(), usize>
-    ensures all { OnOk result (Sent (W.taken writer.old) (W.taken writer.new) bytes.now (length bytes.now)) }
+    ensures all { OnOk result
+        (Sent (W.taken writer.old) (W.taken writer.new) bytes.now (length bytes.now)) }
     ensures part { IfErr result (Sent (W.taken writer.old) (W.taken writer.new) bytes.now) }
     ensures none { OnOk result (NoneFailed (W.taken writer.old) (W.taken writer.new)) }
     ensures once { IfErr result (λ _. OneFailed (W.taken writer.old) (W.taken writer.new)) }

@@ -10,8 +10,8 @@ use row_sinks::Sink;
 
 /// What keeps the state of a station.
 ///
-/// Its readers change nothing. Those that hand rows to a sink hand out all of them in order, or a beginning: where the sink
-/// takes no more, or after a fault.
+/// Its readers change nothing. Those that hand rows to a sink hand out all of them in order, or a
+/// beginning: where the sink takes no more, or after a fault.
 pub trait Keeper {
     ghost use Rattle.agent_stock.specs.Runs.{AreStockRuns};
     ghost use Rattle.station_core.specs.Step.{State, IsLawfulState};
@@ -21,7 +21,8 @@ pub trait Keeper {
     /// It keeps this state: what it returns is by it.
     ghost keeps: { Self → State → Type 0 };
 
-    /// The premise of what the calls say: the disk has returned what was written, and kept what it confirmed.
+    /// The premise of what the calls say: the disk has returned what was written, and kept what it
+    /// confirmed.
     ghost is_sound: { Self → Type 0 };
 
     /// It returns `Reopen`.
@@ -33,27 +34,35 @@ pub trait Keeper {
     /// One input, at a moment.
     fn act(&mut self, input: &Input<'_>, at: Moment) -> Result<Reply, ActFault>
         // After a failure of the store nothing happens until the station is opened again.
-        ensures reopen { is_broken self.old ≡ true → (result ≡ Err ActFault.Reopen) × (self.new ≡ self.old) }
+        ensures reopen { is_broken self.old ≡ true → (result ≡ Err ActFault.Reopen)
+            × (self.new ≡ self.old) }
         ensures breaks { is_broken self.old ≡ false → Breaks result (is_broken self.new) }
         ensures sound { is_sound self.new → is_sound self.old }
 
         // The answer and the state are those of the step.
-        ensures acts { (s : State) → keeps self.old s → is_broken self.old ≡ false → is_sound self.new → Acts s input.now at result (keeps self.new) }
-        ensures leaves { (s : State) → keeps self.old s → is_broken self.old ≡ false → is_sound self.new → (found : Option State) → may_find self.new found → Leaves s input.now at result found };
+        ensures acts { (s : State) → keeps self.old s → is_broken self.old ≡ false
+            → is_sound self.new → Acts s input.now at result (keeps self.new) }
+        ensures leaves { (s : State) → keeps self.old s → is_broken self.old ≡ false
+            → is_sound self.new → (found : Option State) → may_find self.new found
+            → Leaves s input.now at result found };
 
     /// Who holds a number.
     fn holder(&mut self, number: &Awb) -> Result<Option<Holder>, ActFault>
-        ensures reopen { is_broken self.old ≡ true → (result ≡ Err ActFault.Reopen) × (self.new ≡ self.old) }
+        ensures reopen { is_broken self.old ≡ true → (result ≡ Err ActFault.Reopen)
+            × (self.new ≡ self.old) }
         ensures fault { is_broken self.old ≡ false → IfErr result IsReadersFault }
         ensures reads { OnlyReads keeps is_sound is_broken may_find self.old self.new }
-        ensures holder { (s : State) → keeps self.old s → is_sound self.new → IfOk result (λ holder. holder ≡ s.cargo.holders number.now) };
+        ensures holder { (s : State) → keeps self.old s → is_sound self.new
+            → IfOk result (λ holder. holder ≡ s.cargo.holders number.now) };
 
     /// What is known of a waybill.
     fn waybill(&mut self, number: &Awb) -> Result<Option<Waybill>, ActFault>
-        ensures reopen { is_broken self.old ≡ true → (result ≡ Err ActFault.Reopen) × (self.new ≡ self.old) }
+        ensures reopen { is_broken self.old ≡ true → (result ≡ Err ActFault.Reopen)
+            × (self.new ≡ self.old) }
         ensures fault { is_broken self.old ≡ false → IfErr result IsReadersFault }
         ensures reads { OnlyReads keeps is_sound is_broken may_find self.old self.new }
-        ensures waybill { (s : State) → keeps self.old s → is_sound self.new → IfOk result (λ waybill. waybill ≡ waybill_of s.cargo number.now) };
+        ensures waybill { (s : State) → keeps self.old s → is_sound self.new
+            → IfOk result (λ waybill. waybill ≡ waybill_of s.cargo number.now) };
 
     /// The stock, as its maximal runs of one holder, ascending.
     fn stock<S: Sink<StockRun>>(&mut self, sink: &mut S) -> Result<(), ActFault>

@@ -9,7 +9,8 @@ use std::marker::Model;
 /// The most bytes that a key has.
 const LONGEST: usize = 40;
 
-/// The key under which a caller sends a command: 1 to 40 bytes from 0x21 to 0x7E. Contracts see it as that text.
+/// The key under which a caller sends a command: 1 to 40 bytes from 0x21 to 0x7E. Contracts see it
+/// as that text.
 #[derive(Clone, Copy, Debug, PartialEq, Eq)]
 pub struct Key {
     // Zeros follow the key.

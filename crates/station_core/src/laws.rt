@@ -15,13 +15,18 @@ pub fn retry_law()
 /// A new station is lawful, and a lawful station stays lawful under a step.
 pub fn step_law()
     ensures opening { (here : List ℕ) → IsLawfulState (opening here) }
-    ensures step { (s : State) (input : Input) (at : LocalMinute) → IsInput input → IsLawfulState s → IsLawfulState (step s input at).state }
+    ensures step { (s : State) (input : Input) (at : LocalMinute) → IsInput input → IsLawfulState s
+        → IsLawfulState (step s input at).state }
 {}
 
-/// Every state that inputs lead to from a new station is lawful. In it, for each waybill, what was taken over or found is in store,
-/// departed, delivered, transferred or missing, in pieces and in tenths; and the amounts that are shown of it are the balances of its moves.
+/// Every state that inputs lead to from a new station is lawful. In it, for each waybill, what was
+/// taken over or found is in store, departed, delivered, transferred or missing, in pieces and in
+/// tenths; and the amounts that are shown of it are the balances of its moves.
 pub fn run_law()
-    ensures lawful { (here : List ℕ) (inputs : List (Input × LocalMinute)) → AreInputs inputs → IsLawfulState (after_all (opening here) inputs) }
-    ensures conserved { (here : List ℕ) (inputs : List (Input × LocalMinute)) (w : ℕ) → AreInputs inputs → IsConserved (after_all (opening here) inputs).cargo.book w }
-    ensures shown { (here : List ℕ) (inputs : List (Input × LocalMinute)) (w : ℕ) → AreInputs inputs → AreBalances (after_all (opening here) inputs).cargo.book w }
+    ensures lawful { (here : List ℕ) (inputs : List (Input × LocalMinute)) → AreInputs inputs
+        → IsLawfulState (after_all (opening here) inputs) }
+    ensures conserved { (here : List ℕ) (inputs : List (Input × LocalMinute)) (w : ℕ)
+        → AreInputs inputs → IsConserved (after_all (opening here) inputs).cargo.book w }
+    ensures shown { (here : List ℕ) (inputs : List (Input × LocalMinute)) (w : ℕ) → AreInputs inputs
+        → AreBalances (after_all (opening here) inputs).cargo.book w }
 {}

@@ -99,8 +99,8 @@ fn content_range(content: &Content<'_>)
     }
 }
 
-/// Every input is in range, as its types keep it: so [`step_law`](crate::step_law) and [`run_law`](crate::run_law) hold of
-/// whatever a station is handed.
+/// Every input is in range, as its types keep it: so [`step_law`](crate::step_law) and
+/// [`run_law`](crate::run_law) hold of whatever a station is handed.
 pub fn input_range_law(input: &Input<'_>)
     ensures { IsInput input.now }
 {

@@ -10,7 +10,13 @@ use telegrams::{Content, PartContent, StatusContent};
 /// A part of a manifest, as it is planned.
 fn inbound_part(part: &PartContent) -> InboundPart<'_>
     ensures { result
-        ≡ record { number = part.now.sequence; flight = part.now.flight; date = part.now.date; loaded = part.now.loaded; lines = part.now.lines } }
+        ≡ record {
+          number = part.now.sequence;
+          flight = part.now.flight;
+          date = part.now.date;
+          loaded = part.now.loaded;
+          lines = part.now.lines;
+        } }
 {
     InboundPart {
         number: part.sequence,

@@ -64,8 +64,9 @@ fn part_text(alloc: Global, part: &Part) -> Result<String, AllocError>
     format!(in alloc; "{flight}/{airport}/{number}")
 }
 
-/// What a refusal is about: `020-12345723`, the free pieces, `LH400/2026-01-12`, `LH400/2026-01-12/FRA/1`, a line and a word
-/// as `4 ending`, the mark and the last message as `3 4`, or nothing.
+/// What a refusal is about: `020-12345723`, the free pieces, `LH400/2026-01-12`,
+/// `LH400/2026-01-12/FRA/1`, a line and a word as `4 ending`, the mark and the last message as `3
+/// 4`, or nothing.
 pub fn detail_text(alloc: Global, detail: &Detail) -> Result<String, AllocError>
     ensures { IfOk result (λ text. string_bytes text ≡ detail_text detail.now) }
 {

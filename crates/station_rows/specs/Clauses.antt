@@ -22,7 +22,8 @@ abbrev pub WasOpen : {X E : Type 0} → View → View → Result X E → Type 0
 WasOpen old new result = OnOk result (new.IsSound → old.is_open ≡ true)
 
 -- rows are handed out: whatever it showed, they are rows of it
-abbrev pub HandsOf : {S X E : Type 0} → View → View → Result (Unit {0}) E → (S → X → Bool → S → Type 0) → (Tables → List X) → S → S → Type 0
+abbrev pub HandsOf : {S X E : Type 0} → View → View → Result (Unit {0}) E
+    → (S → X → Bool → S → Type 0) → (Tables → List X) → S → S → Type 0
 HandsOf old new result takes rows from to = (seen : Seen) → IsShowing old seen → new.IsSound → Hands takes (rows seen.now) from to result
 
 -- a store that is shut hands out nothing, and the call fails

@@ -7,8 +7,8 @@ use Rattle.row_schema.specs.Connection.{connection_view}
 use Rattle.row_schema.specs.Store.{View}
 use Rattle.row_schema.specs.Own.{LiesInOrder}
 
--- They are sound while the disk has returned what was written, the tables are declared as a new station declares them, and rows
--- lie in order in stores of this type.
+-- They are sound while the disk has returned what was written, the tables are declared as a new
+-- station declares them, and rows lie in order in stores of this type.
 abbrev pub rows_view : {S : Type 0} → Ghosts S → Held S → Bool → View
 rows_view g conn declared = record (connection_view g conn) {
   IsSound = HasCleanDisk (state g conn) × (declared ≡ true) × LiesInOrder g;

@@ -1,7 +1,7 @@
 //! The tables of a station in `sqlite`: one short typed call for each SQL statement.
 //!
-//! `TableStore` says what each call does to typed tables, with no word of SQL. `Rows` is the implementation
-//! over a connection.
+//! `TableStore` says what each call does to typed tables, with no word of SQL. `Rows` is the
+//! implementation over a connection.
 #![tactic(auto)]
 
 mod memory;

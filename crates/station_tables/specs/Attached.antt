@@ -59,7 +59,8 @@ abbrev pub IsUnlawfulAt : FileVersion → Database → TableName → Type 0
 IsUnlawfulAt First db name = (audited : TableName) × (name ≡ old_name audited) × IsUnfit (read_as First db) (unfit.Unlawful audited)
 IsUnlawfulAt Second db name = IsUnfit (read_as Second db) (unfit.Unlawful name)
 
--- why a database is refused: that which `fault` names is so, and `Store` and `Memory` say nothing of it
+-- why a database is refused: that which `fault` names is so, and `Store` and `Memory` say nothing
+-- of it
 abbrev pub RefusesAs : FileVersion → Database → AttachFault → Type 0
 RefusesAs version db (fault.Unlawful name) = IsUnlawfulAt version db name
 RefusesAs version db fault.NoStation = IsUnfit (read_as version db) unfit.NoStation

@@ -10,8 +10,8 @@ use Rattle.station_core.specs.Keeping.{IsAfterAnswered}
 use Rattle.station_core.specs.Ranges.{AreInputs}
 use Rattle.station_core.specs.Step.{State, IsLawfulState, opening, after_all}
 
--- The inputs that a station was given, how many it answered, and the fault that ended them, if any. Then it gave its
--- connection back, or was cut off.
+-- The inputs that a station was given, how many it answered, and the fault that ended them, if any.
+-- Then it gave its connection back, or was cut off.
 pub record Life : Type 0 where
   pub inputs : List (Input × LocalMinute)
   pub answered : ℕ
@@ -45,8 +45,9 @@ AreCounted _ _ = ⊥
 abbrev pub in_order : List (List (Input × LocalMinute)) → List (Input × LocalMinute)
 in_order counted = flat_map (λ inputs. inputs) counted
 
--- The state after all that counts: it is lawful, and for each waybill what was taken over or found is in store, departed,
--- delivered, transferred or missing, in pieces and in tenths, and the amounts that are shown are the balances of its moves.
+-- The state after all that counts: it is lawful, and for each waybill what was taken over or found
+-- is in store, departed, delivered, transferred or missing, in pieces and in tenths, and the
+-- amounts that are shown are the balances of its moves.
 pub record IsAfterLives (here : List ℕ) (lives : List Life) (found : State) : Type 0 where
   pub counted : List (List (Input × LocalMinute))
   pub each : AreCounted lives counted

@@ -10,12 +10,14 @@ use Rattle.row_values.specs.Meaning.{Means}
 use Rattle.station_core.specs.Step.{State}
 use Rattle.station_tables.specs.Attached.{IsStateIn, IsOldStateIn}
 
--- the trees are of version 2, as a station declares it, and mean the state that the database had as one of version 1
+-- the trees are of version 2, as a station declares it, and mean the state that the database had as
+-- one of version 1
 pub record IsMigrated (old : Database) (db : Trees) : Type 0 where
   pub own : IsOwn db
   pub means : (s : State) → IsOldStateIn old s → Means (tables_of db) (Some s)
 
--- the file is of version 2 and keeps that state, the connection is open and at rest, and a crash leaves nothing else
+-- the file is of version 2 and keeps that state, the connection is open and at rest, and a crash
+-- leaves nothing else
 pub record HasMigrated (old : Database) (new : sqlite.State) : Type 0 where
   pub is_open : IsTrue new.is_open
   pub settled : IsSettled new

@@ -11,8 +11,8 @@ use Rattle.station_core.specs.Step.{State, repeated, step}
 use Rattle.station_tables.specs.Attached.{IsStateIn}
 use Rattle.station_tables.specs.Found.{Finds}
 
--- The answer is the step's, the state after it is kept, and a reopening finds that state alone. An input that the state had accepted has its
--- one reply, and the state stays.
+-- The answer is the step's, the state after it is kept, and a reopening finds that state alone. An
+-- input that the state had accepted has its one reply, and the state stays.
 pub record HasAnswered (s : State) (i : Input) (at : LocalMinute) (answer : Answer) (keeps : State → Type 0) (may_find : Option State → Type 0) : Type 0 where
   pub answered : (step s i at).answer ≡ answer
   pub kept : keeps (step s i at).state

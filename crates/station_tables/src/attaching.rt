@@ -56,16 +56,20 @@ pub(crate) fn breakdown(error: &Error) -> AttachFault
 
 /// The law that an open connection at rest, with a station's schema, shows a station's tables.
 fn shows_station<S: Alter>(conn: &Connection<S>)
-    ensures { (state S.Store conn.now).now.schema ≡ station_schema → IsTrue (state S.Store conn.now).is_open
-        → (state S.Store conn.now).now ≡ (state S.Store conn.now).committed → LiesInOrder S.Store → IsStation (state S.Store conn.now).now }
+    ensures { (state S.Store conn.now).now.schema ≡ station_schema
+        → IsTrue (state S.Store conn.now).is_open
+        → (state S.Store conn.now).now ≡ (state S.Store conn.now).committed → LiesInOrder S.Store
+        → IsStation (state S.Store conn.now).now }
 {
     let _ = has_station(conn);
 }
 
-/// The law that an open connection at rest shows a station's tables where its trees are those that a station wrote.
+/// The law that an open connection at rest shows a station's tables where its trees are those that
+/// a station wrote.
 fn shows_own_station<S: Alter>(conn: &Connection<S>)
     ensures { IsOwn (state S.Store conn.now).now.trees → IsTrue (state S.Store conn.now).is_open
-        → (state S.Store conn.now).now ≡ (state S.Store conn.now).committed → LiesInOrder S.Store → IsStation (state S.Store conn.now).now }
+        → (state S.Store conn.now).now ≡ (state S.Store conn.now).committed → LiesInOrder S.Store
+        → IsStation (state S.Store conn.now).now }
 {
     let _ = has_station(conn);
 }
@@ -78,9 +82,12 @@ fn over_store<T: TableStore>(
 ) -> StoredStation<TableState<T>>
     ensures works { ⟦<StoredStation<TableState<T>> as Keeper>⟧.is_broken result ≡ false }
     ensures same { result.store.store ≡ store }
-    ensures keeps { (t : Tables) (s : State) → Means t (Some s) → IsLawfulState s → Knows found.here found.sizes found.confirmed (at_rest s)
-        → ((T.view store).IsSound → HasThese t (T.view store)) → ⟦<StoredStation<TableState<T>> as Keeper>⟧.keeps result s }
-    ensures sound { ⟦<StoredStation<TableState<T>> as Keeper>⟧.is_sound result → (T.view store).IsSound }
+    ensures keeps { (t : Tables) (s : State) → Means t (Some s) → IsLawfulState s
+        → Knows found.here found.sizes found.confirmed (at_rest s)
+        → ((T.view store).IsSound → HasThese t (T.view store))
+        → ⟦<StoredStation<TableState<T>> as Keeper>⟧.keeps result s }
+    ensures sound { ⟦<StoredStation<TableState<T>> as Keeper>⟧.is_sound result
+        → (T.view store).IsSound }
 {
     let tables = TableState::over(alloc, store, found.here, found.sizes, found.confirmed);
     StoredStation::over(alloc, tables)
@@ -93,19 +100,30 @@ fn go_on<S: Alter>(
     found: FoundState,
 ) -> Result<Station<S>, (Connection<S>, AttachFault)>
     ensures works { IfOk result (λ station. ⟦<Station<S> as Keeper>⟧.is_broken station ≡ false) }
-    ensures sound { IfOk result (λ station. ⟦<Station<S> as Keeper>⟧.is_sound station → (connection_view S.Store conn).IsSound) }
-    ensures clean { IfOk result (λ station. HasCleanDisk (state S.Store (connection_in station)) → HasCleanDisk (state S.Store conn)) }
-    ensures own { IfOk result (λ station. HasCleanDisk (state S.Store (connection_in station)) → IsOwn (state S.Store conn).now.trees → are_declared station.stored.store.store ≡ true) }
-    ensures keeps { (s : State) (in_ : IsStateIn (state S.Store conn).now s) → Tells found in_.tables → (state S.Store conn).in_transaction ≡ false
-        → (state S.Store conn).now ≡ (state S.Store conn).committed → IfOk result (λ station. ⟦<Station<S> as Keeper>⟧.keeps station s) }
-    ensures typed { IfOk result (λ station. ⟦<Station<S> as Keeper>⟧.is_sound station → (state S.Store conn).now ≡ (state S.Store conn).committed
-        → (s : State) → IsStateIn (state S.Store conn).now s → IsTypedState (state S.Store conn).now s) }
+    ensures sound { IfOk result (λ station. ⟦<Station<S> as Keeper>⟧.is_sound station
+        → (connection_view S.Store conn).IsSound) }
+    ensures clean { IfOk result (λ station. HasCleanDisk (state S.Store (connection_in station))
+        → HasCleanDisk (state S.Store conn)) }
+    ensures own { IfOk result (λ station. HasCleanDisk (state S.Store (connection_in station))
+        → IsOwn (state S.Store conn).now.trees → are_declared station.stored.store.store ≡ true) }
+    ensures keeps { (s : State) (in_ : IsStateIn (state S.Store conn).now s)
+        → Tells found in_.tables → (state S.Store conn).in_transaction ≡ false
+        → (state S.Store conn).now ≡ (state S.Store conn).committed
+        → IfOk result (λ station. ⟦<Station<S> as Keeper>⟧.keeps station s) }
+    ensures typed { IfOk result (λ station. ⟦<Station<S> as Keeper>⟧.is_sound station
+        → (state S.Store conn).now ≡ (state S.Store conn).committed
+        → (s : State) → IsStateIn (state S.Store conn).now s
+        → IsTypedState (state S.Store conn).now s) }
     ensures fault { IfErr result (λ e. e.1 ≡ AttachFault.Store) }
-    ensures spares { IfErr result (λ e. store.Survives (connection_view S.Store conn) (connection_view S.Store e.0)) }
-    ensures unwritten { IfOk result (λ station. Survives (state S.Store conn) (state S.Store (connection_in station)) (λ _. ⊥)) }
+    ensures spares { IfErr result
+        (λ e. store.Survives (connection_view S.Store conn) (connection_view S.Store e.0)) }
+    ensures unwritten { IfOk result
+        (λ station. Survives (state S.Store conn) (state S.Store (connection_in station))
+        (λ _. ⊥)) }
     ensures seen { IfOk result (λ station. HasCleanDisk (state S.Store (connection_in station))
         → IsUnchanged (state S.Store conn) (state S.Store (connection_in station))) }
-    ensures unwritten_at_err { IfErr result (λ e. Survives (state S.Store conn) (state S.Store e.0) (λ _. ⊥)) }
+    ensures unwritten_at_err { IfErr result
+        (λ e. Survives (state S.Store conn) (state S.Store e.0) (λ _. ⊥)) }
 {
     shows_station(&conn);
     match Rows::opened(conn) {
@@ -121,7 +139,8 @@ pub(crate) fn judge<S: Alter>(
     version: FileVersion,
 ) -> Result<Result<FoundState, Unfit>, Error>
     ensures read { HasCleanDisk (state S.Store conn.new) → IsTrue (state S.Store conn.old).is_open
-        → Reads (state S.Store conn.old) (state S.Store conn.new) result (IsJudged (read_as version (state S.Store conn.old).now)) }
+        → Reads (state S.Store conn.old) (state S.Store conn.new) result
+        (IsJudged (read_as version (state S.Store conn.old).now)) }
     ensures survives { Survives (state S.Store conn.old) (state S.Store conn.new) (λ _. ⊥) }
 {
     found_state(alloc, conn, version)
@@ -134,20 +153,33 @@ fn settle<S: Alter>(
     judged: Result<FoundState, Unfit>,
 ) -> Result<Station<S>, (Connection<S>, AttachFault)>
     ensures works { IfOk result (λ station. ⟦<Station<S> as Keeper>⟧.is_broken station ≡ false) }
-    ensures sound { IfOk result (λ station. ⟦<Station<S> as Keeper>⟧.is_sound station → (connection_view S.Store conn).IsSound) }
-    ensures clean { IfOk result (λ station. HasCleanDisk (state S.Store (connection_in station)) → HasCleanDisk (state S.Store conn)) }
-    ensures own { IfOk result (λ station. HasCleanDisk (state S.Store (connection_in station)) → IsOwn (state S.Store conn).now.trees → are_declared station.stored.store.store ≡ true) }
-    ensures found { (state S.Store conn).in_transaction ≡ false → (state S.Store conn).now ≡ (state S.Store conn).committed → IsJudged (read_as Second (state S.Store conn).now) judged
-        → IfOk result (λ station. (s : State) × IsStateIn (state S.Store conn).now s × ⟦<Station<S> as Keeper>⟧.keeps station s) }
-    ensures typed { IfOk result (λ station. ⟦<Station<S> as Keeper>⟧.is_sound station → (state S.Store conn).now ≡ (state S.Store conn).committed
-        → (s : State) → IsStateIn (state S.Store conn).now s → IsTypedState (state S.Store conn).now s) }
-    ensures refused { IsJudged (read_as Second (state S.Store conn).now) judged → IfErr result (λ e. Refuses (state S.Store conn).now e.1) }
+    ensures sound { IfOk result (λ station. ⟦<Station<S> as Keeper>⟧.is_sound station
+        → (connection_view S.Store conn).IsSound) }
+    ensures clean { IfOk result (λ station. HasCleanDisk (state S.Store (connection_in station))
+        → HasCleanDisk (state S.Store conn)) }
+    ensures own { IfOk result (λ station. HasCleanDisk (state S.Store (connection_in station))
+        → IsOwn (state S.Store conn).now.trees → are_declared station.stored.store.store ≡ true) }
+    ensures found { (state S.Store conn).in_transaction ≡ false
+        → (state S.Store conn).now ≡ (state S.Store conn).committed
+        → IsJudged (read_as Second (state S.Store conn).now) judged
+        → IfOk result (λ station. (s : State) × IsStateIn (state S.Store conn).now s
+        × ⟦<Station<S> as Keeper>⟧.keeps station s) }
+    ensures typed { IfOk result (λ station. ⟦<Station<S> as Keeper>⟧.is_sound station
+        → (state S.Store conn).now ≡ (state S.Store conn).committed
+        → (s : State) → IsStateIn (state S.Store conn).now s
+        → IsTypedState (state S.Store conn).now s) }
+    ensures refused { IsJudged (read_as Second (state S.Store conn).now) judged
+        → IfErr result (λ e. Refuses (state S.Store conn).now e.1) }
     ensures never { IfErr result (λ e. e.1 ≢ AttachFault.Occupied) }
-    ensures spares { IfErr result (λ e. store.Survives (connection_view S.Store conn) (connection_view S.Store e.0)) }
-    ensures unwritten { IfOk result (λ station. Survives (state S.Store conn) (state S.Store (connection_in station)) (λ _. ⊥)) }
+    ensures spares { IfErr result
+        (λ e. store.Survives (connection_view S.Store conn) (connection_view S.Store e.0)) }
+    ensures unwritten { IfOk result
+        (λ station. Survives (state S.Store conn) (state S.Store (connection_in station))
+        (λ _. ⊥)) }
     ensures seen { IfOk result (λ station. HasCleanDisk (state S.Store (connection_in station))
         → IsUnchanged (state S.Store conn) (state S.Store (connection_in station))) }
-    ensures unwritten_at_err { IfErr result (λ e. Survives (state S.Store conn) (state S.Store e.0) (λ _. ⊥)) }
+    ensures unwritten_at_err { IfErr result
+        (λ e. Survives (state S.Store conn) (state S.Store e.0) (λ _. ⊥)) }
 {
     match judged {
         Ok(found) => go_on(alloc, conn, found),
@@ -155,45 +187,60 @@ fn settle<S: Alter>(
     }
 }
 
-/// A station over the tables that a store has already. Each table is read whole, by one statement, and they are tested in
-/// the order of `TableName`: the station goes on from the state that they mean. Nothing is written.
+/// A station over the tables that a store has already. Each table is read whole, by one statement,
+/// and they are tested in the order of `TableName`: the station goes on from the state that they
+/// mean. Nothing is written.
 pub fn attach<S: Alter>(
     alloc: Global,
     mut conn: Connection<S>,
 ) -> Result<Station<S>, (Connection<S>, AttachFault)>
-    ensures inside { (connection_view S.Store conn).in_transaction ≡ true → result ≡ Err (conn, AttachFault.Store) }
+    ensures inside { (connection_view S.Store conn).in_transaction ≡ true
+        → result ≡ Err (conn, AttachFault.Store) }
     ensures works { IfOk result (λ station. ⟦<Station<S> as Keeper>⟧.is_broken station ≡ false) }
-    ensures sound { IfOk result (λ station. ⟦<Station<S> as Keeper>⟧.is_sound station → (connection_view S.Store conn).IsSound) }
+    ensures sound { IfOk result (λ station. ⟦<Station<S> as Keeper>⟧.is_sound station
+        → (connection_view S.Store conn).IsSound) }
 
     // The tables are a station's, all of them lawful, and it keeps the state that they mean.
     ensures found { IfOk result (λ station. HasCleanDisk (state S.Store (connection_in station))
-        → (s : State) × IsStateIn (state S.Store conn).now s × ⟦<Station<S> as Keeper>⟧.keeps station s) }
-    ensures own { IfOk result (λ station. HasCleanDisk (state S.Store (connection_in station)) → IsOwn (state S.Store conn).now.trees
+        → (s : State) × IsStateIn (state S.Store conn).now s
+        × ⟦<Station<S> as Keeper>⟧.keeps station s) }
+    ensures own { IfOk result (λ station. HasCleanDisk (state S.Store (connection_in station))
+        → IsOwn (state S.Store conn).now.trees
         → are_declared station.stored.store.store ≡ true) }
 
-    ensures typed { IfOk result (λ station. ⟦<Station<S> as Keeper>⟧.is_sound station → (s : State) → IsStateIn (state S.Store conn).now s
+    ensures typed { IfOk result (λ station. ⟦<Station<S> as Keeper>⟧.is_sound station → (s : State)
+        → IsStateIn (state S.Store conn).now s
         → IsTypedState (state S.Store conn).now s) }
 
-    // A fault names what is so. Where the tables are a station's and lawful, the store failed or memory was out.
-    ensures refused { IfErr result (λ e. HasCleanDisk (state S.Store e.0) → Refuses (state S.Store conn).now e.1) }
-    ensures fit { IfErr result (λ e. HasCleanDisk (state S.Store e.0) → (s : State) → IsStateIn (state S.Store conn).now s → IsBreakdown e.1) }
+    // A fault names what is so. Where the tables are a station's and lawful, the store failed or
+    // memory was out.
+    ensures refused { IfErr result (λ e. HasCleanDisk (state S.Store e.0)
+        → Refuses (state S.Store conn).now e.1) }
+    ensures fit { IfErr result (λ e. HasCleanDisk (state S.Store e.0) → (s : State)
+        → IsStateIn (state S.Store conn).now s → IsBreakdown e.1) }
 
     // That a name is taken is no fault of an opening.
     ensures never { IfErr result (λ e. e.1 ≢ AttachFault.Occupied) }
 
     // The same where a station wrote the tables, and they mean a lawful state.
-    ensures own_fit { IfErr result (λ e. HasCleanDisk (state S.Store e.0) → IsOwn (state S.Store conn).now.trees → LiesInOrder S.Store
-        → (s : State) → IsTypedState (state S.Store conn).now s → IsLawfulState s → IsBreakdown e.1) }
+    ensures own_fit { IfErr result (λ e. HasCleanDisk (state S.Store e.0)
+        → IsOwn (state S.Store conn).now.trees → LiesInOrder S.Store
+        → (s : State) → IsTypedState (state S.Store conn).now s → IsLawfulState s
+        → IsBreakdown e.1) }
 
     // A crash leaves what it left before.
-    ensures leaves { IfErr result (λ e. (connection_view S.Store e.0).IsSound → (found : Option State)
+    ensures leaves { IfErr result (λ e. (connection_view S.Store e.0).IsSound
+        → (found : Option State)
         → Finds (connection_view S.Store e.0) found → Finds (connection_view S.Store conn) found) }
 
     // Whatever is found, nothing is written. At Ok the connection shows what it showed.
-    ensures unwritten { IfOk result (λ station. Survives (state S.Store conn) (state S.Store (connection_in station)) (λ _. ⊥)) }
+    ensures unwritten { IfOk result
+        (λ station. Survives (state S.Store conn) (state S.Store (connection_in station))
+        (λ _. ⊥)) }
     ensures seen { IfOk result (λ station. HasCleanDisk (state S.Store (connection_in station))
         → IsUnchanged (state S.Store conn) (state S.Store (connection_in station))) }
-    ensures unwritten_at_err { IfErr result (λ e. Survives (state S.Store conn) (state S.Store e.0) (λ _. ⊥)) }
+    ensures unwritten_at_err { IfErr result
+        (λ e. Survives (state S.Store conn) (state S.Store e.0) (λ _. ⊥)) }
 {
     shows_own_station(&conn);
     if !conn.is_autocommit() {

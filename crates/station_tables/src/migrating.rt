@@ -38,7 +38,8 @@ fn old_name(name: TableName) -> TableName
 
 /// The fault that says why a database is no station's of version 1.
 fn old_fault(unfit: Unfit) -> AttachFault
-    ensures refuses { (db : Database) → IsUnfit (read_as First db) unfit → RefusesAs First db result }
+    ensures refuses { (db : Database) → IsUnfit (read_as First db) unfit
+        → RefusesAs First db result }
     ensures never { result ≢ AttachFault.Occupied }
 {
     match unfit {
@@ -48,23 +49,27 @@ fn old_fault(unfit: Unfit) -> AttachFault
     }
 }
 
-/// The law that an open connection at rest shows the tables of version 1 where its trees are those that a station of
-/// that version wrote.
+/// The law that an open connection at rest shows the tables of version 1 where its trees are those
+/// that a station of that version wrote.
 fn shows_old_own<S: Alter>(conn: &Connection<S>)
     ensures { IsOldOwn (state S.Store conn.now).now.trees → IsTrue (state S.Store conn.now).is_open
-        → (state S.Store conn.now).now ≡ (state S.Store conn.now).committed → LiesInOrder S.Store → IsOldStation (state S.Store conn.now).now }
+        → (state S.Store conn.now).now ≡ (state S.Store conn.now).committed → LiesInOrder S.Store
+        → IsOldStation (state S.Store conn.now).now }
 {
     shows_old_station(conn);
 }
 
 /// Upgrades the tables of a file of version 1.
 fn upgrade<S: Alter>(mut conn: Connection<S>) -> Result<Connection<S>, (Connection<S>, AttachFault)>
-    ensures clean { IfOk result (λ new. HasCleanDisk (state S.Store new) → HasCleanDisk (state S.Store conn)) }
-    ensures moved { IfOk result (λ new. HasCleanDisk (state S.Store new) → IsOldStation (state S.Store conn).now
+    ensures clean { IfOk result (λ new. HasCleanDisk (state S.Store new)
+        → HasCleanDisk (state S.Store conn)) }
+    ensures moved { IfOk result (λ new. HasCleanDisk (state S.Store new)
+        → IsOldStation (state S.Store conn).now
         → HasMigrated (state S.Store conn).now (state S.Store new)) }
     ensures fault { IfErr result (λ e. e.1 ≡ AttachFault.Store) }
     ensures survives { IfErr result (λ e. Survives (state S.Store conn) (state S.Store e.0)
-        (λ db. IsOldStation (state S.Store conn).now → MeansUpgraded (state S.Store conn).now.trees db)) }
+        (λ db. IsOldStation (state S.Store conn).now
+        → MeansUpgraded (state S.Store conn).now.trees db)) }
 {
     match upgrade_tables(&mut conn) {
         Ok(()) => {
@@ -80,17 +85,21 @@ fn settle<S: Alter>(
     conn: Connection<S>,
     judged: Result<FoundState, Unfit>,
 ) -> Result<Connection<S>, (Connection<S>, AttachFault)>
-    ensures clean { IfOk result (λ new. HasCleanDisk (state S.Store new) → HasCleanDisk (state S.Store conn)) }
+    ensures clean { IfOk result (λ new. HasCleanDisk (state S.Store new)
+        → HasCleanDisk (state S.Store conn)) }
     ensures was { IsJudged (read_as First (state S.Store conn).now) judged
         → IfOk result (λ _. (s : State) × IsOldStateIn (state S.Store conn).now s) }
-    ensures moved { IfOk result (λ new. HasCleanDisk (state S.Store new) → IsOldStation (state S.Store conn).now
+    ensures moved { IfOk result (λ new. HasCleanDisk (state S.Store new)
+        → IsOldStation (state S.Store conn).now
         → HasMigrated (state S.Store conn).now (state S.Store new)) }
     ensures refused { IsJudged (read_as First (state S.Store conn).now) judged
         → IfErr result (λ e. RefusesAs First (state S.Store conn).now e.1) }
     ensures never { IfErr result (λ e. e.1 ≢ AttachFault.Occupied) }
     ensures survives { IfErr result (λ e. Survives (state S.Store conn) (state S.Store e.0)
-        (λ db. IsOldStation (state S.Store conn).now → MeansUpgraded (state S.Store conn).now.trees db)) }
-    ensures spares { IfErr result (λ e. e.1 ≢ AttachFault.Store → Survives (state S.Store conn) (state S.Store e.0) (λ _. ⊥)) }
+        (λ db. IsOldStation (state S.Store conn).now
+        → MeansUpgraded (state S.Store conn).now.trees db)) }
+    ensures spares { IfErr result (λ e. e.1 ≢ AttachFault.Store
+        → Survives (state S.Store conn) (state S.Store e.0) (λ _. ⊥)) }
 {
     match judged {
         Ok(_) => upgrade(conn),
@@ -98,40 +107,53 @@ fn settle<S: Alter>(
     }
 }
 
-/// Makes a file of version 1 one of version 2, in one transaction: `waybill2` gets the waybills, none of them with a day,
-/// `waybill` is emptied, and the version is raised. Before it, each table is read whole and audited as a file of version 1.
+/// Makes a file of version 1 one of version 2, in one transaction: `waybill2` gets the waybills,
+/// none of them with a day, `waybill` is emptied, and the version is raised. Before it, each table
+/// is read whole and audited as a file of version 1.
 ///
-/// Returns [`AttachFault::NoStation`], [`AttachFault::Version`] for every version but 1, [`AttachFault::Unlawful`] with the
-/// first table that is missing or isn't lawful, [`AttachFault::Memory`] where memory ran out in the audit, and
-/// [`AttachFault::Store`] where the store failed or a transaction was open, and no other fault. The connection comes back.
-/// After any fault but `Store` the file is as it was; a crash, and a `Store`, leave it as it was or of version 2, with
-/// one state: then `migrate` is called again, and answers `Version(2)` where it was done.
+/// Returns [`AttachFault::NoStation`], [`AttachFault::Version`] for every version but 1,
+/// [`AttachFault::Unlawful`] with the first table that is missing or isn't lawful,
+/// [`AttachFault::Memory`] where memory ran out in the audit, and [`AttachFault::Store`] where the
+/// store failed or a transaction was open, and no other fault. The connection comes back. After any
+/// fault but `Store` the file is as it was; a crash, and a `Store`, leave it as it was or of
+/// version 2, with one state: then `migrate` is called again, and answers `Version(2)` where it was
+/// done.
 pub fn migrate<S: Alter>(
     alloc: Global,
     mut conn: Connection<S>,
 ) -> Result<Connection<S>, (Connection<S>, AttachFault)>
-    ensures inside { (connection_view S.Store conn).in_transaction ≡ true → result ≡ Err (conn, AttachFault.Store) }
+    ensures inside { (connection_view S.Store conn).in_transaction ≡ true
+        → result ≡ Err (conn, AttachFault.Store) }
 
     // The file was a station's of version 1, and all of it was lawful.
-    ensures was { IfOk result (λ new. HasCleanDisk (state S.Store new) → (s : State) × IsOldStateIn (state S.Store conn).now s) }
+    ensures was { IfOk result (λ new. HasCleanDisk (state S.Store new) → (s : State)
+        × IsOldStateIn (state S.Store conn).now s) }
 
-    // Where a station of version 1 wrote the tables, they are of version 2 now, with the state that they had.
-    ensures moved { IfOk result (λ new. HasCleanDisk (state S.Store new) → IsOldOwn (state S.Store conn).now.trees
+    // Where a station of version 1 wrote the tables, they are of version 2 now, with the state that
+    // they had.
+    ensures moved { IfOk result (λ new. HasCleanDisk (state S.Store new)
+        → IsOldOwn (state S.Store conn).now.trees
         → LiesInOrder S.Store → HasMigrated (state S.Store conn).now (state S.Store new)) }
 
-    // A fault names what is so. Where the tables are a station's of version 1 and lawful, the store failed or memory was out.
-    ensures refused { IfErr result (λ e. HasCleanDisk (state S.Store e.0) → RefusesAs First (state S.Store conn).now e.1) }
-    ensures fit { IfErr result (λ e. HasCleanDisk (state S.Store e.0) → (s : State) → IsOldStateIn (state S.Store conn).now s
+    // A fault names what is so. Where the tables are a station's of version 1 and lawful, the store
+    // failed or memory was out.
+    ensures refused { IfErr result (λ e. HasCleanDisk (state S.Store e.0)
+        → RefusesAs First (state S.Store conn).now e.1) }
+    ensures fit { IfErr result (λ e. HasCleanDisk (state S.Store e.0) → (s : State)
+        → IsOldStateIn (state S.Store conn).now s
         → IsBreakdown e.1) }
     ensures never { IfErr result (λ e. e.1 ≢ AttachFault.Occupied) }
 
-    // A crash leaves what it left before, or the tables of version 2 with the state that those of version 1 had.
-    ensures leaves { IfErr result (λ e. HasCleanDisk (state S.Store e.0) → IsOldOwn (state S.Store conn).now.trees
+    // A crash leaves what it left before, or the tables of version 2 with the state that those of
+    // version 1 had.
+    ensures leaves { IfErr result (λ e. HasCleanDisk (state S.Store e.0)
+        → IsOldOwn (state S.Store conn).now.trees
         → LiesInOrder S.Store → (db : Trees) → (state S.Store e.0).may_leave db
         → (state S.Store conn).may_leave db ⊎ IsMigrated (state S.Store conn).now db) }
 
     // Any other fault than the store's changes nothing.
-    ensures spares { IfErr result (λ e. e.1 ≢ AttachFault.Store → Survives (state S.Store conn) (state S.Store e.0) (λ _. ⊥)) }
+    ensures spares { IfErr result (λ e. e.1 ≢ AttachFault.Store
+        → Survives (state S.Store conn) (state S.Store e.0) (λ _. ⊥)) }
 {
     shows_old_own(&conn);
     if !conn.is_autocommit() {

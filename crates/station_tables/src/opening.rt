@@ -24,17 +24,19 @@ use stored_station::StoredStation;
 /// Makes the tables of a station at an airport with nothing in it, in one transaction, in a store
 /// where none of their names is taken.
 ///
-/// Returns [`AttachFault::Occupied`] where a table, an index or a view has one of these names, whatever
-/// the case of its letters, and [`AttachFault::Store`] where a transaction is open or the store fails, and
-/// no other fault. The connection comes back with it. Other tables stay beside the new ones; of what a station
-/// beside others keeps nothing is claimed, as where such tables are opened.
+/// Returns [`AttachFault::Occupied`] where a table, an index or a view has one of these names,
+/// whatever the case of its letters, and [`AttachFault::Store`] where a transaction is open or the
+/// store fails, and no other fault. The connection comes back with it. Other tables stay beside the
+/// new ones; of what a station beside others keeps nothing is claimed, as where such tables are
+/// opened.
 pub fn create<S: Alter>(
     alloc: Global,
     conn: Connection<S>,
     here: Airport,
 ) -> Result<Station<S>, (Connection<S>, AttachFault)>
     ensures free { OnOk result (takes_name (state S.Store conn).now.schema ≡ false) }
-    ensures declared { IfOk result (λ station. IsTrue (are_declared station.stored.store.store) ↔ IsVacant S.Store conn) }
+    ensures declared { IfOk result
+        (λ station. IsTrue (are_declared station.stored.store.store) ↔ IsVacant S.Store conn) }
     ensures works { IfOk result (λ station. ⟦<Station<S> as Keeper>⟧.is_broken station ≡ false) }
     ensures sound { IfOk result (λ station. ⟦<Station<S> as Keeper>⟧.is_sound station
         → (connection_view S.Store conn).IsSound) }
@@ -46,25 +48,34 @@ pub fn create<S: Alter>(
     ensures inside { (connection_view S.Store conn).in_transaction ≡ true
         → result ≡ Err (conn, AttachFault.Store) }
     ensures occupied { (connection_view S.Store conn).in_transaction ≡ false
-        → takes_name (state S.Store conn).now.schema ≡ true → result ≡ Err (conn, AttachFault.Occupied) }
-    ensures taken { IfErr result (λ e. e.1 ≡ AttachFault.Occupied → takes_name (state S.Store conn).now.schema ≡ true) }
+        → takes_name (state S.Store conn).now.schema ≡ true
+        → result ≡ Err (conn, AttachFault.Occupied) }
+    ensures taken { IfErr result (λ e. e.1 ≡ AttachFault.Occupied
+        → takes_name (state S.Store conn).now.schema ≡ true) }
     ensures faults { IfErr result (λ e. (e.1 ≡ AttachFault.Occupied) ⊎ (e.1 ≡ AttachFault.Store)) }
 
-    // A crash leaves what it left before the call, or where the store was empty the opening station.
+    // A crash leaves what it left before the call, or where the store was empty the opening
+    // station.
     ensures leaves { IfErr result (λ e. IsVacant S.Store conn
-        → (connection_view S.Store e.0).IsSound → (found : Option State) → Finds (connection_view S.Store e.0) found → Finds (connection_view S.Store conn) found
+        → (connection_view S.Store e.0).IsSound → (found : Option State)
+        → Finds (connection_view S.Store e.0) found → Finds (connection_view S.Store conn) found
         ⊎ (IsVacant S.Store conn × (found ≡ Some (opening here)))) }
 
-    // Beside other tables it leaves what it left before, or one database more, and a failure leaves the last commit.
-    ensures step { IfErr result (λ e. ¬ IsVacant S.Store conn → IsOneStep (state S.Store conn) (state S.Store e.0)) }
+    // Beside other tables it leaves what it left before, or one database more, and a failure leaves
+    // the last commit.
+    ensures step { IfErr result (λ e. ¬ IsVacant S.Store conn
+        → IsOneStep (state S.Store conn) (state S.Store e.0)) }
     ensures step_at_ok { IfOk result (λ station. ¬ IsVacant S.Store conn
         → IsOneStep (state S.Store conn) (state S.Store (connection_in station))) }
     ensures undone { (connection_view S.Store conn).in_transaction ≡ false
-        → IfErr result (λ e. HasCleanDisk (state S.Store e.0) → (connection_view S.Store e.0).is_open ≡ true
+        → IfErr result (λ e. HasCleanDisk (state S.Store e.0)
+        → (connection_view S.Store e.0).is_open ≡ true
         → IsUnchanged (connection_view S.Store conn) (connection_view S.Store e.0)) }
 
-    // The same over the database, so that an opening knows the tables: as before, or a new station's file.
-    ensures survives { IfErr result (λ e. connection.Survives (state S.Store conn) (state S.Store e.0)
+    // The same over the database, so that an opening knows the tables: as before, or a new
+    // station's file.
+    ensures survives { IfErr result
+        (λ e. connection.Survives (state S.Store conn) (state S.Store e.0)
         (λ db. IsVacant S.Store conn → IsFileOf db (opening here))) }
 {
     match table_state::create(alloc, conn, here) {

@@ -24,15 +24,26 @@ fn answer_on<S: Alter>(
     input: &Input<'_>,
     at: Moment,
 ) -> Result<Answer, ActFault>
-    ensures works { ⟦<Station<S> as Keeper>⟧.is_broken station.old ≡ false → OnOk result (⟦<Station<S> as Keeper>⟧.is_broken station.new ≡ false) }
-    ensures fault { ⟦<Station<S> as Keeper>⟧.is_broken station.old ≡ false → IfErr result IsMemoryOrStore }
-    ensures clean { HasCleanDisk (state S.Store (connection_in station.new)) → HasCleanDisk (state S.Store (connection_in station.old)) }
-    ensures still { ⟦<Station<S> as Keeper>⟧.is_sound station.old → HasCleanDisk (state S.Store (connection_in station.new)) → ⟦<Station<S> as Keeper>⟧.is_sound station.new }
-    ensures sound { ⟦<Station<S> as Keeper>⟧.is_sound station.new → ⟦<Station<S> as Keeper>⟧.is_sound station.old }
-    ensures answers { (s : State) → ⟦<Station<S> as Keeper>⟧.keeps station.old s → ⟦<Station<S> as Keeper>⟧.is_broken station.old ≡ false → ⟦<Station<S> as Keeper>⟧.is_sound station.new
+    ensures works { ⟦<Station<S> as Keeper>⟧.is_broken station.old ≡ false
+        → OnOk result (⟦<Station<S> as Keeper>⟧.is_broken station.new ≡ false) }
+    ensures fault { ⟦<Station<S> as Keeper>⟧.is_broken station.old ≡ false
+        → IfErr result IsMemoryOrStore }
+    ensures clean { HasCleanDisk (state S.Store (connection_in station.new))
+        → HasCleanDisk (state S.Store (connection_in station.old)) }
+    ensures still { ⟦<Station<S> as Keeper>⟧.is_sound station.old
+        → HasCleanDisk (state S.Store (connection_in station.new))
+        → ⟦<Station<S> as Keeper>⟧.is_sound station.new }
+    ensures sound { ⟦<Station<S> as Keeper>⟧.is_sound station.new
+        → ⟦<Station<S> as Keeper>⟧.is_sound station.old }
+    ensures answers { (s : State) → ⟦<Station<S> as Keeper>⟧.keeps station.old s
+        → ⟦<Station<S> as Keeper>⟧.is_broken station.old ≡ false
+        → ⟦<Station<S> as Keeper>⟧.is_sound station.new
         → Answers s input.now at result (⟦<Station<S> as Keeper>⟧.keeps station.new) }
-    ensures leaves { (s : State) → ⟦<Station<S> as Keeper>⟧.keeps station.old s → ⟦<Station<S> as Keeper>⟧.is_broken station.old ≡ false → ⟦<Station<S> as Keeper>⟧.is_sound station.new
-        → (found : Option State) → ⟦<Station<S> as Keeper>⟧.may_find station.new found → MayLeave s input.now at result found }
+    ensures leaves { (s : State) → ⟦<Station<S> as Keeper>⟧.keeps station.old s
+        → ⟦<Station<S> as Keeper>⟧.is_broken station.old ≡ false
+        → ⟦<Station<S> as Keeper>⟧.is_sound station.new
+        → (found : Option State) → ⟦<Station<S> as Keeper>⟧.may_find station.new found
+        → MayLeave s input.now at result found }
 {
     match station.act_on(input, at) {
         Ok(reply) => Ok(Answer::Done(reply)),
@@ -63,17 +74,28 @@ fn repeat_on<S: Alter>(
 ) -> Result<(Station<S>, Answer), (Connection<S>, AttachFault)>
     requires { ⟦<Station<S> as Keeper>⟧.is_broken station ≡ false }
     ensures works { IfOk result (λ r. ⟦<Station<S> as Keeper>⟧.is_broken r.0 ≡ false) }
-    ensures clean { IfOk result (λ r. HasCleanDisk (state S.Store (connection_in r.0)) → HasCleanDisk (state S.Store (connection_in station))) }
-    ensures still { IfOk result (λ r. ⟦<Station<S> as Keeper>⟧.is_sound station → HasCleanDisk (state S.Store (connection_in r.0)) → ⟦<Station<S> as Keeper>⟧.is_sound r.0) }
-    ensures sound { IfOk result (λ r. ⟦<Station<S> as Keeper>⟧.is_sound r.0 → ⟦<Station<S> as Keeper>⟧.is_sound station) }
-    ensures repeated { (s : State) → ⟦<Station<S> as Keeper>⟧.keeps station s → IfOk result (λ r. ⟦<Station<S> as Keeper>⟧.is_sound r.0
-        → HasAnswered s input.now at r.1 (⟦<Station<S> as Keeper>⟧.keeps r.0) (⟦<Station<S> as Keeper>⟧.may_find r.0)) }
+    ensures clean { IfOk result (λ r. HasCleanDisk (state S.Store (connection_in r.0))
+        → HasCleanDisk (state S.Store (connection_in station))) }
+    ensures still { IfOk result (λ r. ⟦<Station<S> as Keeper>⟧.is_sound station
+        → HasCleanDisk (state S.Store (connection_in r.0))
+        → ⟦<Station<S> as Keeper>⟧.is_sound r.0) }
+    ensures sound { IfOk result (λ r. ⟦<Station<S> as Keeper>⟧.is_sound r.0
+        → ⟦<Station<S> as Keeper>⟧.is_sound station) }
+    ensures repeated { (s : State) → ⟦<Station<S> as Keeper>⟧.keeps station s
+        → IfOk result (λ r. ⟦<Station<S> as Keeper>⟧.is_sound r.0
+        → HasAnswered s input.now at r.1 (⟦<Station<S> as Keeper>⟧.keeps r.0)
+        (⟦<Station<S> as Keeper>⟧.may_find r.0)) }
     ensures fault { IfErr result (λ e. IsBreakdown e.1) }
     ensures never { IfErr result (λ e. e.1 ≢ AttachFault.Occupied) }
-    ensures left_clean { IfErr result (λ e. HasCleanDisk (state S.Store e.0) → HasCleanDisk (state S.Store (connection_in station))) }
-    ensures leaves { (s : State) → ⟦<Station<S> as Keeper>⟧.keeps station s → ⟦<Station<S> as Keeper>⟧.is_sound station → IfErr result (λ e. HasCleanDisk (state S.Store e.0)
-        → (found : Option State) → Finds (connection_view S.Store e.0) found → IsBeforeOrAfter s input.now at found) }
-    ensures memory { (s : State) → ⟦<Station<S> as Keeper>⟧.keeps station s → ⟦<Station<S> as Keeper>⟧.is_sound station
+    ensures left_clean { IfErr result (λ e. HasCleanDisk (state S.Store e.0)
+        → HasCleanDisk (state S.Store (connection_in station))) }
+    ensures leaves { (s : State) → ⟦<Station<S> as Keeper>⟧.keeps station s
+        → ⟦<Station<S> as Keeper>⟧.is_sound station
+        → IfErr result (λ e. HasCleanDisk (state S.Store e.0)
+        → (found : Option State) → Finds (connection_view S.Store e.0) found
+        → IsBeforeOrAfter s input.now at found) }
+    ensures memory { (s : State) → ⟦<Station<S> as Keeper>⟧.keeps station s
+        → ⟦<Station<S> as Keeper>⟧.is_sound station
         → IfErr result (λ e. e.1 ≡ AttachFault.Memory → HasCleanDisk (state S.Store e.0)
         → (found : Option State) → Finds (connection_view S.Store e.0) found → found ≡ Some s) }
 {
@@ -86,44 +108,64 @@ fn repeat_on<S: Alter>(
     }
 }
 
-/// Opens the station of a database and gives it an input that may have been interrupted, or answered with the answer lost. A new input is
-/// done; one that was accepted before gets its one reply, and changes nothing.
+/// Opens the station of a database and gives it an input that may have been interrupted, or
+/// answered with the answer lost. A new input is done; one that was accepted before gets its one
+/// reply, and changes nothing.
 pub fn attach_and_repeat<S: Alter>(
     alloc: Global,
     conn: Connection<S>,
     input: &Input<'_>,
     at: Moment,
 ) -> Result<(Station<S>, Answer), (Connection<S>, AttachFault)>
-    ensures inside { (connection_view S.Store conn).in_transaction ≡ true → result ≡ Err (conn, AttachFault.Store) }
+    ensures inside { (connection_view S.Store conn).in_transaction ≡ true
+        → result ≡ Err (conn, AttachFault.Store) }
     ensures works { IfOk result (λ r. ⟦<Station<S> as Keeper>⟧.is_broken r.0 ≡ false) }
-    ensures sound { IfOk result (λ r. ⟦<Station<S> as Keeper>⟧.is_sound r.0 → (connection_view S.Store conn).IsSound) }
+    ensures sound { IfOk result (λ r. ⟦<Station<S> as Keeper>⟧.is_sound r.0
+        → (connection_view S.Store conn).IsSound) }
 
-    // The answer and the state are those of a step on the state that the tables mean, and a crash leaves that state alone.
+    // The answer and the state are those of a step on the state that the tables mean, and a crash
+    // leaves that state alone.
     ensures repeated { IfOk result (λ r. ⟦<Station<S> as Keeper>⟧.is_sound r.0
-        → HasRepeated (state S.Store conn).now input.now at r.1 (⟦<Station<S> as Keeper>⟧.keeps r.0) (⟦<Station<S> as Keeper>⟧.may_find r.0)) }
+        → HasRepeated (state S.Store conn).now input.now at r.1 (⟦<Station<S> as Keeper>⟧.keeps r.0)
+        (⟦<Station<S> as Keeper>⟧.may_find r.0)) }
 
     // The premise holds where a station wrote the tables and the disk returned them.
-    ensures own { IfOk result (λ r. HasCleanDisk (state S.Store (connection_in r.0)) → IsOwn (state S.Store conn).now.trees → LiesInOrder S.Store → ⟦<Station<S> as Keeper>⟧.is_sound r.0) }
+    ensures own { IfOk result (λ r. HasCleanDisk (state S.Store (connection_in r.0))
+        → IsOwn (state S.Store conn).now.trees → LiesInOrder S.Store
+        → ⟦<Station<S> as Keeper>⟧.is_sound r.0) }
 
-    // A fault names what is so. Where the tables are a station's and lawful, the store failed or memory was out.
-    ensures refused { IfErr result (λ e. HasCleanDisk (state S.Store e.0) → Refuses (state S.Store conn).now e.1) }
-    ensures fit { IfErr result (λ e. HasCleanDisk (state S.Store e.0) → (s : State) → IsStateIn (state S.Store conn).now s → IsBreakdown e.1) }
+    // A fault names what is so. Where the tables are a station's and lawful, the store failed or
+    // memory was out.
+    ensures refused { IfErr result (λ e. HasCleanDisk (state S.Store e.0)
+        → Refuses (state S.Store conn).now e.1) }
+    ensures fit { IfErr result (λ e. HasCleanDisk (state S.Store e.0) → (s : State)
+        → IsStateIn (state S.Store conn).now s → IsBreakdown e.1) }
     ensures never { IfErr result (λ e. e.1 ≢ AttachFault.Occupied) }
-    ensures own_fit { IfErr result (λ e. HasCleanDisk (state S.Store e.0) → IsOwn (state S.Store conn).now.trees → LiesInOrder S.Store
-        → (s : State) → IsTypedState (state S.Store conn).now s → IsLawfulState s → IsBreakdown e.1) }
+    ensures own_fit { IfErr result (λ e. HasCleanDisk (state S.Store e.0)
+        → IsOwn (state S.Store conn).now.trees → LiesInOrder S.Store
+        → (s : State) → IsTypedState (state S.Store conn).now s → IsLawfulState s
+        → IsBreakdown e.1) }
 
-    // A crash then leaves what it left before the call, or, where a station wrote the tables, the state that they mean or the one after it.
-    ensures leaves { IfErr result (λ e. HasCleanDisk (state S.Store e.0) → IsOwn (state S.Store conn).now.trees → LiesInOrder S.Store
-        → (found : Option State) → Finds (connection_view S.Store e.0) found → IsBeforeOrAfterIn (connection_view S.Store conn) (state S.Store conn).now input.now at found) }
+    // A crash then leaves what it left before the call, or, where a station wrote the tables, the
+    // state that they mean or the one after it.
+    ensures leaves { IfErr result (λ e. HasCleanDisk (state S.Store e.0)
+        → IsOwn (state S.Store conn).now.trees → LiesInOrder S.Store
+        → (found : Option State) → Finds (connection_view S.Store e.0) found
+        → IsBeforeOrAfterIn (connection_view S.Store conn) (state S.Store conn).now input.now at
+        found) }
 
-    // Where memory was out, the input was not done: what it left before, or the state that the tables mean.
+    // Where memory was out, the input was not done: what it left before, or the state that the
+    // tables mean.
     ensures memory { IfErr result (λ e. e.1 ≡ AttachFault.Memory → HasCleanDisk (state S.Store e.0)
         → IsOwn (state S.Store conn).now.trees → LiesInOrder S.Store → (found : Option State)
-        → Finds (connection_view S.Store e.0) found → IsBeforeIn (connection_view S.Store conn) (state S.Store conn).now found) }
+        → Finds (connection_view S.Store e.0) found
+        → IsBeforeIn (connection_view S.Store conn) (state S.Store conn).now found) }
 
     // Tables that aren't a station's are left as they were.
-    ensures spares { IfErr result (λ e. HasCleanDisk (state S.Store e.0) → ((s : State) → ¬ IsStateIn (state S.Store conn).now s)
-        → (found : Option State) → Finds (connection_view S.Store e.0) found → Finds (connection_view S.Store conn) found) }
+    ensures spares { IfErr result (λ e. HasCleanDisk (state S.Store e.0)
+        → ((s : State) → ¬ IsStateIn (state S.Store conn).now s)
+        → (found : Option State) → Finds (connection_view S.Store e.0) found
+        → Finds (connection_view S.Store conn) found) }
 {
     match attach(alloc, conn) {
         Ok(station) => repeat_on(station, input, at),

@@ -27,38 +27,53 @@ pub struct Restart<S: Alter> {
 
 /// Gives inputs to a station, and then opens another connection.
 ///
-/// This is what a crash comes to: where the other connection has what a crash of the first one may leave at that moment,
-/// a station that is opened over it goes on after every input that was answered and at most the one that was interrupted.
+/// This is what a crash comes to: where the other connection has what a crash of the first one may
+/// leave at that moment, a station that is opened over it goes on after every input that was
+/// answered and at most the one that was interrupted.
 pub fn act_and_restart<S: Alter>(
     alloc: Global,
     mut station: Station<S>,
     inputs: &[(Input<'_>, Moment)],
     other: Connection<S>,
 ) -> Restart<S>
-    ensures restored { (s : State) → ⟦<Station<S> as Keeper>⟧.keeps station s → ⟦<Station<S> as Keeper>⟧.is_broken station ≡ false → ⟦<Station<S> as Keeper>⟧.is_sound result.stopped
+    ensures restored { (s : State) → ⟦<Station<S> as Keeper>⟧.keeps station s
+        → ⟦<Station<S> as Keeper>⟧.is_broken station ≡ false
+        → ⟦<Station<S> as Keeper>⟧.is_sound result.stopped
         → (state S.Store (connection_in result.stopped)).may_leave (state S.Store other).now.trees
         → IfOk result.opened (λ again. HasCleanDisk (state S.Store (connection_in again))
-        → IsRestored s inputs.now (length result.given.answers.items) result.given.fault (state S.Store other).now
+        → IsRestored s inputs.now (length result.given.answers.items) result.given.fault
+        (state S.Store other).now
         (⟦<Station<S> as Keeper>⟧.is_broken again) (⟦<Station<S> as Keeper>⟧.keeps again)) }
 
-    // All inputs were answered, each as a step answers it, or a fault of the store or of memory ended them.
-    ensures all { result.given.fault ≡ None → length result.given.answers.items ≡ length inputs.now }
-    ensures answers { (s : State) → ⟦<Station<S> as Keeper>⟧.keeps station s → ⟦<Station<S> as Keeper>⟧.is_broken station ≡ false
+    // All inputs were answered, each as a step answers it, or a fault of the store or of memory
+    // ended them.
+    ensures all { result.given.fault ≡ None
+        → length result.given.answers.items ≡ length inputs.now }
+    ensures answers { (s : State) → ⟦<Station<S> as Keeper>⟧.keeps station s
+        → ⟦<Station<S> as Keeper>⟧.is_broken station ≡ false
         → ⟦<Station<S> as Keeper>⟧.is_sound result.stopped
-        → result.given.answers.items ≡ answers_of s (take (length result.given.answers.items) inputs.now) }
-    ensures part { (e : ActFault) → result.given.fault ≡ Some e → length result.given.answers.items < length inputs.now }
-    ensures fault { ⟦<Station<S> as Keeper>⟧.is_broken station ≡ false → (e : ActFault) → result.given.fault ≡ Some e → IsMemoryOrStore e }
+        → result.given.answers.items ≡ answers_of s
+        (take (length result.given.answers.items) inputs.now) }
+    ensures part { (e : ActFault) → result.given.fault ≡ Some e
+        → length result.given.answers.items < length inputs.now }
+    ensures fault { ⟦<Station<S> as Keeper>⟧.is_broken station ≡ false → (e : ActFault)
+        → result.given.fault ≡ Some e → IsMemoryOrStore e }
     ensures breaks { ⟦<Station<S> as Keeper>⟧.is_broken station ≡ false
         → IsBrokenAtEnd result.given.fault (⟦<Station<S> as Keeper>⟧.is_broken result.stopped) }
 
-    // What a crash leaves is no reason to refuse it: a fault says that the store failed, or that memory was out.
-    ensures opens { (s : State) → ⟦<Station<S> as Keeper>⟧.keeps station s → ⟦<Station<S> as Keeper>⟧.is_broken station ≡ false → ⟦<Station<S> as Keeper>⟧.is_sound result.stopped
+    // What a crash leaves is no reason to refuse it: a fault says that the store failed, or that
+    // memory was out.
+    ensures opens { (s : State) → ⟦<Station<S> as Keeper>⟧.keeps station s
+        → ⟦<Station<S> as Keeper>⟧.is_broken station ≡ false
+        → ⟦<Station<S> as Keeper>⟧.is_sound result.stopped
         → (state S.Store (connection_in result.stopped)).may_leave (state S.Store other).now.trees
         → IfErr result.opened (λ e. HasCleanDisk (state S.Store e.0) → IsBreakdown e.1) }
 
     // It goes on: its premise holds as long as its own disk has returned what was written.
-    ensures sound { ⟦<Station<S> as Keeper>⟧.is_sound result.stopped → (state S.Store (connection_in result.stopped)).may_leave (state S.Store other).now.trees
-        → IfOk result.opened (λ again. HasCleanDisk (state S.Store (connection_in again)) → ⟦<Station<S> as Keeper>⟧.is_sound again) }
+    ensures sound { ⟦<Station<S> as Keeper>⟧.is_sound result.stopped
+        → (state S.Store (connection_in result.stopped)).may_leave (state S.Store other).now.trees
+        → IfOk result.opened (λ again. HasCleanDisk (state S.Store (connection_in again))
+        → ⟦<Station<S> as Keeper>⟧.is_sound again) }
 {
     let given = act_all(alloc, &mut station, inputs);
     let opened = attach(alloc, other);
@@ -80,23 +95,31 @@ pub struct Reopening<S: Alter> {
 
 /// Ends a station, and then opens another connection.
 ///
-/// This is what a program leaves to the next one: where the other connection has what a crash of the one that was given back may
-/// leave, a station that is opened over it goes on from the state that the first one kept.
+/// This is what a program leaves to the next one: where the other connection has what a crash of
+/// the one that was given back may leave, a station that is opened over it goes on from the state
+/// that the first one kept.
 pub fn release_and_restart<S: Alter>(
     alloc: Global,
     station: Station<S>,
     other: Connection<S>,
 ) -> Reopening<S>
-    ensures restored { (s : State) → ⟦<Station<S> as Keeper>⟧.keeps station s → ⟦<Station<S> as Keeper>⟧.is_sound station
-        → HasCleanDisk (state S.Store result.left) → (state S.Store result.left).may_leave (state S.Store other).now.trees
-        → IfOk result.opened (λ again. HasCleanDisk (state S.Store (connection_in again))
-        → IsRestored s [] 0 None (state S.Store other).now (⟦<Station<S> as Keeper>⟧.is_broken again) (⟦<Station<S> as Keeper>⟧.keeps again)) }
-    ensures opens { (s : State) → ⟦<Station<S> as Keeper>⟧.keeps station s → ⟦<Station<S> as Keeper>⟧.is_sound station
-        → HasCleanDisk (state S.Store result.left) → (state S.Store result.left).may_leave (state S.Store other).now.trees
-        → IfErr result.opened (λ e. HasCleanDisk (state S.Store e.0) → IsBreakdown e.1) }
-    ensures sound { ⟦<Station<S> as Keeper>⟧.is_sound station → HasCleanDisk (state S.Store result.left)
+    ensures restored { (s : State) → ⟦<Station<S> as Keeper>⟧.keeps station s
+        → ⟦<Station<S> as Keeper>⟧.is_sound station
+        → HasCleanDisk (state S.Store result.left)
         → (state S.Store result.left).may_leave (state S.Store other).now.trees
-        → IfOk result.opened (λ again. HasCleanDisk (state S.Store (connection_in again)) → ⟦<Station<S> as Keeper>⟧.is_sound again) }
+        → IfOk result.opened (λ again. HasCleanDisk (state S.Store (connection_in again))
+        → IsRestored s [] 0 None (state S.Store other).now
+        (⟦<Station<S> as Keeper>⟧.is_broken again) (⟦<Station<S> as Keeper>⟧.keeps again)) }
+    ensures opens { (s : State) → ⟦<Station<S> as Keeper>⟧.keeps station s
+        → ⟦<Station<S> as Keeper>⟧.is_sound station
+        → HasCleanDisk (state S.Store result.left)
+        → (state S.Store result.left).may_leave (state S.Store other).now.trees
+        → IfErr result.opened (λ e. HasCleanDisk (state S.Store e.0) → IsBreakdown e.1) }
+    ensures sound { ⟦<Station<S> as Keeper>⟧.is_sound station
+        → HasCleanDisk (state S.Store result.left)
+        → (state S.Store result.left).may_leave (state S.Store other).now.trees
+        → IfOk result.opened (λ again. HasCleanDisk (state S.Store (connection_in again))
+        → ⟦<Station<S> as Keeper>⟧.is_sound again) }
 {
     let left = station.release();
     let opened = attach(alloc, other);

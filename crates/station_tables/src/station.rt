@@ -26,10 +26,11 @@ use table_state::TableState;
 
 /// A station over the tables of a `sqlite` connection. It takes every input.
 ///
-/// An accepted input is one transaction; a refused or repeated one writes nothing. `act` fails with `Memory` before the first
-/// call of the database, and nothing has changed then; a failing call, or memory refused after the first one, is `Store`: the
-/// file then holds the state before the input or the one after it, and `act` and the readers answer `Reopen` from then on.
-/// A reader's `Store` changes nothing.
+/// An accepted input is one transaction; a refused or repeated one writes nothing. `act` fails with
+/// `Memory` before the first call of the database, and nothing has changed then; a failing call, or
+/// memory refused after the first one, is `Store`: the file then holds the state before the input
+/// or the one after it, and `act` and the readers answer `Reopen` from then on. A reader's `Store`
+/// changes nothing.
 #[derive(Drop)]
 pub struct Station<S: Alter> {
     stored: StoredStation<TableState<Rows<S>>>,
@@ -43,21 +44,32 @@ impl<S: Alter> Station<S> {
         Station { stored }
     }
 
-    /// One input, at a moment, as a `Keeper` takes it. Its premise holds afterwards as before, but for a disk that failed.
+    /// One input, at a moment, as a `Keeper` takes it. Its premise holds afterwards as before, but
+    /// for a disk that failed.
     pub(crate) fn act_on(&mut self, input: &Input<'_>, at: Moment) -> Result<Reply, ActFault>
-        ensures reopen { ⟦<Station<S> as Keeper>⟧.is_broken self.old ≡ true → (result ≡ Err ActFault.Reopen)
+        ensures reopen { ⟦<Station<S> as Keeper>⟧.is_broken self.old ≡ true
+            → (result ≡ Err ActFault.Reopen)
             × (self.new ≡ self.old) }
-        ensures breaks { ⟦<Station<S> as Keeper>⟧.is_broken self.old ≡ false → Breaks result (⟦<Station<S> as Keeper>⟧.is_broken self.new) }
+        ensures breaks { ⟦<Station<S> as Keeper>⟧.is_broken self.old ≡ false
+            → Breaks result (⟦<Station<S> as Keeper>⟧.is_broken self.new) }
 
         // Memory runs out before the first call of the database, and nothing has changed.
         ensures memory { result ≡ Err ActFault.Memory → self.new ≡ self.old }
-        ensures clean { HasCleanDisk (state S.Store (connection_in self.new)) → HasCleanDisk (state S.Store (connection_in self.old)) }
-        ensures still { ⟦<Station<S> as Keeper>⟧.is_sound self.old → HasCleanDisk (state S.Store (connection_in self.new)) → ⟦<Station<S> as Keeper>⟧.is_sound self.new }
-        ensures sound { ⟦<Station<S> as Keeper>⟧.is_sound self.new → ⟦<Station<S> as Keeper>⟧.is_sound self.old }
-        ensures acts { (s : State) → ⟦<Station<S> as Keeper>⟧.keeps self.old s → ⟦<Station<S> as Keeper>⟧.is_broken self.old ≡ false
-            → ⟦<Station<S> as Keeper>⟧.is_sound self.new → Acts s input.now at result (⟦<Station<S> as Keeper>⟧.keeps self.new) }
-        ensures leaves { (s : State) → ⟦<Station<S> as Keeper>⟧.keeps self.old s → ⟦<Station<S> as Keeper>⟧.is_broken self.old ≡ false
-            → ⟦<Station<S> as Keeper>⟧.is_sound self.new → (found : Option State) → ⟦<Station<S> as Keeper>⟧.may_find self.new found
+        ensures clean { HasCleanDisk (state S.Store (connection_in self.new))
+            → HasCleanDisk (state S.Store (connection_in self.old)) }
+        ensures still { ⟦<Station<S> as Keeper>⟧.is_sound self.old
+            → HasCleanDisk (state S.Store (connection_in self.new))
+            → ⟦<Station<S> as Keeper>⟧.is_sound self.new }
+        ensures sound { ⟦<Station<S> as Keeper>⟧.is_sound self.new
+            → ⟦<Station<S> as Keeper>⟧.is_sound self.old }
+        ensures acts { (s : State) → ⟦<Station<S> as Keeper>⟧.keeps self.old s
+            → ⟦<Station<S> as Keeper>⟧.is_broken self.old ≡ false
+            → ⟦<Station<S> as Keeper>⟧.is_sound self.new
+            → Acts s input.now at result (⟦<Station<S> as Keeper>⟧.keeps self.new) }
+        ensures leaves { (s : State) → ⟦<Station<S> as Keeper>⟧.keeps self.old s
+            → ⟦<Station<S> as Keeper>⟧.is_broken self.old ≡ false
+            → ⟦<Station<S> as Keeper>⟧.is_sound self.new → (found : Option State)
+            → ⟦<Station<S> as Keeper>⟧.may_find self.new found
             → Leaves s input.now at result found }
     {
         self.stored.act_on(input, at)
@@ -65,11 +77,15 @@ impl<S: Alter> Station<S> {
 
     /// Gives the connection back, whatever state it is in.
     pub fn release(self) -> Connection<S>
-        ensures clean { HasCleanDisk (state S.Store result) → HasCleanDisk (state S.Store (connection_in self)) }
+        ensures clean { HasCleanDisk (state S.Store result)
+            → HasCleanDisk (state S.Store (connection_in self)) }
 
-        // What a crash may leave is as before, over the database: trees that a station declared, if it had declared them.
-        ensures survives { connection.Survives (state S.Store (connection_in self)) (state S.Store result) (λ _. ⊥) }
-        ensures own { HasCleanDisk (state S.Store result) → are_declared self.stored.store.store ≡ true → LiesInOrder S.Store
+        // What a crash may leave is as before, over the database: trees that a station declared, if
+        // it had declared them.
+        ensures survives { connection.Survives (state S.Store (connection_in self))
+            (state S.Store result) (λ _. ⊥) }
+        ensures own { HasCleanDisk (state S.Store result)
+            → are_declared self.stored.store.store ≡ true → LiesInOrder S.Store
             → (db : Trees) → (state S.Store result).may_leave db → IsOwn db }
         ensures leaves { (connection_view S.Store result).IsSound → (found : Option State)
             → Finds (connection_view S.Store result) found
@@ -77,7 +93,8 @@ impl<S: Alter> Station<S> {
         ensures sound { (rows_view S.Store result (are_declared self.stored.store.store)).IsSound
             → ⟦<Station<S> as Keeper>⟧.is_sound self }
 
-        // If it is open, it is outside a transaction, and its tables mean the state that the station kept.
+        // If it is open, it is outside a transaction, and its tables mean the state that the
+        // station kept.
         ensures shown { (s : State) → ⟦<Station<S> as Keeper>⟧.keeps self s
             → IfGivenBack (rows_view S.Store result (are_declared self.stored.store.store)) s }
     {

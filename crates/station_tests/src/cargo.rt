@@ -42,7 +42,8 @@ fn all_names() -> Option<Names> {
     })
 }
 
-/// Does a command under a key. It returns the command's count, or the number of its refusal; out of memory, nothing.
+/// Does a command under a key. It returns the command's count, or the number of its refusal; out of
+/// memory, nothing.
 fn done(
     station: &mut PlainStation,
     key: &str,
@@ -147,7 +148,8 @@ fn received(station: &mut PlainStation, names: &Names) -> Option<Result<u32, u16
     done(station, "r1", command, names.at)
 }
 
-/// Whether ten pieces are received, at the second attempt if memory ran out at the first, after which nothing has changed.
+/// Whether ten pieces are received, at the second attempt if memory ran out at the first, after
+/// which nothing has changed.
 fn is_received_at_last(station: &mut PlainStation, names: &Names) -> Option<bool> {
     if received(station, names).is_some() {
         return Some(true);

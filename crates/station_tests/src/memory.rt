@@ -1,4 +1,5 @@
-//! Messages that are written and read where memory may run out: that is reported, and leaves the buffer as it was.
+//! Messages that are written and read where memory may run out: that is reported, and leaves the
+//! buffer as it was.
 use awb_number::Awb;
 use ffm_text::{Load, write_ffm};
 use fsu_text::{Handling, SentStatus, SentUpdate, write_fsu};

@@ -106,7 +106,8 @@ fn station_row(alloc: Global, mut conn: Connection<MemStore>) -> Option<String> 
     format!(in alloc; "{id} {airport} {version} {confirmed}").ok()
 }
 
-/// How many rows of stock there are, the least number and the least holder, where the connection is outside a transaction.
+/// How many rows of stock there are, the least number and the least holder, where the connection is
+/// outside a transaction.
 fn stock_summed(alloc: Global, mut conn: Connection<MemStore>) -> Option<String> {
     if !conn.is_autocommit() {
         return None;

@@ -92,7 +92,8 @@ fn made_inside(alloc: Global) -> Option<String> {
 /// An order, under a key of the caller's own.
 type Asked = (Key, Order);
 
-/// The order that a text asks for: a key, a verb, the first number, the count, and perhaps an agent.
+/// The order that a text asks for: a key, a verb, the first number, the count, and perhaps an
+/// agent.
 fn asked_by(text: &str) -> Option<Asked> {
     let mut words = text.split_whitespace();
     let key = Key::read(words.next()?.as_bytes())?;
@@ -175,7 +176,8 @@ fn cargo_rows(alloc: Global, keeper: &mut impl Keeper) -> Option<String> {
     format!(in alloc; "{}", seen.rows).ok()
 }
 
-/// The runs of a stock of one row, which is given by its prefix, its serial, its holder and perhaps an agent.
+/// The runs of a stock of one row, which is given by its prefix, its serial, its holder and perhaps
+/// an agent.
 fn runs_of_row(alloc: Global, text: &str) -> Option<String> {
     let mut words = text.split_whitespace();
     let prefix = next_whole(&mut words)?;

@@ -32,7 +32,8 @@ pub record IsAnswered (number : ℕ) (s : State) (row : Row) (at : LocalMinute) 
   pub good_is : good ≡ row_good s row at
   pub state : keeps (row_after s row at)
 
--- The row has acted, and a beginning of its line was written: the writer failed or took no byte, or memory for the line ran out.
+-- The row has acted, and a beginning of its line was written: the writer failed or took no byte, or
+-- memory for the line ran out.
 pub record HasActed (number : ℕ) (s : State) (row : Row) (at : LocalMinute) (e : RunFault) (before after : List ℕ)
     (keeps : State → Type 0) : Type 0 where
   pub why : (e ≡ fault.Write) ⊎ (e ≡ fault.Memory)
@@ -40,15 +41,18 @@ pub record HasActed (number : ℕ) (s : State) (row : Row) (at : LocalMinute) (e
   pub line : after ≡ before ++ take sent (row_line number s row at)
   pub state : keeps (row_after s row at)
 
--- The row hasn't acted, since memory ran out, or where the store failed nobody knows; and nothing was written.
+-- The row hasn't acted, since memory ran out, or where the store failed nobody knows; and nothing
+-- was written.
 pub record HasNotActed (s : State) (row : Row) (at : LocalMinute) (e : RunFault) (before after : List ℕ)
     (keeps : State → Type 0) (may_find : Option State → Type 0) : Type 0 where
   pub why : (e ≡ fault.Memory) ⊎ (e ≡ fault.Store)
   pub nothing : after ≡ before
   pub memory : e ≡ fault.Memory → keeps s
-  pub states : (found : Option State) → may_find found → (found ≡ Some s) ⊎ ((e ≡ fault.Store) × (found ≡ Some (row_after s row at)))
+  pub states : (found : Option State) → may_find found → (found ≡ Some s)
+      ⊎ ((e ≡ fault.Store) × (found ≡ Some (row_after s row at)))
 
-abbrev pub IsStopped : ℕ → State → Row → LocalMinute → RunFault → List ℕ → List ℕ → (State → Type 0) → (Option State → Type 0) → Type 0
+abbrev pub IsStopped : ℕ → State → Row → LocalMinute → RunFault → List ℕ → List ℕ → (State → Type 0)
+    → (Option State → Type 0) → Type 0
 IsStopped number s row at e before after keeps may_find = HasActed number s row at e before after keeps ⊎ HasNotActed s row at e before after keeps may_find
 
 -- why a run ends where the reader fails, or memory for a row runs out
@@ -72,7 +76,8 @@ pub record HasRun (s : State) (rows : List Row) (at : LocalMinute) (good : Bool)
   pub state : keeps (rows_after s rows at)
 
 -- The run ended by a fault after these rows: no row came after them, or the next one stopped it.
-abbrev pub HasStopped : State → List Row → Option Row → LocalMinute → RunFault → List ℕ → List ℕ → (State → Type 0) → (Option State → Type 0) → Type 0
+abbrev pub HasStopped : State → List Row → Option Row → LocalMinute → RunFault → List ℕ → List ℕ
+    → (State → Type 0) → (Option State → Type 0) → Type 0
 HasStopped s rows None at e before after keeps may_find = IsReadersFault e × (after ≡ before ++ lines_from 1 s rows at) × keeps (rows_after s rows at)
 HasStopped s rows (Some row) at e before after keeps may_find = IsStopped (length rows + 1) (rows_after s rows at) row at e (before ++ lines_from 1 s rows at) after keeps may_find
 

@@ -17,7 +17,8 @@ abbrev pub inputs_of : List Row → LocalMinute → List (Input × LocalMinute)
 inputs_of [] at = []
 inputs_of (row ∷ rows) at = asked_inputs (row_asks row) at ++ inputs_of rows at
 
--- The lines of rows from the answers to their inputs: each row that asks for an order takes the next answer.
+-- The lines of rows from the answers to their inputs: each row that asks for an order takes the
+-- next answer.
 abbrev pub answered_lines : ℕ → List (Option (List ℕ × Order)) → List Answer → List ℕ
 answered_lines number [] answers = []
 answered_lines number (None ∷ more) answers = bad_line number ++ answered_lines (number + 1) more answers

@@ -9,12 +9,15 @@ use Rattle.stock_list.specs.Ended.{IsReadersFault, rows_read, AreFirst}
 use Rattle.stock_list.specs.Lines.{Row, bad_line, stock_rows}
 use Rattle.stock_list.specs.Row.{row_asks}
 
--- a beginning of the line of a row that asks nothing: the writer failed, or memory for the line ran out
+-- a beginning of the line of a row that asks nothing: the writer failed, or memory for the line ran
+-- out
 abbrev pub IsPartOfBad : ℕ → RunFault → List ℕ → List ℕ → Type 0
 IsPartOfBad number e before after = ((e ≡ fault.Write) ⊎ (e ≡ fault.Memory)) × ((sent : ℕ) × (after ≡ before ++ take sent (bad_line number)))
 
--- One row, by what it asks. One that asks nothing has its line; any other is answered Store, and nothing of it is written.
-abbrev pub IsAnsweredShut : ℕ → Option (List ℕ × Order) → Given → Given → Result Bool RunFault → Type 0
+-- One row, by what it asks. One that asks nothing has its line; any other is answered Store, and
+-- nothing of it is written.
+abbrev pub IsAnsweredShut : ℕ → Option (List ℕ × Order) → Given → Given → Result Bool RunFault
+    → Type 0
 IsAnsweredShut number None old new (Ok good) = (good ≡ false) × (new.bytes ≡ old.bytes ++ bad_line number)
 IsAnsweredShut number None old new (Err e) = IsPartOfBad number e old.bytes new.bytes
 IsAnsweredShut number (Some asked) old new (Ok good) = ⊥
@@ -50,8 +53,8 @@ abbrev pub HasStoppedShut : List Row → Option Row → RunFault → List ℕ �
 HasStoppedShut rows None e before after = IsReadersFault e × (after ≡ before ++ bad_lines 1 rows)
 HasStoppedShut rows (Some row) e before after = IsStoppedShut (length rows + 1) (row_asks row) e (before ++ bad_lines 1 rows) after
 
--- A run has ended. At Ok no row asked anything, and each has its line; at Err the same of the rows before the last that was read.
--- `left` is the list, where it is known.
+-- A run has ended. At Ok no row asked anything, and each has its line; at Err the same of the rows
+-- before the last that was read. `left` is the list, where it is known.
 abbrev pub HasRunShut : Option (List ℕ) → List ℕ → List ℕ → Result Bool RunFault → Type 0
 HasRunShut left before after (Ok good) =
     (rows : List Row) × (IfSome left (λ bytes. rows ≡ stock_rows bytes) × ((good ≡ are_none rows) × HaveBadLines rows before after))

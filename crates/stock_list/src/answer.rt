@@ -60,10 +60,13 @@ fn bad_line(alloc: Global, number: u64) -> Result<String, AllocError>
 ///
 /// Returns [`RunFault::Write`] where the writer fails or takes no byte.
 pub fn send_line<W: ByteOut>(writer: &mut W, line: &str) -> Result<(), RunFault>
-    ensures all { OnOk result ((W.taken writer.new).bytes ≡ (W.taken writer.old).bytes ++ line.now) }
+    ensures all { OnOk result
+        ((W.taken writer.new).bytes ≡ (W.taken writer.old).bytes ++ line.now) }
     ensures untroubled { OnOk result (IsUntroubled (W.taken writer.old) (W.taken writer.new)) }
     ensures cause { OnErr result (HasCause (W.taken writer.old) (W.taken writer.new)) }
-    ensures part { IfErr result (λ e. (e ≡ RunFault.Write) × ((sent : ℕ) × ((W.taken writer.new).bytes ≡ (W.taken writer.old).bytes ++ take sent line.now))) }
+    ensures part { IfErr result (λ e. (e ≡ RunFault.Write)
+        × ((sent : ℕ) × ((W.taken writer.new).bytes ≡ (W.taken writer.old).bytes ++ take sent
+        line.now))) }
 {
     match send(writer, line.as_bytes()) {
         Ok(()) => Ok(()),
@@ -94,12 +97,17 @@ pub fn answer_row<K: Keeper, W: ByteOut>(
     ensures works { K.is_broken keeper.old ≡ false → OnOk result (K.is_broken keeper.new ≡ false) }
     ensures breaks { K.is_broken keeper.old ≡ false
         → IfErr result (λ e. IsShutAfter e (K.is_broken keeper.new)) }
-    ensures answered { (s : State) → K.keeps keeper.old s → K.is_broken keeper.old ≡ false → K.is_sound keeper.new
-        → IfOk result (λ good. IsAnswered number s (fields_of row.now) at good (W.taken writer.old).bytes (W.taken writer.new).bytes (K.keeps keeper.new)) }
-    ensures stopped { (s : State) → K.keeps keeper.old s → K.is_broken keeper.old ≡ false → K.is_sound keeper.new
-        → IfErr result (λ e. IsStopped number s (fields_of row.now) at e (W.taken writer.old).bytes (W.taken writer.new).bytes (K.keeps keeper.new) (K.may_find keeper.new)) }
+    ensures answered { (s : State) → K.keeps keeper.old s → K.is_broken keeper.old ≡ false
+        → K.is_sound keeper.new
+        → IfOk result (λ good. IsAnswered number s (fields_of row.now) at good
+        (W.taken writer.old).bytes (W.taken writer.new).bytes (K.keeps keeper.new)) }
+    ensures stopped { (s : State) → K.keeps keeper.old s → K.is_broken keeper.old ≡ false
+        → K.is_sound keeper.new
+        → IfErr result (λ e. IsStopped number s (fields_of row.now) at e (W.taken writer.old).bytes
+        (W.taken writer.new).bytes (K.keeps keeper.new) (K.may_find keeper.new)) }
     ensures untroubled { OnOk result (IsUntroubled (W.taken writer.old) (W.taken writer.new)) }
-    ensures write_cause { result ≡ Err RunFault.Write → HasCause (W.taken writer.old) (W.taken writer.new) }
+    ensures write_cause { result ≡ Err RunFault.Write
+        → HasCause (W.taken writer.old) (W.taken writer.new) }
     ensures write_told { IfErr result (λ e. (e ≡ RunFault.Write)
         ⊎ IsUntroubled (W.taken writer.old) (W.taken writer.new)) }
     ensures unread { result ≡ Err RunFault.Read → ⊥ }
@@ -107,7 +115,8 @@ pub fn answer_row<K: Keeper, W: ByteOut>(
     // A station that has to be opened again stays as it is, and no row is asked of it.
     ensures same { K.is_broken keeper.old ≡ true → keeper.new ≡ keeper.old }
     ensures reopen { K.is_broken keeper.old ≡ true
-        → IsAnsweredShut number (row_asks (fields_of row.now)) (W.taken writer.old) (W.taken writer.new) result }
+        → IsAnsweredShut number (row_asks (fields_of row.now)) (W.taken writer.old)
+        (W.taken writer.new) result }
 {
     let Some(asked) = read_row(row) else {
         let Ok(line) = bad_line(alloc, number) else {

@@ -8,12 +8,16 @@ ghost use Rattle.stock_list.specs.Law.{inputs_of, answered_lines, all_ask};
 ghost use Rattle.stock_list.specs.Lines.{Row, lines_from, rows_good, rows_after};
 ghost use Rattle.stock_list.specs.Row.{row_asks};
 
-/// A stock list is a run of the station over the inputs that its rows ask: it leaves the state after them all, its lines are their
-/// answers, and it is accepted where every row asks for an order and every answer accepts one.
+/// A stock list is a run of the station over the inputs that its rows ask: it leaves the state
+/// after them all, its lines are their answers, and it is accepted where every row asks for an
+/// order and every answer accepts one.
 pub fn list_law()
-    ensures state { (s : State) (rows : List Row) (at : LocalMinute) → rows_after s rows at ≡ after_all s (inputs_of rows at) }
+    ensures state { (s : State) (rows : List Row) (at : LocalMinute)
+        → rows_after s rows at ≡ after_all s (inputs_of rows at) }
     ensures lines { (number : ℕ) (s : State) (rows : List Row) (at : LocalMinute)
-        → lines_from number s rows at ≡ answered_lines number (map row_asks rows) (answers_of s (inputs_of rows at)) }
+        → lines_from number s rows at ≡ answered_lines number (map row_asks rows)
+        (answers_of s (inputs_of rows at)) }
     ensures good { (s : State) (rows : List Row) (at : LocalMinute)
-        → rows_good s rows at ≡ (all_ask rows && list_all is_done (answers_of s (inputs_of rows at))) }
+        → rows_good s rows at ≡ (all_ask rows && list_all is_done
+        (answers_of s (inputs_of rows at))) }
 {}

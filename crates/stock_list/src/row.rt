@@ -11,7 +11,8 @@ use station_core::Key;
 fn digits(text: &[u8], least: usize, most: usize) -> Option<u32>
     requires { most ≤ 9 }
     ensures value { result ≡ digits_of least most text.now }
-    ensures bound { IfSome result (λ n. (n < 10 ^ length text.now) × (least ≤ length text.now) × (length text.now ≤ most)) }
+    ensures bound { IfSome result (λ n. (n < 10 ^ length text.now) × (least ≤ length text.now)
+        × (length text.now ≤ most)) }
 {
     if text.len() < least || text.len() > most {
         return None;

@@ -36,19 +36,27 @@ fn run_rows<K: Keeper, R: Read + Drop, W: ByteOut>(
     ensures works { K.is_broken keeper.old ≡ false → OnOk result (K.is_broken keeper.new ≡ false) }
     ensures breaks { K.is_broken keeper.old ≡ false
         → IfErr result (λ e. IsShutAfter e (K.is_broken keeper.new)) }
-    ensures ran { (s : State) → K.keeps keeper.old s → K.is_broken keeper.old ≡ false → K.is_sound keeper.new
-        → IfOk result (λ good. (rows : List Row) × IfSome (R.remaining reader) (λ bytes. rows ≡ stock_rows bytes)
-        × HasRun s rows at good (W.taken writer.old).bytes (W.taken writer.new).bytes (K.keeps keeper.new)) }
-    ensures stopped { (s : State) → K.keeps keeper.old s → K.is_broken keeper.old ≡ false → K.is_sound keeper.new
-        → IfErr result (λ e. (rows : List Row) × ((next : Option Row) × (IfSome (R.remaining reader) (AreFirst (rows_read rows next))
-        × HasStopped s rows next at e (W.taken writer.old).bytes (W.taken writer.new).bytes (K.keeps keeper.new) (K.may_find keeper.new)))) }
-    ensures write_cause { result ≡ Err RunFault.Write → HasCause (W.taken writer.old) (W.taken writer.new) }
+    ensures ran { (s : State) → K.keeps keeper.old s → K.is_broken keeper.old ≡ false
+        → K.is_sound keeper.new
+        → IfOk result (λ good. (rows : List Row)
+        × IfSome (R.remaining reader) (λ bytes. rows ≡ stock_rows bytes)
+        × HasRun s rows at good (W.taken writer.old).bytes (W.taken writer.new).bytes
+        (K.keeps keeper.new)) }
+    ensures stopped { (s : State) → K.keeps keeper.old s → K.is_broken keeper.old ≡ false
+        → K.is_sound keeper.new
+        → IfErr result (λ e. (rows : List Row)
+        × ((next : Option Row) × (IfSome (R.remaining reader) (AreFirst (rows_read rows next))
+        × HasStopped s rows next at e (W.taken writer.old).bytes (W.taken writer.new).bytes
+        (K.keeps keeper.new) (K.may_find keeper.new)))) }
+    ensures write_cause { result ≡ Err RunFault.Write
+        → HasCause (W.taken writer.old) (W.taken writer.new) }
     ensures write_told { IfErr result (λ e. (e ≡ RunFault.Write)
         ⊎ IsUntroubled (W.taken writer.old) (W.taken writer.new)) }
     ensures untroubled { OnOk result (IsUntroubled (W.taken writer.old) (W.taken writer.new)) }
     ensures same { K.is_broken keeper.old ≡ true → keeper.new ≡ keeper.old }
     ensures reopen { K.is_broken keeper.old ≡ true
-        → HasRunShut (R.remaining reader) (W.taken writer.old).bytes (W.taken writer.new).bytes result }
+        → HasRunShut (R.remaining reader) (W.taken writer.old).bytes (W.taken writer.new).bytes
+        result }
 {
     let rdr = ReaderBuilder::new()
         .has_headers(false)
@@ -92,7 +100,8 @@ fn told_by(ended: Result<bool, RunFault>, failed: bool) -> Result<bool, RunFault
     }
 }
 
-/// Answers the rows of a stock list, each after what it asks was done, all at one moment. `Ok` says whether all were accepted.
+/// Answers the rows of a stock list, each after what it asks was done, all at one moment. `Ok` says
+/// whether all were accepted.
 pub fn run_stock<K: Keeper, R: Watched + Read, W: ByteOut>(
     alloc: Global,
     keeper: &mut K,
@@ -105,30 +114,41 @@ pub fn run_stock<K: Keeper, R: Watched + Read, W: ByteOut>(
     ensures breaks { K.is_broken keeper.old ≡ false
         → IfErr result (λ e. IsShutAfter e (K.is_broken keeper.new)) }
 
-    // Every row that was read, and of a known reader that is every row of its text, has its line, in their
-    // order, and the state is the one after them all.
-    ensures ran { (s : State) → K.keeps keeper.old s → K.is_broken keeper.old ≡ false → K.is_sound keeper.new
-        → IfOk result (λ good. (rows : List Row) × IfSome (R.remaining reader.old) (λ bytes. rows ≡ stock_rows bytes)
-        × HasRun s rows at good (W.taken writer.old).bytes (W.taken writer.new).bytes (K.keeps keeper.new)) }
+    // Every row that was read, and of a known reader that is every row of its text, has its line,
+    // in their order, and the state is the one after them all.
+    ensures ran { (s : State) → K.keeps keeper.old s → K.is_broken keeper.old ≡ false
+        → K.is_sound keeper.new
+        → IfOk result (λ good. (rows : List Row)
+        × IfSome (R.remaining reader.old) (λ bytes. rows ≡ stock_rows bytes)
+        × HasRun s rows at good (W.taken writer.old).bytes (W.taken writer.new).bytes
+        (K.keeps keeper.new)) }
 
-    // At a fault each row before the last that was read has its line. The last one acted, and a beginning of its line
-    // was written, or it did not, or the store failed within it, and nothing of its line was written.
-    ensures stopped { (s : State) → K.keeps keeper.old s → K.is_broken keeper.old ≡ false → K.is_sound keeper.new
-        → IfErr result (λ e. (rows : List Row) × ((next : Option Row) × (IfSome (R.remaining reader.old) (AreFirst (rows_read rows next))
-        × HasStopped s rows next at e (W.taken writer.old).bytes (W.taken writer.new).bytes (K.keeps keeper.new) (K.may_find keeper.new)))) }
+    // At a fault each row before the last that was read has its line. The last one acted, and a
+    // beginning of its line was written, or it did not, or the store failed within it, and nothing
+    // of its line was written.
+    ensures stopped { (s : State) → K.keeps keeper.old s → K.is_broken keeper.old ≡ false
+        → K.is_sound keeper.new
+        → IfErr result (λ e. (rows : List Row)
+        × ((next : Option Row) × (IfSome (R.remaining reader.old) (AreFirst (rows_read rows next))
+        × HasStopped s rows next at e (W.taken writer.old).bytes (W.taken writer.new).bytes
+        (K.keeps keeper.new) (K.may_find keeper.new)))) }
 
-    // `Read` comes only where the reader has failed, and a list that was read to its end only where it has not.
+    // `Read` comes only where the reader has failed, and a list that was read to its end only where
+    // it has not.
     ensures read_cause { result ≡ Err RunFault.Read → 0 < (R.given reader.new).failures }
     ensures no_failure { OnOk result ((R.given reader.new).failures ≡ 0) }
-    ensures write_cause { result ≡ Err RunFault.Write → HasCause (W.taken writer.old) (W.taken writer.new) }
+    ensures write_cause { result ≡ Err RunFault.Write
+        → HasCause (W.taken writer.old) (W.taken writer.new) }
     ensures write_told { IfErr result (λ e. (e ≡ RunFault.Write)
         ⊎ IsUntroubled (W.taken writer.old) (W.taken writer.new)) }
     ensures untroubled { OnOk result (IsUntroubled (W.taken writer.old) (W.taken writer.new)) }
 
-    // A station that has to be opened again stays as it is. The first row that asks anything of it ends the run.
+    // A station that has to be opened again stays as it is. The first row that asks anything of it
+    // ends the run.
     ensures same { K.is_broken keeper.old ≡ true → keeper.new ≡ keeper.old }
     ensures reopen { K.is_broken keeper.old ≡ true
-        → HasRunShut (R.remaining reader.old) (W.taken writer.old).bytes (W.taken writer.new).bytes result }
+        → HasRunShut (R.remaining reader.old) (W.taken writer.old).bytes (W.taken writer.new).bytes
+        result }
 {
     let ended = run_rows(alloc, keeper, &mut *reader, writer, at);
     told_by(ended, reader.has_failed())

@@ -6,8 +6,11 @@ ghost use Rattle.row_values.specs.Stock.{AreStockRows, holders_in};
 ghost use Rattle.run_rows.specs.Rows.{AreRuns, holders_by};
 ghost use Rattle.stock_runs.specs.Runs.{run_in};
 
-/// Rows within range that are apart are runs in ascending order, and say who has each number as the table does.
+/// Rows within range that are apart are runs in ascending order, and say who has each number as the
+/// table does.
 pub fn rows_law()
-    ensures holders { (stock : FinMap stock_cmp Stock) → AreStockRows stock → holders_in stock ≡ holders_by (map run_in (entries stock)) }
-    ensures order { (stock : FinMap stock_cmp Stock) → AreStockRows stock → AreRuns (map run_in (entries stock)) }
+    ensures holders { (stock : FinMap stock_cmp Stock) → AreStockRows stock
+        → holders_in stock ≡ holders_by (map run_in (entries stock)) }
+    ensures order { (stock : FinMap stock_cmp Stock) → AreStockRows stock
+        → AreRuns (map run_in (entries stock)) }
 {}

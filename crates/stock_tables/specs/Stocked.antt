@@ -25,8 +25,9 @@ restocked stock t = record t { stock = stock }
 abbrev pub using_up : Holders → ℕ → Holders
 using_up h w q = if q == w then Some Used else h q
 
--- In a transaction that began with the tables `before`, a store shows the tables `t` with another stock, in which each number has the
--- holder that is said here. Each row of it is within range, and no two have a number in common.
+-- In a transaction that began with the tables `before`, a store shows the tables `t` with another
+-- stock, in which each number has the holder that is said here. Each row of it is within range, and
+-- no two have a number in common.
 pub record Restocked (v : View) (before t : Tables) (holders : Holders) : Type 0 where
   pub stock : FinMap stock_cmp Stock
   pub shown : Displays v (inside before (restocked stock t))

@@ -61,8 +61,9 @@ pub(crate) fn begin_giving<S: TableStore>(
     Ok(())
 }
 
-/// Notes that a waybill was declared under a number, in a transaction: its holder is `Used` from then on, also where it
-/// wasn't in stock. A fault: no transaction is open, a database call failed, or memory runs out.
+/// Notes that a waybill was declared under a number, in a transaction: its holder is `Used` from
+/// then on, also where it wasn't in stock. A fault: no transaction is open, a database call failed,
+/// or memory runs out.
 pub fn use_up<S: TableStore>(alloc: Global, store: &mut S, awb: &Awb) -> Result<(), StoreFault>
     ensures done { (before t : Tables) → IsShowing (S.view store.old) (inside before t) → Stocked t
         → OnOk result ((S.view store.new).IsSound

@@ -27,11 +27,12 @@ fn holder_in(row: &StockRow, awb: &Awb) -> Result<Option<Holder>, StoreFault>
     }
 }
 
-/// Who holds a number: `None` where it isn't in stock. Inside a transaction or outside. A fault: the database call
-/// failed, or an earlier one did; outside a transaction it changes nothing.
+/// Who holds a number: `None` where it isn't in stock. Inside a transaction or outside. A fault:
+/// the database call failed, or an earlier one did; outside a transaction it changes nothing.
 #[tactic(auto, using(crate::proofs::Showing::still_shows))]
 pub fn holder<S: TableStore>(store: &mut S, awb: &Awb) -> Result<Option<Holder>, StoreFault>
-    ensures value { (x : Seen) → IsShowing (S.view store.old) x → (S.view store.new).IsSound → Stocked x.now
+    ensures value { (x : Seen) → IsShowing (S.view store.old) x → (S.view store.new).IsSound
+        → Stocked x.now
         → IfOk result (λ holder. holder ≡ holders_in x.now.stock awb.now) }
     ensures same { ShowsStill (S.view store.old) (S.view store.new) result }
     ensures open { WasOpen (S.view store.old) (S.view store.new) result }

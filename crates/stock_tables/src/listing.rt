@@ -18,7 +18,8 @@ use std::alloc::Global;
 /// The maximal runs of rows. A fault: a row is out of range, or memory runs out.
 fn runs_of(alloc: Global, rows: &[StockRow]) -> Result<Vec<StockRun>, StoreFault>
     ensures { AreRuns (map run_in (map stock_meant rows.now))
-        → IfOk result (λ runs. AreStockRuns (holders_by (map run_in (map stock_meant rows.now))) runs.items) }
+        → IfOk result (λ runs. AreStockRuns (holders_by (map run_in (map stock_meant rows.now)))
+        runs.items) }
 {
     let Some(all) = with_rows(alloc, &[], rows) else {
         return Err(StoreFault);
@@ -29,12 +30,13 @@ fn runs_of(alloc: Global, rows: &[StockRow]) -> Result<Vec<StockRun>, StoreFault
     }
 }
 
-/// The stock, as its maximal runs of one holder, ascending. Inside a transaction or outside. A fault: the database call
-/// failed, an earlier one did, a row stands for no number or names no holder, or memory runs out; outside a transaction
-/// it changes nothing.
+/// The stock, as its maximal runs of one holder, ascending. Inside a transaction or outside. A
+/// fault: the database call failed, an earlier one did, a row stands for no number or names no
+/// holder, or memory runs out; outside a transaction it changes nothing.
 #[tactic(auto, using(crate::proofs::Showing::still_shows))]
 pub fn runs<S: TableStore>(alloc: Global, store: &mut S) -> Result<Vec<StockRun>, StoreFault>
-    ensures value { (x : Seen) → IsShowing (S.view store.old) x → (S.view store.new).IsSound → Stocked x.now
+    ensures value { (x : Seen) → IsShowing (S.view store.old) x → (S.view store.new).IsSound
+        → Stocked x.now
         → IfOk result (λ runs. AreStockRuns (holders_in x.now.stock) runs.items) }
     ensures same { ShowsStill (S.view store.old) (S.view store.new) result }
     ensures open { WasOpen (S.view store.old) (S.view store.new) result }

@@ -21,7 +21,8 @@ pub(crate) fn with_rows(
     ahead: &[StockRun],
     rows: &[StockRow],
 ) -> Option<Vec<StockRun>>
-    ensures { IfSome result (λ all. all.items ≡ ahead.now ++ map run_in (map stock_meant rows.now)) }
+    ensures { IfSome result (λ all. all.items ≡ ahead.now ++ map run_in
+        (map stock_meant rows.now)) }
 {
     let mut all = Vec::new(alloc);
     all.extend_from_slice(ahead).ok()?;
@@ -38,7 +39,8 @@ fn reaching_run(
     run: &Run,
     row: &Option<StockRow>,
 ) -> Result<Vec<StockRun>, StoreFault>
-    ensures { IfOk result (λ near. near.items ≡ reaching run.now (option_map run_in (option_map stock_meant row.now))) }
+    ensures { IfOk result (λ near. near.items ≡ reaching run.now
+        (option_map run_in (option_map stock_meant row.now))) }
 {
     let mut near = Vec::new(alloc);
     if let Some(row) = row {
@@ -60,7 +62,8 @@ pub(crate) fn near_of<S: TableStore>(
     run: &Run,
 ) -> Result<Vec<StockRun>, StoreFault>
     ensures rows { TellsOf (S.view store.old) (S.view store.new) result
-        (λ tables near. Stocked tables → near.items ≡ rows_near run.now (map run_in (entries tables.stock))) }
+        (λ tables near. Stocked tables
+        → near.items ≡ rows_near run.now (map run_in (entries tables.stock))) }
     ensures same { ShowsStill (S.view store.old) (S.view store.new) result }
     ensures open { WasOpen (S.view store.old) (S.view store.new) result }
     ensures survives { Survives (S.view store.old) (S.view store.new) }
@@ -105,7 +108,8 @@ fn without_last<'a>(near: &'a [StockRun], run: &Run, to: &Holder) -> &'a [StockR
     }
 }
 
-/// The rows that a run touches without those beside it that stay as they are: they have another holder than the run gets.
+/// The rows that a run touches without those beside it that stay as they are: they have another
+/// holder than the run gets.
 pub(crate) fn without_neighbours<'a>(near: &'a [StockRun], run: &Run, to: &Holder) -> &'a [StockRun]
     ensures { IsCut run.now near.now result.now }
 {

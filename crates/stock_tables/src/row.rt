@@ -40,7 +40,13 @@ fn holder_of(row: &StockRow) -> Option<Holder>
 fn stored(holder: &Holder) -> (i64, &str)
     ensures number { result.0 ≡ holder_number holder.now }
     ensures code { result.1.now ≡ code_of holder.now }
-    ensures back { (high : ℤ) → holder_by (record { high = high; holder = holder_number holder.now; agent = code_of holder.now }) ≡ Some holder.now }
+    ensures back { (high : ℤ)
+        → holder_by (record {
+          high = high;
+          holder = holder_number holder.now;
+          agent = code_of
+              holder.now;
+        }) ≡ Some holder.now }
 {
     match holder {
         Holder::Desk => (0, ""),
@@ -50,7 +56,8 @@ fn stored(holder: &Holder) -> (i64, &str)
     }
 }
 
-/// The numbers that a row stands for, with their holder. `None`: they aren't numbers of a prefix, or no holder is named.
+/// The numbers that a row stands for, with their holder. `None`: they aren't numbers of a prefix,
+/// or no holder is named.
 pub(crate) fn run_of(row: &StockRow) -> Option<StockRun>
     ensures { IfSome result (λ run. run ≡ run_in (stock_meant row.now)) }
 {

@@ -46,7 +46,8 @@ fn keeps(new: &Joined, number: &Awb) -> bool
 
 /// Removes a row, unless a new one has its key.
 fn clear_row<S: TableStore>(store: &mut S, row: &StockRun, new: &Joined) -> Result<(), StoreFault>
-    ensures done { ShowsChange (S.view store.old) (S.view store.new) result (λ t. restocked (without (written new.now) row.now t.stock) t) }
+    ensures done { ShowsChange (S.view store.old) (S.view store.new) result
+        (λ t. restocked (without (written new.now) row.now t.stock) t) }
     ensures survives { Survives (S.view store.old) (S.view store.new) }
 {
     if keeps(new, &row.first) {
@@ -63,7 +64,8 @@ pub(crate) fn clear<S: TableStore>(
     near: &[StockRun],
     new: &Joined,
 ) -> Result<(), StoreFault>
-    ensures done { ShowsChange (S.view store.old) (S.view store.new) result (λ t. restocked (cleared (written new.now) near.now t.stock) t) }
+    ensures done { ShowsChange (S.view store.old) (S.view store.new) result
+        (λ t. restocked (cleared (written new.now) near.now t.stock) t) }
     ensures survives { Survives (S.view store.old) (S.view store.new) }
 {
     for row in near {
@@ -75,8 +77,10 @@ pub(crate) fn clear<S: TableStore>(
 /// Writes a row over the one with its key, or anew.
 fn write<S: TableStore>(store: &mut S, row: &StockRow, there: bool) -> Result<(), StoreFault>
     ensures done { (before t : Tables) → IsShowing (S.view store.old) (inside before t)
-        → (there ≡ true → (S.view store.old).IsSound → (was : Stock) × (get t.stock (stock_meant row.now).0 ≡ Some was))
-        → OnOk result (IsShowing (S.view store.new) (inside before (with_stock (stock_meant row.now) t))) }
+        → (there ≡ true → (S.view store.old).IsSound → (was : Stock)
+        × (get t.stock (stock_meant row.now).0 ≡ Some was))
+        → OnOk result (IsShowing (S.view store.new)
+        (inside before (with_stock (stock_meant row.now) t))) }
     ensures survives { Survives (S.view store.old) (S.view store.new) }
 {
     if there {
@@ -96,7 +100,8 @@ fn put<S: TableStore>(
 ) -> Result<(), StoreFault>
     ensures done { (before t : Tables) → IsShowing (S.view store.old) (inside before t)
         → ((S.view store.old).IsSound → AreThere near.now (run.now ∷ []) t.stock)
-        → OnOk result (IsShowing (S.view store.new) (inside before (restocked (put_in (run.now ∷ []) t.stock) t))) }
+        → OnOk result (IsShowing (S.view store.new)
+        (inside before (restocked (put_in (run.now ∷ []) t.stock) t))) }
     ensures writable { OnOk result (IsWritable run.now) }
     ensures survives { Survives (S.view store.old) (S.view store.new) }
 {
@@ -113,7 +118,8 @@ fn put_some<S: TableStore>(
 ) -> Result<(), StoreFault>
     ensures done { (before t : Tables) → IsShowing (S.view store.old) (inside before t)
         → ((S.view store.old).IsSound → AreThere near.now (listed run.now) t.stock)
-        → OnOk result (IsShowing (S.view store.new) (inside before (restocked (put_in (listed run.now) t.stock) t))) }
+        → OnOk result (IsShowing (S.view store.new)
+        (inside before (restocked (put_in (listed run.now) t.stock) t))) }
     ensures writable { OnOk result (AllByRecursion IsWritable (listed run.now)) }
     ensures survives { Survives (S.view store.old) (S.view store.new) }
 {
@@ -132,7 +138,8 @@ pub(crate) fn put_all<S: TableStore>(
 ) -> Result<(), StoreFault>
     ensures done { (before t : Tables) → IsShowing (S.view store.old) (inside before t)
         → ((S.view store.old).IsSound → AreThere near.now (written new.now) t.stock)
-        → OnOk result (IsShowing (S.view store.new) (inside before (restocked (put_in (written new.now) t.stock) t))) }
+        → OnOk result (IsShowing (S.view store.new)
+        (inside before (restocked (put_in (written new.now) t.stock) t))) }
     ensures writable { OnOk result (AllByRecursion IsWritable (written new.now)) }
     ensures survives { Survives (S.view store.old) (S.view store.new) }
 {

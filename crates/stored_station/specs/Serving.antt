@@ -12,7 +12,8 @@ use Rattle.station_core.specs.declared.input.Input.{Input}
 use Rattle.station_core.specs.declared.input.Input.TheVariants.{Keyed, Wire}
 use Rattle.station_core.specs.Step.{State, IsLawfulState, acted, cargo_acted, repeated, step}
 
--- the text by which a command is compared with the one that was kept; a telegram has no other text than its own
+-- the text by which a command is compared with the one that was kept; a telegram has no other text
+-- than its own
 abbrev pub request_of : Input → List ℕ
 request_of (Keyed key command) = command_text command
 request_of (Wire telegram) = []
@@ -32,7 +33,8 @@ abbrev pub IfPlanned : (Plan → Type 0) → Result Plan Refusal → Type 0
 IfPlanned P (Ok plan) = P plan
 IfPlanned P (Err refusal) = Unit {0}
 
--- in a lawful state an input isn't known yet and does what a plan says, where the telegram in work has this text; the state stays lawful
+-- in a lawful state an input isn't known yet and does what a plan says, where the telegram in work
+-- has this text; the state stays lawful
 pub record IsPlanned (s : State) (i : Input) (at : LocalMinute) (text : List ℕ) (plan : Plan) : Type 0 where
   pub lawful : IsLawfulState s
   pub unknown : repeated s i ≡ None

@@ -21,8 +21,8 @@ use std::alloc::Global;
 /// A station over a store of its state. It takes every input.
 ///
 /// An input is one transaction, or none where it is refused or known. After `Store` the station
-/// returns `Reopen`: the store then holds the state before the input or the one after it. A reader's
-/// `Store` changes nothing.
+/// returns `Reopen`: the store then holds the state before the input or the one after it. A
+/// reader's `Store` changes nothing.
 #[derive(Drop)]
 pub struct StoredStation<S: StateStore> {
     alloc: Global,
@@ -47,7 +47,8 @@ impl<S: StateStore> StoredStation<S> {
         }
     }
 
-    /// One input, at a moment, as a `Keeper` takes it. The store is as sound afterwards as before, but for a disk that failed.
+    /// One input, at a moment, as a `Keeper` takes it. The store is as sound afterwards as before,
+    /// but for a disk that failed.
     pub fn act_on(&mut self, input: &Input<'_>, at: Moment) -> Result<Reply, ActFault>
         ensures reopen { self.old.broken ≡ true → (result ≡ Err ActFault.Reopen)
             × (self.new ≡ self.old) }
@@ -59,10 +60,14 @@ impl<S: StateStore> StoredStation<S> {
         ensures still { S.is_sound self.old.store → S.is_clean self.new.store
             → S.is_sound self.new.store }
         ensures sound { S.is_sound self.new.store → S.is_sound self.old.store }
-        ensures acts { (s : State) → ⟦<StoredStation<S> as Keeper>⟧.keeps self.old s → self.old.broken ≡ false
-            → S.is_sound self.new.store → Acts s input.now at result (⟦<StoredStation<S> as Keeper>⟧.keeps self.new) }
-        ensures leaves { (s : State) → ⟦<StoredStation<S> as Keeper>⟧.keeps self.old s → self.old.broken ≡ false
-            → S.is_sound self.new.store → (found : Option State) → ⟦<StoredStation<S> as Keeper>⟧.may_find self.new found
+        ensures acts { (s : State) → ⟦<StoredStation<S> as Keeper>⟧.keeps self.old s
+            → self.old.broken ≡ false
+            → S.is_sound self.new.store
+            → Acts s input.now at result (⟦<StoredStation<S> as Keeper>⟧.keeps self.new) }
+        ensures leaves { (s : State) → ⟦<StoredStation<S> as Keeper>⟧.keeps self.old s
+            → self.old.broken ≡ false
+            → S.is_sound self.new.store → (found : Option State)
+            → ⟦<StoredStation<S> as Keeper>⟧.may_find self.new found
             → Leaves s input.now at result found }
     {
         if self.broken {
@@ -111,8 +116,10 @@ impl<S: StateStore> StoredStation<S> {
         ensures reopen { self.old.broken ≡ true → (result ≡ Err ActFault.Reopen)
             × (self.new ≡ self.old) }
         ensures fault { self.old.broken ≡ false → IfErr result IsReadersFault }
-        ensures reads { OnlyReads ⟦<StoredStation<S> as Keeper>⟧.keeps ⟦<StoredStation<S> as Keeper>⟧.is_sound
-            ⟦<StoredStation<S> as Keeper>⟧.is_broken ⟦<StoredStation<S> as Keeper>⟧.may_find self.old self.new }
+        ensures reads { OnlyReads ⟦<StoredStation<S> as Keeper>⟧.keeps
+            ⟦<StoredStation<S> as Keeper>⟧.is_sound
+            ⟦<StoredStation<S> as Keeper>⟧.is_broken ⟦<StoredStation<S> as Keeper>⟧.may_find
+            self.old self.new }
         ensures rows { (s : State) → ⟦<StoredStation<S> as Keeper>⟧.keeps self.old s
             → ⟦<StoredStation<S> as Keeper>⟧.is_sound self.new
             → IfOk result (λ rows. AreStockRuns s.cargo.holders rows.items) }
@@ -132,8 +139,10 @@ impl<S: StateStore> StoredStation<S> {
         ensures reopen { self.old.broken ≡ true → (result ≡ Err ActFault.Reopen)
             × (self.new ≡ self.old) }
         ensures fault { self.old.broken ≡ false → IfErr result IsReadersFault }
-        ensures reads { OnlyReads ⟦<StoredStation<S> as Keeper>⟧.keeps ⟦<StoredStation<S> as Keeper>⟧.is_sound
-            ⟦<StoredStation<S> as Keeper>⟧.is_broken ⟦<StoredStation<S> as Keeper>⟧.may_find self.old self.new }
+        ensures reads { OnlyReads ⟦<StoredStation<S> as Keeper>⟧.keeps
+            ⟦<StoredStation<S> as Keeper>⟧.is_sound
+            ⟦<StoredStation<S> as Keeper>⟧.is_broken ⟦<StoredStation<S> as Keeper>⟧.may_find
+            self.old self.new }
         ensures rows { (s : State) → ⟦<StoredStation<S> as Keeper>⟧.keeps self.old s
             → ⟦<StoredStation<S> as Keeper>⟧.is_sound self.new
             → IfOk result (λ rows. rows.items ≡ irregular_rows s.cargo) }

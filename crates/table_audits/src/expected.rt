@@ -39,7 +39,8 @@ fn is_in_range(row: &ExpectedEntry) -> bool
 
 /// Whether the row is within range, its weight at least a tenth a piece, and its waybill declared.
 fn is_lawful(row: &ExpectedEntry, waybills: &[WaybillRow]) -> bool
-    ensures { RisesByNumber (map waybill_meant waybills.now) → result ≡ is_lawful_expected (map waybill_meant waybills.now) (expected_entry row.now) }
+    ensures { RisesByNumber (map waybill_meant waybills.now)
+        → result ≡ is_lawful_expected (map waybill_meant waybills.now) (expected_entry row.now) }
 {
     if !is_in_range(row) {
         return false;
@@ -49,15 +50,20 @@ fn is_lawful(row: &ExpectedEntry, waybills: &[WaybillRow]) -> bool
 
 /// Whether each row is.
 fn are_lawful(rows: &[ExpectedEntry], waybills: &[WaybillRow]) -> bool
-    ensures { RisesByNumber (map waybill_meant waybills.now) → result ≡ list_all (is_lawful_expected (map waybill_meant waybills.now)) (map expected_entry rows.now) }
+    ensures { RisesByNumber (map waybill_meant waybills.now)
+        → result ≡ list_all (is_lawful_expected (map waybill_meant waybills.now))
+        (map expected_entry rows.now) }
 {
     rows.iter().all(|row| is_lawful(row, waybills))
 }
 
-/// Whether these rows of `expected`, in the order of their keys, are lawful beside these of `waybill`, in the order of
-/// their numbers.
+/// Whether these rows of `expected`, in the order of their keys, are lawful beside these of
+/// `waybill`, in the order of their numbers.
 pub fn are_expected_lawful(rows: &[ExpectedEntry], waybills: &[WaybillRow]) -> bool
-    ensures exact { (t : Tables) → RisesByNumber (map waybill_meant waybills.now) → t.waybills ≡ map waybill_meant waybills.now → entries t.expected ≡ map expected_entry rows.now → (IsTrue result ↔ IsLawfulTable table.Expected t) }
+    ensures exact { (t : Tables) → RisesByNumber (map waybill_meant waybills.now)
+        → t.waybills ≡ map waybill_meant waybills.now
+        → entries t.expected ≡ map expected_entry rows.now
+        → (IsTrue result ↔ IsLawfulTable table.Expected t) }
 {
     are_lawful(rows, waybills)
 }

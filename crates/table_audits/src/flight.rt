@@ -42,9 +42,12 @@ fn are_lawful(rows: &[FlightEntry], here: &str) -> bool
     rows.iter().all(|row| is_lawful(row, here))
 }
 
-/// Whether these rows of `flight`, in the order of their keys, are lawful at a station at this airport.
+/// Whether these rows of `flight`, in the order of their keys, are lawful at a station at this
+/// airport.
 pub fn are_flights_lawful(rows: &[FlightEntry], here: &str) -> bool
-    ensures exact { (t : Tables) → airport_in t.stations ≡ here.now → entries t.flights ≡ map flight_entry rows.now → (IsTrue result ↔ IsLawfulTable table.Flight t) }
+    ensures exact { (t : Tables) → airport_in t.stations ≡ here.now
+        → entries t.flights ≡ map flight_entry rows.now
+        → (IsTrue result ↔ IsLawfulTable table.Flight t) }
 {
     are_lawful(rows, here)
 }

@@ -49,7 +49,8 @@ fn is_request(text: &str) -> bool
 
 /// Whether the text of each row is that of a command.
 fn are_requests(rows: &[KeptKeyEntry]) -> bool
-    ensures { IsTrue result ↔ AllByRecursion (λ row. IsRequest row.1.command) (map kept_key_entry rows.now) }
+    ensures { IsTrue result ↔ AllByRecursion (λ row. IsRequest row.1.command)
+        (map kept_key_entry rows.now) }
 {
     for row in rows {
         if !is_request(&row.command) {
@@ -61,7 +62,8 @@ fn are_requests(rows: &[KeptKeyEntry]) -> bool
 
 /// Whether these rows of `kept_key`, in the order of their keys, are lawful.
 pub fn are_kept_keys_lawful(rows: &[KeptKeyEntry]) -> bool
-    ensures exact { (t : Tables) → entries t.kept ≡ map kept_key_entry rows.now → (IsTrue result ↔ IsLawfulTable table.KeptKey t) }
+    ensures exact { (t : Tables) → entries t.kept ≡ map kept_key_entry rows.now
+        → (IsTrue result ↔ IsLawfulTable table.KeptKey t) }
 {
     let in_range = are_in_range(rows);
     let requests = are_requests(rows);

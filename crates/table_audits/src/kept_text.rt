@@ -21,15 +21,19 @@ fn are_in_range(rows: &[KeptTextEntry]) -> bool
 
 /// Whether the telegram of each part is among the texts.
 fn are_kept(parts: &[PartEntry], texts: &[KeptTextEntry]) -> bool
-    ensures { (rows : FinMap kept_text_cmp ℤ) → entries rows ≡ map kept_text_entry texts.now → result ≡ list_all (has_text rows) (map part_entry parts.now) }
+    ensures { (rows : FinMap kept_text_cmp ℤ) → entries rows ≡ map kept_text_entry texts.now
+        → result ≡ list_all (has_text rows) (map part_entry parts.now) }
 {
     parts.iter().all(|part| is_kept(texts, &part.body))
 }
 
-/// Whether these rows of `kept_text` are lawful beside these of `part`, which are lawful. Both are in the order of their
-/// keys.
+/// Whether these rows of `kept_text` are lawful beside these of `part`, which are lawful. Both are
+/// in the order of their keys.
 pub fn are_kept_texts_lawful(rows: &[KeptTextEntry], parts: &[PartEntry]) -> bool
-    ensures exact { (t : Tables) → IsLawfulTable table.Part t → entries t.parts ≡ map part_entry parts.now → entries t.kept_texts ≡ map kept_text_entry rows.now → (IsTrue result ↔ IsLawfulTable table.KeptText t) }
+    ensures exact { (t : Tables) → IsLawfulTable table.Part t
+        → entries t.parts ≡ map part_entry parts.now
+        → entries t.kept_texts ≡ map kept_text_entry rows.now
+        → (IsTrue result ↔ IsLawfulTable table.KeptText t) }
 {
     let in_range = are_in_range(rows);
     let kept = are_kept(parts, rows);

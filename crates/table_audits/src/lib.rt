@@ -1,6 +1,7 @@
-//! The audits of a station's tables: pure functions over the rows of a table that was read whole. Each returns exactly
-//! whether its table is lawful, beside the tables that are audited before it, in time in proportion to the rows (a
-//! reference is sought by halving the rows that it may stand in).
+//! The audits of a station's tables: pure functions over the rows of a table that was read whole.
+//! Each returns exactly whether its table is lawful, beside the tables that are audited before it,
+//! in time in proportion to the rows (a reference is sought by halving the rows that it may stand
+//! in).
 #![tactic(auto)]
 
 mod expected;

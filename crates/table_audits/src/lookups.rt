@@ -16,16 +16,20 @@ use std::cmp::Ordering;
 
 /// Where the row of a number is, or where it would be.
 fn place_of(waybills: &[WaybillRow], awb: &i64) -> Result<usize, usize>
-    ensures { RisesByNumber (map waybill_meant waybills.now) → is_ok result ≡ has_key waybill_id (map waybill_meant waybills.now) awb.now }
+    ensures { RisesByNumber (map waybill_meant waybills.now)
+        → is_ok result ≡ has_key waybill_id (map waybill_meant waybills.now) awb.now }
 {
     waybills.binary_search_by_key(awb, |row| row.awb)
 }
 
-/// Whether there is a row of the waybill with this number. The rows are all of `waybill`, in the order of their numbers.
+/// Whether there is a row of the waybill with this number. The rows are all of `waybill`, in the
+/// order of their numbers.
 #[tactic(auto, using(crate::proofs::DeclaredLaws::declared_from, crate::proofs::DeclaredLaws::declared_back))]
 pub fn is_declared(waybills: &[WaybillRow], awb: i64) -> bool
-    ensures row { RisesByNumber (map waybill_meant waybills.now) → result ≡ has_key waybill_id (map waybill_meant waybills.now) awb }
-    ensures declared { (w : ℕ) → awb ≡ pos w → RisesByNumber (map waybill_meant waybills.now) → (IsTrue result ↔ IsSome (declared_in (map waybill_meant waybills.now) w)) }
+    ensures row { RisesByNumber (map waybill_meant waybills.now)
+        → result ≡ has_key waybill_id (map waybill_meant waybills.now) awb }
+    ensures declared { (w : ℕ) → awb ≡ pos w → RisesByNumber (map waybill_meant waybills.now)
+        → (IsTrue result ↔ IsSome (declared_in (map waybill_meant waybills.now) w)) }
 {
     place_of(waybills, &awb).is_ok()
 }
@@ -44,7 +48,8 @@ fn compare_flight(row: &FlightEntry, flight: &str, day: &i64) -> Ordering
 /// Where the row of a flight and a day is, or where it would be.
 pub fn flight_place(flights: &[FlightEntry], flight: &str, day: &i64) -> Result<usize, usize>
     ensures bound { IsSearchInRange result (length flights.now) }
-    ensures place { IsBinarySearchResult (λ row. flight_cmp (flight_entry row).0 (flight.now, day.now)) flights.now result }
+    ensures place { IsBinarySearchResult
+        (λ row. flight_cmp (flight_entry row).0 (flight.now, day.now)) flights.now result }
 {
     flights.binary_search_by(|row| compare_flight(row, flight, day))
 }
@@ -52,18 +57,21 @@ pub fn flight_place(flights: &[FlightEntry], flight: &str, day: &i64) -> Result<
 /// Where the row of a text is, or where it would be.
 fn text_place(texts: &[KeptTextEntry], text: &str) -> Result<usize, usize>
     ensures bound { IsSearchInRange result (length texts.now) }
-    ensures place { IsBinarySearchResult (λ row. kept_text_cmp (kept_text_entry row).0 text.now) texts.now result }
+    ensures place { IsBinarySearchResult (λ row. kept_text_cmp (kept_text_entry row).0 text.now)
+        texts.now result }
 {
     texts.binary_search_by(|row| row.body.as_str().cmp(text))
 }
 
-/// The row of a flight and a day, if there is one. The rows are all of `flight`, in the order of their keys.
+/// The row of a flight and a day, if there is one. The rows are all of `flight`, in the order of
+/// their keys.
 pub fn find_flight<'a>(
     flights: &'a [FlightEntry],
     flight: &str,
     day: i64,
 ) -> Option<&'a FlightEntry>
-    ensures { (rows : FinMap flight_cmp Flight) → entries rows ≡ map flight_entry flights.now → option_map (λ row. (flight_entry row.now).1) result ≡ get rows (flight.now, day) }
+    ensures { (rows : FinMap flight_cmp Flight) → entries rows ≡ map flight_entry flights.now
+        → option_map (λ row. (flight_entry row.now).1) result ≡ get rows (flight.now, day) }
 {
     match flight_place(flights, flight, &day) {
         Ok(at) => Some(&flights[at]),
@@ -73,7 +81,8 @@ pub fn find_flight<'a>(
 
 /// Whether a text was accepted. The rows are all of `kept_text`, in the order of their keys.
 pub fn is_kept(texts: &[KeptTextEntry], text: &str) -> bool
-    ensures { (rows : FinMap kept_text_cmp ℤ) → entries rows ≡ map kept_text_entry texts.now → result ≡ contains_key rows text.now }
+    ensures { (rows : FinMap kept_text_cmp ℤ) → entries rows ≡ map kept_text_entry texts.now
+        → result ≡ contains_key rows text.now }
 {
     text_place(texts, text).is_ok()
 }

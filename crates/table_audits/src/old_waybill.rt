@@ -8,7 +8,8 @@ use found_tables::OldWaybillEntry;
 
 /// Whether these rows of `waybill` are lawful: there are none.
 pub fn are_old_waybills_lawful(rows: &[OldWaybillEntry]) -> bool
-    ensures exact { (t : Tables) → t.old_waybills ≡ map old_waybill_entry rows.now → (IsTrue result ↔ IsLawfulTable table.Waybill t) }
+    ensures exact { (t : Tables) → t.old_waybills ≡ map old_waybill_entry rows.now
+        → (IsTrue result ↔ IsLawfulTable table.Waybill t) }
 {
     rows.is_empty()
 }

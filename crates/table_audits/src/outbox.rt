@@ -11,7 +11,8 @@ ghost use Rattle.row_values.specs.Meaning.{confirmed_in};
 use crate::numbers::are_messages_numbered;
 use station_rows::MessageRow;
 
-/// Whether there are at least as many messages as were confirmed. None was where the number is negative.
+/// Whether there are at least as many messages as were confirmed. None was where the number is
+/// negative.
 fn has_confirmed(rows: &[MessageRow], confirmed: i64) -> bool
     ensures { IsTrue result ↔ (natural confirmed ≤ length rows.now) }
 {
@@ -29,9 +30,11 @@ fn are_texts(rows: &[MessageRow])
     let _ = rows;
 }
 
-/// Whether these rows of `outbox`, in the order of their numbers, are lawful where so many messages were confirmed.
+/// Whether these rows of `outbox`, in the order of their numbers, are lawful where so many messages
+/// were confirmed.
 pub fn is_outbox_lawful(rows: &[MessageRow], confirmed: i64) -> bool
-    ensures exact { (t : Tables) → confirmed_in t.stations ≡ natural confirmed → t.outbox ≡ map message_meant rows.now → (IsTrue result ↔ IsLawfulTable table.Outbox t) }
+    ensures exact { (t : Tables) → confirmed_in t.stations ≡ natural confirmed
+        → t.outbox ≡ map message_meant rows.now → (IsTrue result ↔ IsLawfulTable table.Outbox t) }
 {
     are_texts(rows);
     let numbered = are_messages_numbered(rows);

@@ -15,7 +15,8 @@ use found_tables::PartEntry;
 
 /// Whether the row's key is within range.
 fn is_in_range(row: &PartEntry) -> bool
-    ensures { result ≡ is_flight_text (string_bytes row.now.flight) && is_day row.now.day && is_airport (string_bytes row.now.airport) && is_within 1 9999 row.now.seq }
+    ensures { result ≡ is_flight_text (string_bytes row.now.flight) && is_day row.now.day &&
+        is_airport (string_bytes row.now.airport) && is_within 1 9999 row.now.seq }
 {
     if !is_flight_text(&row.flight) {
         return false;
@@ -45,7 +46,8 @@ fn are_lawful(rows: &[PartEntry]) -> bool
 
 /// Whether these rows of `part`, in the order of their keys, are lawful.
 pub fn are_parts_lawful(rows: &[PartEntry]) -> bool
-    ensures exact { (t : Tables) → entries t.parts ≡ map part_entry rows.now → (IsTrue result ↔ IsLawfulTable table.Part t) }
+    ensures exact { (t : Tables) → entries t.parts ≡ map part_entry rows.now
+        → (IsTrue result ↔ IsLawfulTable table.Part t) }
 {
     are_lawful(rows)
 }

@@ -6,10 +6,11 @@ ghost use Rattle.lawful_tables.specs.declared.name.TableName.TheVariants as tabl
 
 use crate::ranges::{is_airport, is_count};
 
-/// Whether the one row of `station`, with this airport and this number of the last message that was confirmed, is
-/// lawful.
+/// Whether the one row of `station`, with this airport and this number of the last message that was
+/// confirmed, is lawful.
 pub fn is_station_lawful(airport: &str, confirmed: i64) -> bool
-    ensures exact { (t : Tables) → t.stations ≡ new_row airport.now confirmed ∷ [] → (IsTrue result ↔ IsLawfulTable table.Station t) }
+    ensures exact { (t : Tables) → t.stations ≡ new_row airport.now confirmed ∷ []
+        → (IsTrue result ↔ IsLawfulTable table.Station t) }
 {
     is_airport(airport) && is_count(confirmed)
 }

@@ -65,7 +65,8 @@ fn highest_of(row: &StockRow) -> i64
 
 /// Whether each number from the first to the last is declared. It asks up to the first that isn't.
 fn are_declared(waybills: &[WaybillRow], first: i64, last: i64) -> bool
-    ensures { RisesByNumber (map waybill_meant waybills.now) → (IsTrue result ↔ AreDeclared (map waybill_meant waybills.now) first last) }
+    ensures { RisesByNumber (map waybill_meant waybills.now)
+        → (IsTrue result ↔ AreDeclared (map waybill_meant waybills.now) first last) }
 {
     for number in first..=last {
         if !is_declared(waybills, number) {
@@ -84,7 +85,8 @@ fn is_used(row: &StockRow) -> bool
 
 /// Whether the row is within range, and each of its numbers declared where they are used.
 fn is_lawful(row: &StockRow, waybills: &[WaybillRow]) -> bool
-    ensures { RisesByNumber (map waybill_meant waybills.now) → (IsTrue result ↔ IsLawfulStock (map waybill_meant waybills.now) (stock_meant row.now)) }
+    ensures { RisesByNumber (map waybill_meant waybills.now)
+        → (IsTrue result ↔ IsLawfulStock (map waybill_meant waybills.now) (stock_meant row.now)) }
 {
     if !is_in_range(row) {
         return false;
@@ -94,7 +96,9 @@ fn is_lawful(row: &StockRow, waybills: &[WaybillRow]) -> bool
 
 /// Whether each row is.
 fn are_lawful(rows: &[StockRow], waybills: &[WaybillRow]) -> bool
-    ensures { RisesByNumber (map waybill_meant waybills.now) → (IsTrue result ↔ AllByRecursion (IsLawfulStock (map waybill_meant waybills.now)) (map stock_meant rows.now)) }
+    ensures { RisesByNumber (map waybill_meant waybills.now)
+        → (IsTrue result ↔ AllByRecursion (IsLawfulStock (map waybill_meant waybills.now))
+        (map stock_meant rows.now)) }
 {
     rows.iter().all(|row| is_lawful(row, waybills))
 }
@@ -113,10 +117,12 @@ fn are_apart(rows: &[StockRow]) -> bool
     rows.is_sorted_by(|row, next| is_behind(row, next))
 }
 
-/// Whether these rows of `stock`, in the order of their keys, are lawful beside these of `waybill`, in the order of
-/// their numbers.
+/// Whether these rows of `stock`, in the order of their keys, are lawful beside these of `waybill`,
+/// in the order of their numbers.
 pub fn are_stock_lawful(rows: &[StockRow], waybills: &[WaybillRow]) -> bool
-    ensures exact { (t : Tables) → RisesByNumber (map waybill_meant waybills.now) → t.waybills ≡ map waybill_meant waybills.now → entries t.stock ≡ map stock_meant rows.now → (IsTrue result ↔ IsLawfulTable table.Stock t) }
+    ensures exact { (t : Tables) → RisesByNumber (map waybill_meant waybills.now)
+        → t.waybills ≡ map waybill_meant waybills.now → entries t.stock ≡ map stock_meant rows.now
+        → (IsTrue result ↔ IsLawfulTable table.Stock t) }
 {
     are_apart(rows) && are_lawful(rows, waybills)
 }

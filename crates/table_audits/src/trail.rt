@@ -15,7 +15,8 @@ use station_rows::{TrailRow, WaybillRow};
 
 /// Whether the row is within range, and its waybill declared.
 fn is_lawful(row: &TrailRow, waybills: &[WaybillRow]) -> bool
-    ensures { RisesByNumber (map waybill_meant waybills.now) → result ≡ is_lawful_line (map waybill_meant waybills.now) (trail_meant row.now) }
+    ensures { RisesByNumber (map waybill_meant waybills.now)
+        → result ≡ is_lawful_line (map waybill_meant waybills.now) (trail_meant row.now) }
 {
     if !is_number(row.awb) {
         return false;
@@ -25,15 +26,19 @@ fn is_lawful(row: &TrailRow, waybills: &[WaybillRow]) -> bool
 
 /// Whether each row is.
 fn are_lawful(rows: &[TrailRow], waybills: &[WaybillRow]) -> bool
-    ensures { RisesByNumber (map waybill_meant waybills.now) → result ≡ list_all (is_lawful_line (map waybill_meant waybills.now)) (map trail_meant rows.now) }
+    ensures { RisesByNumber (map waybill_meant waybills.now)
+        → result ≡ list_all (is_lawful_line (map waybill_meant waybills.now))
+        (map trail_meant rows.now) }
 {
     rows.iter().all(|row| is_lawful(row, waybills))
 }
 
-/// Whether these rows of `trail`, in the order of their numbers, are lawful beside these of `waybill`, in the order of
-/// their numbers.
+/// Whether these rows of `trail`, in the order of their numbers, are lawful beside these of
+/// `waybill`, in the order of their numbers.
 pub fn is_trail_lawful(rows: &[TrailRow], waybills: &[WaybillRow]) -> bool
-    ensures exact { (t : Tables) → RisesByNumber (map waybill_meant waybills.now) → t.waybills ≡ map waybill_meant waybills.now → t.trail ≡ map trail_meant rows.now → (IsTrue result ↔ IsLawfulTable table.Trail t) }
+    ensures exact { (t : Tables) → RisesByNumber (map waybill_meant waybills.now)
+        → t.waybills ≡ map waybill_meant waybills.now → t.trail ≡ map trail_meant rows.now
+        → (IsTrue result ↔ IsLawfulTable table.Trail t) }
 {
     let numbered = are_lines_numbered(rows);
     let lawful = are_lawful(rows, waybills);

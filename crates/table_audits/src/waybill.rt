@@ -55,7 +55,9 @@ fn are_lawful(rows: &[WaybillRow]) -> bool
 
 /// Whether these rows of `waybill2`, in the order of their numbers, are lawful.
 pub fn are_waybills_lawful(rows: &[WaybillRow]) -> bool
-    ensures exact { (t : Tables) → RisesByNumber (map waybill_meant rows.now) → t.waybills ≡ map waybill_meant rows.now → (IsTrue result ↔ IsLawfulTable table.Waybill2 t) }
+    ensures exact { (t : Tables) → RisesByNumber (map waybill_meant rows.now)
+        → t.waybills ≡ map waybill_meant rows.now
+        → (IsTrue result ↔ IsLawfulTable table.Waybill2 t) }
 {
     are_lawful(rows)
 }

@@ -12,18 +12,22 @@ use Rattle.state_store.specs.declared.store.Sizes.{Sizes}
 use Rattle.table_state.specs.Shown.{Holds, Finds}
 
 -- two meanings of the same tables
-pub same_meaning : (t : Tables) (s : State) (found : Option State) → Means t (Some s) → Means t found → found ≡ Some s
+pub same_meaning : (t : Tables) (s : State) (found : Option State) → Means t (Some s)
+    → Means t found → found ≡ Some s
 same_meaning t s None is other = absurd (other is.0)
 same_meaning t s (Some r) is other = ap Some (sym other.1 ∙ is.1)
 
-pub finds_what_it_shows : (v : View) (s : State) → Holds v (at_rest s) → (found : Option State) → Finds v found → found ≡ Some s
+pub finds_what_it_shows : (v : View) (s : State) → Holds v (at_rest s) → (found : Option State)
+    → Finds v found → found ≡ Some s
 finds_what_it_shows v s holds found finds = same_meaning finds.tables s found (holds.found finds.tables finds.left) finds.means
 
 all_three : (a b c : Bool) → a ≡ true → b ≡ true → c ≡ true → (a && b && c) ≡ true
 all_three a b c x y z = rw (x, y, z) refl
 
 -- counts of 32 bits number all rows
-pub all_numbered : (sizes : Sizes) (c : Cargo) → (sizes.moves ≤ 4_294_967_295) × (sizes.lines ≤ 4_294_967_295) × (sizes.messages ≤ 4_294_967_295) → sizes ≡ sizes_of c → has_room c ≡ true
+pub all_numbered : (sizes : Sizes) (c : Cargo) → (sizes.moves ≤ 4_294_967_295)
+    × (sizes.lines ≤ 4_294_967_295) × (sizes.messages ≤ 4_294_967_295) → sizes ≡ sizes_of c
+    → has_room c ≡ true
 all_numbered sizes c small are =
     let moves : nat_le (length c.book) 4_294_967_295 ≡ true = grind (arith, small, are) in
     let lines : nat_le (length c.trail) 4_294_967_295 ≡ true = grind (arith, small, are) in

@@ -8,7 +8,8 @@ use Rattle.cargo_rows.specs.Meant.{with_move}
 use Rattle.row_values.specs.Moves.{move_row, move_by, is_move_row}
 use Rattle.count_tables.specs.Posted.{Posted}
 
--- in a transaction a store shows these tables with one move more, under this number, and the running counts of this book
+-- in a transaction a store shows these tables with one move more, under this number, and the
+-- running counts of this book
 pub record Recorded (v : View) (before now : Tables) (n : ℕ) (m : Move) (book : List Move) : Type 0 where
   pub row : table.Move
   pub is : row ≡ move_row n m

@@ -15,7 +15,8 @@ pub record Stands (v : View) (x : Seen) : Type 0 where
   pub now : Means v.now (Some x.now)
   pub committed : Means v.committed (Some x.committed)
 
--- A store that is open shows this state. One that was shut says nothing more, but a crash still leaves what was committed.
+-- A store that is open shows this state. One that was shut says nothing more, but a crash still
+-- leaves what was committed.
 pub record Holds (v : View) (x : Seen) : Type 0 where
   pub inside : x.in_transaction ≡ true → v.is_open ≡ true
   pub stands : v.is_open ≡ true → Stands v x

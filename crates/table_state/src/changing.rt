@@ -22,8 +22,12 @@ use station_rows::TableStore;
 impl<S: TableStore> TableState<S> {
     /// What is declared of a waybill from now on.
     pub(crate) fn declare(&mut self, awb: &Awb, declared: &Declared) -> Result<(), StoreFault>
-        ensures done { (before s : State) → Shows (S.view self.old.store) self.old.here self.old.counted.sizes self.old.confirmed (inside before s)
-            → OnOk result (Shows (S.view self.new.store) self.new.here self.new.counted.sizes self.new.confirmed (inside before (on_cargo (written [] (Declare awb.now declared.now)) s))) }
+        ensures done { (before s : State)
+            → Shows (S.view self.old.store) self.old.here self.old.counted.sizes self.old.confirmed
+            (inside before s)
+            → OnOk result (Shows (S.view self.new.store) self.new.here self.new.counted.sizes
+            self.new.confirmed (inside before
+            (on_cargo (written [] (Declare awb.now declared.now)) s))) }
         ensures survives { Survives (S.view self.old.store) (S.view self.new.store) }
     {
         let Ok(row) = waybill_row(self.alloc, awb, declared) else {
@@ -37,8 +41,11 @@ impl<S: TableStore> TableState<S> {
 
     /// An agent's number is used up.
     pub(crate) fn use_up(&mut self, awb: &Awb) -> Result<(), StoreFault>
-        ensures done { (before s : State) → Shows (S.view self.old.store) self.old.here self.old.counted.sizes self.old.confirmed (inside before s)
-            → OnOk result (Shows (S.view self.new.store) self.new.here self.new.counted.sizes self.new.confirmed (inside before (on_cargo (written [] (UseUp awb.now)) s))) }
+        ensures done { (before s : State)
+            → Shows (S.view self.old.store) self.old.here self.old.counted.sizes self.old.confirmed
+            (inside before s)
+            → OnOk result (Shows (S.view self.new.store) self.new.here self.new.counted.sizes
+            self.new.confirmed (inside before (on_cargo (written [] (UseUp awb.now)) s))) }
         ensures survives { Survives (S.view self.old.store) (S.view self.new.store) }
     {
         match stock_tables::use_up(self.alloc, &mut self.store, awb) {
@@ -53,8 +60,12 @@ impl<S: TableStore> TableState<S> {
         flight: &FlightDate,
         outbound: &Outbound,
     ) -> Result<(), StoreFault>
-        ensures done { (before s : State) → Shows (S.view self.old.store) self.old.here self.old.counted.sizes self.old.confirmed (inside before s)
-            → OnOk result (Shows (S.view self.new.store) self.new.here self.new.counted.sizes self.new.confirmed (inside before (on_cargo (written [] (NoteFlight flight.now outbound.now)) s))) }
+        ensures done { (before s : State)
+            → Shows (S.view self.old.store) self.old.here self.old.counted.sizes self.old.confirmed
+            (inside before s)
+            → OnOk result (Shows (S.view self.new.store) self.new.here self.new.counted.sizes
+            self.new.confirmed (inside before
+            (on_cargo (written [] (NoteFlight flight.now outbound.now)) s))) }
         ensures survives { Survives (S.view self.old.store) (S.view self.new.store) }
     {
         outbound_range(flight, outbound);
@@ -77,8 +88,12 @@ impl<S: TableStore> TableState<S> {
         awb: &Awb,
         expected: &Expected,
     ) -> Result<(), StoreFault>
-        ensures done { (before s : State) → Shows (S.view self.old.store) self.old.here self.old.counted.sizes self.old.confirmed (inside before s)
-            → OnOk result (Shows (S.view self.new.store) self.new.here self.new.counted.sizes self.new.confirmed (inside before (on_cargo (written [] (Expect flight.now awb.now expected.now)) s))) }
+        ensures done { (before s : State)
+            → Shows (S.view self.old.store) self.old.here self.old.counted.sizes self.old.confirmed
+            (inside before s)
+            → OnOk result (Shows (S.view self.new.store) self.new.here self.new.counted.sizes
+            self.new.confirmed (inside before
+            (on_cargo (written [] (Expect flight.now awb.now expected.now)) s))) }
         ensures survives { Survives (S.view self.old.store) (S.view self.new.store) }
     {
         expected_range(flight, awb, expected);
@@ -100,8 +115,12 @@ impl<S: TableStore> TableState<S> {
 
     /// The telegram in work, which has this text, is this part.
     pub(crate) fn note_part(&mut self, part: &Part, telegram: &[u8]) -> Result<(), StoreFault>
-        ensures done { (before s : State) → Shows (S.view self.old.store) self.old.here self.old.counted.sizes self.old.confirmed (inside before s)
-            → OnOk result (Shows (S.view self.new.store) self.new.here self.new.counted.sizes self.new.confirmed (inside before (on_cargo (written telegram.now (NotePart part.now)) s))) }
+        ensures done { (before s : State)
+            → Shows (S.view self.old.store) self.old.here self.old.counted.sizes self.old.confirmed
+            (inside before s)
+            → OnOk result (Shows (S.view self.new.store) self.new.here self.new.counted.sizes
+            self.new.confirmed (inside before
+            (on_cargo (written telegram.now (NotePart part.now)) s))) }
         ensures survives { Survives (S.view self.old.store) (S.view self.new.store) }
     {
         part_range(part);
@@ -123,8 +142,11 @@ impl<S: TableStore> TableState<S> {
 
     /// A line joins the trail of a waybill.
     pub(crate) fn add_line(&mut self, awb: &Awb, line: &TrailLine<'_>) -> Result<(), StoreFault>
-        ensures done { (before s : State) → Shows (S.view self.old.store) self.old.here self.old.counted.sizes self.old.confirmed (inside before s)
-            → OnOk result (Shows (S.view self.new.store) self.new.here self.new.counted.sizes self.new.confirmed (inside before (on_cargo (written [] (Trail awb.now line.now)) s))) }
+        ensures done { (before s : State)
+            → Shows (S.view self.old.store) self.old.here self.old.counted.sizes self.old.confirmed
+            (inside before s)
+            → OnOk result (Shows (S.view self.new.store) self.new.here self.new.counted.sizes
+            self.new.confirmed (inside before (on_cargo (written [] (Trail awb.now line.now)) s))) }
         ensures survives { Survives (S.view self.old.store) (S.view self.new.store) }
     {
         let Some(number) = self.counted.sizes.lines.checked_add(1) else {
@@ -144,8 +166,11 @@ impl<S: TableStore> TableState<S> {
 
     /// The messages up to this one are confirmed.
     pub(crate) fn confirm(&mut self, upto: u32) -> Result<(), StoreFault>
-        ensures done { (before s : State) → Shows (S.view self.old.store) self.old.here self.old.counted.sizes self.old.confirmed (inside before s)
-            → OnOk result (Shows (S.view self.new.store) self.new.here self.new.counted.sizes self.new.confirmed (inside before (on_cargo (written [] (Confirm upto)) s))) }
+        ensures done { (before s : State)
+            → Shows (S.view self.old.store) self.old.here self.old.counted.sizes self.old.confirmed
+            (inside before s)
+            → OnOk result (Shows (S.view self.new.store) self.new.here self.new.counted.sizes
+            self.new.confirmed (inside before (on_cargo (written [] (Confirm upto)) s))) }
         ensures survives { Survives (S.view self.old.store) (S.view self.new.store) }
     {
         match self.store.update_confirmed(i64::from(upto)) {

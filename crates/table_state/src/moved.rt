@@ -38,7 +38,8 @@ fn moves_in(alloc: Global, rows: &[MoveRow]) -> Result<Vec<Move>, StoreFault>
 
 /// The waybills of the moves in rows, ascending, each once.
 pub(crate) fn waybills_moved(alloc: Global, rows: &[MoveRow]) -> Result<Vec<Awb>, StoreFault>
-    ensures { IfOk result (λ all. all.items ≡ waybills_of (map (λ row. move_by (move_meant row)) rows.now)) }
+    ensures { IfOk result (λ all. all.items ≡ waybills_of
+        (map (λ row. move_by (move_meant row)) rows.now)) }
 {
     let moves = moves_in(alloc, rows)?;
     Ok(waybills_of(alloc, moves.as_slice())?)

@@ -31,32 +31,46 @@ pub fn create<S: Alter>(
     here: Airport,
 ) -> Result<TableState<Rows<S>>, (Connection<S>, CreateFault)>
     ensures free { OnOk result (takes_name (state S.Store conn).now.schema ≡ false) }
-    ensures declared { IfOk result (λ tables. IsTrue (are_declared tables.store) ↔ IsVacant S.Store conn) }
-    ensures sound { IfOk result (λ tables. ⟦<TableState<Rows<S>> as StateStore>⟧.is_sound tables → (connection_view S.Store conn).IsSound) }
+    ensures declared { IfOk result
+        (λ tables. IsTrue (are_declared tables.store) ↔ IsVacant S.Store conn) }
+    ensures sound { IfOk result (λ tables. ⟦<TableState<Rows<S>> as StateStore>⟧.is_sound tables
+        → (connection_view S.Store conn).IsSound) }
 
     // It shows the opening state, and a crash leaves that alone.
-    ensures shows { IfOk result (λ tables. ⟦<TableState<Rows<S>> as StateStore>⟧.shows tables (at_rest (opening here))) }
+    ensures shows { IfOk result
+        (λ tables. ⟦<TableState<Rows<S>> as StateStore>⟧.shows tables (at_rest (opening here))) }
 
     // Occupied exactly where one of the names is taken, and then nothing changed.
-    ensures inside { (connection_view S.Store conn).in_transaction ≡ true → result ≡ Err (conn, CreateFault.Store) }
+    ensures inside { (connection_view S.Store conn).in_transaction ≡ true
+        → result ≡ Err (conn, CreateFault.Store) }
     ensures occupied { (connection_view S.Store conn).in_transaction ≡ false
-        → takes_name (state S.Store conn).now.schema ≡ true → result ≡ Err (conn, CreateFault.Occupied) }
-    ensures taken { IfErr result (λ e. e.1 ≡ CreateFault.Occupied → takes_name (state S.Store conn).now.schema ≡ true) }
+        → takes_name (state S.Store conn).now.schema ≡ true
+        → result ≡ Err (conn, CreateFault.Occupied) }
+    ensures taken { IfErr result (λ e. e.1 ≡ CreateFault.Occupied
+        → takes_name (state S.Store conn).now.schema ≡ true) }
 
-    // A crash leaves what it left before the call, or where the store was empty the opening station.
-    ensures leaves { IfErr result (λ e. IsVacant S.Store conn → (connection_view S.Store e.0).IsSound
+    // A crash leaves what it left before the call, or where the store was empty the opening
+    // station.
+    ensures leaves { IfErr result (λ e. IsVacant S.Store conn
+        → (connection_view S.Store e.0).IsSound
         → (found : Option State) → Finds (connection_view S.Store e.0) found
-        → Finds (connection_view S.Store conn) found ⊎ (IsVacant S.Store conn × (found ≡ Some (opening here)))) }
+        → Finds (connection_view S.Store conn) found
+        ⊎ (IsVacant S.Store conn × (found ≡ Some (opening here)))) }
 
-    // Beside other tables it leaves what it left before, or one database more, and a failure leaves the last commit.
-    ensures step { IfErr result (λ e. ¬ IsVacant S.Store conn → IsOneStep (state S.Store conn) (state S.Store e.0)) }
-    ensures step_at_ok { IfOk result (λ tables. ¬ IsVacant S.Store conn → IsOneStep (state S.Store conn) (state S.Store tables.store.conn)) }
+    // Beside other tables it leaves what it left before, or one database more, and a failure leaves
+    // the last commit.
+    ensures step { IfErr result (λ e. ¬ IsVacant S.Store conn
+        → IsOneStep (state S.Store conn) (state S.Store e.0)) }
+    ensures step_at_ok { IfOk result (λ tables. ¬ IsVacant S.Store conn
+        → IsOneStep (state S.Store conn) (state S.Store tables.store.conn)) }
     ensures undone { (connection_view S.Store conn).in_transaction ≡ false
-        → IfErr result (λ e. HasCleanDisk (state S.Store e.0) → (connection_view S.Store e.0).is_open ≡ true
+        → IfErr result (λ e. HasCleanDisk (state S.Store e.0)
+        → (connection_view S.Store e.0).is_open ≡ true
         → IsUnchanged (connection_view S.Store conn) (connection_view S.Store e.0)) }
 
     // The same over the database, so that an opening knows the tables.
-    ensures survives { IfErr result (λ e. connection.Survives (state S.Store conn) (state S.Store e.0)
+    ensures survives { IfErr result
+        (λ e. connection.Survives (state S.Store conn) (state S.Store e.0)
         (λ db. IsVacant S.Store conn → IsFileOf db (opening here))) }
 {
     let letters = here.letters();
@@ -67,17 +81,24 @@ pub fn create<S: Alter>(
 }
 
 impl<S: Alter> TableState<Rows<S>> {
-    /// Gives the connection back, whatever state it is in. A transaction that is open is undone as well as it can be, and
-    /// what a crash may leave is as before.
+    /// Gives the connection back, whatever state it is in. A transaction that is open is undone as
+    /// well as it can be, and what a crash may leave is as before.
     pub fn release(self) -> Connection<S>
-        ensures survives { connection.Survives (state S.Store self.store.conn) (state S.Store result) (λ _. ⊥) }
-        ensures own { HasCleanDisk (state S.Store result) → are_declared self.store ≡ true → LiesInOrder S.Store → (db : Trees)
+        ensures survives { connection.Survives (state S.Store self.store.conn)
+            (state S.Store result) (λ _. ⊥) }
+        ensures own { HasCleanDisk (state S.Store result) → are_declared self.store ≡ true
+            → LiesInOrder S.Store → (db : Trees)
             → (state S.Store result).may_leave db → IsOwn db }
-        ensures clean { HasCleanDisk (state S.Store result) → ⟦<TableState<Rows<S>> as StateStore>⟧.is_clean self }
-        ensures leaves { (connection_view S.Store result).IsSound → (found : Option State) → Finds (connection_view S.Store result) found → ⟦<TableState<Rows<S>> as StateStore>⟧.may_find self found }
-        ensures sound { (rows_view S.Store result (are_declared self.store)).IsSound → ⟦<TableState<Rows<S>> as StateStore>⟧.is_sound self }
+        ensures clean { HasCleanDisk (state S.Store result)
+            → ⟦<TableState<Rows<S>> as StateStore>⟧.is_clean self }
+        ensures leaves { (connection_view S.Store result).IsSound → (found : Option State)
+            → Finds (connection_view S.Store result) found
+            → ⟦<TableState<Rows<S>> as StateStore>⟧.may_find self found }
+        ensures sound { (rows_view S.Store result (are_declared self.store)).IsSound
+            → ⟦<TableState<Rows<S>> as StateStore>⟧.is_sound self }
 
-        // A connection that is open is outside a transaction, and its tables mean the state of the last commit.
+        // A connection that is open is outside a transaction, and its tables mean the state of the
+        // last commit.
         ensures shown { (x : Seen) → ⟦<TableState<Rows<S>> as StateStore>⟧.shows self x
             → IfGivenBack (rows_view S.Store result (are_declared self.store)) x.committed }
     {

@@ -21,7 +21,8 @@ pub(crate) fn record_move<S: TableStore>(
 ) -> Result<(), StoreFault>
     ensures done { (before now : Tables) → IsShowing (S.view store.old) (inside before now)
         → (book : List cargo.Move) → AreCounts now.counts book → AreBuilds now.builds book
-        → OnOk result (Recorded (S.view store.new) before now number movement.now (book ++ movement.now ∷ [])) }
+        → OnOk result (Recorded (S.view store.new) before now number movement.now
+        (book ++ movement.now ∷ [])) }
     ensures survives { Survives (S.view store.old) (S.view store.new) }
 {
     let row = move_row(alloc, number, movement)?;

@@ -45,7 +45,8 @@ pub struct TableState<S: TableStore> {
 }
 
 impl<S: TableStore> TableState<S> {
-    /// The state that the tables of a store mean, of a station at this airport with so many rows and confirmed messages.
+    /// The state that the tables of a store mean, of a station at this airport with so many rows
+    /// and confirmed messages.
     #[tactic(auto, using(crate::proofs::NewState::shown))]
     pub fn over(
         alloc: Global,
@@ -54,7 +55,9 @@ impl<S: TableStore> TableState<S> {
         sizes: Sizes,
         confirmed: u32,
     ) -> TableState<S>
-        ensures shows { (t : Tables) (s : State) → Means t (Some s) → Knows here sizes confirmed (at_rest s) → ((S.view store).IsSound → HasThese t (S.view store))
+        ensures shows { (t : Tables) (s : State) → Means t (Some s)
+            → Knows here sizes confirmed (at_rest s)
+            → ((S.view store).IsSound → HasThese t (S.view store))
             → ⟦<TableState<S> as StateStore>⟧.shows result (at_rest s) }
         ensures sound { ⟦<TableState<S> as StateStore>⟧.is_sound result → (S.view store).IsSound }
         ensures same { result.store ≡ store }
@@ -70,7 +73,8 @@ impl<S: TableStore> TableState<S> {
 
     /// The state of a new station at an airport.
     pub(crate) fn new(alloc: Global, store: S, here: Airport) -> TableState<S>
-        ensures shows { ((S.view store).IsSound → IsOpening here (S.view store)) → ⟦<TableState<S> as StateStore>⟧.shows result (at_rest (opening here)) }
+        ensures shows { ((S.view store).IsSound → IsOpening here (S.view store))
+            → ⟦<TableState<S> as StateStore>⟧.shows result (at_rest (opening here)) }
         ensures sound { ⟦<TableState<S> as StateStore>⟧.is_sound result → (S.view store).IsSound }
         ensures same { result.store ≡ store }
     {

@@ -9,7 +9,8 @@ use station_rows::{StoreFault, TableStore};
 
 /// Writes what is declared of a waybill.
 pub(crate) fn put_waybill<S: TableStore>(store: &mut S, row: &WaybillRow) -> Result<(), StoreFault>
-    ensures done { ShowsChange (S.view store.old) (S.view store.new) result (putting_waybill (waybill_meant row.now)) }
+    ensures done { ShowsChange (S.view store.old) (S.view store.new) result
+        (putting_waybill (waybill_meant row.now)) }
     ensures survives { Survives (S.view store.old) (S.view store.new) }
 {
     let there = store.waybill_row(row.awb)?.is_some();
@@ -29,7 +30,8 @@ pub(crate) fn put_flight<S: TableStore>(
     day: i64,
     row: &FlightRow,
 ) -> Result<(), StoreFault>
-    ensures done { ShowsChange (S.view store.old) (S.view store.new) result (with_flight (flight.now, day) (flight_meant row.now)) }
+    ensures done { ShowsChange (S.view store.old) (S.view store.new) result
+        (with_flight (flight.now, day) (flight_meant row.now)) }
     ensures survives { Survives (S.view store.old) (S.view store.new) }
 {
     let there = store.flight_row(flight, day)?.is_some();
@@ -50,7 +52,8 @@ pub(crate) fn put_expected<S: TableStore>(
     awb: i64,
     row: &ExpectedRow,
 ) -> Result<(), StoreFault>
-    ensures done { ShowsChange (S.view store.old) (S.view store.new) result (with_expected (flight.now, (day, awb)) (expected_meant row.now)) }
+    ensures done { ShowsChange (S.view store.old) (S.view store.new) result
+        (with_expected (flight.now, (day, awb)) (expected_meant row.now)) }
     ensures survives { Survives (S.view store.old) (S.view store.new) }
 {
     let there = store.expected_row(flight, day, awb)?.is_some();

@@ -20,7 +20,8 @@ use Rattle.shipment_machine.specs.declared.notice.ManifestLine.{ManifestLine}
 use Rattle.shipment_machine.specs.declared.notice.Notice.{Notice}
 use Rattle.shipment_machine.specs.declared.notice.Notice.TheVariants as notice
 
--- What happened, as a status message says it: a flight by its date without the year, and else the moment.
+-- What happened, as a status message says it: a flight by its date without the year, and else the
+-- moment.
 abbrev pub status_of_event : Event → SentStatus
 status_of_event (event.ReceivedFromShipper name at) = sent.Handled handling.ReceivedFromShipper (when_at at) name
 status_of_event (event.Manifested flight unload) = sent.Carried leaving.Manifested flight.flight (date_on flight.day) unload

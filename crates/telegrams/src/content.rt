@@ -87,7 +87,8 @@ fn inbound_line(line: &FfmLine<'_>) -> InboundLine
 /// Appends what a line of a manifest says.
 fn put_line(lines: &mut Vec<InboundLine>, line: &FfmLine<'_>) -> Result<(), AllocError>
     requires { IsTrue (has_plain_cargo line.now) }
-    ensures { OnOk result (lines.new.items ≡ lines.old.items ++ inbound_line (unloaded_of line.now) ∷ []) }
+    ensures { OnOk result (lines.new.items ≡ lines.old.items ++ inbound_line (unloaded_of line.now)
+        ∷ []) }
 {
     let said = inbound_line(line);
     lines.extend_from_slice(slice::from_ref(&said))
@@ -96,7 +97,8 @@ fn put_line(lines: &mut Vec<InboundLine>, line: &FfmLine<'_>) -> Result<(), Allo
 /// What the lines of a manifest say.
 fn inbound_lines(alloc: Global, cargo: &[FfmLine<'_>]) -> Result<Vec<InboundLine>, AllocError>
     requires { IsTrue (list_all has_plain_cargo cargo.now) }
-    ensures { IfOk result (λ lines. lines.items ≡ map (λ l. inbound_line (unloaded_of l)) cargo.now) }
+    ensures { IfOk result (λ lines. lines.items ≡ map (λ l. inbound_line (unloaded_of l))
+        cargo.now) }
 {
     let mut lines = Vec::new(alloc);
     for line in cargo {
@@ -173,7 +175,8 @@ fn fsu_content<'a>(alloc: Global, lines: &Lines<'a>) -> Result<Content<'a>, Tele
 /// What the lines of a normal text say.
 pub(crate) fn content<'a>(alloc: Global, lines: &Lines<'a>) -> Result<Content<'a>, TelegramFault>
     ensures said { IfOk result (SaysAs lines.now.kind (line_texts lines.now)) }
-    ensures refused { IfErr result (RefusesAs (message_fault (Some lines.now.kind) (line_texts lines.now))) }
+    ensures refused { IfErr result
+        (RefusesAs (message_fault (Some lines.now.kind) (line_texts lines.now))) }
 {
     match lines.kind {
         MessageKind::Fwb => fwb_content(lines),

@@ -32,7 +32,8 @@ fn lines_known(lines: &[ManifestLine])
 
 fn parts_known(here: &Airport, flight: &FlightDate, unload: &Airport, lines: &[ManifestLine])
     requires few { length lines.now ≤ 500 }
-    ensures { AreWritten flight.now.flight (date_on flight.now.day) here.now unload.now (map sent_load lines.now) }
+    ensures { AreWritten flight.now.flight (date_on flight.now.day) here.now unload.now
+        (map sent_load lines.now) }
 {
     let _flight = flight.flight.write(&mut [0; 7]);
     let _date = DayMonth::on(flight.day).write();

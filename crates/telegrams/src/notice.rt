@@ -38,7 +38,8 @@ fn carried(event: SentCarriage, flight: &FlightDate, unload: Airport) -> SentSta
     }
 }
 
-/// What happened, as a status message says it: a flight that leaves by its date, all else by its moment.
+/// What happened, as a status message says it: a flight that leaves by its date, all else by its
+/// moment.
 fn status_of(event: &Event) -> SentStatus
     ensures { result ≡ status_of_event event.now }
 {
@@ -111,7 +112,8 @@ fn manifest_text(
     unload: Airport,
     lines: &ManifestLines,
 ) -> Result<Vec<u8>, AllocError>
-    ensures { IfOk result (λ text. text.items ≡ sent_text (manifest_lines here flight.now unload lines.now)) }
+    ensures { IfOk result (λ text. text.items ≡ sent_text
+        (manifest_lines here flight.now unload lines.now)) }
 {
     let loads = loads_of(alloc, lines.as_slice())?;
     let mut text = Vec::new(alloc);
@@ -126,10 +128,10 @@ fn manifest_text(
     Ok(text)
 }
 
-/// The text of a notice, an FSU with one status line or an FFM of one part; each line ends with a carriage return and a
-/// newline. A quantity has the code T where its pieces equal the declared total, else P. MAN, DEP and the manifest have the
-/// flight's date without its year; every other status gives the moment. The lines are normal, and are read as the values
-/// that were written.
+/// The text of a notice, an FSU with one status line or an FFM of one part; each line ends with a
+/// carriage return and a newline. A quantity has the code T where its pieces equal the declared
+/// total, else P. MAN, DEP and the manifest have the flight's date without its year; every other
+/// status gives the moment. The lines are normal, and are read as the values that were written.
 ///
 /// # Errors
 /// Want of memory.

@@ -42,15 +42,16 @@ fn text_of(alloc: Global, lines: &Lines<'_>) -> Result<NormalText, AllocError>
     Ok(NormalText::new(text))
 }
 
-/// The telegram that bytes are: its normal text, which is a text of its own, and what that text says, which borrows the
-/// bytes. The normal text is the telegram's lines from its message line on, without blanks at their ends and without empty
-/// ones at the end of the text, joined by newlines: two telegrams with the same text are one message.
+/// The telegram that bytes are: its normal text, which is a text of its own, and what that text
+/// says, which borrows the bytes. The normal text is the telegram's lines from its message line on,
+/// without blanks at their ends and without empty ones at the end of the text, joined by newlines:
+/// two telegrams with the same text are one message.
 ///
-/// # Errors
-/// `Refused` with 302 where none of the first eleven lines begins an FWB, an FFM or an FSU; with 301 for every other fault,
-/// with the line and what is wrong there, the first from the top: of the whole text (line 0), then of the bytes and the
-/// lengths of its lines (counted from the telegram's first), then of the message (counted from its first line). `Memory`
-/// says nothing of the bytes.
+/// # Errors `Refused` with 302 where none of the first eleven lines begins an FWB, an FFM or an
+/// FSU; with 301 for every other fault, with the line and what is wrong there, the first from the
+/// top: of the whole text (line 0), then of the bytes and the lengths of its lines (counted from
+/// the telegram's first), then of the message (counted from its first line). `Memory` says nothing
+/// of the bytes.
 pub fn read_telegram<'a>(alloc: Global, bytes: &'a [u8]) -> Result<Telegram<'a>, TelegramFault>
     ensures read { IfOk result (IsTelegram bytes.now) }
     ensures refused { IfErr result (RefusesText bytes.now) }

@@ -88,8 +88,8 @@ pub struct PartContent {
     pub lines: PartLines,
 }
 
-/// The lines below the consignment line of a status message that was read: 1,000 at most, each of at most 255 bytes of
-/// printable ASCII. They borrow the telegram's bytes.
+/// The lines below the consignment line of a status message that was read: 1,000 at most, each of
+/// at most 255 bytes of printable ASCII. They borrow the telegram's bytes.
 #[derive(Drop)]
 pub struct StatusLines<'a> {
     texts: Vec<TrailLine<'a>>,
@@ -144,8 +144,8 @@ pub enum Content<'a> {
     Fsu(StatusContent<'a>),
 }
 
-/// A telegram that was read: its normal text, and what that text says. The text is its own; the content borrows the bytes
-/// that were read.
+/// A telegram that was read: its normal text, and what that text says. The text is its own; the
+/// content borrows the bytes that were read.
 #[derive(Drop)]
 pub struct Telegram<'a> {
     text: NormalText,
@@ -191,7 +191,8 @@ impl<'a> Telegram<'a> {
 /// Why a telegram was not read.
 #[derive(Clone, Copy, Debug, PartialEq, Eq)]
 pub enum TelegramFault {
-    /// 302 where the text is of no known kind of message; else 301, with the line and what is wrong there.
+    /// 302 where the text is of no known kind of message; else 301, with the line and what is wrong
+    /// there.
     Refused(Refusal),
     /// Out of memory: this says nothing of the bytes.
     Memory,

@@ -7,8 +7,8 @@ use station_core::{
     ActFault, BookRow, Input, IrregularRow, Keeper, Message, Reply, Sink, TrailRow, Waybill,
 };
 
-/// A station in memory that answers so many inputs. At the next one it answers as where a store fails, and from then on it has to be
-/// opened again.
+/// A station in memory that answers so many inputs. At the next one it answers as where a store
+/// fails, and from then on it has to be opened again.
 #[derive(Drop)]
 pub struct Failing {
     station: PlainStation,
