@@ -1,5 +1,5 @@
 -- A file of version 1 that gets the tables of version 2.
-use Rattle.std.specs.Prelude.{◌≡◌, ◌≢◌, ◌⊎◌, ℕ, Bool, true, Some, Result, Ok, Err, IfOk, IfErr, OnErr, OnOk, List, ◌++◌, codes}
+use Rattle.std.specs.Prelude.{◌≡◌, ◌≢◌, ◌⊎◌, ℕ, Bool, true, Result, Ok, Err, IfOk, IfErr, OnErr, OnOk, List, ◌++◌, codes}
 use Rattle.sqlite.specs.Held.{Held, state}
 use Rattle.sqlite.specs.State.{HasCleanDisk, Survives}
 use Rattle.sqlite.specs.Tree.{Trees}

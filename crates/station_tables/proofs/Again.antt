@@ -1,5 +1,5 @@
 -- A station that is opened again and given the input that may have been interrupted.
-use Rattle.std.proofs.Common.{◌≡◌, ◌⊎◌, inl, inr, ⊎_elim, Option, Some, None, Result, Ok, Err, refl, sym, ap, subst, ◌∙◌}
+use Rattle.std.proofs.Common.{◌≡◌, ◌⊎◌, inl, inr, Option, Some, Result, Ok, Err, sym, ap, subst, ◌∙◌}
 use Rattle.std.specs.Prelude.{IfOk, IfErr}
 use Rattle.imp_fields.specs.Date.{LocalMinute}
 use Rattle.station_core.specs.declared.answer.ActFault as act

@@ -7,10 +7,9 @@ use Rattle.sqlite.specs.State as sqlite
 use Rattle.sqlite.specs.State.{HasCleanDisk}
 use Rattle.found_station.specs.Reading.{read_as}
 use Rattle.found_tables.specs.declared.station.FileVersion.TheVariants.{First}
-use Rattle.row_laws.specs.Calls.{IsSettled}
 use Rattle.row_schema.specs.Own.{IsOwn, IsOldOwn}
 use Rattle.row_schema.specs.Schema.{station_schema}
-use Rattle.row_schema.specs.Tables.{Tables, IsStation, IsOldStation, tables_of, old_tables_of, upgraded}
+use Rattle.row_schema.specs.Tables.{Tables, IsOldStation, tables_of, old_tables_of, upgraded}
 use Rattle.row_values.specs.Meaning.{Means}
 use Rattle.station_core.specs.Step.{State}
 use Rattle.station_audit.proofs.Declared.{old_same_tables}

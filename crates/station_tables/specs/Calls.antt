@@ -5,7 +5,7 @@ use Rattle.station_core.specs.declared.answer.ActFault.{ActFault}
 use Rattle.station_core.specs.declared.answer.ActFault.TheVariants as fault
 use Rattle.station_core.specs.declared.answer.Answer.{Answer}
 use Rattle.station_core.specs.declared.input.Input.{Input}
-use Rattle.station_core.specs.Retries.{RetryEvent, sent, cut_before, cut_after, reopened, World, after_events, started, ActsOnce, committed}
+use Rattle.station_core.specs.Retries.{RetryEvent, sent, cut_before, cut_after, reopened, started, ActsOnce, committed}
 use Rattle.station_core.specs.Step.{State, opening, step, after_all}
 
 -- a call, with what it returned: `act`, where a refusal is an answer; `attach`, whether it opened

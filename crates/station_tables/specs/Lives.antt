@@ -1,13 +1,12 @@
 -- The lives of a file: each is a station that opens it, is given inputs, and ends.
-use Rattle.std.specs.Prelude.{◌≡◌, ◌⊎◌, ℕ, ◌+◌, ◌<◌, List, [], ◌∷◌, ◌++◌, take, length, Option, Some, None}
-use Rattle.std.specs.List.{AllByRecursion, flat_map}
+use Rattle.std.specs.Prelude.{◌≡◌, ◌⊎◌, ℕ, ◌+◌, ◌<◌, List, [], ◌∷◌, take, length, Option, Some, None}
+use Rattle.std.specs.List.{flat_map}
 use Rattle.imp_fields.specs.Date.{LocalMinute}
 use Rattle.shipment_machine.specs.Laws.{IsConserved, AreBalances}
 use Rattle.station_core.specs.declared.answer.ActFault.{ActFault}
 use Rattle.station_core.specs.declared.answer.ActFault.TheVariants as fault
 use Rattle.station_core.specs.declared.input.Input.{Input}
 use Rattle.station_core.specs.Keeping.{IsAfterAnswered}
-use Rattle.station_core.specs.Ranges.{AreInputs}
 use Rattle.station_core.specs.Step.{State, IsLawfulState, opening, after_all}
 
 -- The inputs that a station was given, how many it answered, and the fault that ended them, if any.

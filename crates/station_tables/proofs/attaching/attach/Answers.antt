@@ -1,4 +1,3 @@
-use Rattle.std.proofs.Common.{◌≡◌}
 use Rattle.station_tables.proofs.Looked.{finds_after, finds_after_one, fit_on, own_fit_on, found_on, judged_there, leaves_on, own_on, refused_on, seen_on, survives_both, survives_same, typed_on, unwritten_at, unwritten_on}
 use Rattle.station_tables.proofs.attaching.attach.Goals as goal
 

@@ -1,4 +1,3 @@
-use Rattle.std.proofs.Common.{◌≡◌}
 use Rattle.sqlite.specs.Held.{state}
 use Rattle.station_tables.proofs.Attached.{has_these, is_lawful, knows, means, means_typed}
 use Rattle.station_tables.proofs.attaching.go_on.Goals as goal

@@ -1,5 +1,5 @@
-use Rattle.std.proofs.Common.{◌≡◌, inl}
-use Rattle.station_tables.proofs.Looked.{judged_there, survives_both, survives_same}
+use Rattle.std.proofs.Common.{inl}
+use Rattle.station_tables.proofs.Looked.{judged_there, survives_both}
 use Rattle.station_tables.proofs.Migrated.{fit_old, leaves_old, left_of, moved_on, refused_old, spares_old, was_on}
 use Rattle.station_tables.proofs.migrating.migrate.Goals as goal
 

@@ -1,4 +1,3 @@
-use Rattle.std.proofs.Common.{refl}
 use Rattle.station_tables.proofs.migrating.old_fault.Goals as goal
 
 pub returns-in-Unlawful-clause-refuses : goal.returns-in-Unlawful-clause-refuses

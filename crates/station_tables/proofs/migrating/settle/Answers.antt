@@ -1,4 +1,4 @@
-use Rattle.std.proofs.Common.{◌≡◌, subst}
+use Rattle.std.proofs.Common.{subst}
 use Rattle.sqlite.specs.Held.{state}
 use Rattle.found_station.specs.Reading.{read_as}
 use Rattle.found_tables.specs.declared.station.FileVersion.TheVariants.{First}

@@ -1,4 +1,3 @@
-use Rattle.std.proofs.Common.{◌≡◌}
 use Rattle.sqlite.specs.Held.{state}
 use Rattle.station_tables.proofs.Migrated.{has_migrated}
 use Rattle.station_tables.proofs.migrating.upgrade.Goals as goal

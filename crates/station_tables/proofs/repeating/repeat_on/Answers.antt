@@ -1,4 +1,3 @@
-use Rattle.std.proofs.Common.{◌≡◌}
 use Rattle.station_tables.proofs.Again.{before_of, has_answered, one_of}
 use Rattle.station_tables.proofs.repeating.repeat_on.Goals as goal
 

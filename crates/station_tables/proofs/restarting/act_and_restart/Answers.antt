@@ -1,4 +1,4 @@
-use Rattle.std.proofs.Common.{◌≡◌, Some, None, refl}
+use Rattle.std.proofs.Common.{Some, None, refl}
 use Rattle.station_tables.proofs.Restarted.{finds, leaves_own, fits_on, none_after, opens_on, restored_on}
 use Rattle.station_tables.proofs.restarting.act_and_restart.Goals as goal
 
