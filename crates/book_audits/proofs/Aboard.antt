@@ -17,9 +17,9 @@ use Rattle.shipment_machine.proofs.Rising.{same_rising}
 use Rattle.shipment_machine.proofs.FlightMoves.{Rising-waybills_on}
 use Rattle.shipment_machine.proofs.OnFlight.{is_in-waybills_on}
 use Rattle.row_schema.specs.Tables.{Build}
-use Rattle.row_values.specs.Counts.{running, unless_nothing}
-use Rattle.row_values.specs.Numbers.{natural}
-use Rattle.count_tables.proofs.Tests.{none_is, int_pos}
+use Rattle.row_codec.specs.Counts.{running, unless_nothing}
+use Rattle.row_codec.specs.Numbers.{natural}
+use Rattle.running_totals.proofs.Tests.{none_is, int_pos}
 use Rattle.book_audits.specs.declared.tally.Tally.{Tally}
 use Rattle.book_audits.specs.declared.sums.BuildPlace.{BuildPlace}
 use Rattle.book_audits.specs.declared.sums.BookSums.{BookSums}

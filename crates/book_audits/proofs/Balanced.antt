@@ -22,15 +22,15 @@ use Rattle.shipment_machine.specs.Lawful.{is_outside, IsStocked}
 use Rattle.shipment_machine.proofs.FlightKeys.{same-is}
 use Rattle.row_laws.proofs.Keys.{pair_total, pair_same, texts_total}
 use Rattle.row_schema.specs.Tables.{Tables, Count, Build, Flight, FlightKey, flight_cmp}
-use Rattle.row_values.specs.Counts.{running, unless_nothing}
-use Rattle.row_values.specs.Flights.{is_designator, flight_key, flights_in, outbound_by}
-use Rattle.row_values.specs.Moves.{book_in, place_code, plain_place}
-use Rattle.row_values.specs.Numbers.{is_set}
-use Rattle.row_values.proofs.FlightKeys.{same_key}
-use Rattle.count_tables.specs.Sums.{is_built, count_in, count_here}
-use Rattle.count_tables.proofs.Codes as codes
-use Rattle.count_tables.proofs.Entries.{each_entry}
-use Rattle.count_tables.proofs.Tests.{some_is, none_is, is_false}
+use Rattle.row_codec.specs.Counts.{running, unless_nothing}
+use Rattle.row_codec.specs.Flights.{is_designator, flight_key, flights_in, outbound_by}
+use Rattle.row_codec.specs.Moves.{book_in, place_code, plain_place}
+use Rattle.row_codec.specs.Numbers.{is_set}
+use Rattle.row_codec.proofs.FlightKeys.{same_key}
+use Rattle.running_totals.specs.Sums.{is_built, count_in, count_here}
+use Rattle.running_totals.proofs.Codes as codes
+use Rattle.running_totals.proofs.Entries.{each_entry}
+use Rattle.running_totals.proofs.Tests.{some_is, none_is, is_false}
 use Rattle.book_audits.specs.declared.tally.Tally.{Tally}
 use Rattle.book_audits.specs.declared.sums.CountPlace.{CountPlace}
 use Rattle.book_audits.specs.declared.sums.BuildPlace.{BuildPlace}

@@ -10,9 +10,9 @@ use Rattle.shipment_machine.specs.declared.flight.FlightDate.{FlightDate}
 use Rattle.shipment_machine.specs.declared.moves.Move.{Move}
 use Rattle.row_laws.proofs.Keys.{pair_same}
 use Rattle.row_schema.specs.Tables.{Tables, Count, CountKey, count_cmp}
-use Rattle.row_values.specs.Counts.{running, counted, AreCounts}
-use Rattle.count_tables.proofs.Keeping.{counts_total}
-use Rattle.count_tables.proofs.Moved.{counted_is}
+use Rattle.row_codec.specs.Counts.{running, counted, AreCounts}
+use Rattle.running_totals.proofs.Keeping.{counts_total}
+use Rattle.running_totals.proofs.Moved.{counted_is}
 use Rattle.book_audits.specs.declared.tally.Tally.{Tally}
 use Rattle.book_audits.specs.declared.sums.CountPlace.{CountPlace}
 use Rattle.book_audits.specs.declared.sums.BookSums.{BookSums}

@@ -15,10 +15,10 @@ use Rattle.shipment_machine.specs.declared.flight.FlightDate.{FlightDate}
 use Rattle.shipment_machine.specs.declared.moves.Move.{Move}
 use Rattle.row_laws.proofs.Keys.{pair_total, pair_same, texts_total, texts_same}
 use Rattle.row_schema.specs.Tables.{Tables, Build, BuildKey, build_cmp, Flight, FlightKey, flight_cmp}
-use Rattle.row_values.specs.Counts.{running, AreBuilds}
-use Rattle.row_values.specs.Flights.{flight_key}
-use Rattle.count_tables.proofs.Tests.{none_is, some_is}
-use Rattle.count_tables.proofs.Keeping.{builds_total}
+use Rattle.row_codec.specs.Counts.{running, AreBuilds}
+use Rattle.row_codec.specs.Flights.{flight_key}
+use Rattle.running_totals.proofs.Tests.{none_is, some_is}
+use Rattle.running_totals.proofs.Keeping.{builds_total}
 use Rattle.book_audits.specs.declared.tally.Tally.{Tally}
 use Rattle.book_audits.specs.declared.sums.BuildPlace.{BuildPlace}
 use Rattle.book_audits.specs.declared.sums.BookSums.{BookSums}

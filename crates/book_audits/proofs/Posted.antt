@@ -13,15 +13,15 @@ use Rattle.shipment_machine.specs.declared.moves.Place.TheVariants.{Hand, Surplu
 use Rattle.shipment_machine.proofs.FlightKeys.{same-is, same-refl}
 use Rattle.row_laws.proofs.Keys.{pair_eq, int_tied, first_true, second_true}
 use Rattle.row_schema.specs.Tables.{Count, CountKey, count_cmp, Build}
-use Rattle.row_values.specs.Counts.{Running, running, is_nothing, unless_nothing, running_in, running_on, count_row, build_row}
-use Rattle.row_values.specs.Moves.{place_code, plain_place}
-use Rattle.count_tables.specs.Sums.{Sums, plus, posting, come, gone, is_built, count_in, count_here}
-use Rattle.count_tables.specs.Stored as stored
-use Rattle.count_tables.proofs.Storing.{comes_to_sum}
-use Rattle.count_tables.proofs.Tests.{same_bool, is_false, and_no, some_is, none_is, int_pos, is_nat}
-use Rattle.count_tables.proofs.Codes as codes
-use Rattle.count_tables.proofs.Keeping.{counts_total}
-use Rattle.count_tables.proofs.Moved.{sums_then}
+use Rattle.row_codec.specs.Counts.{Running, running, is_nothing, unless_nothing, running_in, running_on, count_row, build_row}
+use Rattle.row_codec.specs.Moves.{place_code, plain_place}
+use Rattle.running_totals.specs.Sums.{Sums, plus, posting, come, gone, is_built, count_in, count_here}
+use Rattle.running_totals.specs.Stored as stored
+use Rattle.running_totals.proofs.Storing.{comes_to_sum}
+use Rattle.running_totals.proofs.Tests.{same_bool, is_false, and_no, some_is, none_is, int_pos, is_nat}
+use Rattle.running_totals.proofs.Codes as codes
+use Rattle.running_totals.proofs.Keeping.{counts_total}
+use Rattle.running_totals.proofs.Moved.{sums_then}
 use Rattle.book_audits.specs.declared.tally.Tally.{Tally}
 use Rattle.book_audits.specs.declared.sums.CountPlace.{CountPlace}
 use Rattle.book_audits.specs.declared.sums.BuildPlace.{BuildPlace}

@@ -14,11 +14,11 @@ use Rattle.shipment_machine.specs.declared.moves.Move.{Move}
 use Rattle.shipment_machine.proofs.FlightKeys.{same-is, same-refl}
 use Rattle.row_laws.proofs.Keys.{first_true, second_true}
 use Rattle.row_schema.specs.Tables.{Build, BuildKey, build_cmp, Flight, FlightKey}
-use Rattle.row_values.specs.Counts.{running, build_row, build_at, built_up, written_flight}
-use Rattle.row_values.specs.Flights.{is_designator, flight_key}
-use Rattle.row_values.proofs.FlightKeys.{is_one}
-use Rattle.count_tables.proofs.Tests.{same_bool, is_false, some_is, none_is, is_int, int_itself, is_nat}
-use Rattle.count_tables.proofs.Written.{written_again, written_so, is_text, text_itself, build_eq}
+use Rattle.row_codec.specs.Counts.{running, build_row, build_at, built_up, written_flight}
+use Rattle.row_codec.specs.Flights.{is_designator, flight_key}
+use Rattle.row_codec.proofs.FlightKeys.{is_one}
+use Rattle.running_totals.proofs.Tests.{same_bool, is_false, some_is, none_is, is_int, int_itself, is_nat}
+use Rattle.running_totals.proofs.Written.{written_again, written_so, is_text, text_itself, build_eq}
 use Rattle.book_audits.specs.declared.tally.Tally.{Tally}
 use Rattle.book_audits.specs.declared.sums.BuildPlace.{BuildPlace}
 use Rattle.book_audits.specs.declared.sums.BookSums.{BookSums}

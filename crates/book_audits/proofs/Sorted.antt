@@ -7,7 +7,7 @@ use Rattle.std.specs.FinMap.{FinMap, find, is_sorted, entries, get, from_sorted,
 use Rattle.std.specs.FinMap.Entries.{below_all}
 use Rattle.std.specs.BTreeMap.{is_at}
 use Rattle.std.specs.Map.{lookup, keys_of}
-use Rattle.count_tables.proofs.Entries.{each_entry}
+use Rattle.running_totals.proofs.Entries.{each_entry}
 
 pub both : (a b : Bool) → T a → T b → T (a && b)
 both true b p q = q

@@ -11,9 +11,9 @@ use Rattle.shipment_machine.specs.declared.moves.Place.TheVariants.{Built}
 use Rattle.shipment_machine.specs.Amount.{amount}
 use Rattle.shipment_machine.specs.Book.{pieces_of, tenths_of, same_place, moved_in, moved_out, built, drawn}
 use Rattle.shipment_machine.specs.Lawful.{IsStocked}
-use Rattle.row_values.specs.Counts.{Running, running, is_nothing, unless_nothing, running_in, running_on, count_row, build_row}
-use Rattle.row_values.specs.Numbers.{natural}
-use Rattle.count_tables.proofs.Tests.{some_is, is_int}
+use Rattle.row_codec.specs.Counts.{Running, running, is_nothing, unless_nothing, running_in, running_on, count_row, build_row}
+use Rattle.row_codec.specs.Numbers.{natural}
+use Rattle.running_totals.proofs.Tests.{some_is, is_int}
 use Rattle.book_audits.specs.declared.tally.Tally.{Tally}
 use Rattle.book_audits.specs.declared.sums.BookSums.{BookSums}
 use Rattle.book_audits.specs.Sums.{meant, count_of, build_of}

@@ -3,7 +3,7 @@ use Rattle.std.proofs.Common.{◌≡◌, ◌≢◌, ℕ, ◌+◌, ◌<◌, ◌�
 use Rattle.std.proofs.lemmas.List.{drop_more, drop_all}
 use Rattle.shipment_machine.specs.declared.flight.FlightDate.{FlightDate}
 use Rattle.shipment_machine.specs.declared.moves.Move.{Move}
-use Rattle.row_values.specs.Counts.{running}
+use Rattle.row_codec.specs.Counts.{running}
 use Rattle.book_audits.specs.declared.sums.BookSums.{BookSums}
 use Rattle.book_audits.specs.declared.sums.Posting.{Posting}
 use Rattle.book_audits.specs.Sums.{AreDistinct, AreSums, IsPosting, ArePostings}

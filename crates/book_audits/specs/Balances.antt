@@ -10,8 +10,8 @@ use Rattle.shipment_machine.specs.Book.{built, taken_and_found, waybills_on}
 use Rattle.shipment_machine.specs.Effect.{is_closed}
 use Rattle.shipment_machine.specs.Lawful.{is_outside, IsStocked}
 use Rattle.row_schema.specs.Tables.{Tables, Flight, FlightKey}
-use Rattle.row_values.specs.Counts.{Running}
-use Rattle.row_values.specs.Numbers.{natural, is_set}
+use Rattle.row_codec.specs.Counts.{Running}
+use Rattle.row_codec.specs.Numbers.{natural, is_set}
 use Rattle.lawful_tables.specs.Lawful.{cargo_in}
 use Rattle.book_audits.specs.Sums.{meant, count_place_cmp}
 use Rattle.book_audits.specs.declared.tally.Tally.{Tally}

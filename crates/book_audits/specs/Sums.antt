@@ -12,10 +12,10 @@ use Rattle.shipment_machine.specs.declared.moves.Move.{Move}
 use Rattle.shipment_machine.specs.declared.moves.Place.{Place}
 use Rattle.shipment_machine.specs.declared.moves.Place.TheVariants.{Built}
 use Rattle.row_schema.specs.Tables.{Count, CountKey, Build, BuildKey, Flight, FlightKey, flight_cmp}
-use Rattle.row_values.specs.Counts.{Running, is_nothing, unless_nothing, build_row}
-use Rattle.row_values.specs.Flights.{is_designator, flight_key}
-use Rattle.row_values.specs.Moves.{place_code}
-use Rattle.count_tables.specs.Sums.{Sums, count_in, is_built}
+use Rattle.row_codec.specs.Counts.{Running, is_nothing, unless_nothing, build_row}
+use Rattle.row_codec.specs.Flights.{is_designator, flight_key}
+use Rattle.row_codec.specs.Moves.{place_code}
+use Rattle.running_totals.specs.Sums.{Sums, count_in, is_built}
 use Rattle.book_audits.specs.declared.tally.Tally.{Tally}
 use Rattle.book_audits.specs.declared.sums.CountPlace.{CountPlace}
 use Rattle.book_audits.specs.declared.sums.BuildPlace.{BuildPlace}

@@ -3,17 +3,17 @@ ghost use Rattle.std.specs.BTreeMap.{IsOrdered, get};
 ghost use Rattle.std.specs.FinMap.{entries};
 ghost use Rattle.std.specs.List.{list_all};
 ghost use Rattle.shipment_machine.specs.declared.flight.FlightDate.{FlightDate};
-ghost use Rattle.found_tables.specs.Held.{flight_entry};
+ghost use Rattle.table_load.specs.Held.{flight_entry};
 ghost use Rattle.row_schema.specs.Tables.{Tables};
-ghost use Rattle.row_values.specs.Counts.{running};
-ghost use Rattle.row_values.specs.Flights.{is_flight_row};
-ghost use Rattle.row_values.specs.Moves.{book_in};
+ghost use Rattle.row_codec.specs.Counts.{running};
+ghost use Rattle.row_codec.specs.Flights.{is_flight_row};
+ghost use Rattle.row_codec.specs.Moves.{book_in};
 ghost use Rattle.book_audits.specs.Sums.{meant, AreSums, AreFlightsOf, count_place_cmp, build_place_cmp};
 ghost use Rattle.book_audits.specs.Balances.{AreBalances, overdrawn, drawn_by, is_left, is_within, is_lawful_count, is_open, is_lawful_build, on_flight};
 
 use crate::sums::{BookSums, BuildPlace, CountPlace};
 use crate::tally::Tally;
-use found_tables::FlightEntry;
+use table_load::FlightEntry;
 
 /// Pieces and tenths of a kilogram that came from a place outside.
 #[derive(Clone, Copy)]

@@ -4,15 +4,15 @@ ghost use Rattle.std.specs.BTreeMap.{IsOrdered};
 ghost use Rattle.shipment_machine.specs.declared.flight.FlightDate.{FlightDate};
 ghost use Rattle.shipment_machine.specs.declared.moves.Move.{Move};
 ghost use Rattle.cargo_rows.specs.Meant.{build_meant};
-ghost use Rattle.found_tables.specs.Held.{flight_entry};
+ghost use Rattle.table_load.specs.Held.{flight_entry};
 ghost use Rattle.row_schema.specs.Tables.{Tables};
-ghost use Rattle.row_values.specs.Counts.{running, AreBuilds};
+ghost use Rattle.row_codec.specs.Counts.{running, AreBuilds};
 ghost use Rattle.book_audits.specs.Sums.{AreSums, AreFlightsOf, build_at, build_entry, build_place_cmp};
 
 use crate::sums::{BookSums, BuildPlace};
 use crate::tally::Tally;
-use found_tables::FlightEntry;
 use station_rows::BuildRow;
+use table_load::FlightEntry;
 
 /// Whether a row says this of a waybill on a flight.
 fn says(row: &BuildRow, on: &FlightEntry, awb: i64, tally: &Tally) -> bool

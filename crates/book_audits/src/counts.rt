@@ -5,7 +5,7 @@ ghost use Rattle.shipment_machine.specs.declared.flight.FlightDate.{FlightDate};
 ghost use Rattle.shipment_machine.specs.declared.moves.Move.{Move};
 ghost use Rattle.cargo_rows.specs.Meant.{count_meant};
 ghost use Rattle.row_schema.specs.Tables.{Tables};
-ghost use Rattle.row_values.specs.Counts.{running, AreCounts};
+ghost use Rattle.row_codec.specs.Counts.{running, AreCounts};
 ghost use Rattle.book_audits.specs.Sums.{AreSums, count_entry, count_place_cmp};
 
 use crate::sums::{BookSums, CountPlace};

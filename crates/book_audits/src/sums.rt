@@ -3,9 +3,9 @@ ghost use Rattle.shipment_machine.specs.declared.flight.FlightDate.{FlightDate};
 ghost use Rattle.shipment_machine.specs.declared.moves.Move.{Move};
 ghost use Rattle.shipment_machine.specs.declared.moves.Place.{Place};
 ghost use Rattle.shipment_machine.specs.declared.moves.Place.TheVariants.{Built};
-ghost use Rattle.row_values.specs.Counts.{running};
-ghost use Rattle.row_values.specs.Moves.{place_code};
-ghost use Rattle.count_tables.specs.Sums.{Sums, posting, is_built};
+ghost use Rattle.row_codec.specs.Counts.{running};
+ghost use Rattle.row_codec.specs.Moves.{place_code};
+ghost use Rattle.running_totals.specs.Sums.{Sums, posting, is_built};
 ghost use Rattle.book_audits.specs.Sums.{meant, AreDistinct, AreSums, IsSpot, IsPosting, ArePostings};
 
 use crate::posts::post;

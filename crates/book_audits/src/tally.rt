@@ -1,5 +1,5 @@
 ghost use Rattle.std.specs.Prelude.{◌≡◌, neg_ℤ, IfSome};
-ghost use Rattle.row_values.specs.Counts.{is_nothing};
+ghost use Rattle.row_codec.specs.Counts.{is_nothing};
 ghost use Rattle.book_audits.specs.Sums.{meant, plus_tally};
 
 /// There is no room for a book's sums: out of memory, or a sum doesn't fit 64 bits, which takes

@@ -2,8 +2,8 @@
 use Rattle.stock_list.specs.declared.answer.RunFault.TheVariants as run
 use Rattle.desk_server.specs.declared.server.ServerFault.{ServerFault}
 use Rattle.desk_server.specs.declared.server.ServerFault.TheVariants as server
-use Rattle.desk_call.specs.declared.ended.DeskFault.{DeskFault}
-use Rattle.desk_call.specs.declared.ended.DeskFault.TheVariants as fault
+use Rattle.cli_call.specs.declared.ended.DeskFault.{DeskFault}
+use Rattle.cli_call.specs.declared.ended.DeskFault.TheVariants as fault
 
 -- a service's fault, as the call's
 abbrev pub server_fault : ServerFault → DeskFault

@@ -1,6 +1,6 @@
 //! The file of a station.
 
-use desk_call::DeskFault;
+use cli_call::DeskFault;
 use sqlite::{Connection, Error, ErrorCode, File, FileStore};
 use station_tables::AttachFault;
 use std::io::ErrorKind;

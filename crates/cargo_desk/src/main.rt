@@ -5,10 +5,10 @@ mod files;
 mod service;
 mod task;
 
-use desk_call::{DeskFault, version_line};
+use cli_call::{DeskFault, version_line};
+use cli_words::{Line, LineCommand, WordsFault, parse_words, usage_fault};
 use desk_clock::{Zone, moment_now};
 use desk_server::listen;
-use desk_words::{Line, LineCommand, WordsFault, parse_words, usage_fault};
 use imp_fields::Moment;
 use service::Service;
 use std::fs::File;

@@ -2,10 +2,10 @@
 ghost use Rattle.std.specs.Prelude.{◌≡◌};
 ghost use Rattle.cargo_desk.specs.Service.{server_fault};
 
-use desk_call::{DeskFault, end, open_station};
+use cli_call::{DeskFault, end, open_station};
+use cli_words::Line;
 use desk_clock::Zone;
 use desk_server::{ServerFault, serve};
-use desk_words::Line;
 use sqlite::{Alter, Connection};
 use station_core::{Counted, Keeper};
 use std::net::TcpListener;

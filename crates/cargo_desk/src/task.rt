@@ -2,9 +2,9 @@
 
 use crate::files::{make_file, open_file};
 use crate::service::{Service, serve_line};
-use desk_call::{DeskFault, end, run_line};
-use desk_run::{Feed, is_opening, tie};
-use desk_words::{Line, LineCommand};
+use cli_call::{DeskFault, end, run_line};
+use cli_run::{Feed, is_opening, tie};
+use cli_words::{Line, LineCommand};
 use imp_fields::Moment;
 use memory_files::open_pages;
 use sqlite::{Alter, Connection};

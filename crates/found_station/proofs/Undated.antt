@@ -5,9 +5,9 @@ use Rattle.sqlite_keyed.proofs.ListLemmas.{map-map}
 use Rattle.row_schema.specs.Tables.{OldWaybill, Waybill, undated}
 use Rattle.cargo_rows.specs.declared.waybills.WaybillRow.{WaybillRow}
 use Rattle.cargo_rows.specs.Meant.{waybill_meant}
-use Rattle.found_tables.specs.declared.old_waybill.OldWaybillEntry.{OldWaybillEntry}
-use Rattle.found_tables.specs.declared.station.FileVersion.TheVariants.{First}
-use Rattle.found_tables.specs.Held.{old_waybill_entry, HoldsOldWaybill}
+use Rattle.table_load.specs.declared.old_waybill.OldWaybillEntry.{OldWaybillEntry}
+use Rattle.table_load.specs.declared.station.FileVersion.TheVariants.{First}
+use Rattle.table_load.specs.Held.{old_waybill_entry, HoldsOldWaybill}
 use Rattle.found_station.specs.Reading.{undated_row, HoldsWaybills}
 
 same_rows : (olds : List OldWaybillEntry) → map waybill_meant (map undated_row olds) ≡ map undated (map old_waybill_entry olds)

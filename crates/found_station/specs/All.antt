@@ -10,7 +10,7 @@ use Rattle.raw_rows.specs.Whole.{TellsTable}
 use Rattle.cargo_rows.specs.Meant.{waybill_meant, move_meant, count_meant, build_meant}
 use Rattle.text_rows.specs.Meant.{trail_meant, message_meant}
 use Rattle.station_rows.specs.Meant.{stock_meant}
-use Rattle.found_tables.specs.Held.{old_waybill_entry, HoldsStock, HoldsFlight, flight_entry, HoldsMoves, HoldsExpected, expected_entry, HoldsPart, part_entry, HoldsTrail, HoldsOutbox, HoldsKeptKey, kept_key_entry, HoldsKeptText, kept_text_entry, HoldsCounts, HoldsBuild}
+use Rattle.table_load.specs.Held.{old_waybill_entry, HoldsStock, HoldsFlight, flight_entry, HoldsMoves, HoldsExpected, expected_entry, HoldsPart, part_entry, HoldsTrail, HoldsOutbox, HoldsKeptKey, kept_key_entry, HoldsKeptText, kept_text_entry, HoldsCounts, HoldsBuild}
 use Rattle.found_station.specs.Reading.{Reading, HoldsOldWaybills, HoldsWaybills}
 use Rattle.found_station.specs.declared.all.FoundCargo.{FoundCargo}
 use Rattle.found_station.specs.declared.all.FoundMessages.{FoundMessages}

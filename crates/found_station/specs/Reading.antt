@@ -3,11 +3,11 @@ use Rattle.std.specs.Prelude.{◌≡◌, pos, List, [], map}
 use Rattle.sqlite.specs.Effect.{Database}
 use Rattle.row_schema.specs.Tables.{OldWaybill, Waybill, undated}
 use Rattle.cargo_rows.specs.declared.waybills.WaybillRow.{WaybillRow}
-use Rattle.found_tables.specs.declared.old_waybill.OldWaybillEntry.{OldWaybillEntry}
-use Rattle.found_tables.specs.declared.station.FileVersion.{FileVersion}
-use Rattle.found_tables.specs.declared.station.FileVersion.TheVariants.{First, Second}
-use Rattle.found_tables.specs.Held.{HoldsOldWaybill, HoldsWaybill}
-use Rattle.found_tables.specs.Verdict.{Verdict, station_of}
+use Rattle.table_load.specs.declared.old_waybill.OldWaybillEntry.{OldWaybillEntry}
+use Rattle.table_load.specs.declared.station.FileVersion.{FileVersion}
+use Rattle.table_load.specs.declared.station.FileVersion.TheVariants.{First, Second}
+use Rattle.table_load.specs.Held.{HoldsOldWaybill, HoldsWaybill}
+use Rattle.table_load.specs.Verdict.{Verdict, station_of}
 
 -- a row of `waybill` as one of `waybill2`, with no day
 abbrev pub undated_row : OldWaybillEntry → WaybillRow

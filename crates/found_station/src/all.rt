@@ -3,20 +3,20 @@ ghost use Rattle.sqlite.specs.Held.{state};
 ghost use Rattle.raw_rows.specs.Whole.{TellsTable};
 ghost use Rattle.std.specs.Prelude.{◌≡◌, IfOk, map};
 ghost use Rattle.cargo_rows.specs.Meant.{waybill_meant};
-ghost use Rattle.found_tables.specs.Held.{old_waybill_entry};
+ghost use Rattle.table_load.specs.Held.{old_waybill_entry};
 ghost use Rattle.found_station.specs.Reading.{undated_row, read_as, HoldsOldWaybills, HoldsWaybills};
 ghost use Rattle.found_station.specs.All.{AreCargo, AreMessages, AreReplies, AreCounts, AreTables, FindsTables};
 
 use cargo_rows::{BuildRow, CountRow, MoveRow, WaybillRow};
-use found_tables::{
+use sqlite::{Alter, Connection, Error};
+use station_rows::StockRow;
+use std::alloc::{AllocError, Global};
+use table_load::{
     ExpectedEntry, FileVersion, FlightEntry, KeptKeyEntry, KeptTextEntry, OldWaybillEntry,
     PartEntry, found_builds, found_counts, found_expected, found_flights, found_kept_keys,
     found_kept_texts, found_moves, found_old_waybills, found_outbox, found_parts, found_stock,
     found_trail, found_waybills,
 };
-use sqlite::{Alter, Connection, Error};
-use station_rows::StockRow;
-use std::alloc::{AllocError, Global};
 use text_rows::{MessageRow, TrailRow};
 
 /// What is declared, held and moved. Nothing stands for a table that isn't there.

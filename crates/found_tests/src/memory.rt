@@ -10,10 +10,10 @@ use case_words::{answer_said, is_done, keyed, noon, say};
 use imp_fields::{Airport, Moment};
 use sqlite::{Connection, MemStore};
 use station_core::{ActFault, Answer, Input, Keeper, answer_one};
+use station_engine::StoredStation;
 use station_rows::{Rows, open_memory};
 use station_tables::{AttachFault, attach_and_repeat, migrate};
 use std::alloc::Global;
-use stored_station::StoredStation;
 use table_state::TableState;
 use telegrams::read_telegram;
 

@@ -9,9 +9,9 @@ use awb_number::Awb;
 use case_words::say;
 use imp_fields::Airport;
 use station_core::{ActFault, Keeper};
+use station_engine::StoredStation;
 use station_rows::open_memory;
 use std::alloc::Global;
-use stored_station::StoredStation;
 
 /// What is found where there is no station: no table, no index.
 const NO_STATION: &str = "602, 0 tables and indexes";

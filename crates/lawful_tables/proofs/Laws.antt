@@ -3,7 +3,7 @@ use Rattle.std.specs.Prelude.{◌↔◌}
 use Rattle.station_core.specs.Step.{IsLawfulState}
 use Rattle.shipment_machine.specs.Lawful.{IsLawful}
 use Rattle.row_schema.specs.Tables.{Tables}
-use Rattle.row_values.specs.Meaning.{meaning_of, IsReadable}
+use Rattle.row_codec.specs.Meaning.{meaning_of, IsReadable}
 use Rattle.lawful_tables.specs.declared.name.TableName.{TableName}
 use Rattle.lawful_tables.specs.declared.name.TableName.TheVariants as table
 use Rattle.lawful_tables.specs.Lawful.{cargo_in, IsLawfulTable}

@@ -15,16 +15,16 @@ use Rattle.shipment_machine.specs.Cargo.{Cargo}
 use Rattle.shipment_machine.specs.Effect.{is_closed}
 use Rattle.shipment_machine.specs.Lawful.{is_outside, IsStocked, IsLawfulMove, IsLawfulAmount, departs_with, StaysDeparted}
 use Rattle.row_schema.specs.Tables.{Tables, move_id, trail_id, message_id}
-use Rattle.row_values.specs.Numbers.{AreNumbered}
-use Rattle.row_values.specs.Waybills.{is_waybill_row}
-use Rattle.row_values.specs.Stock.{AreStockRows}
-use Rattle.row_values.specs.Flights.{is_flight_row}
-use Rattle.row_values.specs.Moves.{book_in, is_move_row}
-use Rattle.row_values.specs.Counts.{AreCounts, AreBuilds}
-use Rattle.row_values.specs.Manifests.{is_expected_row, is_part_row}
-use Rattle.row_values.specs.Logs.{is_trail_row, is_message_row}
-use Rattle.row_values.specs.Replies.{is_kept_row, AreRequests, is_kept_text_row}
-use Rattle.row_values.specs.Meaning.{is_station, meaning_of}
+use Rattle.row_codec.specs.Numbers.{AreNumbered}
+use Rattle.row_codec.specs.Waybills.{is_waybill_row}
+use Rattle.row_codec.specs.Stock.{AreStockRows}
+use Rattle.row_codec.specs.Flights.{is_flight_row}
+use Rattle.row_codec.specs.Moves.{book_in, is_move_row}
+use Rattle.row_codec.specs.Counts.{AreCounts, AreBuilds}
+use Rattle.row_codec.specs.Manifests.{is_expected_row, is_part_row}
+use Rattle.row_codec.specs.Logs.{is_trail_row, is_message_row}
+use Rattle.row_codec.specs.Replies.{is_kept_row, AreRequests, is_kept_text_row}
+use Rattle.row_codec.specs.Meaning.{is_station, meaning_of}
 use Rattle.lawful_tables.specs.declared.name.TableName.{TableName}
 use Rattle.lawful_tables.specs.declared.name.TableName.TheVariants as table
 

@@ -1,7 +1,7 @@
 ghost use Rattle.std.specs.Prelude.{◌↔◌};
 ghost use Rattle.station_core.specs.Step.{IsLawfulState};
 ghost use Rattle.row_schema.specs.Tables.{Tables};
-ghost use Rattle.row_values.specs.Meaning.{meaning_of, IsReadable};
+ghost use Rattle.row_codec.specs.Meaning.{meaning_of, IsReadable};
 ghost use Rattle.lawful_tables.specs.declared.name.TableName.{TableName};
 ghost use Rattle.lawful_tables.specs.Lawful.{IsLawfulTable};
 

@@ -2,9 +2,9 @@
 use crate::samples::{has_line, sample};
 use awb_number::ascii_text;
 use case_words::{say, shown};
-use desk_call::version_line;
-use desk_line::ReportName;
-use desk_words::{Line, LineCommand, WordsFault, parse_words};
+use cli_call::version_line;
+use cli_line::ReportName;
+use cli_words::{Line, LineCommand, WordsFault, parse_words};
 use imp_fields::Airport;
 use std::alloc::Global;
 

@@ -6,8 +6,8 @@ use Rattle.std.specs.FinMap.{entries, get}
 use Rattle.std.proofs.lemmas.Bool.{and_parts, cond-true}
 use Rattle.std.proofs.lemmas.List.{length-map}
 use Rattle.sqlite_keyed.proofs.ListLemmas.{all_from_test, map-map}
-use Rattle.found_tables.specs.declared.flight.FlightEntry.{FlightEntry}
-use Rattle.found_tables.specs.Held.{flight_entry}
+use Rattle.table_load.specs.declared.flight.FlightEntry.{FlightEntry}
+use Rattle.table_load.specs.Held.{flight_entry}
 use Rattle.shipment_machine.specs.Book.{same_place}
 use Rattle.shipment_machine.specs.Effect.{is_closed}
 use Rattle.shipment_machine.specs.declared.flight.FlightDate.{FlightDate}
@@ -18,11 +18,11 @@ use Rattle.shipment_machine.specs.Lawful.{departs_with, StaysDeparted}
 use Rattle.shipment_machine.proofs.FlightKeys.{same-is}
 use Rattle.row_schema.specs.Tables.{Tables, Flight, FlightKey, flight_cmp}
 use Rattle.row_schema.proofs.Keys.{flight_total, flight_same}
-use Rattle.row_values.specs.Numbers.{is_set}
-use Rattle.row_values.specs.Flights.{is_designator, flight_key, flights_in, outbound_by, is_flight_row}
-use Rattle.row_values.specs.Moves.{book_in}
-use Rattle.row_values.proofs.MapLaws.{at_key, each_entry}
-use Rattle.count_tables.proofs.Tests.{same_bool, is_false}
+use Rattle.row_codec.specs.Numbers.{is_set}
+use Rattle.row_codec.specs.Flights.{is_designator, flight_key, flights_in, outbound_by, is_flight_row}
+use Rattle.row_codec.specs.Moves.{book_in}
+use Rattle.row_codec.proofs.MapLaws.{at_key, each_entry}
+use Rattle.running_totals.proofs.Tests.{same_bool, is_false}
 use Rattle.book_audits.specs.declared.sums.Spot.{Spot}
 use Rattle.book_audits.specs.declared.sums.Spot.TheVariants.{Plain, OnFlight}
 use Rattle.book_audits.specs.declared.sums.Posting.{Posting}

@@ -11,9 +11,9 @@ use Rattle.shipment_machine.specs.declared.moves.Place.{Place}
 use Rattle.shipment_machine.specs.declared.moves.Place.TheVariants.{Hand, Surplus, Free, Built, Departed, Delivered, Missing, Transferred}
 use Rattle.shipment_machine.specs.Lawful.{departs_with, builds_on, StaysDeparted}
 use Rattle.shipment_machine.proofs.FlightKeys.{same-is, same-refl}
-use Rattle.row_values.specs.Moves.{place_code}
-use Rattle.count_tables.specs.Sums.{is_built}
-use Rattle.count_tables.proofs.Tests.{some_is, none_is, is_false}
+use Rattle.row_codec.specs.Moves.{place_code}
+use Rattle.running_totals.specs.Sums.{is_built}
+use Rattle.running_totals.proofs.Tests.{some_is, none_is, is_false}
 use Rattle.book_audits.specs.declared.sums.Spot.{Spot}
 use Rattle.book_audits.specs.declared.sums.Spot.TheVariants.{Plain, OnFlight}
 use Rattle.book_audits.specs.declared.sums.Posting.{Posting}

@@ -12,9 +12,9 @@ use Rattle.shipment_machine.specs.declared.flight.FlightDate.{FlightDate}
 use Rattle.shipment_machine.specs.declared.moves.Outbound.{Outbound}
 use Rattle.row_schema.specs.Tables.{Flight, FlightKey, flight_cmp}
 use Rattle.row_schema.proofs.Keys.{flight_total, flight_same}
-use Rattle.row_values.specs.Flights.{is_designator, flight_key, flight_date_of, flights_in, outbound_by, is_flight_row}
-use Rattle.row_values.proofs.MoveRows.{columns_again}
-use Rattle.row_values.proofs.MapLaws.{each_entry}
+use Rattle.row_codec.specs.Flights.{is_designator, flight_key, flight_date_of, flights_in, outbound_by, is_flight_row}
+use Rattle.row_codec.proofs.MoveRows.{columns_again}
+use Rattle.row_codec.proofs.MapLaws.{each_entry}
 use Rattle.table_audits.proofs.FlightRows.{flight_at}
 use Rattle.book_audits.specs.Sums.{AreFlightsOf}
 use Rattle.move_audits.specs.Audited.{nowhere, flight_in, flights_of}

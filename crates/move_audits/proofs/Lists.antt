@@ -2,7 +2,7 @@
 use Rattle.std.proofs.Common.{◌≡◌, ℕ, zero, suc, ◌<◌, Bool, true, false, ◌||◌, Some, List, [], ◌∷◌, ◌++◌, map, length, get_or, slice_get, refl, sym, ap, subst, ◌∙◌, true≢false, arith}
 use Rattle.std.specs.List.{AllByRecursion, AllZip, list_any}
 use Rattle.std.proofs.lemmas.List.Folds.{list_any-append}
-use Rattle.count_tables.proofs.Tests.{some_is, none_is}
+use Rattle.running_totals.proofs.Tests.{some_is, none_is}
 
 pub or_no : (b : Bool) → (b || false) ≡ b
 or_no true = refl

@@ -4,10 +4,10 @@ use Rattle.shipment_machine.specs.declared.flight.FlightDate.{FlightDate}
 use Rattle.shipment_machine.specs.declared.moves.Place.{Place}
 use Rattle.shipment_machine.specs.declared.moves.Place.TheVariants.{Hand, Surplus, Free, Built, Departed, Delivered, Missing, Transferred}
 use Rattle.shipment_machine.specs.Lawful.{is_pair, NamesFlight}
-use Rattle.row_values.specs.Moves.{place_code, plain_place, place_of}
-use Rattle.count_tables.specs.Sums.{is_built}
-use Rattle.count_tables.proofs.Codes.{plain_code}
-use Rattle.count_tables.proofs.Tests.{none_is, is_int}
+use Rattle.row_codec.specs.Moves.{place_code, plain_place, place_of}
+use Rattle.running_totals.specs.Sums.{is_built}
+use Rattle.running_totals.proofs.Codes.{plain_code}
+use Rattle.running_totals.proofs.Tests.{none_is, is_int}
 use Rattle.move_audits.specs.Audited.{is_code_pair}
 
 -- pairs of places, by their codes

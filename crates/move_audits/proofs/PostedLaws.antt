@@ -5,8 +5,8 @@ use Rattle.std.specs.FinMap.{entries, get}
 use Rattle.std.proofs.lemmas.Bool.{and_parts, and_from}
 use Rattle.std.proofs.lemmas.Bool.Decides.{nat_tests}
 use Rattle.std.proofs.lemmas.Int.{ints}
-use Rattle.found_tables.specs.declared.flight.FlightEntry.{FlightEntry}
-use Rattle.found_tables.specs.Held.{flight_entry}
+use Rattle.table_load.specs.declared.flight.FlightEntry.{FlightEntry}
+use Rattle.table_load.specs.Held.{flight_entry}
 use Rattle.shipment_machine.specs.Cargo.{Cargo}
 use Rattle.shipment_machine.specs.declared.flight.FlightDate.{FlightDate}
 use Rattle.shipment_machine.specs.declared.moves.Outbound.{Outbound}
@@ -16,17 +16,17 @@ use Rattle.shipment_machine.specs.Lawful.{is_pair, IsNoted, NamesFlight}
 use Rattle.row_schema.specs.Tables as table
 use Rattle.row_schema.specs.Tables.{Flight, FlightKey, Waybill, flight_cmp}
 use Rattle.row_schema.proofs.Keys.{flight_same}
-use Rattle.row_values.specs.Numbers.{natural, is_within, is_number, is_day}
-use Rattle.row_values.specs.Flights.{is_flight_text, is_designator, flight_key, flight_date_of, outbound_by}
-use Rattle.row_values.specs.Moves.{place_code, plain_place, move_by, is_move_row, are_flight_columns}
-use Rattle.row_values.proofs.MoveRows.{columns_again}
+use Rattle.row_codec.specs.Numbers.{natural, is_within, is_number, is_day}
+use Rattle.row_codec.specs.Flights.{is_flight_text, is_designator, flight_key, flight_date_of, outbound_by}
+use Rattle.row_codec.specs.Moves.{place_code, plain_place, move_by, is_move_row, are_flight_columns}
+use Rattle.row_codec.proofs.MoveRows.{columns_again}
 use Rattle.lawful_tables.specs.Lawful.{cargo_in}
 use Rattle.table_audits.specs.Rows.{has_waybill}
 use Rattle.table_audits.proofs.DeclaredLaws.{declared_from, declared_back}
 use Rattle.table_audits.proofs.Each.{natural_again}
 use Rattle.table_audits.proofs.FlightRows.{flight_at}
-use Rattle.count_tables.specs.Sums.{is_built}
-use Rattle.count_tables.proofs.Tests.{some_is, none_is}
+use Rattle.running_totals.specs.Sums.{is_built}
+use Rattle.running_totals.proofs.Tests.{some_is, none_is}
 use Rattle.book_audits.specs.declared.sums.Spot.{Spot}
 use Rattle.book_audits.specs.declared.sums.Spot.TheVariants.{Plain, OnFlight}
 use Rattle.book_audits.specs.Sums.{IsSpot}

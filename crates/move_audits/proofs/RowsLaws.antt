@@ -7,8 +7,8 @@ use Rattle.sqlite_keyed.proofs.ListLemmas.{all_from_test, test_from_all, all_map
 use Rattle.shipment_machine.specs.Lawful.{IsLawfulMove}
 use Rattle.row_schema.specs.Tables as table
 use Rattle.row_schema.specs.Tables.{move_id}
-use Rattle.row_values.specs.Numbers.{AreNumbered}
-use Rattle.row_values.specs.Moves.{move_by, is_move_row, book_in}
+use Rattle.row_codec.specs.Numbers.{AreNumbered}
+use Rattle.row_codec.specs.Moves.{move_by, is_move_row, book_in}
 use Rattle.lawful_tables.specs.Lawful.{cargo_in}
 use Rattle.book_audits.specs.declared.sums.Posting.{Posting}
 use Rattle.book_audits.specs.Sums.{ArePostings}

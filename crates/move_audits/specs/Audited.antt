@@ -7,9 +7,9 @@ use Rattle.shipment_machine.specs.declared.flight.FlightDate.{FlightDate}
 use Rattle.shipment_machine.specs.Effect.{is_closed}
 use Rattle.shipment_machine.specs.Lawful.{IsLawfulMove, departs_with, StaysDeparted}
 use Rattle.row_schema.specs.Tables.{Tables, Flight, FlightKey, Move, Waybill, move_id}
-use Rattle.row_values.specs.Numbers.{AreNumbered, is_within, is_number, is_day}
-use Rattle.row_values.specs.Flights.{flight_date_of}
-use Rattle.row_values.specs.Moves.{is_move_row, are_flight_columns}
+use Rattle.row_codec.specs.Numbers.{AreNumbered, is_within, is_number, is_day}
+use Rattle.row_codec.specs.Flights.{flight_date_of}
+use Rattle.row_codec.specs.Moves.{is_move_row, are_flight_columns}
 use Rattle.lawful_tables.specs.Lawful.{cargo_in}
 use Rattle.table_audits.specs.Rows.{has_waybill}
 

@@ -6,8 +6,8 @@ use Rattle.shipment_machine.specs.declared.flight.FlightDate.{FlightDate}
 use Rattle.shipment_machine.specs.declared.moves.Place.{Place}
 use Rattle.shipment_machine.specs.Lawful.{IsNoted, IsLawfulMove}
 use Rattle.row_schema.specs.Tables as table
-use Rattle.row_values.specs.Flights.{flight_date_of, is_flight_row}
-use Rattle.row_values.specs.Moves.{place_of, move_by, is_move_row}
+use Rattle.row_codec.specs.Flights.{flight_date_of, is_flight_row}
+use Rattle.row_codec.specs.Moves.{place_of, move_by, is_move_row}
 use Rattle.lawful_tables.specs.Lawful.{cargo_in}
 use Rattle.table_audits.specs.Order.{RisesByNumber}
 use Rattle.book_audits.specs.declared.sums.Spot.{Spot}

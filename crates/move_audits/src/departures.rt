@@ -4,18 +4,18 @@ ghost use Rattle.std.specs.Option.{option_map};
 ghost use Rattle.std.specs.FinMap.{entries};
 ghost use Rattle.shipment_machine.specs.declared.flight.FlightDate.{FlightDate};
 ghost use Rattle.shipment_machine.specs.declared.moves.Move.{Move};
-ghost use Rattle.found_tables.specs.Held.{flight_entry};
+ghost use Rattle.table_load.specs.Held.{flight_entry};
 ghost use Rattle.row_schema.specs.Tables.{Tables};
-ghost use Rattle.row_values.specs.Numbers.{is_set};
-ghost use Rattle.row_values.specs.Flights.{is_flight_row};
-ghost use Rattle.row_values.specs.Moves.{book_in};
+ghost use Rattle.row_codec.specs.Numbers.{is_set};
+ghost use Rattle.row_codec.specs.Flights.{is_flight_row};
+ghost use Rattle.row_codec.specs.Moves.{book_in};
 ghost use Rattle.book_audits.specs.Sums.{AreDistinct, ArePostings};
 ghost use Rattle.move_audits.specs.Audited.{flights_of, AreDepartures};
 ghost use Rattle.move_audits.specs.Departed.{is_marked, marked, IsWalked};
 
 use book_audits::{NoRoom, Posting, Spot};
-use found_tables::FlightEntry;
 use std::alloc::Global;
+use table_load::FlightEntry;
 
 /// The code of the place of pieces that departed.
 const DEPARTED: i64 = 4;

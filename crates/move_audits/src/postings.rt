@@ -3,10 +3,10 @@ ghost use Rattle.std.specs.List.{list_all};
 ghost use Rattle.std.specs.Option.{option_map};
 ghost use Rattle.std.specs.FinMap.{entries};
 ghost use Rattle.cargo_rows.specs.Meant.{move_meant, waybill_meant};
-ghost use Rattle.found_tables.specs.Held.{flight_entry};
+ghost use Rattle.table_load.specs.Held.{flight_entry};
 ghost use Rattle.row_schema.specs.Tables.{Tables};
-ghost use Rattle.row_values.specs.Flights.{is_flight_row};
-ghost use Rattle.row_values.specs.Moves.{book_in};
+ghost use Rattle.row_codec.specs.Flights.{is_flight_row};
+ghost use Rattle.row_codec.specs.Moves.{book_in};
 ghost use Rattle.table_audits.specs.Order.{RisesByNumber};
 ghost use Rattle.book_audits.specs.Sums.{ArePostings};
 ghost use Rattle.move_audits.specs.Audited.{flights_of, AreMoveRows};
@@ -15,10 +15,10 @@ ghost use Rattle.move_audits.specs.Posted.{AreBeside, posting_in, IsPostedOr, Ar
 use crate::rows::is_fit;
 use crate::spots::spot_of;
 use book_audits::{NoRoom, Posting, Spot, Tally};
-use found_tables::FlightEntry;
 use station_rows::{MoveRow, WaybillRow};
 use std::alloc::Global;
 use table_audits::numbers::are_moves_numbered;
+use table_load::FlightEntry;
 
 /// What a row says as a posting, from one place to another.
 fn posted(row: &MoveRow, from: Spot, to: Spot) -> Posting

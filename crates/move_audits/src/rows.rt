@@ -1,7 +1,7 @@
 ghost use Rattle.std.specs.Prelude.{◌≡◌, map};
 ghost use Rattle.cargo_rows.specs.Meant.{move_meant, waybill_meant};
-ghost use Rattle.row_values.specs.Numbers.{is_within};
-ghost use Rattle.row_values.specs.Moves.{are_flight_columns};
+ghost use Rattle.row_codec.specs.Numbers.{is_within};
+ghost use Rattle.row_codec.specs.Moves.{are_flight_columns};
 ghost use Rattle.table_audits.specs.Order.{RisesByNumber};
 ghost use Rattle.move_audits.specs.Audited.{has_numbers, is_code_pair, is_fit_move};
 

@@ -1,15 +1,15 @@
 ghost use Rattle.std.specs.Prelude.{◌≡◌, map, is_some, true, pos, List};
 ghost use Rattle.std.specs.Ordering.{int_eq};
 ghost use Rattle.cargo_rows.specs.Meant.{move_meant};
-ghost use Rattle.found_tables.specs.Held.{flight_entry};
+ghost use Rattle.table_load.specs.Held.{flight_entry};
 ghost use Rattle.row_schema.specs.Tables.{Tables, Waybill};
-ghost use Rattle.row_values.specs.Moves.{plain_place, are_flight_columns};
+ghost use Rattle.row_codec.specs.Moves.{plain_place, are_flight_columns};
 ghost use Rattle.move_audits.specs.Posted.{AreBeside, IsSpotFound};
 
 use book_audits::Spot;
-use found_tables::FlightEntry;
 use station_rows::MoveRow;
 use table_audits::lookups::flight_place;
+use table_load::FlightEntry;
 
 /// Whether it is the code of a built place.
 fn is_built(code: &i64) -> bool

@@ -4,26 +4,26 @@ use Rattle.std.specs.Prelude.{IfOk, IfErr}
 use Rattle.std.proofs.lemmas.List.{length-map}
 use Rattle.sqlite.specs.Effect.{Database}
 use Rattle.found_station.specs.Reading.{Reading, read_as}
-use Rattle.found_tables.specs.declared.station.FileVersion.TheVariants.{First, Second}
+use Rattle.table_load.specs.declared.station.FileVersion.TheVariants.{First, Second}
 use Rattle.sqlite.specs.State as sqlite
 use Rattle.station_core.specs.Step.{State, IsLawfulState}
 use Rattle.row_schema.specs.Connection.{view_of}
 use Rattle.row_schema.specs.Store.{View, IsUnchanged}
 use Rattle.row_schema.specs.Tables.{Tables, Message, IsStation, tables_of}
-use Rattle.row_values.specs.Logs.{line_by}
-use Rattle.row_values.specs.Meaning.{meaning_of, IsReadable, Means}
-use Rattle.row_values.specs.Moves.{move_by}
+use Rattle.row_codec.specs.Logs.{line_by}
+use Rattle.row_codec.specs.Meaning.{meaning_of, IsReadable, Means}
+use Rattle.row_codec.specs.Moves.{move_by}
 use Rattle.state_store.specs.Store.{at_rest}
 use Rattle.table_state.specs.Shown.{Knows, HasThese}
 use Rattle.lawful_tables.proofs.Laws.{lawful_each}
-use Rattle.station_audit.proofs.Declared.{each_lawful, same_tables}
-use Rattle.station_audit.proofs.Judged.{fit}
-use Rattle.station_audit.proofs.Typed.{station_held_whole}
-use Rattle.station_audit.specs.Good.{IsStationOf}
-use Rattle.station_audit.specs.Verdict.{Tells, Judges}
-use Rattle.station_audit.specs.declared.state.FoundState.{FoundState}
-use Rattle.station_audit.specs.declared.unfit.Unfit.{Unfit}
-use Rattle.station_audit.specs.declared.unfit.Unfit.TheVariants as unfit
+use Rattle.file_audit.proofs.Declared.{each_lawful, same_tables}
+use Rattle.file_audit.proofs.Judged.{fit}
+use Rattle.file_audit.proofs.Typed.{station_held_whole}
+use Rattle.file_audit.specs.Good.{IsStationOf}
+use Rattle.file_audit.specs.Verdict.{Tells, Judges}
+use Rattle.file_audit.specs.declared.state.FoundState.{FoundState}
+use Rattle.file_audit.specs.declared.unfit.Unfit.{Unfit}
+use Rattle.file_audit.specs.declared.unfit.Unfit.TheVariants as unfit
 use Rattle.sqlite.specs.declared.error.Error.{Error}
 use Rattle.row_laws.specs.Calls.{Reads}
 use Rattle.station_tables.specs.Attached.{IsStateOf, IsStateIn, IsOldStateIn, IsTypedState, IsFoundIn, IsJudged, RefusesAs, Refuses, IsBreakdown}

@@ -3,8 +3,8 @@ use Rattle.std.proofs.Common.{◌≡◌, ◌∙◌, ℕ, ◌≤◌, ◌⊎◌, i
 use Rattle.std.specs.Prelude.{IsTrue, IfOk, IfErr, not}
 use Rattle.sqlite.specs.Effect.{Database}
 use Rattle.found_station.specs.Reading.{read_as}
-use Rattle.found_tables.specs.declared.station.FileVersion.{FileVersion}
-use Rattle.found_tables.specs.declared.station.FileVersion.TheVariants.{Second}
+use Rattle.table_load.specs.declared.station.FileVersion.{FileVersion}
+use Rattle.table_load.specs.declared.station.FileVersion.TheVariants.{Second}
 use Rattle.sqlite.specs.Tree.{Trees}
 use Rattle.sqlite.specs.State as sqlite
 use Rattle.sqlite.specs.State.{HasCleanDisk}
@@ -19,8 +19,8 @@ use Rattle.row_schema.specs.Store as store
 use Rattle.row_schema.specs.Store.{View}
 use Rattle.row_schema.specs.Tables.{Tables, IsStation}
 use Rattle.table_state.specs.Shown as tables
-use Rattle.station_audit.specs.declared.state.FoundState.{FoundState}
-use Rattle.station_audit.specs.declared.unfit.Unfit.{Unfit}
+use Rattle.file_audit.specs.declared.state.FoundState.{FoundState}
+use Rattle.file_audit.specs.declared.unfit.Unfit.{Unfit}
 use Rattle.station_tables.specs.Attached.{IsStateIn, IsTypedState, IsJudged, Refuses, IsBreakdown}
 use Rattle.station_tables.specs.Found.{Finds}
 use Rattle.station_tables.specs.declared.fault.AttachFault.{AttachFault}

@@ -3,7 +3,7 @@ use Rattle.std.proofs.Common.{◌≡◌, ◌⊎◌, inl, inr, ⊎_elim, ℕ, Lis
 use Rattle.shipment_machine.proofs.Opening.{opening_lawful}
 use Rattle.station_core.specs.Step.{State, IsLawfulState, opening}
 use Rattle.row_schema.specs.Store.{View}
-use Rattle.stored_station.specs.Found as stored
+use Rattle.station_engine.specs.Found as stored
 use Rattle.table_state.specs.Shown as tables
 use Rattle.station_tables.specs.Found.{Finds}
 

@@ -6,15 +6,15 @@ use Rattle.sqlite.specs.Tree.{Trees}
 use Rattle.sqlite.specs.State as sqlite
 use Rattle.sqlite.specs.State.{HasCleanDisk}
 use Rattle.found_station.specs.Reading.{read_as}
-use Rattle.found_tables.specs.declared.station.FileVersion.TheVariants.{First}
+use Rattle.table_load.specs.declared.station.FileVersion.TheVariants.{First}
 use Rattle.row_schema.specs.Own.{IsOwn, IsOldOwn}
 use Rattle.row_schema.specs.Schema.{station_schema}
 use Rattle.row_schema.specs.Tables.{Tables, IsOldStation, tables_of, old_tables_of, upgraded}
-use Rattle.row_values.specs.Meaning.{Means}
+use Rattle.row_codec.specs.Meaning.{Means}
 use Rattle.station_core.specs.Step.{State}
-use Rattle.station_audit.proofs.Declared.{old_same_tables}
-use Rattle.station_audit.specs.declared.state.FoundState.{FoundState}
-use Rattle.station_audit.specs.declared.unfit.Unfit.{Unfit}
+use Rattle.file_audit.proofs.Declared.{old_same_tables}
+use Rattle.file_audit.specs.declared.state.FoundState.{FoundState}
+use Rattle.file_audit.specs.declared.unfit.Unfit.{Unfit}
 use Rattle.table_upgrade.specs.Upgrade.{IsUpgraded, MeansUpgraded}
 use Rattle.station_tables.specs.Attached.{IsOldStateIn, IsFoundIn, IsJudged, RefusesAs, IsBreakdown}
 use Rattle.station_tables.specs.Migrated.{IsMigrated, HasMigrated}

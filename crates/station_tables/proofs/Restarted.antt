@@ -14,7 +14,7 @@ use Rattle.station_core.specs.Keeping.{IsAfterAnswered}
 use Rattle.station_core.specs.Step.{State, IsLawfulState}
 use Rattle.row_schema.specs.Store.{View}
 use Rattle.row_schema.specs.Tables.{tables_of}
-use Rattle.row_values.specs.Meaning.{meaning_of, IsReadable}
+use Rattle.row_codec.specs.Meaning.{meaning_of, IsReadable}
 use Rattle.row_schema.specs.Own.{IsOwn}
 use Rattle.station_rows.specs.Own.{are_declared}
 use Rattle.station_rows.specs.Shown.{rows_view}

@@ -5,17 +5,17 @@ use Rattle.sqlite.specs.Held.{Held}
 use Rattle.sqlite_trees.specs.declared.store.Store.{Ghosts}
 use Rattle.station_core.specs.Step.{State}
 use Rattle.row_schema.specs.Tables.{Tables, tables_of}
-use Rattle.row_values.specs.Meaning.{meaning_of, Means}
-use Rattle.station_audit.specs.declared.state.FoundState.{FoundState}
-use Rattle.station_audit.specs.declared.unfit.Unfit.{Unfit}
-use Rattle.station_audit.specs.declared.unfit.Unfit.TheVariants as unfit
-use Rattle.station_audit.specs.Good.{IsStationOf}
+use Rattle.row_codec.specs.Meaning.{meaning_of, Means}
+use Rattle.file_audit.specs.declared.state.FoundState.{FoundState}
+use Rattle.file_audit.specs.declared.unfit.Unfit.{Unfit}
+use Rattle.file_audit.specs.declared.unfit.Unfit.TheVariants as unfit
+use Rattle.file_audit.specs.Good.{IsStationOf}
 use Rattle.found_station.specs.Reading.{Reading, read_as}
-use Rattle.found_tables.specs.declared.station.FileVersion.{FileVersion}
-use Rattle.found_tables.specs.declared.station.FileVersion.TheVariants.{First, Second}
+use Rattle.table_load.specs.declared.station.FileVersion.{FileVersion}
+use Rattle.table_load.specs.declared.station.FileVersion.TheVariants.{First, Second}
 use Rattle.lawful_tables.specs.declared.name.TableName.{TableName}
 use Rattle.lawful_tables.specs.declared.name.TableName.TheVariants.{Waybill, Waybill2}
-use Rattle.station_audit.specs.Verdict.{IsUnfit, Tells}
+use Rattle.file_audit.specs.Verdict.{IsUnfit, Tells}
 use Rattle.station_tables.specs.declared.fault.AttachFault.{AttachFault}
 use Rattle.station_tables.specs.declared.fault.AttachFault.TheVariants as fault
 use Rattle.station_tables.specs.declared.station.Station.{Station}

@@ -2,7 +2,7 @@
 use Rattle.std.specs.Prelude.{Option}
 use Rattle.station_core.specs.Step.{State}
 use Rattle.row_schema.specs.Store.{View}
-use Rattle.stored_station.specs.Found as stored
+use Rattle.station_engine.specs.Found as stored
 use Rattle.table_state.specs.Shown as tables
 
 -- a lawful state that some tables which a crash may leave mean, or none

@@ -6,7 +6,7 @@ use Rattle.sqlite.specs.State as sqlite
 use Rattle.row_laws.specs.Calls.{IsSettled}
 use Rattle.row_schema.specs.Own.{IsOwn}
 use Rattle.row_schema.specs.Tables.{tables_of}
-use Rattle.row_values.specs.Meaning.{Means}
+use Rattle.row_codec.specs.Meaning.{Means}
 use Rattle.station_core.specs.Step.{State}
 use Rattle.station_tables.specs.Attached.{IsStateIn, IsOldStateIn}
 

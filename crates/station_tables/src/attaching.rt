@@ -4,31 +4,31 @@ ghost use Rattle.row_laws.specs.Calls.{Reads};
 ghost use Rattle.sqlite.specs.Held.{state};
 ghost use Rattle.sqlite.specs.Effect.{Database};
 ghost use Rattle.found_station.specs.Reading.{read_as};
-ghost use Rattle.found_tables.specs.declared.station.FileVersion.TheVariants.{Second};
+ghost use Rattle.table_load.specs.declared.station.FileVersion.TheVariants.{Second};
 ghost use Rattle.station_core.specs.Step.{State, IsLawfulState};
 ghost use Rattle.row_schema.specs.Connection.{connection_view};
 ghost use Rattle.row_schema.specs.Schema.{station_schema};
 ghost use Rattle.row_schema.specs.Store as store;
 ghost use Rattle.row_schema.specs.Tables.{IsStation, Tables};
-ghost use Rattle.row_values.specs.Meaning.{Means};
+ghost use Rattle.row_codec.specs.Meaning.{Means};
 ghost use Rattle.state_store.specs.Store.{at_rest};
 ghost use Rattle.table_state.specs.Shown.{HasThese, Knows};
 ghost use Rattle.row_schema.specs.Own.{IsOwn, LiesInOrder};
 ghost use Rattle.station_rows.specs.Own.{are_declared};
-ghost use Rattle.station_audit.specs.Verdict.{IsUnfit, Tells};
+ghost use Rattle.file_audit.specs.Verdict.{IsUnfit, Tells};
 ghost use Rattle.station_tables.specs.Attached.{connection_in, IsBreakdown, IsJudged, IsStateIn, IsTypedState, Refuses};
 ghost use Rattle.station_tables.specs.Found.{Finds};
 
 use crate::fault::AttachFault;
 use crate::station::Station;
 use declared_tables::has_station;
-use found_tables::FileVersion;
+use file_audit::{FoundState, Unfit, found_state};
 use sqlite::{Alter, Connection, Error, ErrorCode};
-use station_audit::{FoundState, Unfit, found_state};
 use station_core::Keeper;
+use station_engine::StoredStation;
 use station_rows::{Rows, TableStore};
 use std::alloc::Global;
-use stored_station::StoredStation;
+use table_load::FileVersion;
 use table_state::TableState;
 
 /// The fault that says why a database is no station's.

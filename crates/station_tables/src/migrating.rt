@@ -1,7 +1,7 @@
 //! A file of version 1 becomes one of version 2.
 ghost use Rattle.std.specs.Prelude.{◌≡◌, ◌≢◌, ◌⊎◌, true, Err, IsTrue, IfOk, IfErr};
 ghost use Rattle.found_station.specs.Reading.{read_as};
-ghost use Rattle.found_tables.specs.declared.station.FileVersion.TheVariants.{First};
+ghost use Rattle.table_load.specs.declared.station.FileVersion.TheVariants.{First};
 ghost use Rattle.row_schema.specs.Connection.{connection_view};
 ghost use Rattle.row_schema.specs.Own.{IsOldOwn, LiesInOrder};
 ghost use Rattle.row_schema.specs.Tables.{IsOldStation};
@@ -9,7 +9,7 @@ ghost use Rattle.sqlite.specs.Effect.{Database};
 ghost use Rattle.sqlite.specs.Held.{state};
 ghost use Rattle.sqlite.specs.State.{HasCleanDisk, Survives};
 ghost use Rattle.sqlite.specs.Tree.{Trees};
-ghost use Rattle.station_audit.specs.Verdict.{IsUnfit};
+ghost use Rattle.file_audit.specs.Verdict.{IsUnfit};
 ghost use Rattle.station_core.specs.Step.{State};
 ghost use Rattle.station_tables.specs.Attached.{IsBreakdown, IsJudged, IsOldStateIn, RefusesAs, old_name};
 ghost use Rattle.station_tables.specs.Migrated.{HasMigrated, IsMigrated};
@@ -18,12 +18,12 @@ ghost use Rattle.table_upgrade.specs.Upgrade.{MeansUpgraded};
 use crate::attaching::{breakdown, judge};
 use crate::fault::AttachFault;
 use declared_tables::shows_old_station;
-use found_tables::FileVersion;
+use file_audit::{FoundState, Unfit};
 use lawful_tables::TableName;
 use row_schema::shows_own;
 use sqlite::{Alter, Connection};
-use station_audit::{FoundState, Unfit};
 use std::alloc::Global;
+use table_load::FileVersion;
 use table_upgrade::upgrade_tables;
 
 /// The table of a file of version 1 in which the rows of a table stand.

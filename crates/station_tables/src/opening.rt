@@ -17,9 +17,9 @@ use crate::station::Station;
 use imp_fields::Airport;
 use sqlite::{Alter, Connection};
 use station_core::Keeper;
+use station_engine::StoredStation;
 use station_rows::CreateFault;
 use std::alloc::Global;
-use stored_station::StoredStation;
 
 /// Makes the tables of a station at an airport with nothing in it, in one transaction, in a store
 /// where none of their names is taken.

@@ -20,8 +20,8 @@ use sqlite::{Alter, Connection};
 use station_core::{
     ActFault, BookRow, Input, IrregularRow, Keeper, Message, Reply, Sink, TrailRow, Waybill,
 };
+use station_engine::StoredStation;
 use station_rows::Rows;
-use stored_station::StoredStation;
 use table_state::TableState;
 
 /// A station over the tables of a `sqlite` connection. It takes every input.
@@ -104,7 +104,7 @@ impl<S: Alter> Station<S> {
 }
 
 impl<S: Alter> Keeper for Station<S> {
-    ghost use Rattle.stored_station.specs.Laws.{found_is};
+    ghost use Rattle.station_engine.specs.Laws.{found_is};
     ghost use Rattle.table_state.specs.Laws.{finds_what_it_shows};
 
     ghost keeps = { λ k s. ⟦<StoredStation<TableState<Rows<S>>> as Keeper>⟧.keeps k.stored s };

@@ -12,8 +12,8 @@ use Rattle.agent_stock.specs.Stock.{is_among}
 use Rattle.agent_stock.specs.declared.stock.Run.{Run}
 use Rattle.agent_stock.specs.declared.runs.StockRun.{StockRun}
 use Rattle.row_schema.specs.Tables.{Stock, StockKey}
-use Rattle.row_values.specs.Numbers.{natural}
-use Rattle.row_values.specs.Stock.{is_stock_row}
+use Rattle.row_codec.specs.Numbers.{natural}
+use Rattle.row_codec.specs.Stock.{is_stock_row}
 use Rattle.run_rows.specs.Rows.{holders_by, end_of, IsRunRow, StandFrom, touches, rows_near}
 use Rattle.station_rows.specs.Meant.{is_between, is_up_to, last_up_to}
 use Rattle.stock_runs.specs.Reads.{is_below, last_below, is_from, reaching, holder_at}

@@ -13,7 +13,7 @@ use Rattle.agent_stock.specs.declared.runs.StockRun.{StockRun}
 use Rattle.row_laws.proofs.Keys.{pair_eq, int_tied}
 use Rattle.row_schema.proofs.Keys.{stock_total, stock_same}
 use Rattle.row_schema.specs.Tables.{Stock, StockKey, stock_cmp}
-use Rattle.row_values.specs.Stock.{holders_in, is_stock_row, are_apart, AreStockRows}
+use Rattle.row_codec.specs.Stock.{holders_in, is_stock_row, are_apart, AreStockRows}
 use Rattle.run_rows.specs.Rows.{holders_by, IsRunRow, AreRuns}
 use Rattle.run_rows.proofs.Standing.{each_split, each_join}
 use Rattle.stock_runs.specs.Runs.{run_in, key_of, row_in, entry_of, IsWritable}

@@ -5,8 +5,8 @@ use Rattle.agent_stock.specs.declared.stock.Holder.{Holder}
 use Rattle.agent_stock.specs.declared.stock.Holder.TheVariants.{Desk, Agent, Used, Void}
 use Rattle.agent_stock.specs.declared.runs.StockRun.{StockRun}
 use Rattle.row_schema.specs.Tables.{Stock, StockKey}
-use Rattle.row_values.specs.Numbers.{natural}
-use Rattle.row_values.specs.Stock.{holder_by}
+use Rattle.row_codec.specs.Numbers.{natural}
+use Rattle.row_codec.specs.Stock.{holder_by}
 
 abbrev pub named : Option Holder → Holder
 named (Some holder) = holder

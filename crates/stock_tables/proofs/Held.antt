@@ -5,7 +5,7 @@ use Rattle.std.specs.FinMap.{FinMap, entries}
 use Rattle.awb_number.specs.Number.{prefix_of, serial_of}
 use Rattle.agent_stock.specs.declared.stock.Run.{Run}
 use Rattle.row_schema.specs.Tables.{Stock, stock_cmp}
-use Rattle.row_values.specs.Stock.{holders_in, AreStockRows}
+use Rattle.row_codec.specs.Stock.{holders_in, AreStockRows}
 use Rattle.run_rows.specs.Rows.{rows_near}
 use Rattle.station_rows.specs.declared.stock.StockRow.{StockRow}
 use Rattle.station_rows.specs.Meant.{stock_meant, is_between, last_up_to}

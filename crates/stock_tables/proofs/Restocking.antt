@@ -11,7 +11,7 @@ use Rattle.agent_stock.specs.declared.stock.Run.{Run}
 use Rattle.agent_stock.specs.declared.runs.StockRun.{StockRun}
 use Rattle.row_schema.specs.Store.{View, Displays, inside}
 use Rattle.row_schema.specs.Tables.{Tables, Stock, stock_cmp}
-use Rattle.row_values.specs.Stock.{holders_in}
+use Rattle.row_codec.specs.Stock.{holders_in}
 use Rattle.run_rows.specs.Rows.{holders_by, StandFrom, AreRuns, AreAround, AreNear, Touches, rows_ahead, rows_near, rows_behind, end_of}
 use Rattle.run_rows.proofs.Places.{run_parts}
 use Rattle.run_rows.proofs.Parted.{parted, around, near_holders, touched}

@@ -8,7 +8,7 @@ use Rattle.agent_stock.specs.declared.stock.Run.{Run}
 use Rattle.agent_stock.specs.declared.runs.StockRun.{StockRun}
 use Rattle.row_schema.specs.Store.{View, Displays, inside}
 use Rattle.row_schema.specs.Tables.{Tables, Stock, stock_cmp}
-use Rattle.row_values.specs.Stock.{holders_in, AreStockRows}
+use Rattle.row_codec.specs.Stock.{holders_in, AreStockRows}
 use Rattle.run_rows.specs.Rows.{AreAround, end_of}
 use Rattle.stock_runs.specs.Runs.{key_of}
 use Rattle.stock_runs.specs.Writes.{begins}

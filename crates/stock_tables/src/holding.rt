@@ -1,7 +1,7 @@
 //! Who holds a number.
 ghost use Rattle.std.specs.Prelude.{◌≡◌, IfOk};
 ghost use Rattle.row_schema.specs.Store.{Seen, IsShowing, Rests, Survives};
-ghost use Rattle.row_values.specs.Stock.{holders_in};
+ghost use Rattle.row_codec.specs.Stock.{holders_in};
 ghost use Rattle.station_rows.specs.Clauses.{ShowsStill, WasOpen};
 ghost use Rattle.station_rows.specs.Meant.{stock_meant};
 ghost use Rattle.stock_runs.specs.Reads.{holder_at};

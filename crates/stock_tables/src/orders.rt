@@ -3,7 +3,7 @@ ghost use Rattle.std.specs.Prelude.{◌≡◌, true, false, Err, None, OnOk, IfE
 ghost use Rattle.agent_stock.specs.Stock.{is_run, lowest_failing, refused_by, run_refusal, order_refusal, run_of, assigned, after_order};
 ghost use Rattle.row_schema.specs.Store.{IsShowing, Survives, at_rest};
 ghost use Rattle.row_schema.specs.Tables.{Tables};
-ghost use Rattle.row_values.specs.Stock.{holders_in};
+ghost use Rattle.row_codec.specs.Stock.{holders_in};
 ghost use Rattle.state_store.specs.Store.{RefusesBy, OnRefused};
 ghost use Rattle.stock_tables.specs.Stocked.{Stocked, Restocked};
 

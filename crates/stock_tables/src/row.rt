@@ -1,6 +1,6 @@
 //! Rows of `stock` as runs, and back.
 ghost use Rattle.std.specs.Prelude.{◌≡◌, ℤ, Some, IfSome, IfOk, OnOk};
-ghost use Rattle.row_values.specs.Stock.{holder_by};
+ghost use Rattle.row_codec.specs.Stock.{holder_by};
 ghost use Rattle.station_rows.specs.Meant.{stock_meant};
 ghost use Rattle.stock_runs.specs.Runs.{run_in, holder_number, code_of, entry_of, IsWritable};
 

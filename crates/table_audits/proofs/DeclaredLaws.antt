@@ -3,7 +3,7 @@ use Rattle.std.proofs.Common.{◌≡◌, ℕ, pos, true, Option, Some, None, opt
 use Rattle.std.specs.Prelude.{IsSome}
 use Rattle.sqlite_keyed.specs.Keyed.{get_by}
 use Rattle.row_schema.specs.Tables.{Waybill, waybill_id}
-use Rattle.row_values.specs.Waybills.{declared_by, declared_in}
+use Rattle.row_codec.specs.Waybills.{declared_by, declared_in}
 use Rattle.table_audits.specs.Rows.{has_waybill}
 
 pub some_from : {X Y : Type 0} (f : X → Y) (o : Option X) → is_some o ≡ true → IsSome (option_map f o)

@@ -8,7 +8,7 @@ use Rattle.sqlite.specs.Tree.{IsAscending}
 use Rattle.sqlite_keyed.specs.Keyed.{get_by}
 use Rattle.sqlite_keyed.proofs.ListLemmas.{all_weaker, all_both, all_from_test, test_from_all}
 use Rattle.shipment_machine.specs.Lawful.{IsLawfulAmount}
-use Rattle.row_values.specs.Numbers.{natural, is_within}
+use Rattle.row_codec.specs.Numbers.{natural, is_within}
 
 -- ---- tests of lists
 

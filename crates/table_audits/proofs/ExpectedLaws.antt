@@ -10,10 +10,10 @@ use Rattle.shipment_machine.specs.declared.flight.FlightDate.{FlightDate}
 use Rattle.shipment_machine.specs.declared.moves.Expected as cargo
 use Rattle.row_schema.specs.Tables.{Tables, Expected, ExpectedKey, expected_cmp}
 use Rattle.row_schema.proofs.Keys.{expected_total, expected_same}
-use Rattle.row_values.specs.Numbers.{natural, is_within, is_number, is_day}
-use Rattle.row_values.specs.Flights.{is_designator, is_flight_text}
-use Rattle.row_values.specs.Manifests.{expected_key, expected_by, expected_in, is_expected_row}
-use Rattle.row_values.proofs.MapLaws.{at_key, each_entry}
+use Rattle.row_codec.specs.Numbers.{natural, is_within, is_number, is_day}
+use Rattle.row_codec.specs.Flights.{is_designator, is_flight_text}
+use Rattle.row_codec.specs.Manifests.{expected_key, expected_by, expected_in, is_expected_row}
+use Rattle.row_codec.proofs.MapLaws.{at_key, each_entry}
 use Rattle.lawful_tables.specs.Lawful.{AreExpected, cargo_in}
 use Rattle.table_audits.specs.Rows.{has_waybill, is_lawful_expected}
 use Rattle.table_audits.proofs.Each.{both_lists, natural_again, amount_of, amount_back}

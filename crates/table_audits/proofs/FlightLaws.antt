@@ -10,9 +10,9 @@ use Rattle.shipment_machine.specs.declared.flight.FlightDate.{FlightDate}
 use Rattle.shipment_machine.specs.declared.moves.Outbound.{Outbound}
 use Rattle.row_schema.specs.Tables.{Tables, Flight, FlightKey, flight_cmp}
 use Rattle.row_schema.proofs.Keys.{flight_total, flight_same}
-use Rattle.row_values.specs.Flights.{is_designator, flight_key, outbound_by, flights_in, is_flight_row}
-use Rattle.row_values.specs.Meaning.{airport_in}
-use Rattle.row_values.proofs.MapLaws.{at_key, each_entry}
+use Rattle.row_codec.specs.Flights.{is_designator, flight_key, outbound_by, flights_in, is_flight_row}
+use Rattle.row_codec.specs.Meaning.{airport_in}
+use Rattle.row_codec.proofs.MapLaws.{at_key, each_entry}
 use Rattle.lawful_tables.specs.Lawful.{AreFlights, cargo_in}
 use Rattle.table_audits.specs.Rows.{is_lawful_flight}
 use Rattle.table_audits.proofs.Each.{both_lists}

@@ -11,9 +11,9 @@ use Rattle.imp_fields.specs.Amount.{count_of}
 use Rattle.imp_fields.specs.Flight.{Designator, is_carrier, suffix_of, flight_of, flight_text}
 use Rattle.imp_fields.proofs.SameFlight.{bytes_eq-true}
 use Rattle.shipment_machine.specs.declared.flight.FlightDate.{FlightDate}
-use Rattle.row_values.specs.Numbers.{natural, is_day}
-use Rattle.row_values.specs.Flights.{is_designator, is_written, is_flight_text}
-use Rattle.row_values.proofs.FlightKeys.{designator_test}
+use Rattle.row_codec.specs.Numbers.{natural, is_day}
+use Rattle.row_codec.specs.Flights.{is_designator, is_written, is_flight_text}
+use Rattle.row_codec.proofs.FlightKeys.{designator_test}
 use Rattle.table_audits.proofs.Each.{natural_again}
 
 -- ---- what was read of a text

@@ -5,10 +5,10 @@ use Rattle.std.specs.FinMap.{entries}
 use Rattle.state_store.specs.Told.{IsRequest}
 use Rattle.row_schema.specs.Tables.{Kept, kept_cmp, Tables}
 use Rattle.row_schema.proofs.Keys.{kept_total, kept_same}
-use Rattle.found_tables.specs.declared.kept_key.KeptKeyEntry.{KeptKeyEntry}
-use Rattle.found_tables.specs.Held.{kept_key_entry}
-use Rattle.row_values.specs.Replies.{AreRequests}
-use Rattle.row_values.proofs.MapLaws.{at_key, each_entry}
+use Rattle.table_load.specs.declared.kept_key.KeptKeyEntry.{KeptKeyEntry}
+use Rattle.table_load.specs.Held.{kept_key_entry}
+use Rattle.row_codec.specs.Replies.{AreRequests}
+use Rattle.row_codec.proofs.MapLaws.{at_key, each_entry}
 
 abbrev pub Asks : List ℕ × Kept → Type 0
 Asks row = IsRequest row.1.command

@@ -8,12 +8,12 @@ use Rattle.sqlite_keyed.proofs.ListLemmas.{all_from_test, test_from_all}
 use Rattle.shipment_machine.specs.declared.moves.Part.{Part}
 use Rattle.row_schema.specs.Tables.{Tables, PartKey, part_cmp}
 use Rattle.row_schema.proofs.Keys.{part_total, part_same}
-use Rattle.row_values.specs.Numbers.{natural}
-use Rattle.row_values.specs.Flights.{is_designator}
-use Rattle.row_values.specs.Manifests.{part_key, parts_in, is_part_row}
-use Rattle.row_values.specs.Replies.{is_kept_text_row}
-use Rattle.row_values.specs.Meaning.{meaning_of}
-use Rattle.row_values.proofs.MapLaws.{at_key, each_entry}
+use Rattle.row_codec.specs.Numbers.{natural}
+use Rattle.row_codec.specs.Flights.{is_designator}
+use Rattle.row_codec.specs.Manifests.{part_key, parts_in, is_part_row}
+use Rattle.row_codec.specs.Replies.{is_kept_text_row}
+use Rattle.row_codec.specs.Meaning.{meaning_of}
+use Rattle.row_codec.proofs.MapLaws.{at_key, each_entry}
 use Rattle.lawful_tables.specs.Lawful.{AreParts, AreKeptTexts}
 use Rattle.table_audits.specs.Rows.{has_text}
 use Rattle.table_audits.proofs.Each.{natural_again}

@@ -1,7 +1,7 @@
 -- Rows that are numbered from 1, row by row.
 use Rattle.std.proofs.Common.{◌≡◌, ℕ, zero, suc, ◌+◌, ◌<◌, ℤ, pos, List, [], ◌∷◌, map, length, slice_index_or, refl, sym, ap, ap₂, ◌∙◌, arith}
 use Rattle.std.specs.List.{range_with_len}
-use Rattle.row_values.specs.Numbers.{AreNumbered}
+use Rattle.row_codec.specs.Numbers.{AreNumbered}
 
 module _ {X Y : Type 0} (f : X → Y) (key : Y → ℤ) where
   abbrev pub HasNumber : ℕ → List X → ℕ → Type 0

@@ -2,8 +2,8 @@
 use Rattle.std.proofs.Common.{◌≡◌, ◌∙◌, true, List, [], ◌∷◌, map, refl}
 use Rattle.std.specs.Prelude.{◌↔◌, IsTrue, is_empty}
 use Rattle.row_schema.specs.Tables.{OldWaybill}
-use Rattle.found_tables.specs.Held.{old_waybill_entry}
-use Rattle.found_tables.specs.declared.old_waybill.OldWaybillEntry.{OldWaybillEntry}
+use Rattle.table_load.specs.Held.{old_waybill_entry}
+use Rattle.table_load.specs.declared.old_waybill.OldWaybillEntry.{OldWaybillEntry}
 
 pub none_there : (rows : List OldWaybillEntry) (olds : List OldWaybill) → olds ≡ map old_waybill_entry rows → IsTrue (is_empty rows) ↔ (olds ≡ [])
 none_there [] olds is = (λ _. is, λ _. refl)

@@ -14,7 +14,7 @@ use Rattle.std.specs.FinMap.{FinMap, IsAntisymmetric, entries, get, contains_key
 use Rattle.std.specs.FinMap.{find as find_entry}
 use Rattle.std.specs.Cmp.{eq_by_cmp_equiv}
 use Rattle.row_laws.proofs.Maps.{entries_rise}
-use Rattle.row_values.proofs.MapLaws.{each_entry}
+use Rattle.row_codec.proofs.MapLaws.{each_entry}
 use Rattle.sqlite.specs.Tree.{IsAscending}
 use Rattle.sqlite_keyed.specs.Keyed.{has_key}
 use Rattle.raw_rows.proofs.TableLemmas.{ascending_sorted}

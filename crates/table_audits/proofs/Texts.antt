@@ -10,15 +10,15 @@ use Rattle.imp_fields.specs.Airport.{is_airport}
 use Rattle.station_core.specs.Key.{is_key}
 use Rattle.text_rows.specs.Meant.{message_meant}
 use Rattle.text_rows.specs.declared.outbox.MessageRow.{MessageRow}
-use Rattle.found_tables.specs.Held.{part_entry, kept_key_entry, kept_text_entry}
-use Rattle.found_tables.specs.declared.part.PartEntry.{PartEntry}
-use Rattle.found_tables.specs.declared.kept_key.KeptKeyEntry.{KeptKeyEntry}
-use Rattle.found_tables.specs.declared.kept_text.KeptTextEntry.{KeptTextEntry}
-use Rattle.row_values.specs.Numbers.{is_count, is_day, is_within}
-use Rattle.row_values.specs.Flights.{is_flight_text}
-use Rattle.row_values.specs.Manifests.{is_part_row}
-use Rattle.row_values.specs.Logs.{is_message_row}
-use Rattle.row_values.specs.Replies.{is_kept_row, is_kept_text_row}
+use Rattle.table_load.specs.Held.{part_entry, kept_key_entry, kept_text_entry}
+use Rattle.table_load.specs.declared.part.PartEntry.{PartEntry}
+use Rattle.table_load.specs.declared.kept_key.KeptKeyEntry.{KeptKeyEntry}
+use Rattle.table_load.specs.declared.kept_text.KeptTextEntry.{KeptTextEntry}
+use Rattle.row_codec.specs.Numbers.{is_count, is_day, is_within}
+use Rattle.row_codec.specs.Flights.{is_flight_text}
+use Rattle.row_codec.specs.Manifests.{is_part_row}
+use Rattle.row_codec.specs.Logs.{is_message_row}
+use Rattle.row_codec.specs.Replies.{is_kept_row, is_kept_text_row}
 
 is_text : (text : String Global) → is_utf8 (string_bytes text) ≡ true
 is_text text = is_utf8-from_IsUtf8 _ (IsUtf8-string_bytes text)

@@ -6,8 +6,8 @@ use Rattle.std.proofs.lemmas.Bool.{and_parts, and_from}
 use Rattle.sqlite_keyed.proofs.ListLemmas.{all_map, all_unmap, all_weaker, all_both, all_from_test, test_from_all}
 use Rattle.imp_fields.specs.Characters.{is_line}
 use Rattle.row_schema.specs.Tables.{Tables, TrailLine, trail_id}
-use Rattle.row_values.specs.Numbers.{natural, is_number, AreNumbered}
-use Rattle.row_values.specs.Logs.{line_by, is_trail_row}
+use Rattle.row_codec.specs.Numbers.{natural, is_number, AreNumbered}
+use Rattle.row_codec.specs.Logs.{line_by, is_trail_row}
 use Rattle.lawful_tables.specs.Lawful.{AreTrailLines, cargo_in}
 use Rattle.table_audits.specs.Rows.{has_waybill, is_lawful_line}
 use Rattle.table_audits.proofs.Each.{both_lists, natural_again}

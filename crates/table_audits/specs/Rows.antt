@@ -5,11 +5,11 @@ use Rattle.std.specs.Str.{bytes_eq}
 use Rattle.std.specs.FinMap.{FinMap, contains_key}
 use Rattle.sqlite_keyed.specs.Keyed.{has_key}
 use Rattle.row_schema.specs.Tables.{Waybill, waybill_id, Stock, StockKey, Flight, FlightKey, Expected, ExpectedKey, PartKey, TrailLine, kept_text_cmp}
-use Rattle.row_values.specs.Waybills.{is_waybill_row}
-use Rattle.row_values.specs.Stock.{is_stock_row}
-use Rattle.row_values.specs.Flights.{is_flight_row}
-use Rattle.row_values.specs.Manifests.{is_expected_row}
-use Rattle.row_values.specs.Logs.{is_trail_row}
+use Rattle.row_codec.specs.Waybills.{is_waybill_row}
+use Rattle.row_codec.specs.Stock.{is_stock_row}
+use Rattle.row_codec.specs.Flights.{is_flight_row}
+use Rattle.row_codec.specs.Manifests.{is_expected_row}
+use Rattle.row_codec.specs.Logs.{is_trail_row}
 
 -- within range, and at least a tenth a piece
 abbrev pub is_lawful_waybill : Waybill → Bool

@@ -2,18 +2,18 @@ ghost use Rattle.std.specs.Prelude.{◌≡◌, ◌↔◌, map, IsTrue};
 ghost use Rattle.std.specs.FinMap.{entries};
 ghost use Rattle.std.specs.List.{list_all};
 ghost use Rattle.cargo_rows.specs.Meant.{waybill_meant};
-ghost use Rattle.found_tables.specs.Held.{expected_entry};
+ghost use Rattle.table_load.specs.Held.{expected_entry};
 ghost use Rattle.table_audits.specs.Order.{RisesByNumber};
 ghost use Rattle.row_schema.specs.Tables.{Tables};
 ghost use Rattle.lawful_tables.specs.Lawful.{IsLawfulTable};
 ghost use Rattle.lawful_tables.specs.declared.name.TableName.TheVariants as table;
-ghost use Rattle.row_values.specs.Manifests.{is_expected_row};
+ghost use Rattle.row_codec.specs.Manifests.{is_expected_row};
 ghost use Rattle.table_audits.specs.Rows.{is_lawful_expected};
 
 use crate::lookups::is_declared;
 use crate::ranges::{is_day, is_flag, is_flight_text, is_number, is_pieces, is_tenths};
-use found_tables::ExpectedEntry;
 use station_rows::WaybillRow;
+use table_load::ExpectedEntry;
 
 /// Whether the row is within range.
 fn is_in_range(row: &ExpectedEntry) -> bool

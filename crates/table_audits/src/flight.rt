@@ -1,16 +1,16 @@
 ghost use Rattle.std.specs.Prelude.{◌≡◌, ◌↔◌, map, IsTrue};
 ghost use Rattle.std.specs.FinMap.{entries};
 ghost use Rattle.std.specs.List.{list_all};
-ghost use Rattle.found_tables.specs.Held.{flight_entry};
+ghost use Rattle.table_load.specs.Held.{flight_entry};
 ghost use Rattle.row_schema.specs.Tables.{Tables};
 ghost use Rattle.lawful_tables.specs.Lawful.{IsLawfulTable};
 ghost use Rattle.lawful_tables.specs.declared.name.TableName.TheVariants as table;
-ghost use Rattle.row_values.specs.Meaning.{airport_in};
-ghost use Rattle.row_values.specs.Flights.{is_flight_row};
+ghost use Rattle.row_codec.specs.Meaning.{airport_in};
+ghost use Rattle.row_codec.specs.Flights.{is_flight_row};
 ghost use Rattle.table_audits.specs.Rows.{is_lawful_flight};
 
 use crate::ranges::{is_airport, is_day, is_flag, is_flight_text};
-use found_tables::FlightEntry;
+use table_load::FlightEntry;
 
 /// Whether the row is within range.
 fn is_in_range(row: &FlightEntry) -> bool

@@ -2,18 +2,18 @@ ghost use Rattle.std.specs.Prelude.{◌≡◌, ◌↔◌, ◌&&◌, map, IsTrue,
 ghost use Rattle.std.specs.List.{list_all, AllByRecursion};
 ghost use Rattle.std.specs.FinMap.{entries};
 ghost use Rattle.row_schema.specs.Tables.{Tables};
-ghost use Rattle.found_tables.specs.Held.{kept_key_entry};
+ghost use Rattle.table_load.specs.Held.{kept_key_entry};
 ghost use Rattle.lawful_tables.specs.Lawful.{IsLawfulTable};
 ghost use Rattle.lawful_tables.specs.declared.name.TableName.TheVariants as table;
 ghost use Rattle.state_store.specs.Told.{IsRequest};
 ghost use Rattle.station_core.specs.Key.{is_key};
-ghost use Rattle.row_values.specs.Numbers.{is_count};
-ghost use Rattle.row_values.specs.Replies.{is_kept_row};
+ghost use Rattle.row_codec.specs.Numbers.{is_count};
+ghost use Rattle.row_codec.specs.Replies.{is_kept_row};
 
 use crate::ranges::is_count;
 use desk_commands::read_command_text;
-use found_tables::KeptKeyEntry;
 use station_core::Key;
+use table_load::KeptKeyEntry;
 
 /// Whether the row's key and count are within range.
 fn is_counted(row: &KeptKeyEntry) -> bool

@@ -2,15 +2,15 @@ ghost use Rattle.std.specs.Prelude.{◌≡◌, ◌↔◌, map, IsTrue, ℤ};
 ghost use Rattle.std.specs.List.{list_all};
 ghost use Rattle.std.specs.FinMap.{FinMap, entries, contains_key};
 ghost use Rattle.row_schema.specs.Tables.{Tables, kept_text_cmp};
-ghost use Rattle.found_tables.specs.Held.{kept_text_entry, part_entry};
+ghost use Rattle.table_load.specs.Held.{kept_text_entry, part_entry};
 ghost use Rattle.lawful_tables.specs.Lawful.{IsLawfulTable};
 ghost use Rattle.lawful_tables.specs.declared.name.TableName.TheVariants as table;
-ghost use Rattle.row_values.specs.Replies.{is_kept_text_row};
+ghost use Rattle.row_codec.specs.Replies.{is_kept_text_row};
 ghost use Rattle.table_audits.specs.Rows.{has_text};
 
 use crate::lookups::is_kept;
 use crate::ranges::is_count;
-use found_tables::{KeptTextEntry, PartEntry};
+use table_load::{KeptTextEntry, PartEntry};
 
 /// Whether each row is within range.
 fn are_in_range(rows: &[KeptTextEntry]) -> bool

@@ -6,13 +6,13 @@ ghost use Rattle.std.specs.FinMap.{FinMap, entries, get, contains_key};
 ghost use Rattle.sqlite_keyed.specs.Keyed.{has_key};
 ghost use Rattle.row_schema.specs.Tables.{waybill_id, Flight, flight_cmp, kept_text_cmp};
 ghost use Rattle.cargo_rows.specs.Meant.{waybill_meant};
-ghost use Rattle.row_values.specs.Waybills.{declared_in};
-ghost use Rattle.found_tables.specs.Held.{flight_entry, kept_text_entry};
+ghost use Rattle.row_codec.specs.Waybills.{declared_in};
+ghost use Rattle.table_load.specs.Held.{flight_entry, kept_text_entry};
 ghost use Rattle.table_audits.specs.Order.{RisesByNumber};
 
-use found_tables::{FlightEntry, KeptTextEntry};
 use station_rows::WaybillRow;
 use std::cmp::Ordering;
+use table_load::{FlightEntry, KeptTextEntry};
 
 /// Where the row of a number is, or where it would be.
 fn place_of(waybills: &[WaybillRow], awb: &i64) -> Result<usize, usize>

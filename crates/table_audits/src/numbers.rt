@@ -4,7 +4,7 @@ ghost use Rattle.std.specs.Prelude.{◌≡◌, ◌↔◌, ◌+◌, ◌<◌, ◌^
 ghost use Rattle.cargo_rows.specs.Meant.{move_meant};
 ghost use Rattle.text_rows.specs.Meant.{trail_meant, message_meant};
 ghost use Rattle.row_schema.specs.Tables.{move_id, trail_id, message_id};
-ghost use Rattle.row_values.specs.Numbers.{AreNumbered};
+ghost use Rattle.row_codec.specs.Numbers.{AreNumbered};
 
 use station_rows::{MessageRow, MoveRow, TrailRow};
 

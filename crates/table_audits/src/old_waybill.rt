@@ -1,10 +1,10 @@
 ghost use Rattle.std.specs.Prelude.{◌≡◌, ◌↔◌, map, IsTrue};
 ghost use Rattle.row_schema.specs.Tables.{Tables};
-ghost use Rattle.found_tables.specs.Held.{old_waybill_entry};
+ghost use Rattle.table_load.specs.Held.{old_waybill_entry};
 ghost use Rattle.lawful_tables.specs.Lawful.{IsLawfulTable};
 ghost use Rattle.lawful_tables.specs.declared.name.TableName.TheVariants as table;
 
-use found_tables::OldWaybillEntry;
+use table_load::OldWaybillEntry;
 
 /// Whether these rows of `waybill` are lawful: there are none.
 pub fn are_old_waybills_lawful(rows: &[OldWaybillEntry]) -> bool

@@ -4,9 +4,9 @@ ghost use Rattle.text_rows.specs.Meant.{message_meant};
 ghost use Rattle.row_schema.specs.Tables.{Tables};
 ghost use Rattle.lawful_tables.specs.Lawful.{IsLawfulTable};
 ghost use Rattle.lawful_tables.specs.declared.name.TableName.TheVariants as table;
-ghost use Rattle.row_values.specs.Logs.{is_message_row};
-ghost use Rattle.row_values.specs.Numbers.{natural};
-ghost use Rattle.row_values.specs.Meaning.{confirmed_in};
+ghost use Rattle.row_codec.specs.Logs.{is_message_row};
+ghost use Rattle.row_codec.specs.Numbers.{natural};
+ghost use Rattle.row_codec.specs.Meaning.{confirmed_in};
 
 use crate::numbers::are_messages_numbered;
 use station_rows::MessageRow;

@@ -1,17 +1,17 @@
 ghost use Rattle.std.specs.Prelude.{◌≡◌, ◌↔◌, ◌&&◌, map, IsTrue, string_bytes};
 ghost use Rattle.std.specs.FinMap.{entries};
 ghost use Rattle.std.specs.List.{list_all};
-ghost use Rattle.found_tables.specs.Held.{part_entry};
+ghost use Rattle.table_load.specs.Held.{part_entry};
 ghost use Rattle.row_schema.specs.Tables.{Tables};
 ghost use Rattle.lawful_tables.specs.Lawful.{IsLawfulTable};
 ghost use Rattle.lawful_tables.specs.declared.name.TableName.TheVariants as table;
 ghost use Rattle.imp_fields.specs.Airport.{is_airport};
-ghost use Rattle.row_values.specs.Flights.{is_flight_text};
-ghost use Rattle.row_values.specs.Manifests.{is_part_row};
-ghost use Rattle.row_values.specs.Numbers.{is_day, is_within};
+ghost use Rattle.row_codec.specs.Flights.{is_flight_text};
+ghost use Rattle.row_codec.specs.Manifests.{is_part_row};
+ghost use Rattle.row_codec.specs.Numbers.{is_day, is_within};
 
 use crate::ranges::{is_airport, is_day, is_flight_text, is_pieces};
-use found_tables::PartEntry;
+use table_load::PartEntry;
 
 /// Whether the row's key is within range.
 fn is_in_range(row: &PartEntry) -> bool

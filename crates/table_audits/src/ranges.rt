@@ -8,9 +8,9 @@ ghost use Rattle.imp_fields.specs.Flight.{flight_text};
 ghost use Rattle.std.specs.Str.{bytes_eq};
 ghost use Rattle.std.specs.List.{list_all};
 ghost use Rattle.agent_stock.specs.Code.{is_agent_code};
-ghost use Rattle.row_values.specs.Numbers.{is_within, is_number, is_count, is_day, is_flag};
-ghost use Rattle.row_values.specs.Waybills.{is_since};
-ghost use Rattle.row_values.specs.Flights.{is_flight_text};
+ghost use Rattle.row_codec.specs.Numbers.{is_within, is_number, is_count, is_day, is_flag};
+ghost use Rattle.row_codec.specs.Waybills.{is_since};
+ghost use Rattle.row_codec.specs.Flights.{is_flight_text};
 
 use agent_stock::AgentCode;
 use imp_fields::{Airport, Flight, Goods};

@@ -1,6 +1,6 @@
 ghost use Rattle.std.specs.Prelude.{◌≡◌, ◌↔◌, ◌∷◌, [], IsTrue};
 ghost use Rattle.row_schema.specs.Tables.{Tables};
-ghost use Rattle.found_tables.specs.Verdict.{new_row};
+ghost use Rattle.table_load.specs.Verdict.{new_row};
 ghost use Rattle.lawful_tables.specs.Lawful.{IsLawfulTable};
 ghost use Rattle.lawful_tables.specs.declared.name.TableName.TheVariants as table;
 

@@ -8,7 +8,7 @@ ghost use Rattle.lawful_tables.specs.declared.name.TableName.TheVariants as tabl
 ghost use Rattle.cargo_rows.specs.Meant.{waybill_meant};
 ghost use Rattle.station_rows.specs.Meant.{stock_meant};
 ghost use Rattle.table_audits.specs.Order.{RisesByNumber};
-ghost use Rattle.row_values.specs.Stock.{holder_by, is_stock_row, is_behind, are_apart};
+ghost use Rattle.row_codec.specs.Stock.{holder_by, is_stock_row, is_behind, are_apart};
 ghost use Rattle.table_audits.specs.Rows.{lowest, highest, AreDeclared, IsLawfulStock};
 
 use crate::lookups::is_declared;

@@ -5,7 +5,7 @@ ghost use Rattle.row_schema.specs.Tables.{Tables};
 ghost use Rattle.table_audits.specs.Order.{RisesByNumber};
 ghost use Rattle.lawful_tables.specs.Lawful.{IsLawfulTable};
 ghost use Rattle.lawful_tables.specs.declared.name.TableName.TheVariants as table;
-ghost use Rattle.row_values.specs.Waybills.{is_waybill_row};
+ghost use Rattle.row_codec.specs.Waybills.{is_waybill_row};
 ghost use Rattle.table_audits.specs.Rows.{is_lawful_waybill};
 
 use crate::ranges::{is_airport, is_flag, is_goods, is_number, is_pieces, is_since, is_tenths};

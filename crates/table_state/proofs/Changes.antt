@@ -27,20 +27,20 @@ use Rattle.row_schema.specs.Tables.{Tables, Stock, stock_cmp, Count, count_cmp, 
 use Rattle.cargo_rows.specs.Meant.{with_flight, with_expected, with_move}
 use Rattle.text_rows.specs.Meant.{with_part, with_trail_line, with_message, with_kept, with_kept_text}
 use Rattle.station_rows.specs.Meant.{confirming}
-use Rattle.row_values.specs.Numbers.{is_count, AreNumbered}
-use Rattle.row_values.specs.Moves.{book_in, is_move_row}
-use Rattle.row_values.specs.Counts.{AreCounts, AreBuilds}
-use Rattle.row_values.proofs.Moving.{HasMove}
-use Rattle.row_values.specs.Stock.{holders_in}
-use Rattle.row_values.specs.Waybills.{waybill_row, is_waybill_row}
-use Rattle.row_values.specs.Flights.{is_designator, flight_key, outbound_row, is_flight_row}
-use Rattle.row_values.specs.Manifests.{expected_key, expected_row, is_expected_row, part_key, is_part_row}
-use Rattle.row_values.specs.Logs.{line_row, is_trail_row, message_row, is_message_row}
-use Rattle.row_values.specs.Replies.{kept_row}
-use Rattle.row_values.specs.Meaning.{meaning_of, IsReadable, Means}
-use Rattle.row_values.proofs.Fits.{count_fits}
-use Rattle.row_values.proofs.Readable.{readable_stock}
-use Rattle.row_values.proofs.Written.{waybill_written, waybill_changed, flight_written, expected_written, part_written, key_kept, text_kept, line_written, message_written, mark_written, move_written}
+use Rattle.row_codec.specs.Numbers.{is_count, AreNumbered}
+use Rattle.row_codec.specs.Moves.{book_in, is_move_row}
+use Rattle.row_codec.specs.Counts.{AreCounts, AreBuilds}
+use Rattle.row_codec.proofs.Moving.{HasMove}
+use Rattle.row_codec.specs.Stock.{holders_in}
+use Rattle.row_codec.specs.Waybills.{waybill_row, is_waybill_row}
+use Rattle.row_codec.specs.Flights.{is_designator, flight_key, outbound_row, is_flight_row}
+use Rattle.row_codec.specs.Manifests.{expected_key, expected_row, is_expected_row, part_key, is_part_row}
+use Rattle.row_codec.specs.Logs.{line_row, is_trail_row, message_row, is_message_row}
+use Rattle.row_codec.specs.Replies.{kept_row}
+use Rattle.row_codec.specs.Meaning.{meaning_of, IsReadable, Means}
+use Rattle.row_codec.proofs.Fits.{count_fits}
+use Rattle.row_codec.proofs.Readable.{readable_stock}
+use Rattle.row_codec.proofs.Written.{waybill_written, waybill_changed, flight_written, expected_written, part_written, key_kept, text_kept, line_written, message_written, mark_written, move_written}
 use Rattle.state_store.specs.Store.{at_rest, inside}
 use Rattle.state_store.specs.Told.{IsRequest, sizes_of, on_cargo, with_moves, with_messages, with_key, with_text, with_order}
 use Rattle.state_store.specs.declared.store.Sizes.{Sizes}

@@ -8,7 +8,7 @@ use Rattle.sqlite.proofs.StateLemmas.{survives_weaker}
 use Rattle.station_core.specs.Step as step
 use Rattle.row_schema.specs.Connection.{opening}
 use Rattle.row_schema.specs.Own.{IsNewStation}
-use Rattle.row_values.specs.Meaning.{Means}
+use Rattle.row_codec.specs.Meaning.{Means}
 use Rattle.table_state.specs.File.{IsFileOf}
 use Rattle.table_state.proofs.NewState.{opening_means}
 

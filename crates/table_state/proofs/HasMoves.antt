@@ -7,8 +7,8 @@ use Rattle.std.proofs.lemmas.Int.{ints}
 use Rattle.shipment_machine.specs.Book.{has_moves}
 use Rattle.row_schema.specs.Tables as table
 use Rattle.cargo_rows.specs.Meant.{is_of}
-use Rattle.row_values.specs.Numbers.{natural, is_number}
-use Rattle.row_values.specs.Moves.{book_in, is_move_row}
+use Rattle.row_codec.specs.Numbers.{natural, is_number}
+use Rattle.row_codec.specs.Moves.{book_in, is_move_row}
 
 first : (a b : Bool) → (a && b) ≡ true → a ≡ true
 first true b h = refl

@@ -4,7 +4,7 @@ use Rattle.station_core.specs.Step.{State}
 use Rattle.row_schema.specs.Tables.{Tables}
 use Rattle.row_schema.specs.Store as row
 use Rattle.row_schema.specs.Store.{View, Displays, IsShowing, IsAtRest, MayCommit}
-use Rattle.row_values.specs.Meaning.{Means}
+use Rattle.row_codec.specs.Meaning.{Means}
 use Rattle.state_store.specs.Store.{Seen, at_rest, inside, Survives}
 use Rattle.state_store.specs.declared.store.Sizes.{Sizes}
 use Rattle.table_state.specs.Laws.{same_meaning}

@@ -17,14 +17,14 @@ use Rattle.station_core.specs.Step.{State}
 use Rattle.row_schema.specs.Connection.{opening, IsOpening}
 use Rattle.row_schema.specs.Store.{View}
 use Rattle.row_schema.specs.Tables.{Tables, Stock, StockKey, stock_cmp, Flight, flight_cmp, Expected, expected_cmp, part_cmp, Kept, kept_cmp, kept_text_cmp, Count, CountKey, count_cmp, Build, BuildKey, build_cmp}
-use Rattle.row_values.specs.Numbers.{natural}
-use Rattle.row_values.specs.Stock.{holder_by, stands_for}
-use Rattle.row_values.specs.Flights.{is_designator, outbound_by, flight_key, flights_in}
-use Rattle.row_values.specs.Moves.{plain_place}
-use Rattle.row_values.specs.Counts.{counted, count_at, built_up, build_at, written_flight}
-use Rattle.row_values.specs.Manifests.{expected_by, expected_key, expected_in, part_key, parts_in}
-use Rattle.row_values.specs.Replies.{kept_by}
-use Rattle.row_values.specs.Meaning.{meaning_of, IsReadable, Means}
+use Rattle.row_codec.specs.Numbers.{natural}
+use Rattle.row_codec.specs.Stock.{holder_by, stands_for}
+use Rattle.row_codec.specs.Flights.{is_designator, outbound_by, flight_key, flights_in}
+use Rattle.row_codec.specs.Moves.{plain_place}
+use Rattle.row_codec.specs.Counts.{counted, count_at, built_up, build_at, written_flight}
+use Rattle.row_codec.specs.Manifests.{expected_by, expected_key, expected_in, part_key, parts_in}
+use Rattle.row_codec.specs.Replies.{kept_by}
+use Rattle.row_codec.specs.Meaning.{meaning_of, IsReadable, Means}
 use Rattle.state_store.specs.Store.{at_rest}
 use Rattle.table_state.specs.Laws.{same_meaning}
 use Rattle.state_store.specs.declared.store.Sizes.{Sizes}

@@ -8,7 +8,7 @@ use Rattle.station_core.specs.Step.{State}
 use Rattle.row_schema.specs.Store as row
 use Rattle.row_schema.specs.Store.{View}
 use Rattle.row_schema.specs.Tables.{Tables}
-use Rattle.row_values.specs.Meaning.{Means}
+use Rattle.row_codec.specs.Meaning.{Means}
 use Rattle.station_rows.specs.Clauses.{HandsIfOpen, HandsOf}
 use Rattle.state_store.specs.Store.{at_rest}
 use Rattle.state_store.specs.declared.store.Sizes.{Sizes}

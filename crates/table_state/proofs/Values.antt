@@ -11,11 +11,11 @@ use Rattle.agent_stock.specs.Runs.{AreStockRuns}
 use Rattle.agent_stock.specs.declared.runs.StockRun.{StockRun}
 use Rattle.agent_stock.specs.declared.stock.Holder.{Holder}
 use Rattle.stock_tables.specs.Stocked.{Stocked}
-use Rattle.row_values.specs.Stock.{holders_in}
+use Rattle.row_codec.specs.Stock.{holders_in}
 use Rattle.shipment_machine.specs.Book.{has_moves, balances_of, built, waybills_of, waybills_on}
 use Rattle.shipment_machine.specs.declared.amount.Amount.{Amount}
 use Rattle.shipment_machine.specs.declared.moves.Balances.{Balances}
-use Rattle.row_values.specs.Counts.{AreCounts, AreBuilds}
+use Rattle.row_codec.specs.Counts.{AreCounts, AreBuilds}
 use Rattle.state_store.specs.declared.store.Load.{Load}
 use Rattle.shipment_machine.specs.declared.flight.FlightDate.{FlightDate}
 use Rattle.shipment_machine.specs.declared.moves.Move.{Move}
@@ -33,15 +33,15 @@ use Rattle.text_rows.specs.declared.kept.KeptRow.{KeptRow}
 use Rattle.text_rows.specs.declared.outbox.MessageRow.{MessageRow}
 use Rattle.text_rows.specs.declared.trail.TrailRow.{TrailRow}
 use Rattle.text_rows.specs.Meant.{kept_meant, message_meant, trail_meant, is_after}
-use Rattle.row_values.specs.Numbers.{natural}
-use Rattle.row_values.specs.Waybills.{declared_by}
-use Rattle.row_values.specs.Flights.{is_designator, outbound_by}
-use Rattle.row_values.specs.Manifests.{expected_by}
-use Rattle.row_values.specs.Moves.{move_by, book_in}
-use Rattle.row_values.specs.Logs.{line_by}
-use Rattle.row_values.specs.Replies.{kept_by}
-use Rattle.row_values.proofs.Reading.{declared_read, outbound_read, expected_read, part_read, kept_key_read, kept_text_read}
-use Rattle.row_values.proofs.Telling.{holders_told, book_told}
+use Rattle.row_codec.specs.Numbers.{natural}
+use Rattle.row_codec.specs.Waybills.{declared_by}
+use Rattle.row_codec.specs.Flights.{is_designator, outbound_by}
+use Rattle.row_codec.specs.Manifests.{expected_by}
+use Rattle.row_codec.specs.Moves.{move_by, book_in}
+use Rattle.row_codec.specs.Logs.{line_by}
+use Rattle.row_codec.specs.Replies.{kept_by}
+use Rattle.row_codec.proofs.Reading.{declared_read, outbound_read, expected_read, part_read, kept_key_read, kept_text_read}
+use Rattle.row_codec.proofs.Telling.{holders_told, book_told}
 use Rattle.state_store.specs.Store.{Seen}
 use Rattle.state_store.specs.Told.{kept_of, loads_on}
 use Rattle.state_store.specs.declared.store.KeptReply.{KeptReply}

@@ -3,7 +3,7 @@ use Rattle.std.specs.Prelude.{Some}
 use Rattle.sqlite.specs.Tree.{Trees}
 use Rattle.row_schema.specs.Own.{IsOwn}
 use Rattle.row_schema.specs.Tables.{tables_of}
-use Rattle.row_values.specs.Meaning.{Means}
+use Rattle.row_codec.specs.Meaning.{Means}
 use Rattle.station_core.specs.Step.{State, IsLawfulState}
 
 -- A station declared the tables of these trees, and they mean this state, which is lawful.

@@ -5,7 +5,7 @@ use Rattle.shipment_machine.specs.Cargo.{Cargo}
 use Rattle.station_core.specs.Step.{State, has_room}
 use Rattle.row_schema.specs.Tables.{Tables}
 use Rattle.row_schema.specs.Store.{View}
-use Rattle.row_values.specs.Meaning.{Means}
+use Rattle.row_codec.specs.Meaning.{Means}
 use Rattle.state_store.specs.Store.{at_rest}
 use Rattle.state_store.specs.Told.{sizes_of}
 use Rattle.state_store.specs.declared.store.Sizes.{Sizes}

@@ -3,7 +3,7 @@ use Rattle.std.specs.Prelude.{◌≡◌, ℕ, true, false, List, Option, Some}
 use Rattle.station_core.specs.Step.{State}
 use Rattle.row_schema.specs.Tables.{Tables}
 use Rattle.row_schema.specs.Store.{View, IsAtRest}
-use Rattle.row_values.specs.Meaning.{Means}
+use Rattle.row_codec.specs.Meaning.{Means}
 use Rattle.state_store.specs.Store.{Seen}
 use Rattle.state_store.specs.Told.{sizes_of}
 use Rattle.state_store.specs.declared.store.Sizes.{Sizes}

@@ -11,7 +11,7 @@ ghost use Rattle.table_state.specs.Shown.{Shows};
 use crate::state::TableState;
 use crate::writing::{put_expected, put_flight, put_waybill};
 use awb_number::Awb;
-use row_values::{
+use row_codec::{
     awb_key, day_number, expected_range, expected_row, flight_text, outbound_range, outbound_row,
     part_range, text, trail_row, waybill_row,
 };

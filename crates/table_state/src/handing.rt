@@ -3,11 +3,11 @@ ghost use Rattle.std.specs.Prelude.{◌≡◌, false, IsOk, OnOk};
 ghost use Rattle.cargo_rows.specs.Meant.{move_meant};
 ghost use Rattle.station_core.specs.Readers.{book_row, message, trail_row};
 ghost use Rattle.text_rows.specs.Meant.{message_meant, trail_meant};
-ghost use Rattle.row_values.specs.Logs.{line_by};
-ghost use Rattle.row_values.specs.Moves.{move_by};
-ghost use Rattle.row_values.specs.Numbers.{natural};
+ghost use Rattle.row_codec.specs.Logs.{line_by};
+ghost use Rattle.row_codec.specs.Moves.{move_by};
+ghost use Rattle.row_codec.specs.Numbers.{natural};
 
-use row_values::{book_row_by, line_by, message_by};
+use row_codec::{book_row_by, line_by, message_by};
 use state_store::StoreFault;
 use station_core::{BookRow, Message, Sink, TrailRow as ReaderLine};
 use station_rows::{MessageRow, MoveRow, TrailRow};

@@ -2,11 +2,11 @@
 ghost use Rattle.std.specs.Prelude.{◌≡◌, ◌++◌, ◌∷◌, [], map, IfOk, OnOk};
 ghost use Rattle.shipment_machine.specs.Book.{waybills_of};
 ghost use Rattle.cargo_rows.specs.Meant.{move_meant};
-ghost use Rattle.row_values.specs.Moves.{move_by};
+ghost use Rattle.row_codec.specs.Moves.{move_by};
 
 use awb_number::Awb;
 use cargo_rows::MoveRow;
-use row_values::move_by;
+use row_codec::move_by;
 use shipment_machine::{FlightDate, Move, Place, waybills_of};
 use state_store::StoreFault;
 use std::alloc::Global;

@@ -3,11 +3,11 @@ ghost use Rattle.std.specs.Prelude.{List, ◌++◌, ◌∷◌, [], OnOk};
 ghost use Rattle.shipment_machine.specs.declared.moves.Move as cargo;
 ghost use Rattle.row_schema.specs.Store.{IsShowing, Survives, inside};
 ghost use Rattle.row_schema.specs.Tables.{Tables};
-ghost use Rattle.row_values.specs.Counts.{AreCounts, AreBuilds};
+ghost use Rattle.row_codec.specs.Counts.{AreCounts, AreBuilds};
 ghost use Rattle.table_state.specs.Recorded.{Recorded};
 
-use count_tables::post_move;
-use row_values::move_row;
+use row_codec::move_row;
+use running_totals::post_move;
 use shipment_machine::Move;
 use station_rows::{StoreFault, TableStore};
 use std::alloc::Global;

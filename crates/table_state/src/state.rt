@@ -1,7 +1,7 @@
 ghost use Rattle.std.specs.Prelude.{◌≡◌, ◌≤◌, Some};
 ghost use Rattle.station_core.specs.Step.{State, opening};
 ghost use Rattle.row_schema.specs.Tables.{Tables};
-ghost use Rattle.row_values.specs.Meaning.{Means};
+ghost use Rattle.row_codec.specs.Meaning.{Means};
 ghost use Rattle.row_schema.specs.Connection.{IsOpening};
 ghost use Rattle.state_store.specs.Store.{at_rest};
 ghost use Rattle.table_state.specs.Laws.{finds_what_it_shows, all_numbered};
@@ -13,7 +13,7 @@ use crate::recording::record_move;
 use agent_stock::{Holder, Order, StockFault, StockRun};
 use awb_number::Awb;
 use imp_fields::Airport;
-use row_values::{
+use row_codec::{
     awb_key, count_of, day_number, declared_by, expected_by, flight_text, kept_by, message_row,
     outbound_by,
 };
@@ -183,7 +183,7 @@ impl<S: TableStore> StateStore for TableState<S> {
 
     #[tactic(auto, using(crate::proofs::Lifting::rests_on, crate::proofs::Lifting::survives_so))]
     fn balances(&mut self, awb: &Awb) -> Result<Balances, StoreFault> {
-        match count_tables::balances(&mut self.store, awb) {
+        match running_totals::balances(&mut self.store, awb) {
             Err(_) => Err(StoreFault),
             Ok(balances) => Ok(balances),
         }
@@ -191,7 +191,7 @@ impl<S: TableStore> StateStore for TableState<S> {
 
     #[tactic(auto, using(crate::proofs::Lifting::rests_on, crate::proofs::Lifting::survives_so))]
     fn load(&mut self, awb: &Awb, flight: &FlightDate) -> Result<Amount, StoreFault> {
-        match count_tables::load(self.alloc, &mut self.store, awb, flight) {
+        match running_totals::load(self.alloc, &mut self.store, awb, flight) {
             Err(_) => Err(StoreFault),
             Ok(load) => Ok(load),
         }
@@ -199,7 +199,7 @@ impl<S: TableStore> StateStore for TableState<S> {
 
     #[tactic(auto, using(crate::proofs::Lifting::rests_on, crate::proofs::Lifting::survives_so))]
     fn aboard(&mut self, flight: &FlightDate) -> Result<Vec<Load>, StoreFault> {
-        match count_tables::aboard(self.alloc, &mut self.store, flight) {
+        match running_totals::aboard(self.alloc, &mut self.store, flight) {
             Err(_) => Err(StoreFault),
             Ok(loads) => Ok(loads),
         }
@@ -207,7 +207,7 @@ impl<S: TableStore> StateStore for TableState<S> {
 
     #[tactic(auto, using(crate::proofs::Lifting::rests_on, crate::proofs::Lifting::survives_so))]
     fn waybills_on(&mut self, flight: &FlightDate) -> Result<usize, StoreFault> {
-        match count_tables::waybills_on(self.alloc, &mut self.store, flight) {
+        match running_totals::waybills_on(self.alloc, &mut self.store, flight) {
             Err(_) => Err(StoreFault),
             Ok(number) => Ok(number),
         }

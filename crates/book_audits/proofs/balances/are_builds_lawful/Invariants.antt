@@ -1,6 +1,6 @@
 use Rattle.std.proofs.Common.{◌≡◌, map}
 use Rattle.std.specs.List.{list_all}
-use Rattle.found_tables.specs.Held.{flight_entry}
+use Rattle.table_load.specs.Held.{flight_entry}
 use Rattle.book_audits.specs.Balances.{is_lawful_build}
 use Rattle.book_audits.proofs.balances.are_builds_lawful.Given as goal
 

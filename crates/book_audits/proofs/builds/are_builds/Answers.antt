@@ -1,6 +1,6 @@
 use Rattle.std.proofs.Common.{map}
 use Rattle.cargo_rows.specs.Meant.{build_meant}
-use Rattle.found_tables.specs.Held.{flight_entry}
+use Rattle.table_load.specs.Held.{flight_entry}
 use Rattle.book_audits.proofs.Made.{builds_compared}
 use Rattle.book_audits.proofs.builds.are_builds.Goals as goal
 

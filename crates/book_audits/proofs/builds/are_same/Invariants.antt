@@ -1,6 +1,6 @@
 use Rattle.std.proofs.Common.{Some, drop, map}
 use Rattle.cargo_rows.specs.Meant.{build_meant}
-use Rattle.found_tables.specs.Held.{flight_entry}
+use Rattle.table_load.specs.Held.{flight_entry}
 use Rattle.book_audits.specs.Sums.{build_entry}
 use Rattle.book_audits.proofs.Walk.{SameAhead}
 use Rattle.book_audits.proofs.builds.are_same.Given as goal

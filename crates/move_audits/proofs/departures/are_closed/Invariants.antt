@@ -1,7 +1,7 @@
 use Rattle.std.proofs.Common.{drop}
 use Rattle.std.specs.Slice.Iter.{iter_rest}
-use Rattle.found_tables.specs.Held.{flight_entry}
-use Rattle.row_values.specs.Numbers.{is_set}
+use Rattle.table_load.specs.Held.{flight_entry}
+use Rattle.row_codec.specs.Numbers.{is_set}
 use Rattle.book_audits.proofs.Walk.{SameAhead}
 use Rattle.move_audits.proofs.departures.are_closed.Given as goal
 

@@ -1,4 +1,4 @@
-use Rattle.row_values.specs.Moves.{book_in}
+use Rattle.row_codec.specs.Moves.{book_in}
 use Rattle.move_audits.specs.Posted.{listed_in}
 use Rattle.move_audits.proofs.ClosedLaws.{closed_so, found_marks, found_none, never_departed, listed_distinct, listed_long}
 use Rattle.move_audits.proofs.departures.are_departures_lawful.Goals as goal

@@ -1,6 +1,6 @@
 use Rattle.std.proofs.Common.{take, map}
 use Rattle.cargo_rows.specs.Meant.{move_meant, waybill_meant}
-use Rattle.found_tables.specs.Held.{flight_entry}
+use Rattle.table_load.specs.Held.{flight_entry}
 use Rattle.row_schema.specs.Tables.{Tables}
 use Rattle.move_audits.specs.Posted.{AreBeside}
 use Rattle.move_audits.proofs.RowsLaws.{ArePostedSo}

@@ -1,6 +1,6 @@
 use Rattle.std.proofs.Common.{◌∙◌, map, sym, subst, true≢false}
 use Rattle.cargo_rows.specs.Meant.{move_meant, waybill_meant}
-use Rattle.found_tables.specs.Held.{flight_entry}
+use Rattle.table_load.specs.Held.{flight_entry}
 use Rattle.move_audits.specs.Posted.{IsPosted, IsPostedOr}
 use Rattle.move_audits.proofs.PostedLaws.{posted_row, good_fits, fit_columns, nowhere_from, nowhere_to}
 use Rattle.move_audits.proofs.postings.posting_of.Goals as goal

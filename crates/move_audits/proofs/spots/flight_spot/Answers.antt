@@ -3,7 +3,7 @@ use Rattle.std.specs.List.Sorted.{IsBinarySearchResult}
 use Rattle.row_schema.specs.Tables.{flight_cmp}
 use Rattle.row_schema.proofs.Keys.{flight_total, flight_same}
 use Rattle.cargo_rows.specs.Meant.{move_meant}
-use Rattle.found_tables.specs.Held.{flight_entry}
+use Rattle.table_load.specs.Held.{flight_entry}
 use Rattle.table_audits.proofs.Searches.{no_entry}
 use Rattle.move_audits.proofs.PostedLaws.{found_spot, lost_spot}
 use Rattle.move_audits.proofs.spots.flight_spot.Goals as goal

@@ -2,7 +2,7 @@ use Rattle.std.proofs.Common.{◌∙◌, pos, subst, sym, rules, w64}
 use Rattle.std.proofs.lemmas.Int.{to_z-of_z}
 use Rattle.cargo_rows.specs.Meant.{move_meant}
 use Rattle.book_audits.specs.declared.sums.Spot.TheVariants.{Plain}
-use Rattle.count_tables.proofs.Tests.{is_int}
+use Rattle.running_totals.proofs.Tests.{is_int}
 use Rattle.move_audits.specs.Posted.{IsSpotOf, IsSpotFound}
 use Rattle.move_audits.proofs.PostedLaws.{plain_spot, no_spot}
 use Rattle.move_audits.proofs.spots.spot_of.Goals as goal

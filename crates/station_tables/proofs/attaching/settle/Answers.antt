@@ -1,7 +1,7 @@
 use Rattle.std.proofs.Common.{subst}
 use Rattle.sqlite.specs.Held.{state}
 use Rattle.found_station.specs.Reading.{read_as}
-use Rattle.found_tables.specs.declared.station.FileVersion.TheVariants.{Second}
+use Rattle.table_load.specs.declared.station.FileVersion.TheVariants.{Second}
 use Rattle.station_tables.specs.Attached.{IsJudged}
 use Rattle.station_tables.proofs.Attached.{kept_on, store_says_nothing}
 use Rattle.station_tables.proofs.Looked.{survives_same}

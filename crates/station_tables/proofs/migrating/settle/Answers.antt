@@ -1,7 +1,7 @@
 use Rattle.std.proofs.Common.{subst}
 use Rattle.sqlite.specs.Held.{state}
 use Rattle.found_station.specs.Reading.{read_as}
-use Rattle.found_tables.specs.declared.station.FileVersion.TheVariants.{First}
+use Rattle.table_load.specs.declared.station.FileVersion.TheVariants.{First}
 use Rattle.station_tables.specs.Attached.{IsJudged}
 use Rattle.station_tables.proofs.Looked.{survives_same}
 use Rattle.station_tables.proofs.Migrated.{found_was, store_says, not_store, same_after}

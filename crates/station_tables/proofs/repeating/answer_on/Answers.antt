@@ -1,5 +1,5 @@
 use Rattle.std.proofs.Common.{refl, sym, ◌∙◌, ap, subst, Some, inl, inr, ⊎_elim}
-use Rattle.stored_station.proofs.Steps.{refused_same}
+use Rattle.station_engine.proofs.Steps.{refused_same}
 use Rattle.station_tables.specs.contracts.station.StationKeeper.TheImpl.{ghosts}
 use Rattle.station_tables.proofs.repeating.answer_on.Goals as goal
 

@@ -1,6 +1,6 @@
 use Rattle.std.proofs.Common.{◌∙◌, sym, ap, subst}
 use Rattle.std.specs.List.{list_all, AllByRecursion}
-use Rattle.row_values.specs.Replies.{is_kept_row}
+use Rattle.row_codec.specs.Replies.{is_kept_row}
 use Rattle.table_audits.proofs.KeptKeyLaws.{Asks, are_requests, requests_back}
 use Rattle.table_audits.proofs.kept_key.are_kept_keys_lawful.Goals as goal
 

@@ -3,7 +3,7 @@ use Rattle.std.specs.List.Sorted.{IsBinarySearchResult}
 use Rattle.std.proofs.lemmas.Int.{to_z-of_z}
 use Rattle.row_schema.proofs.Keys.{flight_total, flight_same}
 use Rattle.row_schema.specs.Tables.{flight_cmp}
-use Rattle.found_tables.specs.Held.{flight_entry}
+use Rattle.table_load.specs.Held.{flight_entry}
 use Rattle.table_audits.proofs.Searches.{entry_at, no_entry}
 use Rattle.table_audits.proofs.lookups.find_flight.Goals as goal
 

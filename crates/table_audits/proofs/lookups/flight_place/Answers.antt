@@ -1,7 +1,7 @@
 use Rattle.std.proofs.Common.{rules}
 use Rattle.std.proofs.lemmas.Fn.{always_returns_same}
 use Rattle.row_schema.specs.Tables.{flight_cmp}
-use Rattle.found_tables.specs.Held.{flight_entry}
+use Rattle.table_load.specs.Held.{flight_entry}
 use Rattle.table_audits.proofs.lookups.flight_place.Goals as goal
 
 pub returns-clause-place : goal.returns-clause-place

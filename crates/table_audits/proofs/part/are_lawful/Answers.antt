@@ -2,8 +2,8 @@ use Rattle.std.proofs.Common.{◌∙◌, sym, rules, tests}
 use Rattle.std.proofs.lemmas.Iterator.{YieldsList-from_slice}
 use Rattle.std.proofs.lemmas.Iterator.Search.{all_from_yields_List}
 use Rattle.std.proofs.lemmas.List.Folds.{list_all-map}
-use Rattle.found_tables.specs.Held.{part_entry}
-use Rattle.row_values.specs.Manifests.{is_part_row}
+use Rattle.table_load.specs.Held.{part_entry}
+use Rattle.row_codec.specs.Manifests.{is_part_row}
 use Rattle.table_audits.proofs.part.are_lawful.Goals as goal
 
 pub returns : goal.returns

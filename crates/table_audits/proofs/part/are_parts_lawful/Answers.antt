@@ -1,6 +1,6 @@
 use Rattle.std.proofs.Common.{◌∙◌, sym, ap}
 use Rattle.std.specs.List.{list_all}
-use Rattle.row_values.specs.Manifests.{is_part_row}
+use Rattle.row_codec.specs.Manifests.{is_part_row}
 use Rattle.table_audits.proofs.part.are_parts_lawful.Goals as goal
 
 pub returns : goal.returns

@@ -1,7 +1,7 @@
 use Rattle.std.proofs.Common.{◌∙◌, sym, ap₂, subst}
 use Rattle.std.specs.List.{list_all}
 use Rattle.row_schema.specs.Tables.{trail_id}
-use Rattle.row_values.specs.Numbers.{AreNumbered}
+use Rattle.row_codec.specs.Numbers.{AreNumbered}
 use Rattle.table_audits.specs.Rows.{is_lawful_line}
 use Rattle.table_audits.proofs.TrailLaws.{are_lines, lawful_lines}
 use Rattle.table_audits.proofs.trail.is_trail_lawful.Goals as goal

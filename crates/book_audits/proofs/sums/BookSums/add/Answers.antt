@@ -1,8 +1,8 @@
 use Rattle.std.proofs.Common.{◌∙◌, rules, w64}
 use Rattle.std.proofs.lemmas.Int.{to_z-of_z}
 use Rattle.std.proofs.lemmas.Result.{on_ok_weaker}
-use Rattle.row_values.specs.Counts.{running}
-use Rattle.count_tables.specs.Sums.{posting}
+use Rattle.row_codec.specs.Counts.{running}
+use Rattle.running_totals.specs.Sums.{posting}
 use Rattle.book_audits.specs.Sums.{meant}
 use Rattle.book_audits.proofs.Posted.{moved}
 use Rattle.book_audits.proofs.sums.BookSums.add.Goals as goal

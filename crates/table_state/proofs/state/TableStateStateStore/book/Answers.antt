@@ -1,6 +1,6 @@
 use Rattle.std.proofs.Common.{rules, List, subst, subst₂}
 use Rattle.row_sinks.specs.Handed.{HandedOut, Hands}
-use Rattle.row_values.proofs.Handing.{book_row_of, book_handed}
+use Rattle.row_codec.proofs.Handing.{book_row_of, book_handed}
 use Rattle.station_core.specs.Readers.{book_rows}
 use Rattle.station_core.specs.declared.rows.BookRow as reader
 use Rattle.cargo_rows.specs.declared.moves.MoveRow.{MoveRow}

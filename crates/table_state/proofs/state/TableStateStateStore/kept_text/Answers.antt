@@ -1,6 +1,6 @@
 use Rattle.std.proofs.Common.{rules, ◌≡◌, ap, sym, Some, option_map, ◌∙◌, SFits, w64}
 use Rattle.std.proofs.lemmas.Int.{to_z-of_z}
-use Rattle.row_values.specs.Numbers.{natural}
+use Rattle.row_codec.specs.Numbers.{natural}
 use Rattle.table_state.proofs.Lifting.{seen_in, reads_on}
 use Rattle.table_state.proofs.Values.{kept_text_is}
 use Rattle.table_state.proofs.state.TableStateStateStore.kept_text.Goals as goal

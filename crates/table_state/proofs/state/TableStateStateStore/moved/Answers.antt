@@ -1,7 +1,7 @@
 use Rattle.std.proofs.Common.{ap, map, ◌∙◌}
 use Rattle.cargo_rows.specs.declared.moves.MoveRow.{MoveRow}
 use Rattle.cargo_rows.specs.Meant.{move_meant}
-use Rattle.row_values.specs.Moves.{move_by}
+use Rattle.row_codec.specs.Moves.{move_by}
 use Rattle.shipment_machine.specs.Book.{waybills_of}
 use Rattle.table_state.proofs.Lifting.{seen_in}
 use Rattle.table_state.proofs.Values.{moved_are}

@@ -1,7 +1,7 @@
 use Rattle.std.proofs.Common.{rules, List, subst, subst₂, ap, map, filter, pos, ◌∙◌, ◌≡◌, SFits, w64}
 use Rattle.std.proofs.lemmas.Int.{to_z-of_z}
 use Rattle.row_sinks.specs.Handed.{HandedOut, Hands}
-use Rattle.row_values.proofs.Handing.{message_of, pending_handed}
+use Rattle.row_codec.proofs.Handing.{message_of, pending_handed}
 use Rattle.station_core.specs.Readers.{pending_messages}
 use Rattle.station_core.specs.declared.rows.Message as reader
 use Rattle.text_rows.specs.declared.outbox.MessageRow.{MessageRow}

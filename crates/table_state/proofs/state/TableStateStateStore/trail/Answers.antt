@@ -1,6 +1,6 @@
 use Rattle.std.proofs.Common.{rules, List, subst, subst₂}
 use Rattle.row_sinks.specs.Handed.{HandedOut, Hands}
-use Rattle.row_values.proofs.Handing.{line_of, trail_handed}
+use Rattle.row_codec.proofs.Handing.{line_of, trail_handed}
 use Rattle.station_core.specs.Readers.{trail_rows}
 use Rattle.station_core.specs.declared.rows.TrailRow as reader
 use Rattle.text_rows.specs.declared.trail.TrailRow.{TrailRow}

@@ -1,0 +1,92 @@
+-- A file of version 1 that gets the tables of version 2.
+use Rattle.std.specs.Prelude.{◌≡◌, ◌≢◌, ◌⊎◌, ℕ, Bool, true, Result, Ok, Err, IfOk, IfErr, OnErr, OnOk, List, ◌++◌, codes}
+use Rattle.sqlite.specs.Held.{Held, state}
+use Rattle.sqlite.specs.State.{HasCleanDisk, Survives}
+use Rattle.sqlite.specs.Tree.{Trees}
+use Rattle.sqlite_trees.specs.declared.store.Store.{Ghosts}
+use Rattle.row_schema.specs.Connection.{connection_view}
+use Rattle.row_schema.specs.Own.{IsOldOwn, LiesInOrder}
+use Rattle.table_load.specs.declared.station.FileVersion.TheVariants.{First}
+use Rattle.station_core.specs.Ends.{HasCause}
+use Rattle.station_core.specs.Given.{Given}
+use Rattle.station_core.specs.Step.{State}
+use Rattle.station_tables.specs.declared.fault.AttachFault.{AttachFault}
+use Rattle.station_tables.specs.declared.fault.AttachFault.TheVariants as fault
+use Rattle.station_tables.specs.Attached.{IsBreakdown, IsOldStateIn, RefusesAs}
+use Rattle.station_tables.specs.Migrated as tables
+use Rattle.stock_list.specs.declared.answer.RunFault.{RunFault}
+use Rattle.stock_list.specs.declared.answer.RunFault.TheVariants as run
+use Rattle.cli_run.specs.Sent.{HasSent}
+use Rattle.cli_call.specs.Ended.{HasNoStation, HasToldEnd}
+
+-- A connection with the tables of version 1 got those of version 2, or it didn't: what `migrate`
+-- says of it.
+pub record HasMoved {S : Type 0} (g : Ghosts S) (conn : Held S)
+    (migrated : Result (Held S) (Held S × AttachFault)) : Type 0 where
+  pub inside : (connection_view g conn).in_transaction ≡ true → migrated ≡ Err (conn, fault.Store)
+  pub was : IfOk migrated (λ new. HasCleanDisk (state g new)
+      → (s : State) × IsOldStateIn (state g conn).now s)
+  -- the tables are those of version 2, and mean the state that those of version 1 meant
+  pub moved : IfOk migrated (λ new. HasCleanDisk (state g new)
+      → IsOldOwn (state g conn).now.trees → LiesInOrder g
+      → tables.HasMigrated (state g conn).now (state g new))
+  -- A fault names what is so. Where the tables are lawful ones of version 1, the store failed or
+  -- memory was out.
+  pub refused : IfErr migrated (λ e. HasCleanDisk (state g e.0)
+      → RefusesAs First (state g conn).now e.1)
+  pub fit : IfErr migrated (λ e. HasCleanDisk (state g e.0)
+      → (s : State) → IsOldStateIn (state g conn).now s → IsBreakdown e.1)
+  pub never : IfErr migrated (λ e. e.1 ≢ fault.Occupied)
+  -- a crash leaves what it left before, or the tables of version 2 with the state that those of
+  -- version 1 meant
+  pub leaves : IfErr migrated (λ e. HasCleanDisk (state g e.0)
+      → IsOldOwn (state g conn).now.trees → LiesInOrder g → (db : Trees)
+      → (state g e.0).may_leave db
+      → (state g conn).may_leave db ⊎ tables.IsMigrated (state g conn).now db)
+  -- only where the store fails is anything written
+  pub spares : IfErr migrated (λ e. e.1 ≢ fault.Store
+      → Survives (state g conn) (state g e.0) (λ _. ⊥))
+
+-- the line that tells the version of the file
+abbrev pub moved_line : List ℕ
+moved_line = codes "ok 2\n"
+
+-- It went out; or a beginning of it, where the writer failed or took no byte.
+pub record HasToldVersion (sent_old sent_new : Given) (result : Result Bool RunFault) : Type 0 where
+  pub good : IfOk result (λ good. good ≡ true)
+  pub all : OnOk result (sent_new.bytes ≡ sent_old.bytes ++ moved_line)
+  pub sent : HasSent moved_line sent_old sent_new
+  pub why : IfErr result (λ e. e ≡ run.Write)
+  pub cause : OnErr result (HasCause sent_old sent_new)
+
+-- The version was told, how that ended was reported, and the connection comes back. Nothing was
+-- read.
+pub record HasToldMoved {C I E : Type 0} (moved : C) (read_old read_new : I)
+    (sent_old sent_new : Given) (taken : E → Given) (errors_old errors_new : E)
+    (result : ℕ × C) : Type 0 where
+  pub ended : Result Bool RunFault
+  pub unread : read_new ≡ read_old
+  pub line : HasToldVersion sent_old sent_new ended
+  pub reported : HasToldEnd taken ended errors_old errors_new result.0
+  pub conn : result.1 ≡ moved
+
+-- a call over what the migration came to
+abbrev pub HasEndedMigration : {C I W E : Type 0} → (W → Given) → (E → Given)
+    → Result C (C × AttachFault) → I → I → W → W → E → E → ℕ × C → Type 0
+HasEndedMigration printed taken (Ok moved) read_old read_new output_old output_new
+    errors_old errors_new result =
+    HasToldMoved moved read_old read_new (printed output_old) (printed output_new)
+    taken errors_old errors_new result
+HasEndedMigration printed taken (Err none) read_old read_new output_old output_new
+    errors_old errors_new result =
+    HasNoStation none read_old read_new output_old output_new
+    (taken errors_old) (taken errors_new) result
+
+-- A file was migrated, or it wasn't; then that was told. Nothing was read.
+pub record HasMigrated {S I W E : Type 0} (g : Ghosts S) (printed : W → Given)
+    (taken : E → Given) (conn : Held S) (read_old read_new : I) (output_old output_new : W)
+    (errors_old errors_new : E) (result : ℕ × Held S) : Type 0 where
+  pub migrated : Result (Held S) (Held S × AttachFault)
+  pub moves : HasMoved g conn migrated
+  pub ended : HasEndedMigration printed taken migrated read_old read_new
+      output_old output_new errors_old errors_new result

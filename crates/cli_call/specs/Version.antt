@@ -1,0 +1,11 @@
+-- What `--version` tells.
+use Rattle.std.specs.Prelude.{ℕ, List, [], ◌++◌, codes}
+use Rattle.std.specs.Fmt.{signed_decimal}
+use Rattle.row_schema.specs.Calls.{new_station}
+use Rattle.cli_words.specs.Version.{program_version}
+
+-- the program, its version, and the version that a new station's file has
+abbrev pub version_line : List ℕ
+version_line =
+    codes "cargo_desk " ++ program_version ++ codes ", files of version "
+    ++ signed_decimal (new_station []).version ++ codes "\n"

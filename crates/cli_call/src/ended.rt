@@ -1,0 +1,142 @@
+//! How a call ends.
+ghost use Rattle.std.specs.Prelude.{◌≡◌, ◌++◌, ◌∷◌, [], IfErr, OnOk};
+ghost use Rattle.cli_call.specs.Ended.{attach_status, run_ended, run_line, status_of, HasNoStation, HasTold, HasToldEnd};
+ghost use Rattle.cli_run.specs.Sent.{HasSent};
+
+use cli_run::{send_part, send_word};
+use itoa::Buffer;
+use sqlite::{Alter, Connection};
+use station_core::ByteOut;
+use station_tables::AttachFault;
+use stock_list::RunFault;
+
+/// Why a call ends before its end.
+#[derive(Clone, Copy, Debug, PartialEq, Eq)]
+pub enum DeskFault {
+    /// The clock can't be read, or shows a day before 2000-01-01 or after 2099-12-31.
+    Clock,
+    /// The run's.
+    Run(RunFault),
+    /// There is no station to run on.
+    Attach(AttachFault),
+}
+
+/// How a call ends where its run does.
+fn run_ended(ended: Result<bool, RunFault>) -> Result<bool, DeskFault>
+    ensures { result ≡ run_ended ended }
+{
+    match ended {
+        Ok(good) => Ok(good),
+        Err(fault) => Err(DeskFault::Run(fault)),
+    }
+}
+
+/// The line of a run's fault.
+fn run_line(fault: RunFault) -> &'static str
+    ensures { result.now ≡ run_line fault }
+{
+    match fault {
+        RunFault::Read => "fault read\n",
+        RunFault::Write => "fault write\n",
+        RunFault::Memory => "fault memory\n",
+        RunFault::Store => "fault store\n",
+    }
+}
+
+/// Writes a line, or a beginning of it.
+fn tell_line<E: ByteOut>(errors: &mut E, line: &str)
+    ensures { HasSent line.now (E.taken errors.old) (E.taken errors.new) }
+{
+    let _told = send_part(errors, line.as_bytes());
+}
+
+/// Writes a line of a head and a word, or a beginning of it.
+fn tell_word<E: ByteOut>(errors: &mut E, head: &str, word: &str)
+    ensures { HasSent (head.now ++ word.now ++ 10 ∷ []) (E.taken errors.old) (E.taken errors.new) }
+{
+    let _told = send_word(errors, head, word.as_bytes());
+}
+
+/// Tells why there is no station.
+fn tell_attach<E: ByteOut>(errors: &mut E, fault: AttachFault)
+    ensures { HasTold (DeskFault.Attach fault) (E.taken errors.old) (E.taken errors.new) }
+{
+    match fault {
+        AttachFault::Unlawful(table) => tell_word(errors, "fault 601 ", table.as_str()),
+        AttachFault::NoStation => tell_line(errors, "fault 602\n"),
+        AttachFault::Version(version) => {
+            tell_word(errors, "fault 603 ", Buffer::new().format(version));
+        }
+        AttachFault::Occupied => tell_line(errors, "fault 604\n"),
+        AttachFault::Store => tell_line(errors, run_line(RunFault::Store)),
+        AttachFault::Memory => tell_line(errors, run_line(RunFault::Memory)),
+    }
+}
+
+/// Tells a fault: its line goes out, or a beginning of it.
+fn tell<E: ByteOut>(errors: &mut E, fault: DeskFault)
+    ensures { HasTold fault (E.taken errors.old) (E.taken errors.new) }
+{
+    match fault {
+        DeskFault::Clock => tell_line(errors, "fault clock\n"),
+        DeskFault::Run(fault) => tell_line(errors, run_line(fault)),
+        DeskFault::Attach(fault) => tell_attach(errors, fault),
+    }
+}
+
+/// The exit status where there is no station. 3: the store failed, or memory ran out; 4: the file
+/// has none.
+fn attach_status(fault: AttachFault) -> u8
+    ensures { result ≡ attach_status fault }
+{
+    match fault {
+        AttachFault::Store | AttachFault::Memory => 3,
+        _ => 4,
+    }
+}
+
+/// The exit status of a call. 0: all was accepted; 1: something wasn't; 3: it ended before its end;
+/// 4: the file has no station for it.
+fn status_of(ended: Result<bool, DeskFault>) -> u8
+    ensures { result ≡ status_of ended }
+{
+    match ended {
+        Ok(true) => 0,
+        Ok(false) => 1,
+        Err(DeskFault::Attach(fault)) => attach_status(fault),
+        Err(_) => 3,
+    }
+}
+
+/// Ends a call: its fault is reported, and the status is returned.
+pub fn end<E: ByteOut>(errors: &mut E, ended: Result<bool, DeskFault>) -> u8
+    ensures status { result ≡ status_of ended }
+    ensures told { IfErr ended (λ fault. HasTold fault (E.taken errors.old) (E.taken errors.new)) }
+    ensures silent { OnOk ended (errors.new ≡ errors.old) }
+{
+    if let Err(fault) = ended {
+        tell(errors, fault);
+    }
+    status_of(ended)
+}
+
+/// Ends a call whose command ran.
+pub(crate) fn end_run<E: ByteOut>(errors: &mut E, ended: Result<bool, RunFault>) -> u8
+    ensures { HasToldEnd E.taken ended errors.old errors.new result }
+{
+    end(errors, run_ended(ended))
+}
+
+/// Tells why there is no station, and gives the connection back.
+pub(crate) fn refuse_line<S: Alter, I, W, E: ByteOut>(
+    _reader: &mut I,
+    _output: &mut W,
+    errors: &mut E,
+    none: (Connection<S>, AttachFault),
+) -> (u8, Connection<S>)
+    ensures { HasNoStation none _reader.old _reader.new _output.old _output.new (E.taken errors.old)
+        (E.taken errors.new) result }
+{
+    let (conn, fault) = none;
+    (end(errors, Err(DeskFault::Attach(fault))), conn)
+}

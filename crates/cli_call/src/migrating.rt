@@ -1,0 +1,78 @@
+//! The migration of a file.
+ghost use Rattle.cli_call.specs.Migrated.{HasEndedMigration, HasMigrated, HasMoved, HasToldMoved, HasToldVersion};
+
+use crate::ended::{end_run, refuse_line};
+use cli_run::send_part;
+use sqlite::{Alter, Connection};
+use station_core::ByteOut;
+use station_tables::{AttachFault, migrate};
+use std::alloc::Global;
+use stock_list::RunFault;
+
+/// Makes the tables of version 1 that a connection has those of version 2.
+fn move_tables<S: Alter>(
+    alloc: Global,
+    conn: Connection<S>,
+) -> Result<Connection<S>, (Connection<S>, AttachFault)>
+    ensures { HasMoved S.Store conn result }
+{
+    migrate(alloc, conn)
+}
+
+/// Writes the line of a file that is of version 2 now.
+fn tell_version<W: ByteOut>(output: &mut W) -> Result<bool, RunFault>
+    ensures { HasToldVersion (W.taken output.old) (W.taken output.new) result }
+{
+    match send_part(output, b"ok 2\n") {
+        Ok(()) => Ok(true),
+        Err(fault) => Err(fault),
+    }
+}
+
+/// Tells that the tables are those of version 2, and gives the connection back.
+fn tell_moved<S: Alter, I, W: ByteOut, E: ByteOut>(
+    conn: Connection<S>,
+    _reader: &mut I,
+    output: &mut W,
+    errors: &mut E,
+) -> (u8, Connection<S>)
+    ensures { HasToldMoved conn _reader.old _reader.new (W.taken output.old) (W.taken output.new)
+        E.taken errors.old errors.new result }
+{
+    let ended = tell_version(output);
+    let status = end_run(errors, ended);
+    (status, conn)
+}
+
+/// Tells what the migration of a connection came to, and gives the connection back.
+fn end_migration<S: Alter, I, W: ByteOut, E: ByteOut>(
+    migrated: Result<Connection<S>, (Connection<S>, AttachFault)>,
+    reader: &mut I,
+    output: &mut W,
+    errors: &mut E,
+) -> (u8, Connection<S>)
+    ensures { HasEndedMigration W.taken E.taken migrated reader.old reader.new
+        output.old output.new errors.old errors.new result }
+{
+    match migrated {
+        Ok(conn) => tell_moved(conn, reader, output, errors),
+        Err(none) => refuse_line(reader, output, errors, none),
+    }
+}
+
+/// `migrate`: makes the tables of version 1 that a connection has those of version 2, and prints
+/// `ok 2` behind that, or reports why it didn't. It returns the exit status and the connection;
+/// nothing is read.
+pub(crate) fn run_migrate<S: Alter, I, W: ByteOut, E: ByteOut>(
+    alloc: Global,
+    conn: Connection<S>,
+    reader: &mut I,
+    output: &mut W,
+    errors: &mut E,
+) -> (u8, Connection<S>)
+    ensures { HasMigrated S.Store W.taken E.taken conn reader.old reader.new
+        output.old output.new errors.old errors.new result }
+{
+    let migrated = move_tables(alloc, conn);
+    end_migration(migrated, reader, output, errors)
+}

@@ -1,0 +1,113 @@
+//! A line over a connection.
+ghost use Rattle.std.specs.Prelude.{◌≡◌};
+ghost use Rattle.cli_run.specs.Place.{is_migration};
+ghost use Rattle.cli_call.specs.Ran.{HasCalled, HasCalledStation, HasEndedCall, HasReleased, HasRunLine};
+
+use crate::ended::{end_run, refuse_line};
+use crate::migrating::run_migrate;
+use crate::opening::open_station;
+use cli_run::{is_migration, run_over};
+use cli_words::Line;
+use imp_fields::Moment;
+use sqlite::{Alter, Connection};
+use station_core::{ByteIn, ByteOut, Keeper};
+use station_tables::{AttachFault, Station};
+use std::alloc::Global;
+use std::io::Read;
+use stock_list::Watched;
+
+/// Gives the connection of a station back.
+fn give_back<S: Alter>(station: Station<S>) -> Connection<S>
+    ensures { HasReleased ⟦<Station<S> as Keeper>⟧.keeps ⟦<Station<S> as Keeper>⟧.is_sound
+        ⟦<Station<S> as Keeper>⟧.may_find station result }
+{
+    station.release()
+}
+
+/// Runs a line's command over its station, reports how it ended, and gives the connection back.
+fn run_station<S: Alter, I: Watched + Read, W: ByteOut, E: ByteOut>(
+    alloc: Global,
+    line: &Line<'_>,
+    mut station: Station<S>,
+    reader: &mut I,
+    output: &mut W,
+    errors: &mut E,
+    at: Moment,
+) -> (u8, Connection<S>)
+    ensures { HasRunLine line.now ⟦<Station<S> as Keeper>⟧.keeps ⟦<Station<S> as Keeper>⟧.is_sound
+        ⟦<Station<S> as Keeper>⟧.is_broken ⟦<Station<S> as Keeper>⟧.may_find at
+        station (I.remaining reader.old) (I.given reader.old) (I.given reader.new)
+        (W.taken output.old) (W.taken output.new) E.taken errors.old errors.new result }
+{
+    let ended = run_over(alloc, &mut station, line, reader, output, at);
+    let status = end_run(errors, ended);
+    (status, give_back(station))
+}
+
+/// Runs a line over its station, or reports why there is none.
+fn run_opened<S: Alter, I: Watched + Read, W: ByteOut, E: ByteOut>(
+    alloc: Global,
+    line: &Line<'_>,
+    opened: Result<Station<S>, (Connection<S>, AttachFault)>,
+    reader: &mut I,
+    output: &mut W,
+    errors: &mut E,
+    at: Moment,
+) -> (u8, Connection<S>)
+    ensures { HasEndedCall line.now ⟦<Station<S> as Keeper>⟧.keeps ⟦<Station<S> as Keeper>⟧.is_sound
+        ⟦<Station<S> as Keeper>⟧.is_broken ⟦<Station<S> as Keeper>⟧.may_find at
+        I.remaining I.given W.taken E.taken opened reader.old reader.new output.old output.new
+        errors.old errors.new result }
+{
+    match opened {
+        Ok(station) => run_station(alloc, line, station, reader, output, errors, at),
+        Err(none) => refuse_line(reader, output, errors, none),
+    }
+}
+
+/// Runs a line's command over the station of a connection, or reports why there is none.
+fn call_station<S: Alter, I: Watched + Read, W: ByteOut, E: ByteOut>(
+    alloc: Global,
+    line: &Line<'_>,
+    conn: Connection<S>,
+    reader: &mut I,
+    output: &mut W,
+    errors: &mut E,
+    at: Moment,
+) -> (u8, Connection<S>)
+    ensures { HasCalledStation S.Store line.now ⟦<Station<S> as Keeper>⟧.keeps
+        ⟦<Station<S> as Keeper>⟧.is_sound ⟦<Station<S> as Keeper>⟧.is_broken
+        ⟦<Station<S> as Keeper>⟧.may_find at I.remaining I.given W.taken E.taken conn
+        reader.old reader.new output.old output.new errors.old errors.new result }
+{
+    let opened = open_station(alloc, line, conn);
+    run_opened(alloc, line, opened, reader, output, errors, at)
+}
+
+/// Runs a line over a connection, at a moment: every command but `serve`. It returns the exit
+/// status and the connection.
+///
+/// `migrate` makes the tables of version 1 that the connection has those of version 2, and prints
+/// `ok 2`. A fault is reported on `errors`: status 3, or 4 where the connection has no station for
+/// the line.
+pub fn run_line<S: Alter, I: Watched + Read, W: ByteOut, E: ByteOut>(
+    alloc: Global,
+    line: &Line<'_>,
+    conn: Connection<S>,
+    reader: &mut I,
+    output: &mut W,
+    errors: &mut E,
+    at: Moment,
+) -> (u8, Connection<S>)
+    ensures { HasCalled S.Store (is_migration line.now.command) line.now
+        ⟦<Station<S> as Keeper>⟧.keeps ⟦<Station<S> as Keeper>⟧.is_sound
+        ⟦<Station<S> as Keeper>⟧.is_broken ⟦<Station<S> as Keeper>⟧.may_find at
+        I.remaining I.given W.taken E.taken conn reader.old reader.new
+        output.old output.new errors.old errors.new result }
+{
+    if is_migration(line) {
+        run_migrate(alloc, conn, reader, output, errors)
+    } else {
+        call_station(alloc, line, conn, reader, output, errors, at)
+    }
+}

@@ -1,0 +1,24 @@
+//! What `--version` tells.
+ghost use Rattle.std.specs.Prelude.{◌≡◌, [], IfOk, pos, string_bytes};
+ghost use Rattle.row_schema.specs.Calls.{new_station};
+ghost use Rattle.cli_call.specs.Version.{version_line};
+
+use cli_words::program_version;
+use std::alloc::{AllocError, Global};
+
+/// The version of the files that the program makes and opens.
+fn file_version() -> u32
+    ensures { pos result ≡ (new_station []).version }
+{
+    2
+}
+
+/// The line of `--version`: the program, its version, and the version of its files.
+///
+/// Returns [`AllocError`] when out of memory.
+pub fn version_line(alloc: Global) -> Result<String, AllocError>
+    ensures { IfOk result (λ line. string_bytes line ≡ version_line) }
+{
+    let (program, files) = (program_version(), file_version());
+    format!(in alloc; "cargo_desk {program}, files of version {files}\n")
+}

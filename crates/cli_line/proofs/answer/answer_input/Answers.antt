@@ -1,0 +1,12 @@
+use Rattle.cli_line.proofs.Unanswered.{not_acted, shut_after}
+use Rattle.cli_line.proofs.answer.answer_input.Goals as goal
+
+pub returns-in-Err-clause-stopped : goal.returns-in-Err-clause-stopped
+returns-in-Err-clause-stopped g c = λ s keeps works sound.
+    not_acted s c.args.input.now c.args.at c.in-Err.fault c.keeper_fault.result (g.O.ByteOut.taken c.args.writer.now).bytes
+    (g.K.Keeper.keeps c.answer_one.new.keeper) (g.K.Keeper.may_find c.answer_one.new.keeper) c.keeper_fault.ensures
+    (c.in-Err.ensures.answers s keeps works sound) (c.in-Err.ensures.leaves s keeps works sound)
+
+pub returns-in-Err-clause-breaks : goal.returns-in-Err-clause-breaks
+returns-in-Err-clause-breaks g c = λ works.
+    shut_after c.in-Err.fault c.keeper_fault.result _ c.keeper_fault.ensures (c.in-Err.ensures.fault works) (c.in-Err.ensures.breaks works)

@@ -1,0 +1,68 @@
+ghost use Rattle.std.specs.Prelude.{◌≡◌, ◌⊎◌, true, false, Err, IfErr, OnOk};
+ghost use Rattle.station_core.specs.Ends.{HasCause};
+ghost use Rattle.station_core.specs.Step.{State};
+ghost use Rattle.stock_list.specs.Ended.{IsShutAfter, IsUntroubled};
+ghost use Rattle.cli_line.specs.Asked.{IsTelegramAsked};
+ghost use Rattle.cli_line.specs.Came.{HasFailed};
+ghost use Rattle.cli_line.specs.Ended.{HasRun};
+ghost use Rattle.cli_line.specs.Shut.{HasRunShut};
+
+use crate::answer::answer_asked;
+use crate::asked::telegram_asked;
+use crate::reading::read_input;
+use imp_fields::Moment;
+use station_core::{ByteIn, ByteOut, Keeper};
+use std::alloc::Global;
+use stock_list::RunFault;
+
+/// Reads one telegram, hands it to the station at a moment, and writes the line of its answer: `ok
+/// 10`, `refused 213 LH400/2026-01-12/FRA/1`, or `refused 301 4 ending` where it can't be read. Of
+/// an input with more than 65,536 bytes, which is refused, only a beginning is read. `Ok` says
+/// whether it was accepted.
+///
+/// Returns [`RunFault::Read`] where the reader fails, and [`RunFault::Memory`] where memory runs
+/// out before the station is asked: nothing was done or written. Returns [`RunFault::Store`] where
+/// the store fails, or failed before: nothing was written, and the telegram was taken wholly or not
+/// at all. Returns [`RunFault::Write`] where the writer fails, and [`RunFault::Memory`] where
+/// memory for the line runs out: the telegram was answered, and a beginning of the line was
+/// written.
+pub fn run_take<K: Keeper, I: ByteIn, O: ByteOut>(
+    alloc: Global,
+    keeper: &mut K,
+    reader: &mut I,
+    writer: &mut O,
+    at: Moment,
+) -> Result<bool, RunFault>
+    ensures sound { K.is_sound keeper.new → K.is_sound keeper.old }
+    ensures works { K.is_broken keeper.old ≡ false → OnOk result (K.is_broken keeper.new ≡ false) }
+    ensures breaks { K.is_broken keeper.old ≡ false
+        → IfErr result (λ e. IsShutAfter e (K.is_broken keeper.new)) }
+    ensures ran { (s : State) → K.keeps keeper.old s → K.is_broken keeper.old ≡ false
+        → K.is_sound keeper.new
+        → HasRun IsTelegramAsked s at (I.given reader.old) (I.given reader.new)
+        (O.taken writer.old).bytes (O.taken writer.new).bytes
+        (K.keeps keeper.new) (K.may_find keeper.new) result }
+    ensures unread { result ≡ Err RunFault.Read → (keeper.new ≡ keeper.old)
+        × (O.taken writer.new ≡ O.taken writer.old) }
+    ensures read_cause { result ≡ Err RunFault.Read
+        → HasFailed (I.given reader.old) (I.given reader.new) }
+    ensures read_told { IfErr result (λ e. (e ≡ RunFault.Read)
+        ⊎ ((I.given reader.new).failures ≡ (I.given reader.old).failures)) }
+    ensures write_cause { result ≡ Err RunFault.Write
+        → HasCause (O.taken writer.old) (O.taken writer.new) }
+    ensures write_told { IfErr result (λ e. (e ≡ RunFault.Write)
+        ⊎ IsUntroubled (O.taken writer.old) (O.taken writer.new)) }
+    ensures untroubled { OnOk result (IsUntroubled (O.taken writer.old) (O.taken writer.new)) }
+
+    // A station that has to be opened again stays as it is, and nothing is asked of it.
+    ensures same { K.is_broken keeper.old ≡ true → keeper.new ≡ keeper.old }
+    ensures reopen { K.is_broken keeper.old ≡ true
+        → HasRunShut IsTelegramAsked (I.given reader.old) (I.given reader.new) (O.taken writer.old)
+        (O.taken writer.new) result }
+{
+    let bytes = read_input(alloc, reader)?;
+    match telegram_asked(alloc, bytes.as_slice()) {
+        Ok(asked) => answer_asked(alloc, keeper, writer, &asked, at),
+        Err(_) => Err(RunFault::Memory),
+    }
+}

@@ -1,0 +1,84 @@
+ghost use Rattle.std.specs.Prelude.{◌≡◌, ◌↔◌, ◌<◌, true};
+ghost use Rattle.std.specs.Io.{ReadsAtMost};
+ghost use Rattle.std.specs.Io.KnownBytes.{ReadConsumes};
+ghost use Rattle.station_core.specs.Ends.{ReadStep};
+ghost use Rattle.station_core.specs.Given.{nothing_given};
+ghost use Rattle.station_core.specs.declared.ends.Counted.{Counted};
+ghost use Rattle.cli_run.specs.Feed.{fed_of, reader_of};
+
+use station_core::{ByteIn, Counted, ReadFault};
+use std::io;
+use std::io::{ErrorKind, Read};
+use std::marker::Model;
+use stock_list::Watched;
+
+/// What feeds a command: a reader of std, with a count of what it gave that contracts alone see. It
+/// knows whether a read has failed.
+#[derive(Drop)]
+pub struct Feed<R> {
+    counted: Counted<R>,
+    failed: bool,
+}
+
+impl<R> Model for Feed<R> {
+    ghost Value = { Counted R };
+
+    ghost view = { λ f. f.counted };
+
+    ghost invariant = { λ f. (f.failed ≡ true) ↔ (0 < f.counted.tally.given.failures) };
+}
+
+impl<R> Feed<R> {
+    /// Nothing was read yet.
+    pub fn new(reader: R) -> Feed<R>
+        ensures reader { reader_of result ≡ reader }
+        ensures nothing { fed_of result ≡ nothing_given }
+    {
+        Feed {
+            counted: Counted::new(reader),
+            failed: false,
+        }
+    }
+}
+
+impl<R: Read> ByteIn for Feed<R> {
+    ghost given = { fed_of };
+
+    fn read(&mut self, buf: &mut [u8]) -> Result<usize, ReadFault>
+        ensures step { ReadStep (fed_of self.old) (fed_of self.new) result buf.new }
+        // What is known to be left of the reader loses these bytes, and no others.
+        ensures inner { ReadConsumes (R.remaining (reader_of self.old))
+            (R.remaining (reader_of self.new)) result buf.new }
+    {
+        match self.counted.read(buf) {
+            Ok(n) => Ok(n),
+            Err(ReadFault::Interrupted) => Err(ReadFault::Interrupted),
+            Err(ReadFault::Failed) => {
+                self.failed = true;
+                Err(ReadFault::Failed)
+            }
+        }
+    }
+}
+
+impl<R: Read> Watched for Feed<R> {
+    fn has_failed(&self) -> bool {
+        self.failed
+    }
+}
+
+impl<R: Read> Read for Feed<R> {
+    ghost remaining = { λ f. R.remaining (reader_of f) };
+
+    /// One read, made again where it is interrupted.
+    fn read(&mut self, buf: &mut [u8]) -> io::Result<usize> {
+        for _ in 0..u64::MAX {
+            match ByteIn::read(self, buf) {
+                Ok(n) => return Ok(n),
+                Err(ReadFault::Interrupted) => {}
+                Err(ReadFault::Failed) => return Err(ErrorKind::Other.into()),
+            }
+        }
+        Err(ErrorKind::Interrupted.into())
+    }
+}

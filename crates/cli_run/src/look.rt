@@ -1,0 +1,119 @@
+//! The commands that look a number up.
+ghost use Rattle.std.specs.Prelude.{◌≡◌, ◌++◌, ◌∷◌, [], false, IfOk, OnOk, Some, None};
+ghost use Rattle.std.specs.Prelude.{option_map, string_bytes};
+ghost use Rattle.serde_json.specs.Data.{Data};
+ghost use Rattle.serde_json.specs.Written.{compact_text};
+ghost use Rattle.http_desk.specs.Reply.{holder_data, waybill_data};
+ghost use Rattle.cli_run.specs.Looked.{holder_found, waybill_found, HasLookedUp, HasToldFound};
+
+use agent_stock::Holder;
+use awb_number::Awb;
+use http_desk::{holder_text, waybill_text};
+use station_core::{ByteOut, Keeper, Waybill};
+use std::alloc::{AllocError, Global};
+use stock_list::{RunFault, keeper_fault, send_line};
+
+/// The line of a number of which nothing is known.
+const UNKNOWN: &str = "unknown\n";
+
+/// The line of an object.
+fn object_line(alloc: Global, object: &str) -> Result<String, AllocError>
+    ensures { IfOk result (λ line. string_bytes line ≡ object.now ++ 10 ∷ []) }
+{
+    format!(in alloc; "{object}\n")
+}
+
+/// Writes the line of an object, where memory allowed it.
+fn tell_object<W: ByteOut>(
+    alloc: Global,
+    object: Result<String, AllocError>,
+    output: &mut W,
+) -> Result<bool, RunFault>
+    ensures { (d : Data) → IfOk object (λ text. string_bytes text ≡ compact_text d)
+        → HasToldFound (Some d) (W.taken output.old) (W.taken output.new) result }
+{
+    let Ok(object) = object else {
+        return Err(RunFault::Memory);
+    };
+    let Ok(line) = object_line(alloc, object.as_str()) else {
+        return Err(RunFault::Memory);
+    };
+    send_line(output, &line)?;
+    Ok(true)
+}
+
+/// Tells that nothing is known.
+fn tell_unknown<W: ByteOut>(output: &mut W) -> Result<bool, RunFault>
+    ensures { HasToldFound None (W.taken output.old) (W.taken output.new) result }
+{
+    send_line(output, UNKNOWN)?;
+    Ok(false)
+}
+
+/// Tells what is known of a waybill.
+fn tell_waybill<W: ByteOut>(
+    alloc: Global,
+    number: &Awb,
+    known: &Option<Waybill>,
+    output: &mut W,
+) -> Result<bool, RunFault>
+    ensures { HasToldFound (option_map (waybill_data number.now) known.now)
+        (W.taken output.old) (W.taken output.new) result }
+{
+    match known {
+        Some(known) => tell_object(alloc, waybill_text(alloc, number, known), output),
+        None => tell_unknown(output),
+    }
+}
+
+/// Tells who holds a number.
+fn tell_holder<W: ByteOut>(
+    alloc: Global,
+    number: &Awb,
+    holder: &Option<Holder>,
+    output: &mut W,
+) -> Result<bool, RunFault>
+    ensures { HasToldFound (option_map (holder_data number.now) holder.now)
+        (W.taken output.old) (W.taken output.new) result }
+{
+    match holder {
+        Some(holder) => tell_object(alloc, holder_text(alloc, number, holder), output),
+        None => tell_unknown(output),
+    }
+}
+
+/// `waybill AWB`: what is known of a waybill.
+pub(crate) fn do_waybill<K: Keeper, W: ByteOut>(
+    alloc: Global,
+    keeper: &mut K,
+    number: &Awb,
+    output: &mut W,
+) -> Result<bool, RunFault>
+    ensures sound { K.is_sound keeper.new → K.is_sound keeper.old }
+    ensures works { K.is_broken keeper.old ≡ false → OnOk result (K.is_broken keeper.new ≡ false) }
+    ensures looked { HasLookedUp (waybill_found number.now) K.keeps K.is_sound K.is_broken
+        K.may_find keeper.old keeper.new (W.taken output.old) (W.taken output.new) result }
+{
+    match keeper.waybill(number) {
+        Ok(known) => tell_waybill(alloc, number, &known, output),
+        Err(fault) => Err(keeper_fault(fault)),
+    }
+}
+
+/// `holder AWB`: who holds a number.
+pub(crate) fn do_holder<K: Keeper, W: ByteOut>(
+    alloc: Global,
+    keeper: &mut K,
+    number: &Awb,
+    output: &mut W,
+) -> Result<bool, RunFault>
+    ensures sound { K.is_sound keeper.new → K.is_sound keeper.old }
+    ensures works { K.is_broken keeper.old ≡ false → OnOk result (K.is_broken keeper.new ≡ false) }
+    ensures looked { HasLookedUp (holder_found number.now) K.keeps K.is_sound K.is_broken
+        K.may_find keeper.old keeper.new (W.taken output.old) (W.taken output.new) result }
+{
+    match keeper.holder(number) {
+        Ok(holder) => tell_holder(alloc, number, &holder, output),
+        Err(fault) => Err(keeper_fault(fault)),
+    }
+}

@@ -1,0 +1,120 @@
+//! A command over its station.
+ghost use Rattle.std.specs.Prelude.{◌≡◌, false, OnOk};
+ghost use Rattle.cli_line.specs.Asked.{IsCommandAsked, IsTelegramAsked};
+ghost use Rattle.cli_run.specs.Done.{HasAnsweredAsked, HasAnsweredRows, HasDone, HasToldMade};
+ghost use Rattle.cli_run.specs.Place.{here_of};
+
+use crate::look::{do_holder, do_waybill};
+use crate::place::airport_of_line;
+use crate::report::{do_outbox, do_report};
+use crate::sent::send_word;
+use cli_line::{run_act, run_take};
+use cli_words::{Line, LineCommand};
+use desk_commands::Verb;
+use imp_fields::{Airport, Moment};
+use station_core::{ByteIn, ByteOut, Keeper, Key};
+use std::alloc::Global;
+use std::io::Read;
+use stock_list::{RunFault, Watched, run_stock};
+
+/// `init`: the line of a station that was made.
+fn do_init<K: Keeper, W: ByteOut>(
+    _keeper: &mut K,
+    here: Airport,
+    output: &mut W,
+) -> Result<bool, RunFault>
+    ensures { HasToldMade here _keeper.old _keeper.new (W.taken output.old) (W.taken output.new)
+        result }
+{
+    match send_word(output, "ok ", &here.letters()) {
+        Ok(()) => Ok(true),
+        Err(fault) => Err(fault),
+    }
+}
+
+/// `stock`: the answers of a stock list.
+fn do_stock<K: Keeper, I: Watched + Read, W: ByteOut>(
+    alloc: Global,
+    keeper: &mut K,
+    reader: &mut I,
+    output: &mut W,
+    at: Moment,
+) -> Result<bool, RunFault>
+    ensures sound { K.is_sound keeper.new → K.is_sound keeper.old }
+    ensures works { K.is_broken keeper.old ≡ false → OnOk result (K.is_broken keeper.new ≡ false) }
+    ensures answered { HasAnsweredRows K.keeps K.is_sound K.is_broken K.may_find
+        (I.remaining reader.old) at keeper.old keeper.new
+        (I.given reader.new) (W.taken output.old) (W.taken output.new) result }
+{
+    run_stock(alloc, keeper, reader, output, at)
+}
+
+/// `take FILE`: the answer of a telegram.
+fn do_take<K: Keeper, I: ByteIn, W: ByteOut>(
+    alloc: Global,
+    keeper: &mut K,
+    reader: &mut I,
+    output: &mut W,
+    at: Moment,
+) -> Result<bool, RunFault>
+    ensures sound { K.is_sound keeper.new → K.is_sound keeper.old }
+    ensures works { K.is_broken keeper.old ≡ false → OnOk result (K.is_broken keeper.new ≡ false) }
+    ensures answered { HasAnsweredAsked IsTelegramAsked K.keeps K.is_sound K.is_broken K.may_find at
+        keeper.old keeper.new
+        (I.given reader.old) (I.given reader.new) (W.taken output.old) (W.taken output.new) result }
+{
+    run_take(alloc, keeper, reader, output, at)
+}
+
+/// `act VERB KEY`: the answer of a command under its key.
+fn do_act<K: Keeper, I: ByteIn, W: ByteOut>(
+    alloc: Global,
+    keeper: &mut K,
+    verb: Verb,
+    key: Key,
+    reader: &mut I,
+    output: &mut W,
+    at: Moment,
+) -> Result<bool, RunFault>
+    ensures sound { K.is_sound keeper.new → K.is_sound keeper.old }
+    ensures works { K.is_broken keeper.old ≡ false → OnOk result (K.is_broken keeper.new ≡ false) }
+    ensures answered { HasAnsweredAsked (IsCommandAsked verb key) K.keeps K.is_sound K.is_broken
+        K.may_find at keeper.old keeper.new
+        (I.given reader.old) (I.given reader.new) (W.taken output.old) (W.taken output.new) result }
+{
+    run_act(alloc, keeper, verb, key, reader, output, at)
+}
+
+/// Runs the command of a line over its station, at a moment. `serve` and `migrate` aren't run here:
+/// nothing is done or written.
+///
+/// `Ok` says whether all was accepted. Returns [`RunFault::Read`], [`RunFault::Write`],
+/// [`RunFault::Memory`] or [`RunFault::Store`] where the run stopped, as its command's own call
+/// says.
+pub fn run_over<K: Keeper, I: Watched + Read, W: ByteOut>(
+    alloc: Global,
+    keeper: &mut K,
+    line: &Line<'_>,
+    reader: &mut I,
+    output: &mut W,
+    at: Moment,
+) -> Result<bool, RunFault>
+    ensures sound { K.is_sound keeper.new → K.is_sound keeper.old }
+    ensures works { K.is_broken keeper.old ≡ false → OnOk result (K.is_broken keeper.new ≡ false) }
+    ensures done { HasDone line.now.command (here_of line.now.station) K.keeps K.is_sound
+        K.is_broken K.may_find at keeper.old keeper.new
+        (I.remaining reader.old) (I.given reader.old) (I.given reader.new) (W.taken output.old)
+        (W.taken output.new) result }
+{
+    match line.command {
+        LineCommand::Init => do_init(keeper, airport_of_line(line), output),
+        LineCommand::Stock => do_stock(alloc, keeper, reader, output, at),
+        LineCommand::Take(_) => do_take(alloc, keeper, reader, output, at),
+        LineCommand::Act { verb, key } => do_act(alloc, keeper, verb, key, reader, output, at),
+        LineCommand::Outbox => do_outbox(alloc, keeper, output),
+        LineCommand::Report(name) => do_report(alloc, keeper, name, output),
+        LineCommand::Waybill(number) => do_waybill(alloc, keeper, &number, output),
+        LineCommand::Holder(number) => do_holder(alloc, keeper, &number, output),
+        LineCommand::Serve { .. } | LineCommand::Migrate => Ok(true),
+    }
+}

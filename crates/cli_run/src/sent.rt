@@ -1,0 +1,43 @@
+//! Lines that go out in parts.
+ghost use Rattle.std.specs.Prelude.{◌≡◌, ◌++◌, ◌∷◌, [], IfErr, OnErr, OnOk};
+ghost use Rattle.station_core.specs.Ends.{HasCause};
+ghost use Rattle.stock_list.specs.Ended.{IsUntroubled};
+ghost use Rattle.cli_run.specs.Sent.{HasSent};
+
+use station_core::{ByteOut, send};
+use stock_list::RunFault;
+
+/// Writes a part of a line.
+///
+/// Returns [`RunFault::Write`] where the writer fails or takes no byte: a beginning of it went out.
+pub fn send_part<W: ByteOut>(writer: &mut W, part: &[u8]) -> Result<(), RunFault>
+    ensures all { OnOk result
+        ((W.taken writer.new).bytes ≡ (W.taken writer.old).bytes ++ part.now) }
+    ensures sent { HasSent part.now (W.taken writer.old) (W.taken writer.new) }
+    ensures untroubled { OnOk result (IsUntroubled (W.taken writer.old) (W.taken writer.new)) }
+    ensures why { IfErr result (λ e. e ≡ RunFault.Write) }
+    ensures cause { OnErr result (HasCause (W.taken writer.old) (W.taken writer.new)) }
+{
+    match send(writer, part) {
+        Ok(()) => Ok(()),
+        Err(_sent) => Err(RunFault::Write),
+    }
+}
+
+/// Writes a line of a head and a word.
+///
+/// Returns [`RunFault::Write`] where the writer fails or takes no byte: a beginning of it went out.
+#[tactic(auto, using(crate::proofs::Parts::cause_behind, crate::proofs::Parts::cause_behind_two))]
+pub fn send_word<W: ByteOut>(writer: &mut W, head: &str, word: &[u8]) -> Result<(), RunFault>
+    ensures all { OnOk result
+        ((W.taken writer.new).bytes ≡ (W.taken writer.old).bytes ++
+        (head.now ++ word.now ++ 10 ∷ [])) }
+    ensures sent { HasSent (head.now ++ word.now ++ 10 ∷ []) (W.taken writer.old)
+        (W.taken writer.new) }
+    ensures why { IfErr result (λ e. e ≡ RunFault.Write) }
+    ensures cause { OnErr result (HasCause (W.taken writer.old) (W.taken writer.new)) }
+{
+    send_part(writer, head.as_bytes())?;
+    send_part(writer, word)?;
+    send_part(writer, b"\n")
+}

@@ -1,0 +1,60 @@
+-- What the words of a call ask.
+use Rattle.std.specs.Prelude.{◌≡◌, ◌≤◌, ℕ, List, Option, Some, None, Ok, IsSome, IfSome, codes, option_map}
+use Rattle.std.specs.Str.Parse.{ParsesUnsigned}
+use Rattle.awb_number.specs.Number.{number_of}
+use Rattle.imp_fields.specs.Airport.{airport_of}
+use Rattle.desk_commands.specs.Verb.{word}
+use Rattle.cli_line.specs.Report.{report_called}
+use Rattle.cli_words.specs.declared.line.Line.{Line}
+use Rattle.cli_words.specs.declared.line.LineCommand.{LineCommand}
+use Rattle.cli_words.specs.declared.line.LineCommand.TheVariants as command
+use Rattle.cli_words.specs.declared.words.Words.{Words}
+use Rattle.cli_words.specs.declared.words.Request.{Request}
+use Rattle.cli_words.specs.declared.words.Request.TheVariants as request
+
+-- A new file needs its path and its airport, and one that is migrated its path. A port and a count
+-- are at least 1.
+abbrev pub IsCalled : LineCommand → Type 0 → Type 0 → Type 0
+IsCalled command.Init HasFile HasAirport = HasFile × HasAirport
+IsCalled command.Migrate HasFile HasAirport = HasFile
+IsCalled (command.Serve port count) HasFile HasAirport = (1 ≤ port) × IfSome count (λ k. 1 ≤ k)
+IsCalled _ HasFile HasAirport = Unit {0}
+
+abbrev pub IsLine : Line → Type 0
+IsLine line = IsCalled line.command (IsSome line.db) (IsSome line.station)
+
+-- a decimal number of so many bits at most
+abbrev pub IsNumber : ℕ → List ℕ → ℕ → Type 0
+IsNumber bits text n = ParsesUnsigned {E = Unit {0}} bits 10 text (Ok n)
+
+-- each word of a command is read by its own rule
+abbrev pub Means : Request → LineCommand → Type 0
+Means request.Init command.Init = Unit {0}
+Means request.Migrate command.Migrate = Unit {0}
+Means request.Stock command.Stock = Unit {0}
+Means (request.Take file) (command.Take path) = path.now ≡ file.now
+Means (request.Act verb key) (command.Act v k) = (word v ≡ verb.now) × (k ≡ key.now)
+Means request.Outbox command.Outbox = Unit {0}
+Means (request.Report name) (command.Report r) = report_called name.now ≡ Some r
+Means (request.Waybill number) (command.Waybill w) = number_of number.now ≡ Ok w
+Means (request.Holder number) (command.Holder w) = number_of number.now ≡ Ok w
+Means (request.Serve port count) (command.Serve p None) = IsNumber 16 port.now p
+Means (request.Serve port (Some count)) (command.Serve p (Some k)) = IsNumber 16 port.now p × IsNumber 32 count.now k
+Means _ _ = ⊥
+
+-- the airport that is named, if one is
+abbrev pub IsStation : Option (List ℕ) → Option (List ℕ) → Type 0
+IsStation None airport = airport ≡ None
+IsStation (Some text) airport = IsSome airport × (airport ≡ airport_of text)
+
+-- the zone of the rule that is named, or of UTC0
+abbrev pub rule_of : Option (List ℕ) → List ℕ
+rule_of None = codes "UTC0"
+rule_of (Some rule) = rule
+
+-- the line says what the words say
+pub record IsMeant (words : Words) (line : Line) : Type 0 where
+  pub db : line.db ≡ words.db
+  pub station : IsStation (option_map (λ text. text.now) words.station) line.station
+  pub zone : line.zone.now ≡ rule_of (option_map (λ text. text.now) words.zone)
+  pub command : Means words.request line.command

@@ -1,0 +1,181 @@
+//! The words of a call, to what they ask.
+ghost use Rattle.std.specs.Prelude.{◌≡◌, true, IfOk, Ok, option_map};
+ghost use Rattle.awb_number.specs.Number.{number_of};
+ghost use Rattle.cli_words.specs.Line.{IsCalled, IsLine, IsMeant, IsStation, Means, rule_of};
+
+use crate::fault::{BadValue, WordsFault, value_fault};
+use crate::line::{Line, LineCommand};
+use crate::number::{read_count, read_port};
+use crate::words::{Request, Words, sort_words};
+use awb_number::{Awb, AwbFault};
+use cli_line::ReportName;
+use desk_commands::Verb;
+use imp_fields::Airport;
+use station_core::Key;
+use std::alloc::Global;
+use std::convert::AsStr;
+
+/// The command of a verb and a key.
+fn read_act<'a>(word: &'a str, key: &'a str) -> Result<LineCommand<'a>, BadValue<'a>>
+    ensures { IfOk result (Means (Request.Act word.entry key.entry)) }
+{
+    let Some(verb) = Verb::read(word.as_bytes()) else {
+        return Err(BadValue::Verb(word));
+    };
+    match Key::read(key.as_bytes()) {
+        Some(key) => Ok(LineCommand::Act { verb, key }),
+        None => Err(BadValue::Key(key)),
+    }
+}
+
+/// The waybill number that a text spells, or why it spells none.
+fn number_of(text: &str) -> Result<Awb, AwbFault>
+    ensures { result ≡ number_of text.now }
+{
+    match text.as_bytes().as_array::<12>() {
+        Some(bytes) => Awb::read(bytes),
+        None => Err(AwbFault::Shape),
+    }
+}
+
+/// The waybill number that a word is.
+fn read_number<'a>(word: &'a str) -> Result<Awb, BadValue<'a>>
+    ensures { IfOk result (λ w. number_of word.entry.now ≡ Ok w) }
+{
+    match number_of(word) {
+        Ok(number) => Ok(number),
+        Err(AwbFault::Shape) => Err(BadValue::Number(word)),
+        Err(AwbFault::Check) => Err(BadValue::CheckDigit(word)),
+    }
+}
+
+/// The look-up of a waybill.
+fn read_waybill<'a>(word: &'a str) -> Result<LineCommand<'a>, BadValue<'a>>
+    ensures { IfOk result (Means (Request.Waybill word.entry)) }
+{
+    match read_number(word) {
+        Ok(number) => Ok(LineCommand::Waybill(number)),
+        Err(bad) => Err(bad),
+    }
+}
+
+/// The look-up of a number's holder.
+fn read_holder<'a>(word: &'a str) -> Result<LineCommand<'a>, BadValue<'a>>
+    ensures { IfOk result (Means (Request.Holder word.entry)) }
+{
+    match read_number(word) {
+        Ok(number) => Ok(LineCommand::Holder(number)),
+        Err(bad) => Err(bad),
+    }
+}
+
+/// The service at a port, for so many connections.
+fn read_serve<'a>(port: &'a str, count: Option<&'a str>) -> Result<LineCommand<'a>, BadValue<'a>>
+    ensures means { IfOk result (Means (Request.Serve port.entry count.entry)) }
+    ensures least { IfOk result (λ command. IsCalled command ⊥ ⊥) }
+{
+    let Some(number) = read_port(port) else {
+        return Err(BadValue::Port(port));
+    };
+    let Some(count) = count else {
+        return Ok(LineCommand::Serve {
+            port: number,
+            count: None,
+        });
+    };
+    match read_count(count) {
+        Some(count) => Ok(LineCommand::Serve {
+            port: number,
+            count: Some(count),
+        }),
+        None => Err(BadValue::Count(count)),
+    }
+}
+
+/// The command that is asked for.
+fn read_command<'a>(
+    request: Request<'a>,
+    has_file: bool,
+    has_airport: bool,
+) -> Result<LineCommand<'a>, BadValue<'a>>
+    ensures means { IfOk result (Means request.entry) }
+    ensures called { IfOk result
+        (λ command. IsCalled command (has_file ≡ true) (has_airport ≡ true)) }
+{
+    match request {
+        Request::Init if has_file && has_airport => Ok(LineCommand::Init),
+        Request::Init => Err(BadValue::Init),
+        Request::Migrate if has_file => Ok(LineCommand::Migrate),
+        Request::Migrate => Err(BadValue::Migrate),
+        Request::Stock => Ok(LineCommand::Stock),
+        Request::Take(file) => Ok(LineCommand::Take(file)),
+        Request::Act { verb, key } => read_act(verb, key),
+        Request::Outbox => Ok(LineCommand::Outbox),
+        Request::Report(name) => match ReportName::read(name.as_bytes()) {
+            Some(report) => Ok(LineCommand::Report(report)),
+            None => Err(BadValue::ReportName(name)),
+        },
+        Request::Waybill(number) => read_waybill(number),
+        Request::Holder(number) => read_holder(number),
+        Request::Serve { port, count } => read_serve(port, count),
+    }
+}
+
+/// The airport that is named, if one is.
+fn read_station<'a>(station: Option<&'a str>) -> Result<Option<Airport>, BadValue<'a>>
+    ensures { IfOk result (IsStation (option_map (λ text. text.now) station.entry)) }
+{
+    let Some(station) = station else {
+        return Ok(None);
+    };
+    match Airport::read(station.as_bytes()) {
+        Some(airport) => Ok(Some(airport)),
+        None => Err(BadValue::Station(station)),
+    }
+}
+
+/// The rule of the zone: `UTC0` where none is named.
+fn rule_of<'a>(zone: Option<&'a str>) -> &'a str
+    ensures { result.now ≡ rule_of (option_map (λ rule. rule.now) zone.entry) }
+{
+    match zone {
+        Some(rule) => rule,
+        None => "UTC0",
+    }
+}
+
+/// What sorted words ask.
+fn read_line<'a>(words: &Words<'a>) -> Result<Line<'a>, BadValue<'a>>
+    ensures whole { IfOk result IsLine }
+    ensures meant { IfOk result (IsMeant words.now) }
+{
+    let station = read_station(words.station)?;
+    let has_file = words.db.is_some();
+    let has_airport = station.is_some();
+    match read_command(words.request, has_file, has_airport) {
+        Ok(command) => Ok(Line {
+            db: words.db,
+            station,
+            zone: rule_of(words.zone),
+            command,
+        }),
+        Err(bad) => Err(bad),
+    }
+}
+
+/// Reads the words of a call; the first is the program's name.
+///
+/// Returns [`WordsFault::Help`] where the words ask for the help, and [`WordsFault::Version`] where
+/// they ask for the version; [`WordsFault::Usage`] for other words than a command's, a bad key,
+/// number or option's value, an unknown verb or name, an option given twice, `init` without `--db`
+/// and `--station`, and `migrate` without `--db`, but not for a text that is no zone's rule;
+/// [`WordsFault::Memory`] when out of memory.
+pub fn parse_words<'a, S: AsStr>(alloc: Global, words: &'a [S]) -> Result<Line<'a>, WordsFault>
+    ensures { IfOk result IsLine }
+{
+    let words = sort_words(alloc, words)?;
+    match read_line(&words) {
+        Ok(line) => Ok(line),
+        Err(bad) => Err(value_fault(alloc, bad)),
+    }
+}

@@ -1,0 +1,10 @@
+//! The version of the program.
+ghost use Rattle.std.specs.Prelude.{◌≡◌};
+ghost use Rattle.cli_words.specs.Version.{program_version};
+
+/// The version of the program, as `--version` tells it.
+pub fn program_version() -> &'static str
+    ensures { result.now ≡ program_version }
+{
+    "1.0.0"
+}

@@ -1,0 +1,69 @@
+-- What it is that a database, read as of a version, holds the tables of a station, and that they
+-- are lawful, table by table.
+use Rattle.std.specs.Prelude.{◌≡◌, ℕ, ℤ, List, [], ◌∷◌}
+use Rattle.std.specs.List.{AllByRecursion}
+use Rattle.std.specs.FinMap.{entries}
+use Rattle.found_station.specs.Reading.{Reading, station_read, HoldsOldWaybills, HoldsWaybills}
+use Rattle.row_schema.specs.Tables.{Tables}
+use Rattle.table_load.specs.Held.{HoldsStock, HoldsFlight, HoldsMoves, HoldsExpected, HoldsPart, HoldsTrail, HoldsOutbox, HoldsKeptKey, HoldsKeptText, HoldsCounts, HoldsBuild}
+use Rattle.table_load.specs.Verdict.{one_row, new_row}
+use Rattle.lawful_tables.specs.declared.name.TableName.{TableName}
+use Rattle.lawful_tables.specs.declared.name.TableName.TheVariants.{Station, Waybill, Waybill2, Stock, Flight, Moves, Expected, Part, Trail, Outbox, KeptKey, KeptText, Counts, Build}
+use Rattle.lawful_tables.specs.Lawful.{IsLawfulTable}
+
+-- the table `station` has one row, of the version as which it is read, and these tables have it as
+-- version 2 has it
+abbrev pub HoldsStation : Reading → Tables → Type 0
+HoldsStation db t = (airport : List ℕ) × (confirmed : ℤ) × (station_read db ≡ one_row airport confirmed) × (t.stations ≡ new_row airport confirmed ∷ [])
+
+-- the database holds the table of this name with the rows of these tables
+abbrev pub IsHeld : TableName → Reading → Tables → Type 0
+IsHeld Station db t = HoldsStation db t
+IsHeld Waybill db t = HoldsOldWaybills db.version db.database t.old_waybills
+IsHeld Waybill2 db t = HoldsWaybills db.version db.database t.waybills
+IsHeld Stock db t = HoldsStock db.database (entries t.stock)
+IsHeld Flight db t = HoldsFlight db.database (entries t.flights)
+IsHeld Moves db t = HoldsMoves db.database t.moves
+IsHeld Expected db t = HoldsExpected db.database (entries t.expected)
+IsHeld Part db t = HoldsPart db.database (entries t.parts)
+IsHeld Trail db t = HoldsTrail db.database t.trail
+IsHeld Outbox db t = HoldsOutbox db.database t.outbox
+IsHeld KeptKey db t = HoldsKeptKey db.database (entries t.kept)
+IsHeld KeptText db t = HoldsKeptText db.database (entries t.kept_texts)
+IsHeld Counts db t = HoldsCounts db.database (entries t.counts)
+IsHeld Build db t = HoldsBuild db.database (entries t.builds)
+
+-- the tables before a table, in the order in which they are audited, the nearest first
+abbrev pub before : TableName → List TableName
+before Station = []
+before Waybill = Station ∷ []
+before Waybill2 = Waybill ∷ Station ∷ []
+before Stock = Waybill2 ∷ Waybill ∷ Station ∷ []
+before Flight = Stock ∷ Waybill2 ∷ Waybill ∷ Station ∷ []
+before Moves = Flight ∷ Stock ∷ Waybill2 ∷ Waybill ∷ Station ∷ []
+before Expected = Moves ∷ Flight ∷ Stock ∷ Waybill2 ∷ Waybill ∷ Station ∷ []
+before Part = Expected ∷ Moves ∷ Flight ∷ Stock ∷ Waybill2 ∷ Waybill ∷ Station ∷ []
+before Trail = Part ∷ Expected ∷ Moves ∷ Flight ∷ Stock ∷ Waybill2 ∷ Waybill ∷ Station ∷ []
+before Outbox = Trail ∷ Part ∷ Expected ∷ Moves ∷ Flight ∷ Stock ∷ Waybill2 ∷ Waybill ∷ Station ∷ []
+before KeptKey = Outbox ∷ Trail ∷ Part ∷ Expected ∷ Moves ∷ Flight ∷ Stock ∷ Waybill2 ∷ Waybill ∷ Station ∷ []
+before KeptText = KeptKey ∷ Outbox ∷ Trail ∷ Part ∷ Expected ∷ Moves ∷ Flight ∷ Stock ∷ Waybill2 ∷ Waybill ∷ Station ∷ []
+before Counts = KeptText ∷ KeptKey ∷ Outbox ∷ Trail ∷ Part ∷ Expected ∷ Moves ∷ Flight ∷ Stock ∷ Waybill2 ∷ Waybill ∷ Station ∷ []
+before Build = Counts ∷ KeptText ∷ KeptKey ∷ Outbox ∷ Trail ∷ Part ∷ Expected ∷ Moves ∷ Flight ∷ Stock ∷ Waybill2 ∷ Waybill ∷ Station ∷ []
+
+-- the table is held, and lawful beside those before it
+pub record IsGood (db : Reading) (t : Tables) (name : TableName) : Type 0 where
+  pub held : IsHeld name db t
+  pub lawful : IsLawfulTable name t
+
+abbrev pub AreGood : Reading → Tables → List TableName → Type 0
+AreGood db t = AllByRecursion (IsGood db t)
+
+-- the database is a station's, and these are its tables
+abbrev pub IsStationOf : Reading → Tables → Type 0
+IsStationOf db t = AreGood db t (Build ∷ before Build)
+
+-- the first table that isn't good: so far the database holds a station's tables, and no further
+pub record IsFirstBad (db : Reading) (name : TableName) : Type 0 where
+  pub tables : Tables
+  pub so_far : AreGood db tables (before name)
+  pub no_further : (t : Tables) → ¬ AreGood db t (name ∷ before name)

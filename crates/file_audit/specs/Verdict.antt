@@ -1,0 +1,37 @@
+-- What is said of a database that was found.
+use Rattle.std.specs.Prelude.{◌≡◌, Bool, true, false, IsTrue, length, Result, Ok, Err}
+use Rattle.found_station.specs.Reading.{Reading, station_read}
+use Rattle.row_schema.specs.Tables.{Tables}
+use Rattle.row_codec.specs.Meaning.{airport_in, confirmed_in}
+use Rattle.table_load.specs.Verdict.{Verdict, no_station, damaged, other_version, one_row}
+use Rattle.file_audit.specs.declared.unfit.Unfit.{Unfit}
+use Rattle.file_audit.specs.declared.unfit.Unfit.TheVariants.{NoStation, OtherVersion, Unlawful}
+use Rattle.file_audit.specs.declared.state.FoundState.{FoundState}
+use Rattle.file_audit.specs.Good.{IsStationOf, IsFirstBad}
+
+-- whether the table `station` has a row, and if it is the only one it is of the version as which it
+-- is read
+abbrev pub is_ours : Verdict → Bool
+is_ours no_station = false
+is_ours damaged = true
+is_ours (other_version n) = false
+is_ours (one_row airport confirmed) = true
+
+-- why a database is no station's
+abbrev pub IsUnfit : Reading → Unfit → Type 0
+IsUnfit db NoStation = station_read db ≡ no_station
+IsUnfit db (OtherVersion n) = station_read db ≡ other_version n
+IsUnfit db (Unlawful name) = IsTrue (is_ours (station_read db)) × IsFirstBad db name
+
+-- what is said of the station besides its rows
+pub record Tells (found : FoundState) (t : Tables) : Type 0 where
+  pub here : found.here ≡ airport_in t.stations
+  pub confirmed : found.confirmed ≡ confirmed_in t.stations
+  pub moves : found.sizes.moves ≡ length t.moves
+  pub lines : found.sizes.lines ≡ length t.trail
+  pub messages : found.sizes.messages ≡ length t.outbox
+
+-- the database is a station's, and this is said of it; or why it isn't
+abbrev pub Judges : Reading → Result FoundState Unfit → Type 0
+Judges db (Ok found) = (t : Tables) × IsStationOf db t × Tells found t
+Judges db (Err unfit) = IsUnfit db unfit

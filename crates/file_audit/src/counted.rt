@@ -1,0 +1,44 @@
+ghost use Rattle.std.specs.Prelude.{◌≡◌, length, IfOk, pos, ◌∷◌, [], IfSome, IsSome, ◌↔◌};
+ghost use Rattle.row_schema.specs.Tables.{Tables};
+ghost use Rattle.row_codec.specs.Numbers.{natural};
+ghost use Rattle.table_load.specs.Verdict.{new_row};
+ghost use Rattle.lawful_tables.specs.Lawful.{IsLawfulTable};
+ghost use Rattle.lawful_tables.specs.declared.name.TableName.TheVariants as table;
+
+use imp_fields::Airport;
+use sqlite::{Error, ErrorCode};
+use table_audits::is_station_lawful;
+
+/// The station's own row: its airport, and the number of the last message that was confirmed.
+#[derive(Drop)]
+pub(crate) struct OwnRow {
+    pub(crate) here: Airport,
+    pub(crate) confirmed: u32,
+}
+
+/// Reads the station's own row. `None`: it isn't lawful.
+pub(crate) fn own_row(airport: &str, confirmed: i64) -> Option<OwnRow>
+    ensures exact { (t : Tables) → t.stations ≡ new_row airport.now confirmed ∷ []
+        → (IsSome result ↔ IsLawfulTable table.Station t) }
+    ensures told { IfSome result (λ own. (own.here ≡ airport.now)
+        × (own.confirmed ≡ natural confirmed)) }
+{
+    if !is_station_lawful(airport, confirmed) {
+        return None;
+    }
+    let here = Airport::read(airport.as_bytes())?;
+    let Ok(confirmed) = u32::try_from(confirmed) else {
+        return None;
+    };
+    Some(OwnRow { here, confirmed })
+}
+
+/// How many rows there are. On error there are more than 4,294,967,295.
+pub(crate) fn count_of<T>(rows: &[T]) -> Result<u32, Error>
+    ensures { IfOk result (λ count. count ≡ length rows.now) }
+{
+    match u32::try_from(rows.len()) {
+        Ok(count) => Ok(count),
+        Err(_) => Err(Error::SqliteFailure(ErrorCode::TooBig)),
+    }
+}

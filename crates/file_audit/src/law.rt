@@ -1,0 +1,36 @@
+ghost use Rattle.std.specs.Prelude.{◌≡◌};
+ghost use Rattle.sqlite.specs.Effect.{Database};
+ghost use Rattle.row_schema.specs.Tables.{Tables, IsStation, IsOldStation, tables_of, old_tables_of, upgraded};
+ghost use Rattle.table_load.specs.declared.station.FileVersion.TheVariants.{First, Second};
+ghost use Rattle.found_station.specs.Reading.{Reading, read_as};
+ghost use Rattle.lawful_tables.specs.declared.name.TableName.{TableName};
+ghost use Rattle.lawful_tables.specs.Lawful.{IsLawfulTable};
+ghost use Rattle.file_audit.specs.declared.unfit.Unfit.{Unfit};
+ghost use Rattle.file_audit.specs.Good.{IsStationOf};
+ghost use Rattle.file_audit.specs.Verdict.{IsUnfit};
+
+/// The law that a database with a station's tables, all of them lawful, is never unfit.
+#[tactic(auto, using(crate::proofs::Judged::fit))]
+pub fn station_is_fit()
+    ensures { (db : Reading) (t : Tables) → IsStationOf db t → (unfit : Unfit)
+        → ¬ IsUnfit db unfit }
+{}
+
+/// The law that a station's tables are lawful, each of them, and that in a database with the tables
+/// that a station declares they are its typed tables; in a file of version 1 those that it becomes.
+pub fn station_is_typed()
+    ensures lawful { (db : Reading) (t : Tables) → IsStationOf db t → (name : TableName)
+        → IsLawfulTable name t }
+    ensures typed { (db : Database) (t : Tables) → IsStation db → IsStationOf (read_as Second db) t
+        → tables_of db.trees ≡ t }
+    ensures old { (db : Database) (t : Tables) → IsOldStation db → IsStationOf (read_as First db) t
+        → upgraded (old_tables_of db.trees) ≡ t }
+{}
+
+/// The law that a database with the tables that a station declares is a station's where its typed
+/// tables are lawful, each of them.
+pub fn lawful_is_station()
+    ensures { (db : Database) → IsStation db
+        → ((name : TableName) → IsLawfulTable name (tables_of db.trees))
+        → IsStationOf (read_as Second db) (tables_of db.trees) }
+{}

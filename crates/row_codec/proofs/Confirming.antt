@@ -1,0 +1,48 @@
+-- The messages up to a number are confirmed in the station's row.
+use Rattle.std.proofs.Common.{◌≡◌, ◌&&◌, ℕ, pos, Bool, true, false, cond, Some, List, [], ◌∷◌, int_eq, refl, sym, ap, ◌∙◌, true≢false}
+use Rattle.std.proofs.lemmas.Bool.{and_parts, and_from}
+use Rattle.sqlite_keyed.specs.Lists.{update_where}
+use Rattle.imp_fields.specs.Airport.{is_airport}
+use Rattle.shipment_machine.specs.Cargo.{written}
+use Rattle.shipment_machine.specs.declared.plans.Change.TheVariants.{Confirm}
+use Rattle.station_core.specs.Step.{State}
+use Rattle.state_store.specs.Told.{on_cargo}
+use Rattle.row_schema.specs.Tables.{Tables, Station, station_id}
+use Rattle.station_rows.specs.Meant.{confirming}
+use Rattle.row_codec.specs.Numbers.{is_count}
+use Rattle.row_codec.specs.Meaning.{meaning_of, airport_in, confirmed_in, is_station, Means}
+use Rattle.row_codec.proofs.Readable.{readable_stations}
+
+module _ (upto : ℕ) where
+  abbrev confirmed : List Station → List Station
+  confirmed rows = update_where (λ (s : Station). int_eq (station_id s) (pos 1)) (λ (s : Station). let one : Station = record s { confirmed = pos upto } in one) rows
+
+  abbrev put : Bool → Station → Station
+  put here row = cond here (record row { confirmed = pos upto }) row
+
+  record IsConfirmed (old new : List Station) : Type 0 where
+    fits : is_station new ≡ true
+    airport : airport_in new ≡ airport_in old
+    upto_is : confirmed_in new ≡ upto
+
+  one_row : (row : Station) (here : Bool) → int_eq row.id (pos 1) ≡ here → is_count (pos upto) ≡ true → is_station (row ∷ []) ≡ true → IsConfirmed (row ∷ []) (put here row ∷ [])
+  one_row row true e counts h =
+      let x = and_parts (int_eq row.id (pos 1) && is_airport row.airport && int_eq row.version (pos 2)) (is_count row.confirmed) h in
+      record { fits = and_from (int_eq row.id (pos 1) && is_airport row.airport && int_eq row.version (pos 2)) (is_count (pos upto)) x.0 counts; airport = refl; upto_is = refl }
+  one_row row false e counts h =
+      let x = and_parts (int_eq row.id (pos 1) && is_airport row.airport && int_eq row.version (pos 2)) (is_count row.confirmed) h in
+      let y = and_parts (int_eq row.id (pos 1) && is_airport row.airport) (int_eq row.version (pos 2)) x.0 in
+      let z = and_parts (int_eq row.id (pos 1)) (is_airport row.airport) y.0 in
+      absurd (true≢false (sym z.0 ∙ e))
+
+  is_confirmed : (rows : List Station) → is_count (pos upto) ≡ true → is_station rows ≡ true → IsConfirmed rows (confirmed rows)
+  is_confirmed [] counts h = absurd (true≢false (sym h))
+  is_confirmed (row ∷ []) counts h = one_row row (int_eq row.id (pos 1)) refl counts h
+  is_confirmed (row ∷ other ∷ rows) counts h = absurd (true≢false (sym h))
+
+  pub confirms : (t : Tables) (s : State) (text : List ℕ) → is_count (pos upto) ≡ true → Means t (Some s) → Means (confirming (pos upto) t) (Some (on_cargo (written text (Confirm upto)) s))
+  confirms t s text counts means =
+      let c = is_confirmed t.stations counts means.0.station in (
+        readable_stations t means.0 (confirmed t.stations) c.fits,
+        (λ i. record (meaning_of t) { cargo = record (meaning_of t).cargo { here = c.airport i; confirmed = c.upto_is i } }) ∙ ap (on_cargo (written text (Confirm upto))) means.1,
+      )

@@ -1,0 +1,88 @@
+-- What is declared of a waybill is written.
+use Rattle.std.proofs.Common.{◌≡◌, ◌==◌, ℕ, ℤ, zero, suc, pos, Bool, true, false, cond, Option, Some, None, option_map, List, int_eq, refl, sym, ap, ◌∙◌, arith}
+use Rattle.std.specs.Bool.{if◌then◌else◌}
+use Rattle.std.proofs.lemmas.Int.{ints}
+use Rattle.sqlite_keyed.specs.Keyed.{get_by, insert_by}
+use Rattle.sqlite_keyed.specs.Lists.{update_where}
+use Rattle.shipment_machine.specs.declared.moves.Declared.{Declared}
+use Rattle.shipment_machine.specs.declared.plans.Change.TheVariants.{Declare}
+use Rattle.shipment_machine.specs.Cargo.{written}
+use Rattle.station_core.specs.Step.{State}
+use Rattle.state_store.specs.Told.{on_cargo}
+use Rattle.row_schema.specs.Tables.{Tables, Waybill, waybill_id}
+use Rattle.cargo_rows.specs.Meant.{with_waybill, changing_waybill}
+use Rattle.row_codec.specs.Numbers.{flag, is_set}
+use Rattle.row_codec.specs.Waybills.{since_of, since_column, declared_by, waybill_row, declared_in, is_waybill_row}
+use Rattle.row_codec.specs.Meaning.{meaning_of, Means}
+use Rattle.row_codec.proofs.Listed.{get_by-insert_by, list_all-insert_by, get_by-update_where, list_all-update_where}
+use Rattle.row_codec.proofs.Fits.{not_zero}
+use Rattle.row_codec.proofs.Readable.{readable_waybills}
+
+pub flag_again : (set : Bool) → is_set (flag set) ≡ set
+flag_again true = refl
+flag_again false = refl
+
+since_again : (o : Option ℕ) → since_of (since_column o) ≡ o
+since_again None = refl
+since_again (Some zero) = refl
+since_again (Some (suc n)) = ap (λ (b : Bool). if b then None else Some (suc n)) (not_zero n)
+
+same_number : (w q : ℕ) → int_eq (pos w) (pos q) ≡ (q == w)
+same_number w q = grind (arith, ints)
+
+is_same : (a b : ℤ) → int_eq a b ≡ true → a ≡ b
+is_same a b e = grind (arith, ints)
+
+pub declared_again : (w : ℕ) (d : Declared) → declared_by (waybill_row w d) ≡ d
+declared_again w d = λ i. record d { notified = flag_again d.notified i; since = since_again d.since i }
+
+module _ (t : Tables) (w : ℕ) (d : Declared) where
+  chosen : (b : Bool) (x : Waybill) (o : Option Waybill) → option_map declared_by (cond b (Some x) o) ≡ cond b (Some (declared_by x)) (option_map declared_by o)
+  chosen true x o = refl
+  chosen false x o = refl
+
+  inserted : (q : ℕ) → declared_in (insert_by waybill_id t.waybills (waybill_row w d)) q ≡ cond (q == w) (Some d) (declared_in t.waybills q)
+  inserted q =
+      ap (option_map declared_by) (get_by-insert_by waybill_id t.waybills (waybill_row w d) (pos q))
+      ∙ chosen (int_eq (pos w) (pos q)) (waybill_row w d) (get_by waybill_id t.waybills (pos q))
+      ∙ (λ i. cond (same_number w q i) (Some (declared_again w d i)) (declared_in t.waybills q))
+
+  -- the row of the waybill, changed
+  abbrev changed : Waybill → Waybill
+  changed x = record (waybill_row w d) { awb = x.awb }
+
+  same_row : (x : Waybill) → int_eq (waybill_id x) (pos w) ≡ true → waybill_row w d ≡ changed x
+  same_row x e = λ i. record (waybill_row w d) { awb = is_same (pos w) x.awb (sym_eq e) i }
+    where
+      sym_eq : int_eq (waybill_id x) (pos w) ≡ true → int_eq (pos w) x.awb ≡ true
+      sym_eq h = grind (arith, ints)
+
+  updated : (was : Waybill) → get_by waybill_id t.waybills (pos w) ≡ Some was → (q : ℕ)
+      → declared_in (update_where (λ x. int_eq (waybill_id x) (pos w)) changed t.waybills) q ≡ cond (q == w) (Some d) (declared_in t.waybills q)
+  updated was has q =
+      ap (option_map declared_by) (get_by-update_where waybill_id (pos w) changed (λ x. refl) t.waybills (pos q))
+      ∙ go (int_eq (pos w) (pos q)) refl
+      ∙ (λ i. cond (same_number w q i) (Some d) (declared_in t.waybills q))
+    where
+      here : int_eq (pos w) (pos q) ≡ true → get_by waybill_id t.waybills (pos q) ≡ Some was
+      here e = ap (get_by waybill_id t.waybills) (sym (is_same (pos w) (pos q) e)) ∙ has
+
+      go : (b : Bool) → int_eq (pos w) (pos q) ≡ b → option_map declared_by (cond b (option_map changed (get_by waybill_id t.waybills (pos q))) (get_by waybill_id t.waybills (pos q))) ≡ cond b (Some d) (declared_in t.waybills q)
+      go true e = ap (λ o. option_map declared_by (option_map changed o)) (here e) ∙ ap (λ (x : Declared). Some x) (declared_again w d)
+      go false e = refl
+
+  module _ (s : State) (text : List ℕ) (fits : is_waybill_row (waybill_row w d) ≡ true) (means : Means t (Some s)) where
+    -- a row that is added
+    pub declares : Means (with_waybill (waybill_row w d) t) (Some (on_cargo (written text (Declare w d)) s))
+    declares = (
+      readable_waybills t means.0 (insert_by waybill_id t.waybills (waybill_row w d)) (list_all-insert_by waybill_id is_waybill_row t.waybills (waybill_row w d) fits means.0.waybills),
+      (λ i. record (meaning_of t) { cargo = record (meaning_of t).cargo { declared = λ q. inserted q i } }) ∙ ap (on_cargo (written text (Declare w d))) means.1,
+    )
+
+    -- a row that is there
+    pub declares_again : (was : Waybill) → get_by waybill_id t.waybills (pos w) ≡ Some was → Means (changing_waybill (waybill_row w d) t) (Some (on_cargo (written text (Declare w d)) s))
+    declares_again was has = (
+      readable_waybills t means.0 (update_where (λ x. int_eq (waybill_id x) (pos w)) changed t.waybills)
+          (list_all-update_where is_waybill_row (λ x. int_eq (waybill_id x) (pos w)) changed (λ x e. ap is_waybill_row (sym (same_row x e)) ∙ fits) t.waybills means.0.waybills),
+      (λ i. record (meaning_of t) { cargo = record (meaning_of t).cargo { declared = λ q. updated was has q i } }) ∙ ap (on_cargo (written text (Declare w d))) means.1,
+    )

@@ -1,0 +1,51 @@
+-- The row of a move is within range, and is read as that move.
+use Rattle.std.proofs.Common.{◌≡◌, ℕ, ◌<◌, pos, true, Option, Some, is_some, unwrap_or, option_map, IsTrue, ap, ◌∙◌, arith}
+use Rattle.std.proofs.lemmas.Bool.{and_from, or_right}
+use Rattle.imp_fields.specs.Amount.{IsPieces, IsBookTenths}
+use Rattle.imp_fields.specs.Flight.{Designator, flight_text}
+use Rattle.shipment_machine.specs.Flights.{same_flight_date}
+use Rattle.shipment_machine.specs.declared.flight.FlightDate.{FlightDate}
+use Rattle.shipment_machine.specs.declared.moves.Move.{Move}
+use Rattle.shipment_machine.specs.declared.moves.Place.{Place}
+use Rattle.shipment_machine.specs.declared.moves.Place.TheVariants.{Hand, Built}
+use Rattle.shipment_machine.proofs.FlightKeys.{same-is}
+use Rattle.row_schema.specs.Tables as table
+use Rattle.row_codec.specs.Numbers.{natural, is_number, is_day}
+use Rattle.row_codec.specs.Flights.{is_designator, flight_date_of}
+use Rattle.row_codec.specs.Moves.{place_code, place_of, move_by, move_row, flight_column, day_column, are_flight_columns, is_move_row}
+use Rattle.row_codec.proofs.FlightKeys.{read_again, written_reads}
+use Rattle.row_codec.proofs.Fits.{within, pieces_fit, tenths_fit}
+
+pub built_again : (on flight : FlightDate) → same_flight_date flight on ≡ true → place_of (pos 3) (Some flight) ≡ Some (Built on)
+built_again on flight e = ap (λ (f : FlightDate). Some (Built f)) (same-is flight on e)
+
+pub columns_again : (f : FlightDate) → IsTrue (is_designator f.flight) → flight_date_of (flight_text f.flight) (pos f.day) ≡ Some f
+columns_again f is = ap (option_map (λ (d : Designator). let one : FlightDate = record { flight = d; day = f.day } in one)) (read_again f.flight is)
+
+pub columns_fit : (f : FlightDate) → IsTrue (is_designator f.flight) → IsTrue (is_day (pos f.day)) → IsTrue (are_flight_columns (flight_text f.flight) (pos f.day))
+columns_fit f is day = or_right _ _ (and_from _ _ (written_reads f.flight is) day)
+
+-- a move is read column by column
+pub move_is : (row : table.Move) (m : Move) → m.awb ≡ natural row.awb → m.from ≡ unwrap_or (place_of row.src m.flight) Hand → m.to ≡ unwrap_or (place_of row.dst m.flight) Hand → m.pieces ≡ natural row.pieces
+    → m.tenths ≡ natural row.tenths → m.flight ≡ flight_date_of row.flight row.fday → m.at ≡ record { day = natural row.day; minute = natural row.minute } → m ≡ move_by row
+move_is row m awb from to pieces tenths flight at =
+    let there = from ∙ ap (λ (f : Option FlightDate). unwrap_or (place_of row.src f) Hand) flight in
+    let then = to ∙ ap (λ (f : Option FlightDate). unwrap_or (place_of row.dst f) Hand) flight in
+    λ i. record { awb = awb i; from = there i; to = then i; pieces = pieces i; tenths = tenths i; flight = flight i; at = at i }
+
+module _ (n : ℕ) (m : Move) (again : flight_date_of (flight_column m.flight) (day_column m.flight) ≡ m.flight)
+    (from : place_of (pos (place_code m.from)) m.flight ≡ Some m.from) (to : place_of (pos (place_code m.to)) m.flight ≡ Some m.to) where
+  place_again : (p : Place) → place_of (pos (place_code p)) m.flight ≡ Some p → place_of (pos (place_code p)) (flight_date_of (flight_column m.flight) (day_column m.flight)) ≡ Some p
+  place_again p is = ap (place_of (pos (place_code p))) again ∙ is
+
+  or_hand : (p : Place) → place_of (pos (place_code p)) m.flight ≡ Some p → unwrap_or (place_of (pos (place_code p)) (flight_date_of (flight_column m.flight) (day_column m.flight))) Hand ≡ p
+  or_hand p is = ap (λ (o : Option Place). unwrap_or o Hand) (place_again p is)
+
+  pub move_again : move_by (move_row n m) ≡ m
+  move_again = λ i. record m { from = or_hand m.from from i; to = or_hand m.to to i; flight = again i }
+
+  pub row_fits : IsTrue (are_flight_columns (flight_column m.flight) (day_column m.flight)) → IsTrue (is_number (pos m.awb)) → IsPieces m.pieces → IsBookTenths m.tenths → IsTrue (is_day (pos m.at.day))
+      → m.at.minute < 1440 → IsTrue (is_move_row (move_row n m))
+  row_fits columns awb pieces tenths day minute =
+      and_from _ _ (and_from _ _ (and_from _ _ (and_from _ _ (and_from _ _ (and_from _ _ (and_from _ _ awb (ap is_some (place_again m.from from))) (ap is_some (place_again m.to to)))
+      (pieces_fit m.pieces pieces)) (tenths_fit m.tenths tenths)) columns) day) (within 0 1439 m.at.minute (omega arith) (omega (arith, minute)))

@@ -1,0 +1,90 @@
+-- What is noted of a flight, of what it brings, and of a part of its manifest is written.
+use Rattle.std.proofs.Common.{◌≡◌, ◌==◌, ◌&&◌, ℕ, true, cond, Option, Some, None, option_map, List, sym, ap, subst, ◌∙◌}
+use Rattle.std.specs.FinMap.{FinMap, get, insert}
+use Rattle.shipment_machine.specs.Flights.{same_flight_date}
+use Rattle.shipment_machine.specs.Cargo.{written, same_part}
+use Rattle.shipment_machine.specs.declared.flight.FlightDate.{FlightDate}
+use Rattle.shipment_machine.specs.declared.moves.Outbound.{Outbound}
+use Rattle.shipment_machine.specs.declared.moves.Expected as cargo
+use Rattle.shipment_machine.specs.declared.moves.Part.{Part}
+use Rattle.shipment_machine.specs.declared.plans.Change.TheVariants.{NoteFlight, Expect, NotePart}
+use Rattle.station_core.specs.Step.{State}
+use Rattle.state_store.specs.Told.{on_cargo}
+use Rattle.row_schema.specs.Tables.{Tables, Flight, flight_cmp, Expected, expected_cmp, part_cmp}
+use Rattle.row_schema.proofs.Keys.{flight_total, flight_same, expected_total, expected_same, part_total, part_same}
+use Rattle.cargo_rows.specs.Meant.{with_flight, changing_flight, with_expected, changing_expected}
+use Rattle.text_rows.specs.Meant.{with_part}
+use Rattle.row_codec.specs.Flights.{is_designator, flight_key, outbound_by, outbound_row, flights_in, is_flight_row}
+use Rattle.row_codec.specs.Manifests.{expected_key, expected_by, expected_row, expected_in, is_expected_row, part_key, parts_in, is_part_row}
+use Rattle.row_codec.specs.Meaning.{meaning_of, Means}
+use Rattle.row_codec.proofs.Declaring.{flag_again}
+use Rattle.row_codec.proofs.FlightKeys.{same_key, same_designator, same_expected, same_expected_key, same_expected_designator, same_part_key, same_part_designator}
+use Rattle.row_codec.proofs.Guarded.{adjusted, seen-insert}
+use Rattle.row_codec.proofs.MapLaws.{all-insert}
+use Rattle.row_codec.proofs.Readable.{readable_flights, readable_expected, readable_parts}
+
+-- ---- an outbound flight
+
+pub outbound_again : (o : Outbound) → outbound_by (outbound_row o) ≡ o
+outbound_again o = λ i. record o { closed = flag_again o.closed i }
+
+module _ (t : Tables) (f : FlightDate) (o : Outbound) (is : is_designator f.flight ≡ true) where
+  flight_inserted : (k : FlightDate) → flights_in (insert t.flights (flight_key f) (outbound_row o)) k ≡ cond (same_flight_date k f) (Some o) (flights_in t.flights k)
+  flight_inserted k =
+      seen-insert flight_cmp flight_total flight_key (λ q. is_designator q.flight) (option_map outbound_by) None same_flight_date same_key same_designator t.flights f (outbound_row o) is k
+      ∙ ap (λ (x : Outbound). cond (same_flight_date k f) (Some x) (flights_in t.flights k)) (outbound_again o)
+
+  module _ (s : State) (text : List ℕ) (fits : is_flight_row (flight_key f, outbound_row o) ≡ true) (means : Means t (Some s)) where
+    -- a row that is added
+    pub notes_flight : Means (with_flight (flight_key f) (outbound_row o) t) (Some (on_cargo (written text (NoteFlight f o)) s))
+    notes_flight = (
+      readable_flights t means.0 (insert t.flights (flight_key f) (outbound_row o))
+          (all-insert flight_cmp flight_total flight_same is_flight_row t.flights (flight_key f) (outbound_row o) means.0.flights fits),
+      (λ i. record (meaning_of t) { cargo = record (meaning_of t).cargo { flights = λ k. flight_inserted k i } }) ∙ ap (on_cargo (written text (NoteFlight f o))) means.1,
+    )
+
+    -- a row that is there
+    pub notes_flight_again : (was : Flight) → get t.flights (flight_key f) ≡ Some was → Means (changing_flight (flight_key f) (outbound_row o) t) (Some (on_cargo (written text (NoteFlight f o)) s))
+    notes_flight_again was has =
+        subst (λ (m : FinMap flight_cmp Flight). Means (record t { flights = m }) (Some (on_cargo (written text (NoteFlight f o)) s)))
+        (sym (adjusted t.flights (flight_key f) (outbound_row o) was has)) notes_flight
+
+-- ---- what a flight is to bring of a waybill
+
+pub expected_again : (e : cargo.Expected) → expected_by (expected_row e) ≡ e
+expected_again e = λ i. record e { checked = flag_again e.checked i }
+
+module _ (t : Tables) (f : FlightDate) (w : ℕ) (e : cargo.Expected) (is : is_designator f.flight ≡ true) where
+  expected_inserted : (k : FlightDate) (q : ℕ) → expected_in (insert t.expected (expected_key f w) (expected_row e)) k q ≡ cond (same_flight_date k f && (q == w)) (Some e) (expected_in t.expected k q)
+  expected_inserted k q =
+      seen-insert expected_cmp expected_total (λ (x : FlightDate × ℕ). expected_key x.0 x.1) (λ x. is_designator x.0.flight) (option_map expected_by) None same_expected same_expected_key same_expected_designator
+      t.expected (f, w) (expected_row e) is (k, q)
+      ∙ ap (λ (x : cargo.Expected). cond (same_flight_date k f && (q == w)) (Some x) (expected_in t.expected k q)) (expected_again e)
+
+  module _ (s : State) (text : List ℕ) (fits : is_expected_row (expected_key f w, expected_row e) ≡ true) (means : Means t (Some s)) where
+    -- a row that is added
+    pub expects : Means (with_expected (expected_key f w) (expected_row e) t) (Some (on_cargo (written text (Expect f w e)) s))
+    expects = (
+      readable_expected t means.0 (insert t.expected (expected_key f w) (expected_row e))
+          (all-insert expected_cmp expected_total expected_same is_expected_row t.expected (expected_key f w) (expected_row e) means.0.expected fits),
+      (λ i. record (meaning_of t) { cargo = record (meaning_of t).cargo { expected = λ k q. expected_inserted k q i } }) ∙ ap (on_cargo (written text (Expect f w e))) means.1,
+    )
+
+    -- a row that is there
+    pub expects_again : (was : Expected) → get t.expected (expected_key f w) ≡ Some was → Means (changing_expected (expected_key f w) (expected_row e) t) (Some (on_cargo (written text (Expect f w e)) s))
+    expects_again was has =
+        subst (λ (m : FinMap expected_cmp Expected). Means (record t { expected = m }) (Some (on_cargo (written text (Expect f w e)) s)))
+        (sym (adjusted t.expected (expected_key f w) (expected_row e) was has)) expects
+
+-- ---- a part of a manifest
+
+module _ (t : Tables) (p : Part) (telegram : List ℕ) (is : is_designator p.flight.flight ≡ true) where
+  part_inserted : (k : Part) → parts_in (insert t.parts (part_key p) telegram) k ≡ cond (same_part k p) (Some telegram) (parts_in t.parts k)
+  part_inserted k =
+      seen-insert part_cmp part_total part_key (λ (q : Part). is_designator q.flight.flight) (λ (o : Option (List ℕ)). o) None same_part same_part_key same_part_designator t.parts p telegram is k
+
+  pub notes_part : (s : State) → is_part_row (part_key p, telegram) ≡ true → Means t (Some s) → Means (with_part (part_key p) telegram t) (Some (on_cargo (written telegram (NotePart p)) s))
+  notes_part s fits means = (
+    readable_parts t means.0 (insert t.parts (part_key p) telegram) (all-insert part_cmp part_total part_same is_part_row t.parts (part_key p) telegram means.0.parts fits),
+    (λ i. record (meaning_of t) { cargo = record (meaning_of t).cargo { parts = λ k. part_inserted k i } }) ∙ ap (on_cargo (written telegram (NotePart p))) means.1,
+  )

@@ -1,0 +1,67 @@
+-- What was read of a row is what the state has.
+use Rattle.std.proofs.Common.{◌≡◌, ℕ, ℤ, pos, Bool, true, false, cond, Option, Some, None, option_map, is_some, List, [], ◌∷◌, int_eq, refl, sym, ap, ◌∙◌, true≢false}
+use Rattle.std.specs.FinMap.{get}
+use Rattle.sqlite_keyed.specs.Keyed.{get_by}
+use Rattle.shipment_machine.specs.declared.flight.FlightDate.{FlightDate}
+use Rattle.shipment_machine.specs.declared.moves.Part.{Part}
+use Rattle.station_core.specs.Step.{State}
+use Rattle.row_schema.specs.Tables.{Tables, Station, station_id, waybill_id}
+use Rattle.cargo_rows.specs.declared.waybills.WaybillRow.{WaybillRow}
+use Rattle.cargo_rows.specs.declared.flights.FlightRow.{FlightRow}
+use Rattle.cargo_rows.specs.declared.expected.ExpectedRow.{ExpectedRow}
+use Rattle.text_rows.specs.declared.kept.KeptRow.{KeptRow}
+use Rattle.cargo_rows.specs.Meant.{waybill_meant, flight_meant, expected_meant}
+use Rattle.text_rows.specs.Meant.{kept_meant}
+use Rattle.row_codec.specs.Numbers.{natural}
+use Rattle.row_codec.specs.Waybills.{declared_by}
+use Rattle.row_codec.specs.Flights.{is_designator, flight_key, outbound_by}
+use Rattle.row_codec.specs.Manifests.{expected_key, expected_by, part_key}
+use Rattle.row_codec.specs.Replies.{kept_by}
+use Rattle.row_codec.specs.Meaning.{airport_in, confirmed_in, is_station, Means}
+use Rattle.row_codec.proofs.Telling.{here_told, confirmed_told, declared_told, outbound_told, expected_told, part_told, kept_key_told, kept_text_told}
+
+-- the one row of the station
+only_row : (rows : List Station) (row : Station) → is_station rows ≡ true → get_by station_id rows (pos 1) ≡ Some row → rows ≡ row ∷ []
+only_row [] row h has = absurd (true≢false (sym h))
+only_row (one ∷ []) row h has = go (int_eq one.id (pos 1)) has
+  where
+    go : (b : Bool) → cond b (Some one) None ≡ Some row → one ∷ [] ≡ row ∷ []
+    go true e = let same : one ≡ row = cc in ap (λ (r : Station). r ∷ []) same
+    go false e = cc
+only_row (one ∷ other ∷ rows) row h has = absurd (true≢false (sym h))
+
+pub twice : {X Y Z : Type 0} (f : Y → Z) (g : X → Y) (o : Option X) → option_map f (option_map g o) ≡ option_map (λ x. f (g x)) o
+twice f g None = refl
+twice f g (Some x) = refl
+
+same_some : {X Y : Type 0} (f : X → Y) (o : Option X) → is_some (option_map f o) ≡ is_some o
+same_some f None = refl
+same_some f (Some x) = refl
+
+module _ (t : Tables) (s : State) (means : Means t (Some s)) where
+  pub airport_read : (row : Station) → get_by station_id t.stations (pos 1) ≡ Some row → row.airport ≡ s.cargo.here
+  airport_read row has = sym (ap airport_in (only_row t.stations row means.0.station has)) ∙ here_told t s means
+
+  pub mark_read : (row : Station) → get_by station_id t.stations (pos 1) ≡ Some row → natural row.confirmed ≡ s.cargo.confirmed
+  mark_read row has = sym (ap confirmed_in (only_row t.stations row means.0.station has)) ∙ confirmed_told t s means
+
+  pub declared_read : (w : ℕ) (found : Option WaybillRow) → option_map waybill_meant found ≡ get_by waybill_id t.waybills (pos w)
+      → option_map (λ (row : WaybillRow). declared_by (waybill_meant row)) found ≡ s.cargo.declared w
+  declared_read w found is = sym (twice declared_by waybill_meant found) ∙ ap (option_map declared_by) is ∙ declared_told t s means w
+
+  pub outbound_read : (f : FlightDate) (found : Option FlightRow) → is_designator f.flight ≡ true → option_map flight_meant found ≡ get t.flights (flight_key f)
+      → option_map (λ (row : FlightRow). outbound_by (flight_meant row)) found ≡ s.cargo.flights f
+  outbound_read f found may is = sym (twice outbound_by flight_meant found) ∙ ap (option_map outbound_by) is ∙ outbound_told t s means f may
+
+  pub expected_read : (f : FlightDate) (w : ℕ) (found : Option ExpectedRow) → is_designator f.flight ≡ true → option_map expected_meant found ≡ get t.expected (expected_key f w)
+      → option_map (λ (row : ExpectedRow). expected_by (expected_meant row)) found ≡ s.cargo.expected f w
+  expected_read f w found may is = sym (twice expected_by expected_meant found) ∙ ap (option_map expected_by) is ∙ expected_told t s means f w may
+
+  pub part_read : {X : Type 0} (bytes : X → List ℕ) (p : Part) (found : Option X) → is_designator p.flight.flight ≡ true → option_map bytes found ≡ get t.parts (part_key p) → is_some found ≡ is_some (s.cargo.parts p)
+  part_read bytes p found may is = sym (same_some bytes found) ∙ ap is_some (is ∙ part_told t s means p may)
+
+  pub kept_key_read : (key : List ℕ) (found : Option KeptRow) → option_map kept_meant found ≡ get t.kept key → option_map (λ (row : KeptRow). kept_by (kept_meant row)) found ≡ s.kept_keys key
+  kept_key_read key found is = sym (twice kept_by kept_meant found) ∙ ap (option_map kept_by) is ∙ kept_key_told t s means key
+
+  pub kept_text_read : (text : List ℕ) (found : Option ℤ) → found ≡ get t.kept_texts text → option_map natural found ≡ s.kept_texts text
+  kept_text_read text found is = ap (option_map natural) is ∙ kept_text_told t s means text

@@ -1,0 +1,67 @@
+-- What the rows of tables say is what the state has that they mean.
+use Rattle.std.proofs.Common.{◌≡◌, ℕ, pos, true, Some, None, option_map, List, length, sym, ap, ◌∙◌}
+use Rattle.std.specs.FinMap.{get}
+use Rattle.std.proofs.lemmas.Bool.{cond-true}
+use Rattle.std.proofs.lemmas.List.{length-map}
+use Rattle.sqlite_keyed.specs.Keyed.{get_by}
+use Rattle.shipment_machine.specs.declared.flight.FlightDate.{FlightDate}
+use Rattle.shipment_machine.specs.declared.moves.Part.{Part}
+use Rattle.station_core.specs.Step.{State}
+use Rattle.row_schema.specs.Tables.{Tables, Message, waybill_id}
+use Rattle.row_codec.specs.Numbers.{natural}
+use Rattle.row_codec.specs.Waybills.{declared_by}
+use Rattle.row_codec.specs.Stock.{holders_in}
+use Rattle.row_codec.specs.Flights.{is_designator, flight_key, outbound_by}
+use Rattle.row_codec.specs.Moves.{move_by, book_in}
+use Rattle.row_codec.specs.Manifests.{expected_key, expected_by, part_key}
+use Rattle.row_codec.specs.Logs.{line_by, trail_in, outbox_in}
+use Rattle.row_codec.specs.Replies.{kept_by}
+use Rattle.row_codec.specs.Meaning.{airport_in, confirmed_in, Means}
+
+module _ (t : Tables) (s : State) (means : Means t (Some s)) where
+  pub here_told : airport_in t.stations ≡ s.cargo.here
+  here_told = ap (λ (x : State). x.cargo.here) means.1
+
+  pub confirmed_told : confirmed_in t.stations ≡ s.cargo.confirmed
+  confirmed_told = ap (λ (x : State). x.cargo.confirmed) means.1
+
+  pub declared_told : (w : ℕ) → option_map declared_by (get_by waybill_id t.waybills (pos w)) ≡ s.cargo.declared w
+  declared_told w = ap (λ (x : State). x.cargo.declared w) means.1
+
+  pub holders_told : holders_in t.stock ≡ s.cargo.holders
+  holders_told = ap (λ (x : State). x.cargo.holders) means.1
+
+  pub outbound_told : (f : FlightDate) → is_designator f.flight ≡ true → option_map outbound_by (get t.flights (flight_key f)) ≡ s.cargo.flights f
+  outbound_told f is = sym (cond-true (is_designator f.flight) (option_map outbound_by (get t.flights (flight_key f))) None is) ∙ ap (λ (x : State). x.cargo.flights f) means.1
+
+  pub expected_told : (f : FlightDate) (w : ℕ) → is_designator f.flight ≡ true → option_map expected_by (get t.expected (expected_key f w)) ≡ s.cargo.expected f w
+  expected_told f w is = sym (cond-true (is_designator f.flight) (option_map expected_by (get t.expected (expected_key f w))) None is) ∙ ap (λ (x : State). x.cargo.expected f w) means.1
+
+  pub part_told : (p : Part) → is_designator p.flight.flight ≡ true → get t.parts (part_key p) ≡ s.cargo.parts p
+  part_told p is = sym (cond-true (is_designator p.flight.flight) (get t.parts (part_key p)) None is) ∙ ap (λ (x : State). x.cargo.parts p) means.1
+
+  pub kept_key_told : (key : List ℕ) → option_map kept_by (get t.kept key) ≡ s.kept_keys key
+  kept_key_told key = ap (λ (x : State). x.kept_keys key) means.1
+
+  pub kept_text_told : (text : List ℕ) → option_map natural (get t.kept_texts text) ≡ s.kept_texts text
+  kept_text_told text = ap (λ (x : State). x.kept_texts text) means.1
+
+  pub book_told : book_in t.moves ≡ s.cargo.book
+  book_told = ap (λ (x : State). x.cargo.book) means.1
+
+  pub trail_told : trail_in t.trail ≡ s.cargo.trail
+  trail_told = ap (λ (x : State). x.cargo.trail) means.1
+
+  pub outbox_told : outbox_in t.outbox ≡ s.cargo.outbox
+  outbox_told = ap (λ (x : State). x.cargo.outbox) means.1
+
+  -- how many rows are numbered
+
+  pub moves_counted : length t.moves ≡ length s.cargo.book
+  moves_counted = sym (length-map t.moves move_by) ∙ ap length book_told
+
+  pub lines_counted : length t.trail ≡ length s.cargo.trail
+  lines_counted = sym (length-map t.trail line_by) ∙ ap length trail_told
+
+  pub messages_counted : length t.outbox ≡ length s.cargo.outbox
+  messages_counted = sym (length-map t.outbox (λ (row : Message). row.body)) ∙ ap length outbox_told

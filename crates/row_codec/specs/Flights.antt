@@ -1,0 +1,49 @@
+-- Outbound flights, by the rows of `flight`. A flight is kept in written form.
+use Rattle.std.specs.Prelude.{ℕ, ℤ, pos, Bool, true, false, ◌&&◌, nat_le, if◌then◌else◌, Option, Some, None, List}
+use Rattle.std.specs.Option.{option_map}
+use Rattle.std.specs.Str.{bytes_eq}
+use Rattle.std.specs.FinMap.{FinMap, get}
+use Rattle.awb_number.specs.Digits.{is_letter}
+use Rattle.imp_fields.specs.Airport.{is_airport}
+use Rattle.imp_fields.specs.Flight.{Designator, is_carrier, flight_of, flight_text}
+use Rattle.shipment_machine.specs.declared.flight.FlightDate.{FlightDate}
+use Rattle.shipment_machine.specs.declared.moves.Outbound.{Outbound}
+use Rattle.row_schema.specs.Tables.{Flight, FlightKey, flight_cmp}
+use Rattle.row_codec.specs.Numbers.{natural, is_day, flag, is_set, is_flag}
+
+abbrev is_letter_or_none : Option ℕ → Bool
+is_letter_or_none None = true
+is_letter_or_none (Some b) = is_letter b
+
+-- a designator that can be written
+abbrev pub is_designator : Designator → Bool
+is_designator f = is_carrier f.carrier && nat_le 1 f.number && nat_le f.number 9999 && is_letter_or_none f.suffix
+
+-- a designator as it is written
+abbrev pub is_written : List ℕ → Option Designator → Bool
+is_written text None = false
+is_written text (Some f) = bytes_eq (flight_text f) text
+
+abbrev pub is_flight_text : List ℕ → Bool
+is_flight_text text = is_written text (flight_of text)
+
+-- the flight of a text and a day, where the text names one
+abbrev pub flight_date_of : List ℕ → ℤ → Option FlightDate
+flight_date_of text day = option_map (λ f. record { flight = f; day = natural day }) (flight_of text)
+
+abbrev pub flight_key : FlightDate → FlightKey
+flight_key f = (flight_text f.flight, pos f.day)
+
+-- what a row notes of a flight
+abbrev pub outbound_by : Flight → Outbound
+outbound_by row = record { unload = row.unload; closed = is_set row.closed }
+
+abbrev pub outbound_row : Outbound → Flight
+outbound_row o = record { unload = o.unload; closed = flag o.closed }
+
+abbrev pub flights_in : FinMap flight_cmp Flight → FlightDate → Option Outbound
+flights_in rows f = if is_designator f.flight then option_map outbound_by (get rows (flight_key f)) else None
+
+-- within range
+abbrev pub is_flight_row : FlightKey × Flight → Bool
+is_flight_row row = is_flight_text row.0.0 && is_day row.0.1 && is_airport row.1.unload && is_flag row.1.closed

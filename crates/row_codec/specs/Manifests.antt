@@ -1,0 +1,44 @@
+-- What inbound flights bring, by the rows of `expected` and `part`.
+use Rattle.std.specs.Prelude.{ℕ, pos, Bool, ◌&&◌, if◌then◌else◌, Option, None, List}
+use Rattle.std.specs.Option.{option_map}
+use Rattle.std.specs.Str.{is_utf8}
+use Rattle.std.specs.FinMap.{FinMap, get}
+use Rattle.imp_fields.specs.Airport.{is_airport}
+use Rattle.imp_fields.specs.Flight.{flight_text}
+use Rattle.shipment_machine.specs.declared.flight.FlightDate.{FlightDate}
+use Rattle.shipment_machine.specs.declared.moves.Part.{Part}
+use Rattle.shipment_machine.specs.declared.moves.Expected as cargo
+use Rattle.row_schema.specs.Tables.{Expected, ExpectedKey, expected_cmp, PartKey, part_cmp}
+use Rattle.row_codec.specs.Numbers.{natural, is_within, is_number, is_day, flag, is_set, is_flag}
+use Rattle.row_codec.specs.Flights.{is_designator, is_flight_text}
+
+abbrev pub expected_key : FlightDate → ℕ → ExpectedKey
+expected_key f w = (flight_text f.flight, (pos f.day, pos w))
+
+-- what a row says is expected
+abbrev pub expected_by : Expected → cargo.Expected
+expected_by row = record { pieces = natural row.pieces; tenths = natural row.tenths; checked = is_set row.checked }
+
+abbrev pub expected_row : cargo.Expected → Expected
+expected_row e = record { pieces = pos e.pieces; tenths = pos e.tenths; checked = flag e.checked }
+
+abbrev pub expected_in : FinMap expected_cmp Expected → FlightDate → ℕ → Option cargo.Expected
+expected_in rows f w = if is_designator f.flight then option_map expected_by (get rows (expected_key f w)) else None
+
+-- within range
+abbrev pub is_expected_row : ExpectedKey × Expected → Bool
+is_expected_row row =
+    is_flight_text row.0.0 && is_day row.0.1.0 && is_number row.0.1.1 && is_within 1 9999 row.1.pieces
+    && is_within 0 999_999 row.1.tenths && is_flag row.1.checked
+
+abbrev pub part_key : Part → PartKey
+part_key p = (flight_text p.flight.flight, (pos p.flight.day, (p.airport, pos p.number)))
+
+-- the telegram of a part
+abbrev pub parts_in : FinMap part_cmp (List ℕ) → Part → Option (List ℕ)
+parts_in rows p = if is_designator p.flight.flight then get rows (part_key p) else None
+
+-- within range, and the telegram is a text
+abbrev pub is_part_row : PartKey × List ℕ → Bool
+is_part_row row =
+    is_flight_text row.0.0 && is_day row.0.1.0 && is_airport row.0.1.1.0 && is_within 1 9999 row.0.1.1.1 && is_utf8 row.1

@@ -1,0 +1,93 @@
+-- What the rows say of a waybill's balances.
+use Rattle.std.proofs.Common.{◌≡◌, ℕ, ℤ, pos, ◌-ℤ◌, false, List, Option, Some, None, option_map, refl, sym, ap, ◌∙◌}
+use Rattle.std.specs.FinMap.{FinMap, get}
+use Rattle.imp_fields.specs.Flight.{IsDesignator, flight_text}
+use Rattle.shipment_machine.specs.Amount.{amount}
+use Rattle.shipment_machine.specs.Book.{pieces_of, tenths_of, moved_in, moved_out, same_place, held, drawn, built}
+use Rattle.shipment_machine.specs.declared.amount.Amount.{Amount}
+use Rattle.shipment_machine.specs.declared.flight.FlightDate.{FlightDate}
+use Rattle.shipment_machine.specs.declared.moves.Move.{Move}
+use Rattle.shipment_machine.specs.declared.moves.Place.{Place}
+use Rattle.shipment_machine.specs.declared.moves.Place.TheVariants.{Built}
+use Rattle.row_schema.specs.Tables.{Count, count_cmp, Build, build_cmp}
+use Rattle.row_codec.specs.Counts.{Running, running, running_in, running_on, count_row, build_row, unless_nothing, count_at, build_at, AreCounts, AreBuilds}
+use Rattle.row_codec.specs.Moves.{place_code}
+use Rattle.running_totals.specs.Sums.{is_built}
+use Rattle.running_totals.specs.Stored.{meant}
+use Rattle.running_totals.specs.declared.tally.Tally.{Tally}
+use Rattle.running_totals.proofs.Tests.{left, left_over, nothing_left, nothing_over}
+use Rattle.running_totals.proofs.Storing.{IsNone, row_is, no_row}
+use Rattle.running_totals.proofs.Codes.{plain_again}
+use Rattle.running_totals.proofs.Written.{written_again}
+
+again : {V : Type 0} (row : Running → V) (read : V → Running) → ((r : Running) → read (row r) ≡ r) → (o : Option Running) → option_map read (option_map row o) ≡ o
+again row read same None = refl
+again row read same (Some r) = ap (λ (x : Running). Some x) (same r)
+
+same_option : (o : Option Running) → option_map (λ x. x) o ≡ o
+same_option None = refl
+same_option (Some r) = refl
+
+is_told : (r t : Running) → unless_nothing r ≡ Some t → t ≡ r
+is_told r t h = row_is (λ x. x) (λ x. x) (λ x. refl) r t (same_option (unless_nothing r) ∙ h)
+
+is_none : (r : Running) → unless_nothing r ≡ None → IsNone r
+is_none r h = no_row (λ x. x) (λ x. x) (λ x. refl) r (same_option (unless_nothing r) ∙ h)
+
+module _ (book : List Move) (w : ℕ) (place : Place) where
+  -- by the balance of the place
+  pub held_is : (r : Running) (a : Amount) → r ≡ running book w place → r.pieces ≡ pos a.pieces → r.tenths ≡ pos a.tenths → a ≡ held book w (same_place place)
+  held_is r a is p t =
+      let pieces = left (moved_in pieces_of book w (same_place place)) (moved_out pieces_of book w (same_place place)) a.pieces (sym (ap (λ (x : Running). x.pieces) is) ∙ p) in
+      let tenths = left (moved_in tenths_of book w (same_place place)) (moved_out tenths_of book w (same_place place)) a.tenths (sym (ap (λ (x : Running). x.tenths) is) ∙ t) in
+      λ i. record { pieces = pieces i; tenths = tenths i }
+
+  pub drawn_is : (r : Running) (a : Amount) → r ≡ running book w place → pos 0 -ℤ r.pieces ≡ pos a.pieces → pos 0 -ℤ r.tenths ≡ pos a.tenths → a ≡ drawn book w (same_place place)
+  drawn_is r a is p t =
+      let pieces = left_over (moved_in pieces_of book w (same_place place)) (moved_out pieces_of book w (same_place place)) a.pieces (sym (ap (λ (x : Running). pos 0 -ℤ x.pieces) is) ∙ p) in
+      let tenths = left_over (moved_in tenths_of book w (same_place place)) (moved_out tenths_of book w (same_place place)) a.tenths (sym (ap (λ (x : Running). pos 0 -ℤ x.tenths) is) ∙ t) in
+      λ i. record { pieces = pieces i; tenths = tenths i }
+
+  pub none_held : IsNone (running book w place) → amount 0 0 ≡ held book w (same_place place)
+  none_held none =
+      let pieces = nothing_left (moved_in pieces_of book w (same_place place)) (moved_out pieces_of book w (same_place place)) none.pieces in
+      let tenths = nothing_left (moved_in tenths_of book w (same_place place)) (moved_out tenths_of book w (same_place place)) none.tenths in
+      λ i. record { pieces = pieces i; tenths = tenths i }
+
+  pub none_drawn : IsNone (running book w place) → amount 0 0 ≡ drawn book w (same_place place)
+  none_drawn none =
+      let pieces = nothing_over (moved_in pieces_of book w (same_place place)) (moved_out pieces_of book w (same_place place)) none.pieces in
+      let tenths = nothing_over (moved_in tenths_of book w (same_place place)) (moved_out tenths_of book w (same_place place)) none.tenths in
+      λ i. record { pieces = pieces i; tenths = tenths i }
+
+module _ (counts : FinMap count_cmp Count) (book : List Move) (are : AreCounts counts book) (w : ℕ) (place : Place) (plain : is_built place ≡ false) (code : ℤ) (is_code : code ≡ pos (place_code place)) where
+  at_code : get counts (pos w, code) ≡ option_map count_row (unless_nothing (running book w place))
+  at_code = ap (λ z. get counts (pos w, z)) is_code ∙ are (pos w, pos (place_code place)) ∙ ap (count_at book w) (plain_again place plain)
+
+  by_code : (o : Option Running) → o ≡ option_map running_in (get counts (pos w, code)) → o ≡ unless_nothing (running book w place)
+  by_code o found = found ∙ ap (option_map running_in) at_code ∙ again count_row running_in (λ r. refl) (unless_nothing (running book w place))
+
+  pub held_tally : (t : Tally) (a : Amount) → ◌≡◌ {A = Option Running} (Some (meant t)) (option_map running_in (get counts (pos w, code))) → t.pieces ≡ pos a.pieces → t.tenths ≡ pos a.tenths → a ≡ held book w (same_place place)
+  held_tally t a found p q = held_is book w place (meant t) a (is_told (running book w place) (meant t) (sym (by_code (Some (meant t)) found))) p q
+
+  pub drawn_tally : (t : Tally) (a : Amount) → ◌≡◌ {A = Option Running} (Some (meant t)) (option_map running_in (get counts (pos w, code))) → pos 0 -ℤ t.pieces ≡ pos a.pieces → pos 0 -ℤ t.tenths ≡ pos a.tenths → a ≡ drawn book w (same_place place)
+  drawn_tally t a found p q = drawn_is book w place (meant t) a (is_told (running book w place) (meant t) (sym (by_code (Some (meant t)) found))) p q
+
+  pub held_nothing : ◌≡◌ {A = Option Running} None (option_map running_in (get counts (pos w, code))) → amount 0 0 ≡ held book w (same_place place)
+  held_nothing found = none_held book w place (is_none (running book w place) (sym (by_code None found)))
+
+  pub drawn_nothing : ◌≡◌ {A = Option Running} None (option_map running_in (get counts (pos w, code))) → amount 0 0 ≡ drawn book w (same_place place)
+  drawn_nothing found = none_drawn book w place (is_none (running book w place) (sym (by_code None found)))
+
+module _ (builds : FinMap build_cmp Build) (book : List Move) (are : AreBuilds builds book) (w : ℕ) (f : FlightDate) (designator : IsDesignator f.flight) where
+  pub at_flight : get builds (flight_text f.flight, (pos f.day, pos w)) ≡ option_map build_row (unless_nothing (running book w (Built f)))
+  at_flight = are (flight_text f.flight, (pos f.day, pos w)) ∙ ap (build_at book f.day w) (written_again f.flight designator)
+
+  by_flight : (o : Option Running) → o ≡ option_map running_on (get builds (flight_text f.flight, (pos f.day, pos w))) → o ≡ unless_nothing (running book w (Built f))
+  by_flight o found = found ∙ ap (option_map running_on) at_flight ∙ again build_row running_on (λ r. refl) (unless_nothing (running book w (Built f)))
+
+  pub built_tally : (t : Tally) (a : Amount) → ◌≡◌ {A = Option Running} (Some (meant t)) (option_map running_on (get builds (flight_text f.flight, (pos f.day, pos w)))) → t.pieces ≡ pos a.pieces → t.tenths ≡ pos a.tenths → a ≡ built book w f
+  built_tally t a found p q = held_is book w (Built f) (meant t) a (is_told (running book w (Built f)) (meant t) (sym (by_flight (Some (meant t)) found))) p q
+
+  pub built_nothing : ◌≡◌ {A = Option Running} None (option_map running_on (get builds (flight_text f.flight, (pos f.day, pos w)))) → amount 0 0 ≡ built book w f
+  built_nothing found = none_held book w (Built f) (is_none (running book w (Built f)) (sym (by_flight None found)))

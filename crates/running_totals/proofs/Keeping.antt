@@ -1,0 +1,94 @@
+-- What a store keeps when an amount was posted.
+use Rattle.std.proofs.Common.{◌≡◌, ℕ, ℤ, pos, true, false, List, [], ◌∷◌, ◌++◌, refl, sym, ap, subst, ◌∙◌, int_cmp, is_eq, Ordering, Less, Equal, Greater}
+use Rattle.std.specs.Ordering.{eq_by_cmp}
+use Rattle.std.specs.FinMap.{int_cmp-IsAntisymmetric}
+use Rattle.std.specs.Cmp.{IsTotalOrder, int_cmp_total}
+use Rattle.sqlite_keyed.proofs.SortLemmas.{pair_cmp}
+use Rattle.sqlite_typed.specs.Tests.{bytes_cmp}
+use Rattle.imp_fields.specs.Flight.{IsDesignator, flight_text}
+use Rattle.shipment_machine.specs.declared.flight.FlightDate.{FlightDate}
+use Rattle.shipment_machine.specs.declared.moves.Move.{Move}
+use Rattle.shipment_machine.specs.declared.moves.Place.{Place}
+use Rattle.shipment_machine.specs.declared.moves.Place.TheVariants.{Built}
+use Rattle.row_laws.proofs.Keys.{pair_total, pair_same, texts_total, texts_same}
+use Rattle.row_schema.specs.Store.{View, inside, IsShowing}
+use Rattle.row_schema.specs.Tables.{Tables, CountKey, count_cmp, BuildKey, build_cmp}
+use Rattle.row_codec.specs.Counts.{Running, running, running_in, running_on, count_row, build_row, AreCounts, AreBuilds}
+use Rattle.row_codec.specs.Moves.{place_code}
+use Rattle.running_totals.specs.Sums.{Sums, posting, come, gone, is_built, count_in, build_in}
+use Rattle.running_totals.specs.Stored.{posting_count, posting_build}
+use Rattle.running_totals.specs.Posted.{Keeps, Posted}
+use Rattle.running_totals.proofs.Storing.{posted_as}
+use Rattle.running_totals.proofs.Codes as codes
+use Rattle.running_totals.proofs.Written as written
+use Rattle.running_totals.proofs.Moved.{counted_is, built_up_is, sums_then}
+
+pub counts_total : IsTotalOrder count_cmp
+counts_total = pair_total int_cmp int_cmp int_cmp_total int_cmp_total
+
+pub builds_total : IsTotalOrder build_cmp
+builds_total = pair_total bytes_cmp (pair_cmp int_cmp int_cmp) texts_total (pair_total int_cmp int_cmp int_cmp_total int_cmp_total)
+
+pub builds_same : (a b : BuildKey) → eq_by_cmp build_cmp a b ≡ true → a ≡ b
+builds_same a b h = pair_same bytes_cmp (pair_cmp int_cmp int_cmp) texts_same (pair_same int_cmp int_cmp int_cmp-IsAntisymmetric int_cmp-IsAntisymmetric) a b (is_tied (build_cmp a b) h)
+  where
+    is_tied : (o : Ordering) → is_eq o ≡ true → o ≡ Equal
+    is_tied Less h = absurd (cc)
+    is_tied Equal h = refl
+    is_tied Greater h = absurd (cc)
+
+pub keeps_count : (old new : View) (before now : Tables) (sums : Sums) (a : ℕ) (place : Place) (by : Running) (number code : ℤ)
+    → is_built place ≡ false → number ≡ pos a → code ≡ pos (place_code place) → (k : Keeps old before now sums)
+    → IsShowing new (inside before (posting_count (number, code) by (record now { counts = k.counts; builds = k.builds })))
+    → Keeps new before now (posting a place by sums)
+keeps_count old new before now sums a place by number code plain is_number is_code k shows =
+    let was : Tables = record now { counts = k.counts; builds = k.builds } in
+    let key : CountKey = (pos a, pos (place_code place)) in
+    let at : ◌≡◌ {A = CountKey} (number, code) key = λ i. (is_number i, is_code i) in
+    record {
+      counts = (posting_count key by was).counts;
+      builds = k.builds;
+      shows = subst (λ q. IsShowing new (inside before (posting_count q by was))) at shows;
+      are_counts = posted_as count_row running_in (λ r. refl) counts_total (count_in sums) (count_in (posting a place by sums)) k.counts key by (sums a place) k.are_counts
+          (codes.at_key sums a place by plain) (codes.after sums a place by plain);
+      are_builds = λ q. k.are_builds q ∙ sym (written.builds_stay sums a place by plain q);
+    }
+
+pub keeps_build : (old new : View) (before now : Tables) (sums : Sums) (a : ℕ) (f : FlightDate) (by : Running) (text : List ℕ) (day number : ℤ)
+    → IsDesignator f.flight → text ≡ flight_text f.flight → day ≡ pos f.day → number ≡ pos a → (k : Keeps old before now sums)
+    → IsShowing new (inside before (posting_build (text, (day, number)) by (record now { counts = k.counts; builds = k.builds })))
+    → Keeps new before now (posting a (Built f) by sums)
+keeps_build old new before now sums a f by text day number designator is_text is_day is_number k shows =
+    let was : Tables = record now { counts = k.counts; builds = k.builds } in
+    let key : BuildKey = (flight_text f.flight, (pos f.day, pos a)) in
+    let at : ◌≡◌ {A = BuildKey} (text, (day, number)) key = λ i. (is_text i, (is_day i, is_number i)) in
+    record {
+      counts = k.counts;
+      builds = (posting_build key by was).builds;
+      shows = subst (λ q. IsShowing new (inside before (posting_build q by was))) at shows;
+      are_counts = λ q. k.are_counts q ∙ sym (codes.counts_stay sums a f by q);
+      are_builds = posted_as build_row running_on (λ r. refl) builds_total (build_in sums) (build_in (posting a (Built f) by sums)) k.builds key by (sums a (Built f)) k.are_builds
+          (written.at_key sums a f by designator) (written.after sums a f by designator);
+    }
+
+pub keeps_book : (v : View) (before now : Tables) (book : List Move) → IsShowing v (inside before now) → AreCounts now.counts book → AreBuilds now.builds book → Keeps v before now (running book)
+keeps_book v before now book shows counts builds = record {
+  counts = now.counts;
+  builds = now.builds;
+  shows = shows;
+  are_counts = λ q. counts q ∙ counted_is book q;
+  are_builds = λ q. builds q ∙ built_up_is book q;
+}
+
+pub posted_book : (v : View) (before now : Tables) (book : List Move) (m : Move) (away by : Running) → away ≡ gone m → by ≡ come m
+    → Keeps v before now (posting m.awb m.to by (posting m.awb m.from away (running book))) → Posted v before now (book ++ m ∷ [])
+posted_book v before now book m away by is_away is_by k =
+    let then = ap (λ r. posting m.awb m.to r (posting m.awb m.from away (running book))) is_by ∙ ap (λ r. posting m.awb m.to (come m) (posting m.awb m.from r (running book))) is_away ∙ sums_then book m in
+    let all : Keeps v before now (running (book ++ m ∷ [])) = subst (Keeps v before now) then k in
+    record {
+      counts = all.counts;
+      builds = all.builds;
+      shows = all.shows;
+      are_counts = λ q. all.are_counts q ∙ sym (counted_is (book ++ m ∷ []) q);
+      are_builds = λ q. all.are_builds q ∙ sym (built_up_is (book ++ m ∷ []) q);
+    }

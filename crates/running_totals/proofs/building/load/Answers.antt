@@ -1,0 +1,27 @@
+use Rattle.std.proofs.Common.{◌≡◌, ◌∙◌, pos, sym, ap, option_map, rules, FitsSigned, w64, to_z, of_z, to_z-of_z}
+use Rattle.std.specs.FinMap.{get}
+use Rattle.row_schema.specs.Tables.{BuildKey}
+use Rattle.row_codec.specs.Counts.{running_on}
+use Rattle.imp_fields.specs.Flight.{flight_text}
+use Rattle.running_totals.specs.Stored.{meant}
+use Rattle.running_totals.proofs.Amounts.{built_tally, built_nothing}
+use Rattle.running_totals.proofs.building.load.Goals as goal
+
+pub returns-in-Some-clause-value : goal.returns-in-Some-clause-value
+returns-in-Some-clause-value g c x shows sound book are =
+    let number_fits : FitsSigned w64 c.number_of-number.result = search rules in
+    let day_fits : FitsSigned w64 c.whole-day.result = search rules in
+    let key : ◌≡◌ {A = BuildKey} (c.as_str.result.now, (to_z w64 (of_z w64 c.whole-day.result), to_z w64 (of_z w64 c.number_of-number.result))) (flight_text c.args.flight.now.flight, (pos c.args.flight.now.day, pos c.args.awb.now)) =
+    λ i. ((c.as_str.ensures.value ∙ c.in_ok-text.ensures.value) i, ((to_z-of_z day_fits ∙ c.whole-day.ensures ∙ ap pos c.number.ensures.value) i, (to_z-of_z number_fits ∙ c.number_of-number.ensures) i)) in
+    built_tally x.now.builds book are c.args.awb.now c.args.flight.now c.written.ensures.designator c.in-Some.tally c.in_ok-amount-in-Some.field-0
+    (sym (ap (option_map meant) c.in-Some.is) ∙ c.in_ok-tally.ensures.read x shows sound ∙ ap (λ (k : BuildKey). option_map running_on (get x.now.builds k)) key)
+    c.in_ok-amount-in-Some.ensures.pieces c.in_ok-amount-in-Some.ensures.tenths
+
+pub returns-clause-value : goal.returns-clause-value
+returns-clause-value g c x shows sound book are =
+    let number_fits : FitsSigned w64 c.number_of-number.result = search rules in
+    let day_fits : FitsSigned w64 c.whole-day.result = search rules in
+    let key : ◌≡◌ {A = BuildKey} (c.as_str.result.now, (to_z w64 (of_z w64 c.whole-day.result), to_z w64 (of_z w64 c.number_of-number.result))) (flight_text c.args.flight.now.flight, (pos c.args.flight.now.day, pos c.args.awb.now)) =
+    λ i. ((c.as_str.ensures.value ∙ c.in_ok-text.ensures.value) i, ((to_z-of_z day_fits ∙ c.whole-day.ensures ∙ ap pos c.number.ensures.value) i, (to_z-of_z number_fits ∙ c.number_of-number.ensures) i)) in
+    built_nothing x.now.builds book are c.args.awb.now c.args.flight.now c.written.ensures.designator
+    (sym (ap (option_map meant) c.in-None.is) ∙ c.in_ok-tally.ensures.read x shows sound ∙ ap (λ (k : BuildKey). option_map running_on (get x.now.builds k)) key)

@@ -1,0 +1,22 @@
+use Rattle.std.proofs.Common.{subst, w64, of_z, to_z, to_z-of_z}
+use Rattle.row_schema.specs.Store.{inside, IsShowing}
+use Rattle.row_schema.specs.Tables.{BuildKey}
+use Rattle.running_totals.specs.Stored.{meant, posting_build}
+use Rattle.running_totals.proofs.Stores.{build_posted, survives_on}
+use Rattle.running_totals.proofs.building.post_build.Goals as goal
+
+pub returns-clause-done : goal.returns-clause-done
+returns-clause-done g c before now shows =
+    let view = g.S.TableStore.view in
+    let key : BuildKey = (c.args.flight.now, (to_z w64 (of_z w64 c.args.day), to_z w64 (of_z w64 c.args.awb))) in
+    let posted = build_posted (view c.args.store.now) (view c.at_flight.new.store) (view c.put_build.new.store) before now key (meant c.args.by) c.in_ok-found.found c.in_ok-sum.sum c.is_some.result
+    c.put_build.ensures.survives
+    (λ sound. c.in_ok-found.ensures.read (inside before now) shows sound)
+    c.is_some.ensures c.in_ok-sum.ensures
+    (c.in_ok-put_build.ensures.done before now (c.in_ok-found.ensures.same (inside before now) shows)) in
+    subst (λ (k : BuildKey). IsShowing (view c.put_build.new.store) (inside before (posting_build k (meant c.args.by) now))) (λ i. (c.args.flight.now, (to_z-of_z c.ranges.day i, to_z-of_z c.ranges.awb i))) posted
+
+pub returns-clause-survives : goal.returns-clause-survives
+returns-clause-survives g c =
+    let view = g.S.TableStore.view in
+    survives_on (view c.args.store.now) (view c.at_flight.new.store) (view c.put_build.new.store) c.at_flight.ensures.survives c.put_build.ensures.survives

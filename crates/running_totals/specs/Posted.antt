@@ -1,0 +1,24 @@
+-- Tables whose running counts have moved on.
+use Rattle.std.specs.Prelude.{◌≡◌, List}
+use Rattle.std.specs.FinMap.{FinMap, get}
+use Rattle.shipment_machine.specs.declared.moves.Move.{Move}
+use Rattle.row_schema.specs.Store.{View, inside, IsShowing}
+use Rattle.row_schema.specs.Tables.{Tables, Count, CountKey, count_cmp, Build, BuildKey, build_cmp}
+use Rattle.row_codec.specs.Counts.{AreCounts, AreBuilds}
+use Rattle.running_totals.specs.Sums.{Sums, count_in, build_in}
+
+-- in a transaction a store shows these tables, but with running counts that are a book's
+pub record Posted (v : View) (before now : Tables) (book : List Move) : Type 0 where
+  pub counts : FinMap count_cmp Count
+  pub builds : FinMap build_cmp Build
+  pub shows : IsShowing v (inside before (record now { counts = counts; builds = builds }))
+  pub are_counts : AreCounts counts book
+  pub are_builds : AreBuilds builds book
+
+-- the same, with running counts that are these sums
+pub record Keeps (v : View) (before now : Tables) (sums : Sums) : Type 0 where
+  pub counts : FinMap count_cmp Count
+  pub builds : FinMap build_cmp Build
+  pub shows : IsShowing v (inside before (record now { counts = counts; builds = builds }))
+  pub are_counts : (key : CountKey) → get counts key ≡ count_in sums key
+  pub are_builds : (key : BuildKey) → get builds key ≡ build_in sums key

@@ -1,0 +1,132 @@
+ghost use Rattle.std.specs.Prelude.{◌≡◌, ℕ, ℤ, pos, List, Option, map, filter, option_map, IfOk};
+ghost use Rattle.std.specs.FinMap.{get};
+ghost use Rattle.shipment_machine.specs.Book.{built};
+ghost use Rattle.row_schema.specs.Store.{Seen, Rests, Survives, IsShowing};
+ghost use Rattle.cargo_rows.specs.Meant.{build_meant};
+ghost use Rattle.station_rows.specs.Clauses.{ShowsChange, ShowsStill, TellsOf, WasOpen};
+ghost use Rattle.row_codec.specs.Counts.{AreBuilds, build_row, running_on};
+ghost use Rattle.running_totals.specs.Stored.{meant, storing_build, posting_build};
+
+use crate::fields::{number_of, whole, written};
+use crate::tally::{Tally, build_tally};
+use awb_number::Awb;
+use shipment_machine::{Amount, FlightDate, Move};
+use station_rows::{BuildRow, StoreFault, TableStore};
+use std::alloc::Global;
+
+/// A row of `build`.
+fn row_of(
+    alloc: Global,
+    flight: &str,
+    day: i64,
+    awb: i64,
+    sum: Tally,
+) -> Result<BuildRow, StoreFault>
+    ensures { IfOk result (λ row. build_meant
+        row ≡ ((flight.now, (day, awb)), build_row (meant sum))) }
+{
+    match String::from_str(alloc, flight) {
+        Ok(flight) => Ok(BuildRow {
+            flight,
+            day,
+            awb,
+            pieces: sum.pieces,
+            tenths: sum.tenths,
+        }),
+        Err(_) => Err(StoreFault),
+    }
+}
+
+/// What a flight carries of a waybill, if it has a row.
+fn at_flight<S: TableStore>(
+    store: &mut S,
+    flight: &str,
+    day: i64,
+    awb: i64,
+) -> Result<Option<Tally>, StoreFault>
+    ensures read { TellsOf (S.view store.old) (S.view store.new) result
+        (λ tables found. option_map meant found ≡ option_map running_on
+        (get tables.builds (flight.now, (day, awb)))) }
+    ensures same { ShowsStill (S.view store.old) (S.view store.new) result }
+    ensures open { WasOpen (S.view store.old) (S.view store.new) result }
+    ensures rests { (S.view store.new).IsSound → Rests (S.view store.old) (S.view store.new) }
+    ensures survives { Survives (S.view store.old) (S.view store.new) }
+{
+    match store.build_row(flight, day, awb)? {
+        Some(row) => Ok(Some(build_tally(&row))),
+        None => Ok(None),
+    }
+}
+
+/// Writes what a flight carries of a waybill, where it is known whether there is a row.
+fn put_build<S: TableStore>(
+    alloc: Global,
+    store: &mut S,
+    is_there: bool,
+    flight: &str,
+    day: i64,
+    awb: i64,
+    sum: Tally,
+) -> Result<(), StoreFault>
+    ensures done { ShowsChange (S.view store.old) (S.view store.new) result
+        (storing_build is_there ((flight.now, (day, awb)), build_row (meant sum))) }
+    ensures survives { Survives (S.view store.old) (S.view store.new) }
+{
+    if sum.is_nothing() {
+        return store.delete_build(flight, day, awb);
+    }
+    let row = row_of(alloc, flight, day, awb, sum)?;
+    if is_there {
+        store.update_build(&row)
+    } else {
+        store.insert_build(&row)
+    }
+}
+
+/// Adds an amount to what a flight carries of a waybill.
+pub(crate) fn post_build<S: TableStore>(
+    alloc: Global,
+    store: &mut S,
+    flight: &str,
+    day: i64,
+    awb: i64,
+    by: Tally,
+) -> Result<(), StoreFault>
+    ensures done { ShowsChange (S.view store.old) (S.view store.new) result
+        (posting_build (flight.now, (day, awb)) (meant by)) }
+    ensures survives { Survives (S.view store.old) (S.view store.new) }
+{
+    let found = at_flight(store, flight, day, awb)?;
+    let sum = by.onto(found)?;
+    put_build(alloc, store, found.is_some(), flight, day, awb, sum)?;
+    Ok(())
+}
+
+/// What of a waybill is built on a flight, inside a transaction or outside. A fault: the database
+/// call failed, memory ran out, or an amount is out of range. A fault outside changes nothing while
+/// the store is open.
+pub fn load<S: TableStore>(
+    alloc: Global,
+    store: &mut S,
+    awb: &Awb,
+    flight: &FlightDate,
+) -> Result<Amount, StoreFault>
+    ensures value { (x : Seen) → IsShowing (S.view store.old) x → (S.view store.new).IsSound
+        → (book : List Move) → AreBuilds x.now.builds book
+        → IfOk result (λ load. load ≡ built book awb.now flight.now) }
+    ensures same { ShowsStill (S.view store.old) (S.view store.new) result }
+    ensures open { WasOpen (S.view store.old) (S.view store.new) result }
+    ensures rests { (S.view store.new).IsSound → Rests (S.view store.old) (S.view store.new) }
+    ensures survives { Survives (S.view store.old) (S.view store.new) }
+{
+    let text = written(alloc, &flight.flight)?;
+    let day = whole(flight.day.number());
+    let number = number_of(awb);
+    match at_flight(store, text.as_str(), day, number)? {
+        Some(tally) => Ok(tally.amount()?),
+        None => Ok(Amount {
+            pieces: 0,
+            tenths: 0,
+        }),
+    }
+}

@@ -1,0 +1,169 @@
+ghost use Rattle.std.specs.Prelude.{◌≡◌, ℕ, ℤ, pos, false, List, Option, map, filter, option_map, option_copied, IfOk};
+ghost use Rattle.std.specs.FinMap.{FinMap, entries, get};
+ghost use Rattle.std.specs.List.{find};
+ghost use Rattle.std.specs.Ordering.{int_eq};
+ghost use Rattle.shipment_machine.specs.Book.{balances_of, drawn, held, same_place};
+ghost use Rattle.row_schema.specs.Store.{Seen, Rests, Survives, IsShowing};
+ghost use Rattle.row_schema.specs.Tables.{Count, count_cmp};
+ghost use Rattle.cargo_rows.specs.Meant.{count_meant, counts_for};
+ghost use Rattle.station_rows.specs.Clauses.{ShowsChange, ShowsStill, WasOpen};
+ghost use Rattle.row_codec.specs.Counts.{AreCounts, count_row, running_in};
+ghost use Rattle.running_totals.specs.Sums.{is_built};
+ghost use Rattle.running_totals.specs.Stored.{meant, storing_count, posting_count};
+
+use crate::fields::number_of;
+use crate::tally::{Tally, count_tally};
+use awb_number::Awb;
+use row_codec::place_code;
+use shipment_machine::{Amount, Balances, Move, Place};
+use station_rows::{CountRow, StoreFault, TableStore};
+
+/// The first row of a place.
+fn first_at(rows: &[CountRow], place: i64) -> Option<&CountRow>
+    ensures { option_copied result ≡ find (λ row. int_eq row.place place) rows.now }
+{
+    rows.iter().find(|row| row.place == place)
+}
+
+/// What the row of a place has, among the rows of a waybill.
+fn at_place(rows: &[CountRow], place: i64) -> Option<Tally>
+    ensures { (counts : FinMap count_cmp Count) (awb : ℤ)
+        → map count_meant rows.now ≡ filter (counts_for awb) (entries counts)
+        → option_map meant result ≡ option_map running_in (get counts (awb, place)) }
+{
+    match first_at(rows, place) {
+        Some(row) => Some(count_tally(row)),
+        None => None,
+    }
+}
+
+/// A row of `counts`.
+fn row_of(awb: i64, place: i64, sum: Tally) -> CountRow
+    ensures { count_meant result ≡ ((awb, place), count_row (meant sum)) }
+{
+    CountRow {
+        awb,
+        place,
+        pieces: sum.pieces,
+        tenths: sum.tenths,
+    }
+}
+
+/// Writes what a waybill has at a place, where it is known whether there is a row.
+fn put_count<S: TableStore>(
+    store: &mut S,
+    is_there: bool,
+    awb: i64,
+    place: i64,
+    sum: Tally,
+) -> Result<(), StoreFault>
+    ensures done { ShowsChange (S.view store.old) (S.view store.new) result
+        (storing_count is_there ((awb, place), count_row (meant sum))) }
+    ensures survives { Survives (S.view store.old) (S.view store.new) }
+{
+    if sum.is_nothing() {
+        return store.delete_count(awb, place);
+    }
+    let row = row_of(awb, place, sum);
+    if is_there {
+        store.update_count(&row)
+    } else {
+        store.insert_count(&row)
+    }
+}
+
+/// Adds an amount to what a waybill has at a place.
+pub(crate) fn post_count<S: TableStore>(
+    store: &mut S,
+    awb: i64,
+    place: i64,
+    by: Tally,
+) -> Result<(), StoreFault>
+    ensures done { ShowsChange (S.view store.old) (S.view store.new) result
+        (posting_count (awb, place) (meant by)) }
+    ensures survives { Survives (S.view store.old) (S.view store.new) }
+{
+    let rows = store.counts_of(awb)?;
+    let found = at_place(&rows, place);
+    let sum = by.onto(found)?;
+    put_count(store, found.is_some(), awb, place, sum)?;
+    Ok(())
+}
+
+/// What is at a place of the station, by the rows of a waybill.
+fn held(rows: &[CountRow], place: &Place) -> Result<Amount, StoreFault>
+    ensures { (counts : FinMap count_cmp Count) (book : List Move) (w : ℕ)
+        → map count_meant rows.now ≡ filter (counts_for (pos w)) (entries counts)
+        → AreCounts counts book
+        → is_built place.now ≡ false
+        → IfOk result (λ amount. amount ≡ held book w (same_place place.now)) }
+{
+    let code = place_code(place);
+    match at_place(rows, code) {
+        Some(tally) => Ok(tally.amount()?),
+        None => Ok(Amount {
+            pieces: 0,
+            tenths: 0,
+        }),
+    }
+}
+
+/// What came from a place outside, by the rows of a waybill.
+fn drawn(rows: &[CountRow], place: &Place) -> Result<Amount, StoreFault>
+    ensures { (counts : FinMap count_cmp Count) (book : List Move) (w : ℕ)
+        → map count_meant rows.now ≡ filter (counts_for (pos w)) (entries counts)
+        → AreCounts counts book
+        → is_built place.now ≡ false
+        → IfOk result (λ amount. amount ≡ drawn book w (same_place place.now)) }
+{
+    let code = place_code(place);
+    match at_place(rows, code) {
+        Some(tally) => Ok(tally.shortfall()?),
+        None => Ok(Amount {
+            pieces: 0,
+            tenths: 0,
+        }),
+    }
+}
+
+/// The balances, by the rows of a waybill.
+fn balances_by(rows: &[CountRow]) -> Result<Balances, StoreFault>
+    ensures { (counts : FinMap count_cmp Count) (book : List Move) (w : ℕ)
+        → map count_meant rows.now ≡ filter (counts_for (pos w)) (entries counts)
+        → AreCounts counts book
+        → IfOk result (λ balances. balances ≡ balances_of book w) }
+{
+    let taken = drawn(rows, &Place::Hand)?;
+    let found = drawn(rows, &Place::Surplus)?;
+    let free = held(rows, &Place::Free)?;
+    let missing = held(rows, &Place::Missing)?;
+    let departed = held(rows, &Place::Departed)?;
+    let delivered = held(rows, &Place::Delivered)?;
+    let transferred = held(rows, &Place::Transferred)?;
+    Ok(Balances {
+        taken,
+        found,
+        free,
+        missing,
+        departed,
+        delivered,
+        transferred,
+    })
+}
+
+/// What the moves of a waybill add up to, inside a transaction or outside. A fault: the database
+/// call failed, or a balance is out of range. A fault outside changes nothing while the store is
+/// open.
+pub fn balances<S: TableStore>(store: &mut S, awb: &Awb) -> Result<Balances, StoreFault>
+    ensures value { (x : Seen) → IsShowing (S.view store.old) x → (S.view store.new).IsSound
+        → (book : List Move) → AreCounts x.now.counts book
+        → IfOk result (λ balances. balances ≡ balances_of book awb.now) }
+    ensures same { ShowsStill (S.view store.old) (S.view store.new) result }
+    ensures open { WasOpen (S.view store.old) (S.view store.new) result }
+    ensures rests { (S.view store.new).IsSound → Rests (S.view store.old) (S.view store.new) }
+    ensures survives { Survives (S.view store.old) (S.view store.new) }
+{
+    let number = number_of(awb);
+    let rows = store.counts_of(number)?;
+    Ok(balances_by(&rows)?)
+}

@@ -1,0 +1,123 @@
+ghost use Rattle.std.specs.Prelude.{◌≡◌, ◌∷◌, ◌++◌, [], pos, int_lt, length, List, map, filter, IfOk, OnOk};
+ghost use Rattle.shipment_machine.specs.Book.{waybills_on};
+ghost use Rattle.state_store.specs.Told.{loads_on};
+ghost use Rattle.row_schema.specs.Store.{Seen, Rests, Survives, IsShowing};
+ghost use Rattle.cargo_rows.specs.Meant.{build_meant};
+ghost use Rattle.station_rows.specs.Clauses.{ShowsStill, WasOpen};
+ghost use Rattle.row_codec.specs.Counts.{AreBuilds};
+ghost use Rattle.running_totals.specs.Loaded.{load_said, row_said, is_loaded};
+
+use crate::fields::{whole, written};
+use crate::tally::build_tally;
+use awb_number::Awb;
+use shipment_machine::{FlightDate, Move};
+use state_store::Load;
+use station_rows::{BuildRow, StoreFault, TableStore};
+use std::alloc::Global;
+
+/// Whether there are pieces in a row.
+fn is_loaded(row: &BuildRow) -> bool
+    ensures { result ≡ is_loaded (row_said (build_meant row.now)) }
+{
+    0 < row.pieces
+}
+
+/// The waybill of a row.
+fn awb_in(row: &BuildRow) -> Result<Awb, StoreFault>
+    ensures { IfOk result (λ awb. row.now.awb ≡ pos awb) }
+{
+    let Ok(key) = u64::try_from(row.awb) else {
+        return Err(StoreFault);
+    };
+    match Awb::of_key(key) {
+        Some(awb) => Ok(awb),
+        None => Err(StoreFault),
+    }
+}
+
+/// The load of a row.
+fn load_in(row: &BuildRow) -> Result<Load, StoreFault>
+    ensures { IfOk result (λ load. load_said load ≡ row_said (build_meant row.now)) }
+{
+    let awb = awb_in(row)?;
+    let amount = build_tally(row).amount()?;
+    Ok(Load { awb, amount })
+}
+
+/// Adds a load.
+fn add(loads: &mut Vec<Load>, load: Load) -> Result<(), StoreFault>
+    ensures { OnOk result (loads.new.items ≡ loads.old.items ++ load ∷ []) }
+{
+    match loads.push(load) {
+        Ok(()) => Ok(()),
+        Err(_) => Err(StoreFault),
+    }
+}
+
+/// The loads of rows, where there are pieces in them.
+fn loads_in(alloc: Global, rows: &[BuildRow]) -> Result<Vec<Load>, StoreFault>
+    ensures { IfOk result (λ loads. map load_said loads.items ≡ filter is_loaded
+        (map row_said (map build_meant rows.now))) }
+{
+    let mut loads = Vec::new(alloc);
+    for row in rows {
+        if is_loaded(row) {
+            let load = load_in(row)?;
+            add(&mut loads, load)?;
+        }
+    }
+    Ok(loads)
+}
+
+/// The waybills of which something is built on a flight, ascending, each with its load, inside a
+/// transaction or outside. A fault: the database call failed, memory ran out, or a row is out of
+/// range. A fault outside changes nothing while the store is open.
+pub fn aboard<S: TableStore>(
+    alloc: Global,
+    store: &mut S,
+    flight: &FlightDate,
+) -> Result<Vec<Load>, StoreFault>
+    ensures value { (x : Seen) → IsShowing (S.view store.old) x → (S.view store.new).IsSound
+        → (book : List Move) → AreBuilds x.now.builds book
+        → IfOk result (λ loads. loads.items ≡ loads_on book flight.now) }
+    ensures same { ShowsStill (S.view store.old) (S.view store.new) result }
+    ensures open { WasOpen (S.view store.old) (S.view store.new) result }
+    ensures rests { (S.view store.new).IsSound → Rests (S.view store.old) (S.view store.new) }
+    ensures survives { Survives (S.view store.old) (S.view store.new) }
+{
+    let text = written(alloc, &flight.flight)?;
+    let day = whole(flight.day.number());
+    let rows = store.builds_on(text.as_str(), day)?;
+    let loads = loads_in(alloc, &rows)?;
+    Ok(loads)
+}
+
+/// How many rows have pieces, by the pieces of each.
+fn count_loaded(pieces: &[i64]) -> usize
+    ensures { result ≡ length (filter (int_lt (pos 0)) pieces.now) }
+{
+    pieces.iter().filter(|count| 0 < **count).count()
+}
+
+/// How many waybills have something built on a flight, inside a transaction or outside. A departure
+/// reads each load, by `aboard`; where their number alone is needed, this reads less of each row. A
+/// fault: the database call failed, or memory ran out. A fault outside changes nothing while the
+/// store is open.
+pub fn waybills_on<S: TableStore>(
+    alloc: Global,
+    store: &mut S,
+    flight: &FlightDate,
+) -> Result<usize, StoreFault>
+    ensures value { (x : Seen) → IsShowing (S.view store.old) x → (S.view store.new).IsSound
+        → (book : List Move) → AreBuilds x.now.builds book
+        → IfOk result (λ number. number ≡ length (waybills_on book flight.now)) }
+    ensures same { ShowsStill (S.view store.old) (S.view store.new) result }
+    ensures open { WasOpen (S.view store.old) (S.view store.new) result }
+    ensures rests { (S.view store.new).IsSound → Rests (S.view store.old) (S.view store.new) }
+    ensures survives { Survives (S.view store.old) (S.view store.new) }
+{
+    let text = written(alloc, &flight.flight)?;
+    let day = whole(flight.day.number());
+    let pieces = store.pieces_on(text.as_str(), day)?;
+    Ok(count_loaded(&pieces))
+}

@@ -1,0 +1,113 @@
+ghost use Rattle.std.specs.Prelude.{◌≡◌, ℤ, pos, ◌+ℤ◌, ◌-ℤ◌, IfOk};
+ghost use Rattle.cargo_rows.specs.Meant.{build_meant, count_meant};
+ghost use Rattle.row_codec.specs.Counts.{Running, is_nothing, running_in, running_on};
+ghost use Rattle.running_totals.specs.Sums.{plus};
+ghost use Rattle.running_totals.specs.Stored.{come_to, meant};
+
+use shipment_machine::Amount;
+use station_rows::{BuildRow, CountRow, StoreFault};
+
+/// Pieces and tenths of a row: what came, less what left.
+#[derive(Clone, Copy)]
+pub(crate) struct Tally {
+    pub pieces: i64,
+    pub tenths: i64,
+}
+
+/// The tally of a row of `counts`.
+pub(crate) fn count_tally(row: &CountRow) -> Tally
+    ensures { meant result ≡ running_in (count_meant row.now).1 }
+{
+    Tally {
+        pieces: row.pieces,
+        tenths: row.tenths,
+    }
+}
+
+/// The tally of a row of `build`.
+pub(crate) fn build_tally(row: &BuildRow) -> Tally
+    ensures { meant result ≡ running_on (build_meant row.now).1 }
+{
+    Tally {
+        pieces: row.pieces,
+        tenths: row.tenths,
+    }
+}
+
+/// Two numbers of rows together.
+fn sum(a: i64, b: i64) -> Result<i64, StoreFault>
+    ensures { IfOk result (λ sum. sum ≡ a +ℤ b) }
+{
+    match a.checked_add(b) {
+        Some(sum) => Ok(sum),
+        None => Err(StoreFault),
+    }
+}
+
+/// What a number is short of nothing.
+fn shortage(number: i64) -> Result<i64, StoreFault>
+    ensures { IfOk result (λ rest. rest ≡ pos 0 -ℤ number) }
+{
+    match 0_i64.checked_sub(number) {
+        Some(rest) => Ok(rest),
+        None => Err(StoreFault),
+    }
+}
+
+/// A number of a row that may not be below nothing.
+fn natural(number: i64) -> Result<u32, StoreFault>
+    ensures { IfOk result (λ n. number ≡ pos n) }
+{
+    match u32::try_from(number) {
+        Ok(natural) => Ok(natural),
+        Err(_) => Err(StoreFault),
+    }
+}
+
+impl Tally {
+    /// Whether nothing is left.
+    pub(crate) fn is_nothing(self) -> bool
+        ensures { result ≡ is_nothing (meant self) }
+    {
+        self.pieces == 0 && self.tenths == 0
+    }
+
+    /// Two together.
+    fn plus(self, other: Tally) -> Result<Tally, StoreFault>
+        ensures { IfOk result (λ sum. meant sum ≡ plus (meant self) (meant other)) }
+    {
+        let pieces = sum(self.pieces, other.pieces)?;
+        let tenths = sum(self.tenths, other.tenths)?;
+        Ok(Tally { pieces, tenths })
+    }
+
+    /// What a row comes to by this.
+    pub(crate) fn onto(self, found: Option<Tally>) -> Result<Tally, StoreFault>
+        ensures { IfOk result (λ sum. meant sum ≡ come_to meant found (meant self)) }
+    {
+        match found {
+            Some(found) => found.plus(self),
+            None => Ok(self),
+        }
+    }
+
+    /// What is there.
+    pub(crate) fn amount(self) -> Result<Amount, StoreFault>
+        ensures pieces { IfOk result (λ amount. self.pieces ≡ pos amount.pieces) }
+        ensures tenths { IfOk result (λ amount. self.tenths ≡ pos amount.tenths) }
+    {
+        let pieces = natural(self.pieces)?;
+        let tenths = natural(self.tenths)?;
+        Ok(Amount { pieces, tenths })
+    }
+
+    /// What came from there.
+    pub(crate) fn shortfall(self) -> Result<Amount, StoreFault>
+        ensures pieces { IfOk result (λ amount. pos 0 -ℤ self.pieces ≡ pos amount.pieces) }
+        ensures tenths { IfOk result (λ amount. pos 0 -ℤ self.tenths ≡ pos amount.tenths) }
+    {
+        let pieces = natural(shortage(self.pieces)?)?;
+        let tenths = natural(shortage(self.tenths)?)?;
+        Ok(Amount { pieces, tenths })
+    }
+}

@@ -1,0 +1,87 @@
+//! Known inputs, and what is kept of new ones.
+ghost use Rattle.std.specs.Prelude.{◌≡◌, string_bytes, OnOk, IfOk};
+ghost use Rattle.station_core.specs.Step.{State, repeated, key_answer, text_answer, kept_with};
+ghost use Rattle.std.specs.Option.{option_map};
+ghost use Rattle.station_engine.specs.Serving.{request_of};
+ghost use Rattle.state_store.specs.Store.{Seen, inside, Survives};
+ghost use Rattle.state_store.specs.Told.{kept_of};
+
+use desk_commands::{command_range_law, command_text};
+use state_store::{KeptReply, StateStore, StoreFault};
+use station_core::{Answer, Input, Reply, repeated_key};
+use std::alloc::{AllocError, Global};
+
+/// The text by which an input is compared with one that was kept under its key.
+pub(crate) fn request_of(alloc: Global, input: &Input<'_>) -> Result<String, AllocError>
+    ensures { IfOk result (λ text. string_bytes text ≡ request_of input.now) }
+{
+    match input {
+        Input::Keyed(_, command) => command_text(alloc, command),
+        Input::Wire(_) => Ok(String::new(alloc)),
+    }
+}
+
+/// The answer to a request under a key, if the key is known.
+fn answer_under(kept: &Option<KeptReply>, request: &str) -> Option<Answer>
+    ensures { result ≡ key_answer (option_map kept_of kept.now) request.now }
+{
+    match kept {
+        None => None,
+        Some(kept) => Some(repeated_key(kept.request.as_str(), kept.count, request)),
+    }
+}
+
+/// The answer to a telegram, if its text is known.
+fn answer_to(kept: Option<u32>) -> Option<Answer>
+    ensures { result ≡ text_answer kept }
+{
+    match kept {
+        None => None,
+        Some(count) => Some(Answer::Done(Reply { count })),
+    }
+}
+
+/// The answer to an input, if its key or its text is known: one read.
+pub(crate) fn known<S: StateStore>(
+    store: &mut S,
+    input: &Input<'_>,
+    request: &str,
+) -> Result<Option<Answer>, StoreFault>
+    requires { request.now ≡ request_of input.now }
+    ensures value { (x : Seen) → S.shows store.old x → S.is_sound store.new
+        → IfOk result (λ answer. answer ≡ repeated x.now input.now) }
+    ensures same { (x : Seen) → S.shows store.old x → OnOk result (S.shows store.new x) }
+    ensures survives { Survives S.is_clean S.is_sound S.may_find store.old store.new }
+{
+    match input {
+        Input::Keyed(key, _) => {
+            let kept = store.kept_key(key)?;
+            Ok(answer_under(&kept, request))
+        }
+        Input::Wire(telegram) => {
+            let kept = store.kept_text(telegram.text().as_bytes())?;
+            Ok(answer_to(kept))
+        }
+    }
+}
+
+/// Keeps an input and its count.
+pub(crate) fn keep<S: StateStore>(
+    store: &mut S,
+    input: &Input<'_>,
+    request: &str,
+    count: u32,
+) -> Result<(), StoreFault>
+    requires { request.now ≡ request_of input.now }
+    ensures done { (before s : State) → S.shows store.old (inside before s)
+        → OnOk result (S.shows store.new (inside before (kept_with input.now count s))) }
+    ensures survives { Survives S.is_clean S.is_sound S.may_find store.old store.new }
+{
+    match input {
+        Input::Keyed(key, command) => {
+            command_range_law(command);
+            store.keep_key(key, request, count)
+        }
+        Input::Wire(telegram) => store.keep_text(telegram.text().as_bytes(), count),
+    }
+}

@@ -1,0 +1,51 @@
+//! Whether all rows can be numbered.
+ghost use Rattle.std.specs.Prelude.{◌≡◌, ◌+◌, ◌&&◌, nat_le, List, ℕ, length};
+ghost use Rattle.std.specs.List.{filter};
+ghost use Rattle.shipment_machine.specs.Cargo.{Cargo as AnyCargo};
+ghost use Rattle.shipment_machine.specs.Agreement.{outcome_of};
+ghost use Rattle.shipment_machine.specs.Effect.{carried_out};
+ghost use Rattle.station_core.specs.Step.{has_room, sent};
+ghost use Rattle.station_engine.specs.Room.{is_line};
+ghost use Rattle.state_store.specs.Told.{sizes_of};
+ghost use Rattle.station_engine.specs.Written.{texts_in};
+
+use shipment_machine::{Change, Plan};
+use state_store::Sizes;
+
+/// How many changes add a line to the trail.
+fn lines_in(changes: &[Change<'_>]) -> usize
+    ensures { result ≡ length (filter is_line changes.now) }
+{
+    changes
+        .iter()
+        .filter(|change| matches!(change, Change::Trail { .. }))
+        .count()
+}
+
+/// Whether so many rows and some more can be numbered.
+fn can_be_numbered(rows: u32, more: usize) -> bool
+    ensures { result ≡ nat_le (rows + more) 4_294_967_295 }
+{
+    let most = u32::MAX as usize;
+    more <= most - rows as usize
+}
+
+/// Whether the three hold.
+fn all_three(a: bool, b: bool, c: bool) -> bool
+    ensures { result ≡ (a && b && c) }
+{
+    a && b && c
+}
+
+/// Whether all rows can be numbered after a plan.
+pub(crate) fn has_room(sizes: &Sizes, plan: &Plan<'_>, messages: &[Vec<u8>]) -> bool
+    ensures { (s : AnyCargo) (text : List ℕ) → sizes.now ≡ sizes_of s
+        → result
+        ≡ has_room (sent (texts_in messages.now) (carried_out text (outcome_of plan.now) s)) }
+{
+    all_three(
+        can_be_numbered(sizes.moves, plan.moves.as_slice().len()),
+        can_be_numbered(sizes.lines, lines_in(&plan.changes)),
+        can_be_numbered(sizes.messages, messages.len()),
+    )
+}

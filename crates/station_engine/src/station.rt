@@ -1,0 +1,243 @@
+ghost use Rattle.std.specs.Prelude.{◌≡◌, true, false, Err, Option, IfOk, IfErr};
+ghost use Rattle.agent_stock.specs.Runs.{AreStockRuns};
+ghost use Rattle.station_core.specs.Keeping.{Acts, Breaks, IsReadersFault, Leaves, OnlyReads};
+ghost use Rattle.station_core.specs.Readers.{irregular_rows};
+ghost use Rattle.station_core.specs.Step.{State, IsLawfulState};
+ghost use Rattle.station_engine.specs.Found.{Finds};
+ghost use Rattle.state_store.specs.Store.{at_rest};
+
+use crate::acting::serve;
+use crate::replying::request_of;
+use agent_stock::{Holder, StockRun};
+use awb_number::Awb;
+use imp_fields::Moment;
+use state_store::{StateStore, irregular_rows, waybill_in};
+use station_core::{
+    ActFault, Answer, BookRow, Input, IrregularRow, Keeper, Message, Reply, Sink, TrailRow,
+    Waybill, hand_out,
+};
+use std::alloc::Global;
+
+/// A station over a store of its state. It takes every input.
+///
+/// An input is one transaction, or none where it is refused or known. After `Store` the station
+/// returns `Reopen`: the store then holds the state before the input or the one after it. A
+/// reader's `Store` changes nothing.
+#[derive(Drop)]
+pub struct StoredStation<S: StateStore> {
+    alloc: Global,
+    store: S,
+    // Since a call of the store failed, it returns `Reopen`.
+    broken: bool,
+}
+
+impl<S: StateStore> StoredStation<S> {
+    /// A station over a store that shows a lawful state, with no transaction begun.
+    pub fn over(alloc: Global, store: S) -> StoredStation<S>
+        ensures keeps { (s : State) → IsLawfulState s → S.shows store (at_rest s)
+            → ⟦<StoredStation<S> as Keeper>⟧.keeps result s }
+        ensures sound { ⟦<StoredStation<S> as Keeper>⟧.is_sound result → S.is_sound store }
+        ensures works { ⟦<StoredStation<S> as Keeper>⟧.is_broken result ≡ false }
+        ensures same { result.store ≡ store }
+    {
+        StoredStation {
+            alloc,
+            store,
+            broken: false,
+        }
+    }
+
+    /// One input, at a moment, as a `Keeper` takes it. The store is as sound afterwards as before,
+    /// but for a disk that failed.
+    pub fn act_on(&mut self, input: &Input<'_>, at: Moment) -> Result<Reply, ActFault>
+        ensures reopen { self.old.broken ≡ true → (result ≡ Err ActFault.Reopen)
+            × (self.new ≡ self.old) }
+        ensures breaks { self.old.broken ≡ false → Breaks result self.new.broken }
+
+        // Memory runs out before the first call of the store, and nothing has changed.
+        ensures memory { result ≡ Err ActFault.Memory → self.new ≡ self.old }
+        ensures clean { S.is_clean self.new.store → S.is_clean self.old.store }
+        ensures still { S.is_sound self.old.store → S.is_clean self.new.store
+            → S.is_sound self.new.store }
+        ensures sound { S.is_sound self.new.store → S.is_sound self.old.store }
+        ensures acts { (s : State) → ⟦<StoredStation<S> as Keeper>⟧.keeps self.old s
+            → self.old.broken ≡ false
+            → S.is_sound self.new.store
+            → Acts s input.now at result (⟦<StoredStation<S> as Keeper>⟧.keeps self.new) }
+        ensures leaves { (s : State) → ⟦<StoredStation<S> as Keeper>⟧.keeps self.old s
+            → self.old.broken ≡ false
+            → S.is_sound self.new.store → (found : Option State)
+            → ⟦<StoredStation<S> as Keeper>⟧.may_find self.new found
+            → Leaves s input.now at result found }
+    {
+        if self.broken {
+            return Err(ActFault::Reopen);
+        }
+        let Ok(request) = request_of(self.alloc, input) else {
+            return Err(ActFault::Memory);
+        };
+        // Until the store has answered for the whole input.
+        self.broken = true;
+        match serve(self.alloc, &mut self.store, input, &request, at) {
+            Err(_) => Err(ActFault::Store),
+            Ok(answer) => {
+                self.broken = false;
+                match answer {
+                    Answer::Done(reply) => Ok(reply),
+                    Answer::Refused(refusal) => Err(ActFault::Refused(refusal)),
+                }
+            }
+        }
+    }
+
+    /// The store comes back, whatever state it is in.
+    pub fn into_store(self) -> S
+        ensures same { result ≡ self.store }
+        ensures shows { (s : State) → ⟦<StoredStation<S> as Keeper>⟧.keeps self s
+            → S.shows result (at_rest s) }
+        ensures sound { S.is_sound result → ⟦<StoredStation<S> as Keeper>⟧.is_sound self }
+        ensures leaves { (found : Option State) → Finds (S.may_find result) found
+            → ⟦<StoredStation<S> as Keeper>⟧.may_find self found }
+    {
+        let StoredStation {
+            alloc: _,
+            store,
+            broken: _,
+        } = self;
+        store
+    }
+}
+
+// What the readers of rows share.
+impl<S: StateStore> StoredStation<S> {
+    /// The maximal runs of the stock, ascending.
+    #[tactic(auto, using(crate::proofs::Reading::reads_only))]
+    fn runs(&mut self) -> Result<Vec<StockRun>, ActFault>
+        ensures reopen { self.old.broken ≡ true → (result ≡ Err ActFault.Reopen)
+            × (self.new ≡ self.old) }
+        ensures fault { self.old.broken ≡ false → IfErr result IsReadersFault }
+        ensures reads { OnlyReads ⟦<StoredStation<S> as Keeper>⟧.keeps
+            ⟦<StoredStation<S> as Keeper>⟧.is_sound
+            ⟦<StoredStation<S> as Keeper>⟧.is_broken ⟦<StoredStation<S> as Keeper>⟧.may_find
+            self.old self.new }
+        ensures rows { (s : State) → ⟦<StoredStation<S> as Keeper>⟧.keeps self.old s
+            → ⟦<StoredStation<S> as Keeper>⟧.is_sound self.new
+            → IfOk result (λ rows. AreStockRuns s.cargo.holders rows.items) }
+    {
+        if self.broken {
+            return Err(ActFault::Reopen);
+        }
+        match self.store.runs() {
+            Err(_) => Err(ActFault::Store),
+            Ok(rows) => Ok(rows),
+        }
+    }
+
+    /// The waybills of which pieces are missing or were found, ascending.
+    #[tactic(auto, using(crate::proofs::Reading::reads_only))]
+    fn irregular_rows(&mut self) -> Result<Vec<IrregularRow>, ActFault>
+        ensures reopen { self.old.broken ≡ true → (result ≡ Err ActFault.Reopen)
+            × (self.new ≡ self.old) }
+        ensures fault { self.old.broken ≡ false → IfErr result IsReadersFault }
+        ensures reads { OnlyReads ⟦<StoredStation<S> as Keeper>⟧.keeps
+            ⟦<StoredStation<S> as Keeper>⟧.is_sound
+            ⟦<StoredStation<S> as Keeper>⟧.is_broken ⟦<StoredStation<S> as Keeper>⟧.may_find
+            self.old self.new }
+        ensures rows { (s : State) → ⟦<StoredStation<S> as Keeper>⟧.keeps self.old s
+            → ⟦<StoredStation<S> as Keeper>⟧.is_sound self.new
+            → IfOk result (λ rows. rows.items ≡ irregular_rows s.cargo) }
+    {
+        if self.broken {
+            return Err(ActFault::Reopen);
+        }
+        match irregular_rows(self.alloc, &mut self.store) {
+            Err(_) => Err(ActFault::Store),
+            Ok(rows) => Ok(rows),
+        }
+    }
+}
+
+impl<S: StateStore> Keeper for StoredStation<S> {
+    ghost use Rattle.station_engine.specs.Laws.{found_is};
+
+    ghost keeps = { λ k s. IsLawfulState s × S.shows k.store (at_rest s) };
+
+    ghost is_sound = { λ k. S.is_sound k.store };
+
+    ghost is_broken = { λ k. k.broken };
+
+    ghost may_find = { λ k found. Finds (S.may_find k.store) found };
+
+    ghost settled = { λ k s keeps sound found finds. found_is (S.may_find k.store) s keeps.0 (S.settled k.store s keeps.1 sound) found finds };
+
+    ghost lawful = { λ k s sound finds. finds.1 };
+
+    fn act(&mut self, input: &Input<'_>, at: Moment) -> Result<Reply, ActFault> {
+        self.act_on(input, at)
+    }
+
+    fn holder(&mut self, number: &Awb) -> Result<Option<Holder>, ActFault> {
+        if self.broken {
+            return Err(ActFault::Reopen);
+        }
+        match self.store.holder(number) {
+            Err(_) => Err(ActFault::Store),
+            Ok(holder) => Ok(holder),
+        }
+    }
+
+    fn waybill(&mut self, number: &Awb) -> Result<Option<Waybill>, ActFault> {
+        if self.broken {
+            return Err(ActFault::Reopen);
+        }
+        match waybill_in(&mut self.store, number) {
+            Err(_) => Err(ActFault::Store),
+            Ok(waybill) => Ok(waybill),
+        }
+    }
+
+    fn stock<K: Sink<StockRun>>(&mut self, sink: &mut K) -> Result<(), ActFault> {
+        let rows = self.runs()?;
+        hand_out(sink, rows);
+        Ok(())
+    }
+
+    fn irregular<K: Sink<IrregularRow>>(&mut self, sink: &mut K) -> Result<(), ActFault> {
+        let rows = self.irregular_rows()?;
+        hand_out(sink, rows);
+        Ok(())
+    }
+
+    #[tactic(auto, using(crate::proofs::Reading::hands_out))]
+    fn book<K: Sink<BookRow>>(&mut self, sink: &mut K) -> Result<(), ActFault> {
+        if self.broken {
+            return Err(ActFault::Reopen);
+        }
+        match self.store.book(sink) {
+            Err(_) => Err(ActFault::Store),
+            Ok(()) => Ok(()),
+        }
+    }
+
+    #[tactic(auto, using(crate::proofs::Reading::hands_out))]
+    fn pending<K: Sink<Message>>(&mut self, sink: &mut K) -> Result<(), ActFault> {
+        if self.broken {
+            return Err(ActFault::Reopen);
+        }
+        match self.store.pending(sink) {
+            Err(_) => Err(ActFault::Store),
+            Ok(()) => Ok(()),
+        }
+    }
+
+    #[tactic(auto, using(crate::proofs::Reading::hands_out))]
+    fn trail<K: Sink<TrailRow>>(&mut self, sink: &mut K) -> Result<(), ActFault> {
+        if self.broken {
+            return Err(ActFault::Reopen);
+        }
+        match self.store.trail(sink) {
+            Err(_) => Err(ActFault::Store),
+            Ok(()) => Ok(()),
+        }
+    }
+}

@@ -1,0 +1,48 @@
+-- SQL orders the rows of each table by its key columns as the keys are ordered.
+use Rattle.std.specs.Prelude.{ℕ, ℤ, List}
+use Rattle.sqlite_value.proofs.OrderLemmas.{value_cmp-Int, value_cmp-Text}
+use Rattle.sqlite_typed.proofs.TestLemmas.{then_key, last_key}
+use Rattle.raw_rows.specs.Whole.{Agrees}
+use Rattle.table_load.specs.Held.{by_key, by_number, old_waybill_shown}
+use Rattle.row_schema.specs.Tables.{OldWaybill, old_waybill_id, Waybill, waybill_id, Stock, StockKey, stock_cmp, stock_row, Flight, FlightKey, flight_cmp, flight_row, Move, move_id, Expected, ExpectedKey, expected_cmp, expected_row, PartKey, part_cmp, part_row, TrailLine, trail_id, Message, message_id, Kept, kept_cmp, kept_row, kept_text_cmp, kept_text_row, Count, CountKey, count_cmp, count_row, Build, BuildKey, build_cmp, build_row}
+use Rattle.cargo_rows.specs.Shown.{waybill_shown, move_shown}
+use Rattle.text_rows.specs.Shown.{trail_shown, message_shown}
+
+pub old_waybill_agrees : Agrees {E = OldWaybill} 1 old_waybill_shown (by_number old_waybill_id)
+old_waybill_agrees a b = last_key (value_cmp-Int (old_waybill_id a) (old_waybill_id b))
+
+pub waybill_agrees : Agrees {E = Waybill} 1 waybill_shown (by_number waybill_id)
+waybill_agrees a b = last_key (value_cmp-Int (waybill_id a) (waybill_id b))
+
+pub stock_agrees : Agrees {E = StockKey × Stock} 2 stock_row (by_key stock_cmp)
+stock_agrees a b = then_key (value_cmp-Int a.0.0 b.0.0) (last_key (value_cmp-Int a.0.1 b.0.1))
+
+pub flight_agrees : Agrees {E = FlightKey × Flight} 2 flight_row (by_key flight_cmp)
+flight_agrees a b = then_key (value_cmp-Text a.0.0 b.0.0) (last_key (value_cmp-Int a.0.1 b.0.1))
+
+pub moves_agrees : Agrees {E = Move} 1 move_shown (by_number move_id)
+moves_agrees a b = last_key (value_cmp-Int (move_id a) (move_id b))
+
+pub expected_agrees : Agrees {E = ExpectedKey × Expected} 3 expected_row (by_key expected_cmp)
+expected_agrees a b = then_key (value_cmp-Text a.0.0 b.0.0) (then_key (value_cmp-Int a.0.1.0 b.0.1.0) (last_key (value_cmp-Int a.0.1.1 b.0.1.1)))
+
+pub part_agrees : Agrees {E = PartKey × List ℕ} 4 part_row (by_key part_cmp)
+part_agrees a b = then_key (value_cmp-Text a.0.0 b.0.0) (then_key (value_cmp-Int a.0.1.0 b.0.1.0) (then_key (value_cmp-Text a.0.1.1.0 b.0.1.1.0) (last_key (value_cmp-Int a.0.1.1.1 b.0.1.1.1))))
+
+pub trail_agrees : Agrees {E = TrailLine} 1 trail_shown (by_number trail_id)
+trail_agrees a b = last_key (value_cmp-Int (trail_id a) (trail_id b))
+
+pub outbox_agrees : Agrees {E = Message} 1 message_shown (by_number message_id)
+outbox_agrees a b = last_key (value_cmp-Int (message_id a) (message_id b))
+
+pub kept_key_agrees : Agrees {E = List ℕ × Kept} 1 kept_row (by_key kept_cmp)
+kept_key_agrees a b = last_key (value_cmp-Text a.0 b.0)
+
+pub kept_text_agrees : Agrees {E = List ℕ × ℤ} 1 kept_text_row (by_key kept_text_cmp)
+kept_text_agrees a b = last_key (value_cmp-Text a.0 b.0)
+
+pub counts_agrees : Agrees {E = CountKey × Count} 2 count_row (by_key count_cmp)
+counts_agrees a b = then_key (value_cmp-Int a.0.0 b.0.0) (last_key (value_cmp-Int a.0.1 b.0.1))
+
+pub build_agrees : Agrees {E = BuildKey × Build} 3 build_row (by_key build_cmp)
+build_agrees a b = then_key (value_cmp-Text a.0.0 b.0.0) (then_key (value_cmp-Int a.0.1.0 b.0.1.0) (last_key (value_cmp-Int a.0.1.1 b.0.1.1)))

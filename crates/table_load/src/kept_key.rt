@@ -1,0 +1,86 @@
+ghost use Rattle.sqlite.specs.State.{Survives};
+ghost use Rattle.sqlite.specs.Held.{state};
+ghost use Rattle.raw_rows.specs.Whole.{FindsTable};
+ghost use Rattle.table_load.specs.Held.{HoldsKeptKey, kept_key_entry};
+
+use raw_rows::{KeyedTable, found_rows, number, words};
+use sqlite::{Alter, Connection, Error, Row};
+use std::alloc::Global;
+
+/// A row of `kept_key`. Its key is `id`.
+#[derive(Debug, Drop)]
+pub struct KeptKeyEntry {
+    /// The key of the request.
+    pub id: String,
+    /// The text of the request.
+    pub command: String,
+    /// The count that was answered.
+    pub count: i64,
+}
+
+/// The table `kept_key`. Its key is `id`.
+struct KeptKeyTable;
+
+impl KeyedTable for KeptKeyTable {
+    ghost use Rattle.std.specs.Prelude.{ℕ, ℤ, List, refl};
+    ghost use Rattle.row_schema.specs.Tables.{Kept, kept_cmp, kept_row};
+    ghost use Rattle.table_load.specs.Held.{by_key, HasKeptKeyTexts, kept_key_back};
+
+    type Row = KeptKeyEntry;
+
+    ghost Entry = { List ℕ × Kept };
+
+    ghost meant = { kept_key_entry };
+
+    ghost to_row = { kept_row };
+
+    ghost from_row = { kept_key_back };
+
+    ghost cmp = { by_key kept_cmp };
+
+    ghost IsLawful = { HasKeptKeyTexts };
+
+    ghost back = { λ _. refl };
+
+    fn typed(alloc: Global, row: &Row) -> Result<Option<KeptKeyEntry>, Error> {
+        if row.column_count() != 3 {
+            return Ok(None);
+        }
+        let Some(id) = words(alloc, row, 0)? else {
+            return Ok(None);
+        };
+        let Some(command) = words(alloc, row, 1)? else {
+            return Ok(None);
+        };
+        let Some(count) = number(row, 2) else {
+            return Ok(None);
+        };
+        Ok(Some(KeptKeyEntry { id, command, count }))
+    }
+
+    fn is_below(row: &KeptKeyEntry, next: &KeptKeyEntry) -> bool {
+        row.id.as_str() < next.id.as_str()
+    }
+}
+
+/// All rows of `kept_key` in any database, by `id`. Nothing where the table or a column is missing,
+/// a value is of another type or a text that is no UTF-8, or a key stands twice. The connection is
+/// open. On error memory is out or the database could not be read: nothing was done, or the
+/// transaction that was open is undone.
+#[tactic(auto, using(crate::proofs::Texts::kept_key_is, crate::proofs::Orders::kept_key_agrees))]
+pub fn found_kept_keys<S: Alter>(
+    alloc: Global,
+    conn: &mut Connection<S>,
+) -> Result<Option<Vec<KeptKeyEntry>>, Error>
+    ensures read { FindsTable S.Store conn.old conn.new result kept_key_entry HoldsKeptKey }
+    ensures survives { Survives (state S.Store conn.old) (state S.Store conn.new) (λ _. ⊥) }
+{
+    found_rows::<S, KeptKeyTable>(
+        alloc,
+        conn,
+        "SELECT id, command, count FROM kept_key ORDER BY id",
+        "kept_key",
+        &["id", "command", "count"],
+        1,
+    )
+}

@@ -1,0 +1,102 @@
+ghost use Rattle.sqlite.specs.State.{Survives};
+ghost use Rattle.sqlite.specs.Held.{state};
+ghost use Rattle.raw_rows.specs.Whole.{FindsTable};
+ghost use Rattle.cargo_rows.specs.Meant.{move_meant};
+ghost use Rattle.table_load.specs.Held.{HoldsMoves};
+ghost use Rattle.std.specs.Prelude.{◌≡◌, ◌≢◌, length, IfSome, None, string_bytes};
+ghost use Rattle.sqlite.specs.declared.types.Value.TheVariants.{Text};
+ghost use Rattle.sqlite.specs.Order.{column};
+ghost use Rattle.row_schema.specs.Tables.{Move};
+ghost use Rattle.cargo_rows.specs.Shown.{move_shown};
+
+use cargo_rows::MoveRow;
+use raw_rows::{KeyedTable, found_rows, number, words};
+use sqlite::{Alter, Connection, Error, Row};
+use std::alloc::Global;
+
+/// The table `moves`. Its key is `number`.
+struct MovesTable;
+
+impl KeyedTable for MovesTable {
+    ghost use Rattle.std.specs.Prelude.{ℕ, ℤ, List, refl};
+    ghost use Rattle.row_schema.specs.Tables.{Move, move_id};
+    ghost use Rattle.cargo_rows.specs.Shown.{move_shown};
+    ghost use Rattle.cargo_rows.specs.Shown.{move_read};
+    ghost use Rattle.table_load.specs.Held.{by_number, HasMovesTexts};
+
+    type Row = MoveRow;
+
+    ghost Entry = { Move };
+
+    ghost meant = { move_meant };
+
+    ghost to_row = { move_shown };
+
+    ghost from_row = { move_read };
+
+    ghost cmp = { by_number move_id };
+
+    ghost IsLawful = { HasMovesTexts };
+
+    ghost back = { λ _. refl };
+
+    fn typed(alloc: Global, row: &Row) -> Result<Option<MoveRow>, Error> {
+        if row.column_count() != 10 {
+            return Ok(None);
+        }
+        let Some(flight) = words(alloc, row, 6)? else {
+            return Ok(None);
+        };
+        Ok(move_on(row, flight))
+    }
+
+    fn is_below(row: &MoveRow, next: &MoveRow) -> bool {
+        row.number < next.number
+    }
+}
+
+/// The row of ten values whose flight is this one, if the others are whole numbers.
+fn move_on(row: &Row, flight: String) -> Option<MoveRow>
+    requires wide { length row.now ≡ 10 }
+    requires flies { column row.now 6 ≡ Text (string_bytes flight) }
+    ensures some { IfSome result (λ r. row.now ≡ move_shown (move_meant r)) }
+    ensures flight { IfSome result (λ r. (move_meant r).flight ≡ string_bytes flight) }
+    ensures none { result ≡ None → (e : Move) → row.now ≢ move_shown e }
+{
+    Some(MoveRow {
+        number: number(row, 0)?,
+        awb: number(row, 1)?,
+        src: number(row, 2)?,
+        dst: number(row, 3)?,
+        pieces: number(row, 4)?,
+        tenths: number(row, 5)?,
+        flight,
+        fday: number(row, 7)?,
+        day: number(row, 8)?,
+        minute: number(row, 9)?,
+    })
+}
+
+/// All rows of `moves` in any database, by `number`. Nothing where the table or a column is
+/// missing, a value is of another type or a text that is no UTF-8, or a key stands twice. The
+/// connection is open. On error memory is out or the database could not be read: nothing was done,
+/// or the transaction that was open is undone.
+#[tactic(auto, using(crate::proofs::Texts::moves_is, crate::proofs::Orders::moves_agrees))]
+pub fn found_moves<S: Alter>(
+    alloc: Global,
+    conn: &mut Connection<S>,
+) -> Result<Option<Vec<MoveRow>>, Error>
+    ensures read { FindsTable S.Store conn.old conn.new result move_meant HoldsMoves }
+    ensures survives { Survives (state S.Store conn.old) (state S.Store conn.new) (λ _. ⊥) }
+{
+    found_rows::<S, MovesTable>(
+        alloc,
+        conn,
+        "SELECT number, awb, src, dst, pieces, tenths, flight, fday, day, minute FROM moves ORDER BY number",
+        "moves",
+        &[
+            "number", "awb", "src", "dst", "pieces", "tenths", "flight", "fday", "day", "minute",
+        ],
+        1,
+    )
+}

@@ -1,0 +1,118 @@
+ghost use Rattle.sqlite.specs.State.{Survives};
+ghost use Rattle.sqlite.specs.Held.{state};
+ghost use Rattle.raw_rows.specs.Whole.{FindsTable};
+ghost use Rattle.table_load.specs.Held.{HoldsOldWaybill, old_waybill_entry};
+
+use raw_rows::{KeyedTable, found_rows, number, words};
+use sqlite::{Alter, Connection, Error, Row};
+use std::alloc::Global;
+
+/// A row of `waybill`, in a file of version 1. Its key is `awb`.
+#[derive(Debug, Drop)]
+pub struct OldWaybillEntry {
+    /// The waybill's number without its check digit.
+    pub awb: i64,
+    pub origin: String,
+    pub destination: String,
+    pub pieces: i64,
+    /// Tenths of a kilogram.
+    pub tenths: i64,
+    pub goods: String,
+    /// 1 where the consignee was notified, else 0.
+    pub notified: i64,
+}
+
+/// The table `waybill`. Its key is `awb`.
+struct OldWaybillTable;
+
+impl KeyedTable for OldWaybillTable {
+    ghost use Rattle.std.specs.Prelude.{ℕ, ℤ, List, refl};
+    ghost use Rattle.row_schema.specs.Tables.{OldWaybill, old_waybill_id};
+    ghost use Rattle.table_load.specs.Held.{by_number, HasOldWaybillTexts, old_waybill_shown, old_waybill_back};
+
+    type Row = OldWaybillEntry;
+
+    ghost Entry = { OldWaybill };
+
+    ghost meant = { old_waybill_entry };
+
+    ghost to_row = { old_waybill_shown };
+
+    ghost from_row = { old_waybill_back };
+
+    ghost cmp = { by_number old_waybill_id };
+
+    ghost IsLawful = { HasOldWaybillTexts };
+
+    ghost back = { λ _. refl };
+
+    fn typed(alloc: Global, row: &Row) -> Result<Option<OldWaybillEntry>, Error> {
+        if row.column_count() != 7 {
+            return Ok(None);
+        }
+        let Some(awb) = number(row, 0) else {
+            return Ok(None);
+        };
+        let Some(origin) = words(alloc, row, 1)? else {
+            return Ok(None);
+        };
+        let Some(destination) = words(alloc, row, 2)? else {
+            return Ok(None);
+        };
+        let Some(pieces) = number(row, 3) else {
+            return Ok(None);
+        };
+        let Some(tenths) = number(row, 4) else {
+            return Ok(None);
+        };
+        let Some(goods) = words(alloc, row, 5)? else {
+            return Ok(None);
+        };
+        let Some(notified) = number(row, 6) else {
+            return Ok(None);
+        };
+        Ok(Some(OldWaybillEntry {
+            awb,
+            origin,
+            destination,
+            pieces,
+            tenths,
+            goods,
+            notified,
+        }))
+    }
+
+    fn is_below(row: &OldWaybillEntry, next: &OldWaybillEntry) -> bool {
+        row.awb < next.awb
+    }
+}
+
+/// All rows of `waybill` in any database, by `awb`. Nothing where the table or a column is missing,
+/// a value is of another type or a text that is no UTF-8, or a key stands twice. The connection is
+/// open. On error memory is out or the database could not be read: nothing was done, or the
+/// transaction that was open is undone.
+#[tactic(auto, using(crate::proofs::Texts::old_waybill_is, crate::proofs::Orders::old_waybill_agrees))]
+pub fn found_old_waybills<S: Alter>(
+    alloc: Global,
+    conn: &mut Connection<S>,
+) -> Result<Option<Vec<OldWaybillEntry>>, Error>
+    ensures read { FindsTable S.Store conn.old conn.new result old_waybill_entry HoldsOldWaybill }
+    ensures survives { Survives (state S.Store conn.old) (state S.Store conn.new) (λ _. ⊥) }
+{
+    found_rows::<S, OldWaybillTable>(
+        alloc,
+        conn,
+        "SELECT awb, origin, destination, pieces, tenths, goods, notified FROM waybill ORDER BY awb",
+        "waybill",
+        &[
+            "awb",
+            "origin",
+            "destination",
+            "pieces",
+            "tenths",
+            "goods",
+            "notified",
+        ],
+        1,
+    )
+}

@@ -1,0 +1,79 @@
+ghost use Rattle.sqlite.specs.State.{Survives};
+ghost use Rattle.sqlite.specs.Held.{state};
+ghost use Rattle.raw_rows.specs.Whole.{FindsTable};
+ghost use Rattle.text_rows.specs.Meant.{message_meant};
+ghost use Rattle.table_load.specs.Held.{HoldsOutbox};
+
+use raw_rows::{KeyedTable, found_rows, number, words};
+use sqlite::{Alter, Connection, Error, Row};
+use std::alloc::Global;
+use text_rows::MessageRow;
+
+/// The table `outbox`. Its key is `number`.
+struct OutboxTable;
+
+impl KeyedTable for OutboxTable {
+    ghost use Rattle.std.specs.Prelude.{ℕ, ℤ, List, refl};
+    ghost use Rattle.row_schema.specs.Tables.{Message, message_id};
+    ghost use Rattle.text_rows.specs.Shown.{message_shown};
+    ghost use Rattle.text_rows.specs.Shown.{message_read};
+    ghost use Rattle.table_load.specs.Held.{by_number, HasOutboxTexts};
+
+    type Row = MessageRow;
+
+    ghost Entry = { Message };
+
+    ghost meant = { message_meant };
+
+    ghost to_row = { message_shown };
+
+    ghost from_row = { message_read };
+
+    ghost cmp = { by_number message_id };
+
+    ghost IsLawful = { HasOutboxTexts };
+
+    ghost back = { λ _. refl };
+
+    fn typed(alloc: Global, row: &Row) -> Result<Option<MessageRow>, Error> {
+        if row.column_count() != 2 {
+            return Ok(None);
+        }
+        let Some(place) = number(row, 0) else {
+            return Ok(None);
+        };
+        let Some(body) = words(alloc, row, 1)? else {
+            return Ok(None);
+        };
+        Ok(Some(MessageRow {
+            number: place,
+            body,
+        }))
+    }
+
+    fn is_below(row: &MessageRow, next: &MessageRow) -> bool {
+        row.number < next.number
+    }
+}
+
+/// All rows of `outbox` in any database, by `number`. Nothing where the table or a column is
+/// missing, a value is of another type or a text that is no UTF-8, or a key stands twice. The
+/// connection is open. On error memory is out or the database could not be read: nothing was done,
+/// or the transaction that was open is undone.
+#[tactic(auto, using(crate::proofs::Texts::outbox_is, crate::proofs::Orders::outbox_agrees))]
+pub fn found_outbox<S: Alter>(
+    alloc: Global,
+    conn: &mut Connection<S>,
+) -> Result<Option<Vec<MessageRow>>, Error>
+    ensures read { FindsTable S.Store conn.old conn.new result message_meant HoldsOutbox }
+    ensures survives { Survives (state S.Store conn.old) (state S.Store conn.new) (λ _. ⊥) }
+{
+    found_rows::<S, OutboxTable>(
+        alloc,
+        conn,
+        "SELECT number, body FROM outbox ORDER BY number",
+        "outbox",
+        &["number", "body"],
+        1,
+    )
+}

@@ -1,0 +1,127 @@
+ghost use Rattle.std.specs.Prelude.{◌≡◌, IfOk, IsTrue};
+ghost use Rattle.std.specs.Ordering.{int_eq};
+ghost use Rattle.sqlite.specs.State.{HasCleanDisk, Survives};
+ghost use Rattle.sqlite.specs.Held.{state};
+ghost use Rattle.row_laws.specs.Calls.{Reads};
+ghost use Rattle.table_load.specs.Verdict.{station_name, has_table, version_number, found_in_row, found_in_rows, station_of, found_meant};
+
+use raw_rows::{number, table_rows, words};
+use sqlite::{Alter, Connection, Error, Row};
+use sqlite_schema::schema::Schema;
+use std::alloc::Global;
+
+/// How the tables of a file are laid out.
+#[derive(Clone, Copy, Debug)]
+pub enum FileVersion {
+    /// The waybills are in `waybill`, without a day.
+    First,
+    /// They are in `waybill2`, with the day on which each was last declared, and `waybill` is
+    /// empty.
+    Second,
+}
+
+/// Whether the version is the one that is asked for.
+fn is_wanted(version: i64, wanted: FileVersion) -> bool
+    ensures { result ≡ int_eq version (version_number wanted) }
+{
+    match wanted {
+        FileVersion::First => version == 1,
+        FileVersion::Second => version == 2,
+    }
+}
+
+/// What the table `station` says of a database.
+#[derive(Debug, Drop)]
+pub enum StationFound {
+    /// There is no such table, or it has no row.
+    NoStation,
+    /// A column is missing, there are several rows, or the values are no station's.
+    Damaged,
+    /// The version is this whole number, which is not the one that is asked for.
+    OtherVersion(i64),
+    /// The airport, and the number of the last message that was confirmed.
+    OneRow(String, i64),
+}
+
+/// Whether there is a table of this name.
+fn has_station(schema: &Schema) -> bool
+    ensures { result ≡ has_table schema.now station_name }
+{
+    match schema.table_named("station".as_bytes()) {
+        None => false,
+        Some(at) => schema.tables.as_slice().get(at).is_some(),
+    }
+}
+
+/// What a row says. It fails only where memory runs out.
+fn judged_row(alloc: Global, row: &Row, wanted: FileVersion) -> Result<StationFound, Error>
+    ensures { IfOk result (λ s. found_meant s ≡ found_in_row wanted row.now) }
+{
+    if row.column_count() != 4 {
+        return Ok(StationFound::Damaged);
+    }
+    let Some(version) = number(row, 2) else {
+        return Ok(StationFound::Damaged);
+    };
+    if !is_wanted(version, wanted) {
+        return Ok(StationFound::OtherVersion(version));
+    }
+    let Some(id) = number(row, 0) else {
+        return Ok(StationFound::Damaged);
+    };
+    let Some(confirmed) = number(row, 3) else {
+        return Ok(StationFound::Damaged);
+    };
+    let Some(airport) = words(alloc, row, 1)? else {
+        return Ok(StationFound::Damaged);
+    };
+    if id == 1 {
+        Ok(StationFound::OneRow(airport, confirmed))
+    } else {
+        Ok(StationFound::Damaged)
+    }
+}
+
+/// What all rows say. It fails only where memory runs out.
+fn judged_rows(alloc: Global, rows: &[Row], wanted: FileVersion) -> Result<StationFound, Error>
+    ensures { IfOk result (λ s. found_meant s ≡ found_in_rows wanted rows.now) }
+{
+    if rows.len() > 1 {
+        return Ok(StationFound::Damaged);
+    }
+    match rows.first() {
+        None => Ok(StationFound::NoStation),
+        Some(row) => judged_row(alloc, row, wanted),
+    }
+}
+
+/// What the table `station` says of any database: whether there is a row, then whether it is the
+/// only one and has the columns, then whether it is of this version, and then its values. The
+/// connection is open. On error memory is out or the database could not be read: nothing was done,
+/// or the transaction that was open is undone.
+#[tactic(auto, using(crate::proofs::Texts::station_is))]
+pub fn found_station<S: Alter>(
+    alloc: Global,
+    conn: &mut Connection<S>,
+    wanted: FileVersion,
+) -> Result<StationFound, Error>
+    ensures read { HasCleanDisk (state S.Store conn.new) → IsTrue (state S.Store conn.old).is_open
+        → Reads (state S.Store conn.old) (state S.Store conn.new) result
+        (λ s. found_meant s ≡ station_of wanted (state S.Store conn.old).now) }
+    ensures survives { Survives (state S.Store conn.old) (state S.Store conn.new) (λ _. ⊥) }
+{
+    if !has_station(conn.schema()) {
+        return Ok(StationFound::NoStation);
+    }
+    let Some(rows) = table_rows(
+        conn,
+        "SELECT id, airport, version, confirmed FROM station ORDER BY id",
+        "station",
+        &["id", "airport", "version", "confirmed"],
+        1,
+    )?
+    else {
+        return Ok(StationFound::Damaged);
+    };
+    judged_rows(alloc, &rows, wanted)
+}

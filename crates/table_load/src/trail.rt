@@ -1,0 +1,83 @@
+ghost use Rattle.sqlite.specs.State.{Survives};
+ghost use Rattle.sqlite.specs.Held.{state};
+ghost use Rattle.raw_rows.specs.Whole.{FindsTable};
+ghost use Rattle.text_rows.specs.Meant.{trail_meant};
+ghost use Rattle.table_load.specs.Held.{HoldsTrail};
+
+use raw_rows::{KeyedTable, found_rows, number, words};
+use sqlite::{Alter, Connection, Error, Row};
+use std::alloc::Global;
+use text_rows::TrailRow;
+
+/// The table `trail`. Its key is `number`.
+struct TrailTable;
+
+impl KeyedTable for TrailTable {
+    ghost use Rattle.std.specs.Prelude.{ℕ, ℤ, List, refl};
+    ghost use Rattle.row_schema.specs.Tables.{TrailLine, trail_id};
+    ghost use Rattle.text_rows.specs.Shown.{trail_shown};
+    ghost use Rattle.text_rows.specs.Shown.{trail_read};
+    ghost use Rattle.table_load.specs.Held.{by_number, HasTrailTexts};
+
+    type Row = TrailRow;
+
+    ghost Entry = { TrailLine };
+
+    ghost meant = { trail_meant };
+
+    ghost to_row = { trail_shown };
+
+    ghost from_row = { trail_read };
+
+    ghost cmp = { by_number trail_id };
+
+    ghost IsLawful = { HasTrailTexts };
+
+    ghost back = { λ _. refl };
+
+    fn typed(alloc: Global, row: &Row) -> Result<Option<TrailRow>, Error> {
+        if row.column_count() != 3 {
+            return Ok(None);
+        }
+        let Some(place) = number(row, 0) else {
+            return Ok(None);
+        };
+        let Some(awb) = number(row, 1) else {
+            return Ok(None);
+        };
+        let Some(line) = words(alloc, row, 2)? else {
+            return Ok(None);
+        };
+        Ok(Some(TrailRow {
+            number: place,
+            awb,
+            line,
+        }))
+    }
+
+    fn is_below(row: &TrailRow, next: &TrailRow) -> bool {
+        row.number < next.number
+    }
+}
+
+/// All rows of `trail` in any database, by `number`. Nothing where the table or a column is
+/// missing, a value is of another type or a text that is no UTF-8, or a key stands twice. The
+/// connection is open. On error memory is out or the database could not be read: nothing was done,
+/// or the transaction that was open is undone.
+#[tactic(auto, using(crate::proofs::Texts::trail_is, crate::proofs::Orders::trail_agrees))]
+pub fn found_trail<S: Alter>(
+    alloc: Global,
+    conn: &mut Connection<S>,
+) -> Result<Option<Vec<TrailRow>>, Error>
+    ensures read { FindsTable S.Store conn.old conn.new result trail_meant HoldsTrail }
+    ensures survives { Survives (state S.Store conn.old) (state S.Store conn.new) (λ _. ⊥) }
+{
+    found_rows::<S, TrailTable>(
+        alloc,
+        conn,
+        "SELECT number, awb, line FROM trail ORDER BY number",
+        "trail",
+        &["number", "awb", "line"],
+        1,
+    )
+}
