@@ -140,14 +140,14 @@ fn lines(alloc: Global, unload: Airport) -> Option<Vec<InboundLine>> {
 
 /// What a new station has of each line: nothing.
 fn rows(alloc: Global) -> Option<Vec<LineView>> {
+    let nothing = LineView {
+        declared: None,
+        holder: None,
+        expected: None,
+    };
     let mut rows = Vec::new(alloc);
     for _ in 0..WAYBILLS {
-        rows.push(LineView {
-            declared: None,
-            holder: None,
-            expected: None,
-        })
-        .ok()?;
+        rows.extend_from_slice(slice::from_ref(&nothing)).ok()?;
     }
     Some(rows)
 }

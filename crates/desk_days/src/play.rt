@@ -200,7 +200,7 @@ fn act_rows(
 }
 
 /// Who has a number.
-fn holder_text(alloc: Global, desk: &mut Desk, number: &Awb) -> Result<String, AllocError> {
+pub fn holder_text(alloc: Global, desk: &mut Desk, number: &Awb) -> Result<String, AllocError> {
     match desk.holder(number) {
         Ok(Some(holder)) => holder_object(alloc, number, &holder),
         Ok(None) => String::from_str(alloc, "none"),
@@ -209,7 +209,7 @@ fn holder_text(alloc: Global, desk: &mut Desk, number: &Awb) -> Result<String, A
 }
 
 /// What is known of a waybill.
-fn waybill_text(alloc: Global, desk: &mut Desk, number: &Awb) -> Result<String, AllocError> {
+pub fn waybill_text(alloc: Global, desk: &mut Desk, number: &Awb) -> Result<String, AllocError> {
     match desk.waybill(number) {
         Ok(Some(waybill)) => waybill_object(alloc, number, &waybill),
         Ok(None) => String::from_str(alloc, "none"),

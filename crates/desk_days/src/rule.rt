@@ -2,12 +2,12 @@
 //! all, and to hand out the same rows.
 use crate::day::Report;
 use crate::desk::{Desk, Kind};
-use crate::objects::{holder_object, waybill_object};
+use crate::play::{holder_text, waybill_text};
 use awb_number::Awb;
 use desk_commands::read_command_text;
 use imp_fields::{Airport, Moment};
 use station_core::{ActFault, Answer, Input, Key, refusal_text, reply_text};
-use std::alloc::Global;
+use std::alloc::{AllocError, Global};
 use telegrams::read_telegram;
 
 /// Which inputs are given.
@@ -300,6 +300,17 @@ fn rows_told(alloc: Global, desk: &mut Desk, out: &mut Vec<u8>) -> Result<(), Ac
     Ok(())
 }
 
+/// Puts a text behind the others.
+fn put(out: &mut Vec<u8>, text: Result<String, AllocError>) -> Result<(), ActFault> {
+    match text {
+        Ok(text) => match out.extend_from_slice(text.as_bytes()) {
+            Ok(()) => Ok(()),
+            Err(_) => Err(ActFault::Memory),
+        },
+        Err(_) => Err(ActFault::Memory),
+    }
+}
+
 /// What is known of a number.
 fn number_told(
     alloc: Global,
@@ -310,19 +321,8 @@ fn number_told(
     let Some(number) = Awb::new(20, serial) else {
         return Ok(());
     };
-    if let Some(waybill) = desk.waybill(&number)?
-        && let Ok(text) = waybill_object(alloc, &number, &waybill)
-        && out.extend_from_slice(text.as_bytes()).is_err()
-    {
-        return Err(ActFault::Memory);
-    }
-    if let Some(holder) = desk.holder(&number)?
-        && let Ok(text) = holder_object(alloc, &number, &holder)
-        && out.extend_from_slice(text.as_bytes()).is_err()
-    {
-        return Err(ActFault::Memory);
-    }
-    Ok(())
+    put(out, waybill_text(alloc, desk, &number))?;
+    put(out, holder_text(alloc, desk, &number))
 }
 
 /// All that a keeper of a kind answers and hands out, where the inputs come one by one or as a

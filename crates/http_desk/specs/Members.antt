@@ -1,4 +1,4 @@
--- A waybill's members as text, in four parts.
+-- A waybill's members as text, in four parts, the last of them with what is stored behind it.
 use Rattle.std.specs.Prelude.{ℕ, List, ◌++◌, codes, decimal}
 use Rattle.serde_json.specs.Data.{boolean, string}
 use Rattle.serde_json.specs.Written.{compact_text}
@@ -15,5 +15,8 @@ second_members known = codes "\"destination\":" ++ (compact_text (string known.d
 abbrev pub third_members : Waybill → List ℕ
 third_members known = codes "\"missing\":" ++ (compact_text (pair_data known.missing) ++ (codes ",\"notified\":" ++ (compact_text (boolean known.declared.notified) ++ (codes ",\"origin\":" ++ (compact_text (string known.declared.origin) ++ codes ",")))))
 
+abbrev pub stored_members : Waybill → List ℕ
+stored_members known = codes "\"store\":" ++ (compact_text (pair_data known.store) ++ (codes ",\"taken\":" ++ (compact_text (pair_data known.taken) ++ (codes ",\"tenths\":" ++ (decimal known.declared.tenths ++ (codes ",\"transferred\":" ++ (compact_text (pair_data known.transferred) ++ codes "}")))))))
+
 abbrev pub last_members : Waybill → List ℕ
-last_members known = codes "\"pieces\":" ++ (decimal known.declared.pieces ++ (codes ",\"since\":" ++ (compact_text (string (since_text known.declared.since)) ++ (codes ",\"store\":" ++ (compact_text (pair_data known.store) ++ (codes ",\"taken\":" ++ (compact_text (pair_data known.taken) ++ (codes ",\"tenths\":" ++ (decimal known.declared.tenths ++ (codes ",\"transferred\":" ++ (compact_text (pair_data known.transferred) ++ codes "}")))))))))))
+last_members known = codes "\"pieces\":" ++ (decimal known.declared.pieces ++ (codes ",\"since\":" ++ (compact_text (string (since_text known.declared.since)) ++ (codes "," ++ stored_members known))))

@@ -5,7 +5,7 @@ ghost use Rattle.serde_json.specs.View.{view};
 ghost use Rattle.serde_json.specs.Written.{compact_text};
 ghost use Rattle.http_desk.specs.Reply.{status_line, allow_line, json_fields, json_answer, report_head, refused_data, pair_data, holding_data, holder_data, holder_word, holder_name, since_text, waybill_data};
 ghost use Rattle.serde_json.specs.Data.{boolean, string};
-ghost use Rattle.http_desk.specs.Members.{first_members, second_members, third_members, last_members};
+ghost use Rattle.http_desk.specs.Members.{first_members, second_members, third_members, stored_members, last_members};
 
 use agent_stock::Holder;
 use awb_number::{Awb, ascii_text};
@@ -203,21 +203,35 @@ fn since_text(alloc: Global, since: Option<LocalDay>) -> Result<String, AllocErr
     }
 }
 
-/// The declared pieces, the day of the declaration, what is in the store, what was taken over, the
-/// declared tenths, and what was transferred.
-fn last_members(alloc: Global, known: &Waybill) -> Result<String, AllocError>
-    ensures { IfOk result (λ text. string_bytes text ≡ last_members known.now) }
+/// The same, as JSON.
+fn quoted_day(alloc: Global, since: Option<LocalDay>) -> Result<String, AllocError>
+    ensures { IfOk result (λ text. string_bytes text ≡ compact_text (string (since_text since))) }
 {
-    let pieces = known.declared.pieces.number();
-    let since = since_text(alloc, known.declared.since)?;
-    let since = quoted(alloc, since.as_str())?;
+    let text = since_text(alloc, since)?;
+    quoted(alloc, text.as_str())
+}
+
+/// What is in the store, what was taken over, the declared tenths, and what was transferred.
+fn stored_members(alloc: Global, known: &Waybill) -> Result<String, AllocError>
+    ensures { IfOk result (λ text. string_bytes text ≡ stored_members known.now) }
+{
     let store = pair_text(alloc, &known.store)?;
     let taken = pair_text(alloc, &known.taken)?;
     let tenths = known.declared.tenths.number();
     let transferred = pair_text(alloc, &known.transferred)?;
     format!(in alloc;
-        "\"pieces\":{pieces},\"since\":{since},\"store\":{store},\"taken\":{taken},\"tenths\":{tenths},\"transferred\":{transferred}}}"
+        "\"store\":{store},\"taken\":{taken},\"tenths\":{tenths},\"transferred\":{transferred}}}"
     )
+}
+
+/// The declared pieces, the day of the declaration, and all behind them.
+fn last_members(alloc: Global, known: &Waybill) -> Result<String, AllocError>
+    ensures { IfOk result (λ text. string_bytes text ≡ last_members known.now) }
+{
+    let pieces = known.declared.pieces.number();
+    let since = quoted_day(alloc, known.declared.since)?;
+    let rest = stored_members(alloc, known)?;
+    format!(in alloc; "\"pieces\":{pieces},\"since\":{since},{rest}")
 }
 
 /// The JSON object that says what is known of a waybill: the body that GET `/v1/waybills/{awb}` is

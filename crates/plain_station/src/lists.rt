@@ -1,4 +1,4 @@
-ghost use Rattle.std.specs.Prelude.{◌≡◌};
+ghost use Rattle.std.specs.Prelude.{◌≡◌, IsSome, Some};
 ghost use Rattle.std.specs.Option.{option_copied};
 ghost use Rattle.shipment_machine.specs.Cargo.{opening_cargo};
 ghost use Rattle.plain_station.specs.Lists.{cargo_of, declared_in, flights_in, expected_in, parts_in};
@@ -54,6 +54,17 @@ impl CargoLists {
     {
         let row = self.declared.iter().find(|row| *awb == row.awb)?;
         Some(row.declared)
+    }
+
+    /// What is declared of a waybill that is declared.
+    pub(crate) fn declaration_of(&self, awb: &Awb) -> Declared
+        requires declared { IsSome (declared_in self.now.declared.items awb.now) }
+        ensures { declared_in self.now.declared.items awb.now ≡ Some result }
+    {
+        match self.declared_of(awb) {
+            Some(declared) => declared,
+            None => unreachable!(),
+        }
     }
 
     /// What is noted of an outbound flight.

@@ -74,7 +74,7 @@ impl PlainCargo {
         requires declared { IsSome ((cargo_of self.now.lists).declared number.now) }
         ensures { result ≡ irregular_row (cargo_of self.now.lists) number.now }
     {
-        let declared = self.lists.declared_of(number).unwrap();
+        let declared = self.lists.declaration_of(number);
         let Balances { missing, found, .. } = self.balances(number);
         IrregularRow {
             awb: *number,

@@ -16,9 +16,9 @@ use crate::cargo::PlainCargo;
 use awb_number::Awb;
 use imp_fields::{DayMonth, LocalDay, Moment, resolve};
 use shipment_machine::{
-    Amount, DeclarationView, FlightDate, FlightLoad, FlightView, InboundLine, InboundPart,
-    LineView, LineViews, Loads, Move, Part, Place, Rows, RowsKey, ShipmentCommand, View,
-    WaybillView, waybills_of,
+    Amount, DeclarationView, Declared, FlightDate, FlightLoad, FlightView, InboundLine,
+    InboundPart, LineView, LineViews, Loads, Move, Part, Place, Rows, RowsKey, ShipmentCommand,
+    View, WaybillView, waybills_of,
 };
 use std::alloc::AllocError;
 
@@ -100,14 +100,14 @@ impl PlainCargo {
         })
     }
 
-    /// A waybill that is built on a flight.
-    fn aboard(&self, awb: &Awb, flight: &FlightDate) -> FlightLoad
-        requires declared { IsSome ((cargo_of self.now.lists).declared awb.now) }
+    /// A waybill that is built on a flight, with what is declared of it.
+    fn aboard(&self, awb: &Awb, declared: &Declared, flight: &FlightDate) -> FlightLoad
+        requires { (cargo_of self.now.lists).declared awb.now ≡ Some declared.now }
         ensures { result ≡ aboard_of (cargo_of self.now.lists) flight.now awb.now }
     {
         FlightLoad {
             awb: *awb,
-            declared: self.lists.declared_of(awb).unwrap(),
+            declared: *declared,
             load: self.load_on(awb, flight),
         }
     }
@@ -116,10 +116,13 @@ impl PlainCargo {
     fn loads(&self, flight: &FlightDate) -> Result<Loads, AllocError>
         ensures { IfOk result (λ loads. loads ≡ loads_of (cargo_of self.now.lists) flight.now) }
     {
+        // The type of a day is named for the checker, which isn't told of it by a declaration.
+        let _day = flight.day;
         let mut loads = Vec::new(self.lists.alloc);
         let numbers = self.numbers_on(flight)?;
         for number in &numbers {
-            loads.push(self.aboard(number, flight))?;
+            let declared = self.lists.declaration_of(number);
+            loads.push(self.aboard(number, &declared, flight))?;
         }
         Ok(Loads::new(loads).unwrap())
     }
@@ -130,6 +133,8 @@ impl PlainCargo {
             (line_view_of (cargo_of self.now.lists) flight.now)
             (lines_for self.now.lists.here lines.now)) }
     {
+        // As above.
+        let _day = flight.day;
         let mut rows = Vec::new(self.lists.alloc);
         for line in lines {
             if line.unload == self.lists.here {

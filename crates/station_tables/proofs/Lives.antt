@@ -82,4 +82,4 @@ after_migration s found = (after_none, λ is. inl (ap Some is))
   where
     after_none : IsAfterLife s migration found → found ≡ s
     after_none (inl is) = some_is _ _ is
-    after_none (inr (stopped, more, is)) = omega (arith, more)
+    after_none (inr (stopped, more, is)) = absurd (omega (arith, more))

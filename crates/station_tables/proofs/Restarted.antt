@@ -18,6 +18,8 @@ use Rattle.row_codec.specs.Meaning.{meaning_of, IsReadable}
 use Rattle.row_schema.specs.Own.{IsOwn}
 use Rattle.station_rows.specs.Own.{are_declared}
 use Rattle.station_rows.specs.Shown.{rows_view}
+use Rattle.found_station.specs.Reading.{read_as}
+use Rattle.table_load.specs.declared.station.FileVersion.TheVariants.{Second}
 use Rattle.station_tables.proofs.Attached.{is_lawful}
 use Rattle.station_tables.specs.Attached.{connection_in, IsBreakdown, IsStateIn, IsTypedState}
 use Rattle.station_tables.specs.Found.{Finds}
@@ -33,7 +35,7 @@ leaves_own g station sound db left = station.stored.store.store.leaves sound.0 s
 
 -- a state that is found in what a crash may leave
 pub finds : (v : View) (found : Database) (it : State) → v.may_leave (tables_of found.trees) → IsStateIn found it → IsTypedState found it → Finds v (Some it)
-finds v found it left in_ typed = (record { tables = tables_of found.trees; left = left; means = typed.means }, is_lawful found it in_)
+finds v found it left in_ typed = (record { tables = tables_of found.trees; left = left; means = typed.means }, is_lawful (read_as Second found) it in_)
 
 restored : (s : State) (inputs : List (Input × LocalMinute)) (answered : ℕ) (ended : Option ActFault) (db : Database) (broken : Bool) (keeps : State → Type 0) (it : State)
     → IsAfterAnswered s inputs answered ended (Some it) → IsStateIn db it → IsTypedState db it → broken ≡ false → keeps it → IsRestored s inputs answered ended db broken keeps
@@ -43,9 +45,9 @@ restored s inputs answered ended db broken keeps it after in_ means works kept =
   is_after = after;
   is_meant = means;
   is_kept = kept;
-  is_lawful = is_lawful db it in_;
-  conserved = λ w. is_conserved it.cargo w (is_lawful db it in_).cargo;
-  shown = λ w. are_balances it.cargo w (is_lawful db it in_).cargo;
+  is_lawful = is_lawful (read_as Second db) it in_;
+  conserved = λ w. is_conserved it.cargo w (is_lawful (read_as Second db) it in_).cargo;
+  shown = λ w. are_balances it.cargo w (is_lawful (read_as Second db) it in_).cargo;
 }
 
 pub restored_on : {K E : Type 0} (s : State) (inputs : List (Input × LocalMinute)) (answered : ℕ) (ended : Option ActFault) (db : Database)

@@ -1,6 +1,5 @@
 pub mod Searches
 pub mod Each
-pub mod OldWaybillLaws
 pub mod WaybillLaws
 pub mod FlightRows
 pub mod FlightLaws

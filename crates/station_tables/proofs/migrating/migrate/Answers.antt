@@ -1,4 +1,5 @@
 use Rattle.std.proofs.Common.{inl}
+use Rattle.sqlite.specs.Held.{state}
 use Rattle.station_tables.proofs.Looked.{judged_there, survives_both}
 use Rattle.station_tables.proofs.Migrated.{fit_old, leaves_old, left_of, moved_on, refused_old, spares_old, was_on}
 use Rattle.station_tables.proofs.migrating.migrate.Goals as goal
@@ -10,27 +11,27 @@ pub returns-then-not-is_live-clause-leaves : goal.returns-then-not-is_live-claus
 returns-then-not-is_live-clause-leaves g c = λ clean own lies db left. inl (left_of _ _ c.is_live.ensures.survives clean db left)
 
 pub returns-in-Ok-clause-was : goal.returns-in-Ok-clause-was
-returns-in-Ok-clause-was g c = was_on _ _ _ _ _
+returns-in-Ok-clause-was g c = was_on (state g.S.Store) (state g.S.Store) _ _ _
     (judged_there _ _ _ _ c.is_autocommit.ensures.value c.is_autocommit.ensures.settled c.if-not-is_autocommit.false (c.is_live.ensures.same c.if-not-is_live.false) c.in-Ok.ensures.survives _ _ c.in-Ok.ensures.read)
     _ c.settle.ensures.clean c.settle.ensures.was
 
 pub returns-in-Ok-clause-moved : goal.returns-in-Ok-clause-moved
-returns-in-Ok-clause-moved g c = moved_on _ _ _ _ _
+returns-in-Ok-clause-moved g c = moved_on (state g.S.Store) (state g.S.Store) _ _ _
     (judged_there _ _ _ _ c.is_autocommit.ensures.value c.is_autocommit.ensures.settled c.if-not-is_autocommit.false (c.is_live.ensures.same c.if-not-is_live.false) c.in-Ok.ensures.survives _ _ c.in-Ok.ensures.read)
     _ _ c.settle.ensures.clean c.settle.ensures.moved c.shows_old_own.ensures
 
 pub returns-in-Ok-clause-refused : goal.returns-in-Ok-clause-refused
-returns-in-Ok-clause-refused g c = refused_old _ _ _ _ _
+returns-in-Ok-clause-refused g c = refused_old (state g.S.Store) (state g.S.Store) _ _ _
     (judged_there _ _ _ _ c.is_autocommit.ensures.value c.is_autocommit.ensures.settled c.if-not-is_autocommit.false (c.is_live.ensures.same c.if-not-is_live.false) c.in-Ok.ensures.survives _ _ c.in-Ok.ensures.read)
     _ _ c.settle.ensures.survives c.settle.ensures.refused
 
 pub returns-in-Ok-clause-fit : goal.returns-in-Ok-clause-fit
-returns-in-Ok-clause-fit g c = fit_old _ _ _ _ _
+returns-in-Ok-clause-fit g c = fit_old (state g.S.Store) (state g.S.Store) _ _ _
     (judged_there _ _ _ _ c.is_autocommit.ensures.value c.is_autocommit.ensures.settled c.if-not-is_autocommit.false (c.is_live.ensures.same c.if-not-is_live.false) c.in-Ok.ensures.survives _ _ c.in-Ok.ensures.read)
     _ _ c.settle.ensures.survives c.settle.ensures.refused
 
 pub returns-in-Ok-clause-leaves : goal.returns-in-Ok-clause-leaves
-returns-in-Ok-clause-leaves g c = leaves_old _ _ _ _ _
+returns-in-Ok-clause-leaves g c = leaves_old (state g.S.Store) (state g.S.Store) _ _ _
     (judged_there _ _ _ _ c.is_autocommit.ensures.value c.is_autocommit.ensures.settled c.if-not-is_autocommit.false (c.is_live.ensures.same c.if-not-is_live.false) c.in-Ok.ensures.survives _ _ c.in-Ok.ensures.read)
     _ (survives_both _ _ _ c.is_live.ensures.survives c.in-Ok.ensures.survives) c.shows_old_own.ensures _ c.settle.ensures.survives
 

@@ -1,4 +1,8 @@
+use Rattle.std.proofs.Common.{subst}
+use Rattle.found_station.specs.Reading.{read_as}
+use Rattle.table_load.specs.declared.station.FileVersion.TheVariants.{First}
+use Rattle.file_audit.specs.Verdict.{IsUnfit}
 use Rattle.station_tables.proofs.migrating.old_fault.Goals as goal
 
 pub returns-in-Unlawful-clause-refuses : goal.returns-in-Unlawful-clause-refuses
-returns-in-Unlawful-clause-refuses g c = λ db why. (c.in-Unlawful.name, c.old_name.ensures, why)
+returns-in-Unlawful-clause-refuses c = λ db why. (c.in-Unlawful.name, c.old_name.ensures, subst (IsUnfit (read_as First db)) c.in-Unlawful.is why)

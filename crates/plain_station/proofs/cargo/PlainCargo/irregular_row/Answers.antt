@@ -1,4 +1,4 @@
-use Rattle.std.proofs.Common.{◌∙◌, sym, ap}
+use Rattle.std.proofs.Common.{sym, ap}
 use Rattle.std.specs.Option.{unwrap_or}
 use Rattle.shipment_machine.specs.declared.moves.Balances.{Balances}
 use Rattle.shipment_machine.specs.declared.moves.Declared.{Declared}
@@ -8,7 +8,7 @@ use Rattle.plain_station.proofs.cargo.PlainCargo.irregular_row.Goals as goal
 pub returns : goal.returns
 returns c =
     let b = c.balances.ensures in
-    let known = ap (λ o. unwrap_or o undeclared) (sym c.unwrap-declared.ensures ∙ c.declared_of.ensures) in
+    let known = ap (λ o. unwrap_or o undeclared) (sym c.declaration_of-declared.ensures) in
     λ i. record {
       awb = c.args.number.now;
       origin = ap (λ (d : Declared). d.origin) known i;

@@ -6,8 +6,8 @@ use Rattle.plain_station.proofs.Known.{known_on}
 use Rattle.plain_station.proofs.Walks.{mapped, holds_of}
 use Rattle.plain_station.proofs.cargo.PlainCargo.loads.Goals as goal
 
-pub aboard-requires : goal.aboard-requires
-aboard-requires c = let s = cargo_of c.args.self.now.lists in
+pub declaration_of-declared-requires : goal.declaration_of-declared-requires
+declaration_of-declared-requires c = let s = cargo_of c.args.self.now.lists in
     record {
       declared = holds_of (λ w. IsSome (s.declared w)) (waybills_on s.book c.args.flight.now) c.deref-number-items.result.now c.loop-number.number-index c.number-item.result
           (c.deref-number-items.ensures.value ∙ c.in_ok-numbers.ensures) c.loop-number-test.true c.number-item.is (known_on s c.args.flight.now c.args.self.now.steady.lawful);
