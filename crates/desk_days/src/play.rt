@@ -218,7 +218,7 @@ pub fn waybill_text(alloc: Global, desk: &mut Desk, number: &Awb) -> Result<Stri
 }
 
 /// Appends a line.
-fn put_text(out: &mut Vec<u8>, text: &str) -> Result<(), AllocError> {
+pub fn put_text(out: &mut Vec<u8>, text: &str) -> Result<(), AllocError> {
     out.extend_from_slice(text.as_bytes())?;
     out.extend_from_slice(b"\n")
 }

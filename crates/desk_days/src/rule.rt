@@ -2,7 +2,7 @@
 //! all, and to hand out the same rows.
 use crate::day::Report;
 use crate::desk::{Desk, Kind};
-use crate::play::{holder_text, waybill_text};
+use crate::play::{holder_text, put_text, waybill_text};
 use awb_number::Awb;
 use desk_commands::read_command_text;
 use imp_fields::{Airport, Moment};
@@ -295,20 +295,11 @@ fn rows_told(alloc: Global, desk: &mut Desk, out: &mut Vec<u8>) -> Result<(), Ac
         }
     }
     for serial in FIRST..FIRST + 16 {
-        number_told(alloc, desk, serial, out)?;
+        if number_told(alloc, desk, serial, out).is_err() {
+            return Err(ActFault::Memory);
+        }
     }
     Ok(())
-}
-
-/// Puts a text behind the others.
-fn put(out: &mut Vec<u8>, text: Result<String, AllocError>) -> Result<(), ActFault> {
-    match text {
-        Ok(text) => match out.extend_from_slice(text.as_bytes()) {
-            Ok(()) => Ok(()),
-            Err(_) => Err(ActFault::Memory),
-        },
-        Err(_) => Err(ActFault::Memory),
-    }
 }
 
 /// What is known of a number.
@@ -317,12 +308,14 @@ fn number_told(
     desk: &mut Desk,
     serial: u32,
     out: &mut Vec<u8>,
-) -> Result<(), ActFault> {
+) -> Result<(), AllocError> {
     let Some(number) = Awb::new(20, serial) else {
         return Ok(());
     };
-    put(out, waybill_text(alloc, desk, &number))?;
-    put(out, holder_text(alloc, desk, &number))
+    let waybill = waybill_text(alloc, desk, &number)?;
+    put_text(out, waybill.as_str())?;
+    let holder = holder_text(alloc, desk, &number)?;
+    put_text(out, holder.as_str())
 }
 
 /// All that a keeper of a kind answers and hands out, where the inputs come one by one or as a
