@@ -302,7 +302,12 @@ fn rows_told(alloc: Global, desk: &mut Desk, out: &mut Vec<u8>) -> Result<(), Ac
     Ok(())
 }
 
-/// What is known of a number.
+/// Whether a text is an object, or says that there is none: any other is a fault's.
+fn is_told(text: &str) -> bool {
+    matches!(text.as_bytes(), [b'{', ..] | b"none")
+}
+
+/// What is known of a number. On error the keeper failed, or memory is out.
 fn number_told(
     alloc: Global,
     desk: &mut Desk,
@@ -313,8 +318,11 @@ fn number_told(
         return Ok(());
     };
     let waybill = waybill_text(alloc, desk, &number)?;
-    put_text(out, waybill.as_str())?;
     let holder = holder_text(alloc, desk, &number)?;
+    if !is_told(waybill.as_str()) || !is_told(holder.as_str()) {
+        return Err(AllocError);
+    }
+    put_text(out, waybill.as_str())?;
     put_text(out, holder.as_str())
 }
 
