@@ -1,9 +1,10 @@
 -- A file of version 1 that gets the tables of version 2.
-use Rattle.std.specs.Prelude.{◌≡◌, ◌≢◌, ◌⊎◌, ℕ, Bool, true, Result, Ok, Err, IfOk, IfErr, OnErr, OnOk, List, ◌++◌, codes}
+use Rattle.std.specs.Prelude.{◌≡◌, ◌≢◌, ◌⊎◌, ℕ, Bool, true, false, Result, Ok, Err, IfOk, IfErr, OnErr, OnOk, List, ◌++◌, codes}
 use Rattle.sqlite.specs.Held.{Held, state}
 use Rattle.sqlite.specs.State.{HasCleanDisk, Survives}
 use Rattle.sqlite.specs.Tree.{Trees}
 use Rattle.sqlite_trees.specs.declared.store.Store.{Ghosts}
+use Rattle.row_laws.specs.Calls.{IsUndone}
 use Rattle.row_schema.specs.Connection.{connection_view}
 use Rattle.row_schema.specs.Own.{IsOldOwn, LiesInOrder}
 use Rattle.table_load.specs.declared.station.FileVersion.TheVariants.{First}
@@ -24,6 +25,7 @@ use Rattle.cli_call.specs.Ended.{HasNoStation, HasToldEnd}
 pub record HasMoved {S : Type 0} (g : Ghosts S) (conn : Held S)
     (migrated : Result (Held S) (Held S × AttachFault)) : Type 0 where
   pub inside : (connection_view g conn).in_transaction ≡ true → migrated ≡ Err (conn, fault.Store)
+  pub clean : IfOk migrated (λ new. HasCleanDisk (state g new) → HasCleanDisk (state g conn))
   pub was : IfOk migrated (λ new. HasCleanDisk (state g new)
       → (s : State) × IsOldStateIn (state g conn).now s)
   -- the tables are those of version 2, and mean the state that those of version 1 meant
@@ -43,6 +45,14 @@ pub record HasMoved {S : Type 0} (g : Ghosts S) (conn : Held S)
       → IsOldOwn (state g conn).now.trees → LiesInOrder g → (db : Trees)
       → (state g e.0).may_leave db
       → (state g conn).may_leave db ⊎ tables.IsMigrated (state g conn).now db)
+  -- no transaction is open then, and while the connection is open it shows the last commit
+  pub undone : (connection_view g conn).in_transaction ≡ false
+      → IfErr migrated (λ e. HasCleanDisk (state g e.0)
+      → IsOldOwn (state g conn).now.trees → LiesInOrder g
+      → IsUndone (state g conn) (state g e.0))
+  pub unmoved : (connection_view g conn).in_transaction ≡ false
+      → IfErr migrated (λ e. HasCleanDisk (state g e.0) → e.1 ≢ fault.Store
+      → IsUndone (state g conn) (state g e.0))
   -- only where the store fails is anything written
   pub spares : IfErr migrated (λ e. e.1 ≢ fault.Store
       → Survives (state g conn) (state g e.0) (λ _. ⊥))

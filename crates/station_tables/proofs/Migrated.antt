@@ -1,10 +1,11 @@
 -- A file of version 1 that was looked at, and its tables of version 2.
-use Rattle.std.proofs.Common.{◌≡◌, ◌≢◌, ◌∙◌, ◌⊎◌, inl, inr, ⊎_elim, Some, Result, Ok, Err, refl, sym, ap, subst, arith}
-use Rattle.std.specs.Prelude.{IsTrue, IfOk, IfErr}
+use Rattle.std.proofs.Common.{◌≡◌, ◌≢◌, ◌∙◌, ◌⊎◌, inl, inr, ⊎_elim, Bool, true, false, Some, Result, Ok, Err, refl, sym, ap, subst, arith}
+use Rattle.std.specs.Prelude.{IsTrue, IfOk, IfErr, not}
 use Rattle.sqlite.specs.Effect.{Database}
 use Rattle.sqlite.specs.Tree.{Trees}
 use Rattle.sqlite.specs.State as sqlite
 use Rattle.sqlite.specs.State.{HasCleanDisk}
+use Rattle.row_laws.specs.Calls.{IsSettled, IsUndone, Stops}
 use Rattle.found_station.specs.Reading.{read_as}
 use Rattle.table_load.specs.declared.station.FileVersion.TheVariants.{First}
 use Rattle.row_schema.specs.Own.{IsOwn, IsOldOwn}
@@ -21,7 +22,7 @@ use Rattle.station_tables.specs.Migrated.{IsMigrated, HasMigrated}
 use Rattle.station_tables.specs.declared.fault.AttachFault.{AttachFault}
 use Rattle.station_tables.specs.declared.fault.AttachFault.TheVariants as fault
 use Rattle.station_tables.proofs.Attached.{means, is_lawful, in_state, old_breaks_down}
-use Rattle.station_tables.proofs.Looked.{IsSeen, clean_before, either, survives_both}
+use Rattle.station_tables.proofs.Looked.{IsSeen, clean_before, either, survives_both, was_clean}
 
 -- tables that are those of version 1 upgraded mean what a file of version 1 meant
 same_meaning : (old : Database) (t : Tables) → IsOldStation old → t ≡ upgraded (old_tables_of old.trees) → (s : State) → IsOldStateIn old s → Means t (Some s)
@@ -118,3 +119,85 @@ not_store P (Err e) is = λ other. absurd (other is)
 -- a connection that nothing was done to
 pub same_after : (s : sqlite.State) (Commits : Trees → Type 0) → sqlite.Survives s s Commits
 same_after s Commits = record { clean = omega arith; shield = λ h. h; counts = omega arith; limit = refl; closes = λ clean is. inl is; crash = λ clean db left. inl left }
+
+-- a connection that shows the last commit is back at it
+pub undone_same : (s : sqlite.State) → IsSettled s → IsUndone s s
+undone_same s rest = record { outside = rest.outside; was_open = λ is. is; committed = λ _. refl; now = rest.settled }
+
+-- an error by which nothing was done, or a transaction was undone
+pub undone_by : (a b : sqlite.State) → IsSettled a → Stops a b → IsUndone a b
+undone_by a b rest (inl same) =
+    let one = same.0 in
+    record { outside = one.mode ∙ rest.outside; was_open = λ _. one.was_open; committed = λ _. one.committed_is; now = λ _. one.now_is ∙ rest.settled one.was_open }
+undone_by a b rest (inr back) =
+    record { outside = back.autocommit; was_open = back.was_open; committed = λ is. (back.undone is).1; now = λ is. (back.undone is).0 }
+
+-- a connection outside a transaction shows the last commit
+settled_outside : (a : sqlite.State) → (IsTrue a.is_open → a.now ≡ a.committed) → a.in_transaction ≡ false → IsSettled a
+settled_outside a rest outside = record { outside = outside; settled = rest }
+
+-- one that was seen to
+pub settled_seen : (a d : sqlite.State) → IsSeen a d → IsSettled d
+settled_seen a d seen = record { outside = seen.outside; settled = λ _. seen.rest }
+
+-- what was undone behind a look is undone as it was before
+undone_seen : (a d e : sqlite.State) → IsSeen a d → IsUndone d e → IsUndone a e
+undone_seen a d e seen back =
+    let last = sym seen.rest ∙ seen.same ∙ seen.was_at_rest in
+    record { outside = back.outside; was_open = λ _. seen.was_open; committed = λ is. back.committed is ∙ last; now = λ is. back.now is ∙ last }
+
+-- a transaction is open, so nothing is said
+pub none_open : {P : Type 0} (in_ auto : Bool) → auto ≡ not in_ → auto ≡ false → in_ ≡ false → P
+none_open true auto says shut outside = absurd (cc)
+none_open false auto says shut outside = absurd (cc)
+
+module _ (a : sqlite.State) (rest : IsTrue a.is_open → a.now ≡ a.committed) (outside : a.in_transaction ≡ false) where
+  -- a connection that serves no more
+  pub undone_dead : (b : sqlite.State) → Stops a b → IsUndone a b
+  undone_dead b stops = undone_by a b (settled_outside a rest outside) stops
+
+  -- a read of it that failed
+  pub undone_read : (b d : sqlite.State) → sqlite.IsUnchanged a b → Stops b d → IsUndone a d
+  undone_read b d same (inl still) =
+      let one = same.0 in
+      let two = still.0 in
+      record {
+        outside = two.mode ∙ one.mode ∙ outside;
+        was_open = λ _. one.was_open;
+        committed = λ _. two.committed_is ∙ one.committed_is;
+        now = λ _. two.now_is ∙ one.now_is ∙ rest one.was_open;
+      }
+  undone_read b d same (inr back) =
+      let one = same.0 in
+      record {
+        outside = back.autocommit;
+        was_open = λ _. one.was_open;
+        committed = λ is. (back.undone is).1 ∙ one.committed_is;
+        now = λ is. (back.undone is).0 ∙ one.committed_is;
+      }
+
+-- a file that was judged, and then upgraded or refused
+module _ {K C : Type 0} (at_ok : K → sqlite.State) (at_err : C → sqlite.State) (a d : sqlite.State) (judged : Result FoundState Unfit)
+    (look : HasCleanDisk d → IsSeen a d × IsJudged (read_as First d.now) judged) where
+  pub clean_on : sqlite.Survives a d (λ _. ⊥) → (r : Result K (C × AttachFault)) → IfOk r (λ k. HasCleanDisk (at_ok k) → HasCleanDisk d)
+      → IfOk r (λ k. HasCleanDisk (at_ok k) → HasCleanDisk a)
+  clean_on first (Ok k) clean = λ on. was_clean a d first (clean on)
+  clean_on first (Err e) clean = tt
+
+  pub undone_on : (L : Type 0) → (IsOldOwn a.now.trees → IsTrue a.is_open → a.now ≡ a.committed → L → IsOldStation a.now)
+      → (r : Result K (C × AttachFault)) → (Commits : Trees → Type 0) → IfErr r (λ e. sqlite.Survives d (at_err e.0) Commits)
+      → IfErr r (λ e. HasCleanDisk (at_err e.0) → IsOldStation d.now → IsSettled d → IsUndone d (at_err e.0))
+      → IfErr r (λ e. HasCleanDisk (at_err e.0) → IsOldOwn a.now.trees → L → IsUndone a (at_err e.0))
+  undone_on L own (Ok k) Commits survives undone = tt
+  undone_on L own (Err e) Commits survives undone = λ clean is lies.
+      let l = look (clean_before d (at_err e.0) Commits survives clean) in
+      let was = own is l.0.was_open l.0.was_at_rest lies in
+      undone_seen a d (at_err e.0) l.0 (undone clean (subst IsOldStation (sym l.0.same) was) (settled_seen a d l.0))
+
+  pub unmoved_on : (r : Result K (C × AttachFault)) → (Commits : Trees → Type 0) → IfErr r (λ e. sqlite.Survives d (at_err e.0) Commits)
+      → IfErr r (λ e. (e.1 ≢ fault.Store) → IsSettled d → IsUndone d (at_err e.0))
+      → IfErr r (λ e. HasCleanDisk (at_err e.0) → (e.1 ≢ fault.Store) → IsUndone a (at_err e.0))
+  unmoved_on (Ok k) Commits survives unmoved = tt
+  unmoved_on (Err e) Commits survives unmoved = λ clean other.
+      let l = look (clean_before d (at_err e.0) Commits survives clean) in
+      undone_seen a d (at_err e.0) l.0 (unmoved other (settled_seen a d l.0))

@@ -1,7 +1,8 @@
 //! A file of version 1 becomes one of version 2.
-ghost use Rattle.std.specs.Prelude.{◌≡◌, ◌≢◌, ◌⊎◌, true, Err, IsTrue, IfOk, IfErr};
+ghost use Rattle.std.specs.Prelude.{◌≡◌, ◌≢◌, ◌⊎◌, true, false, Err, IsTrue, IfOk, IfErr};
 ghost use Rattle.found_station.specs.Reading.{read_as};
 ghost use Rattle.table_load.specs.declared.station.FileVersion.TheVariants.{First};
+ghost use Rattle.row_laws.specs.Calls.{IsSettled, IsUndone};
 ghost use Rattle.row_schema.specs.Connection.{connection_view};
 ghost use Rattle.row_schema.specs.Own.{IsOldOwn, LiesInOrder};
 ghost use Rattle.row_schema.specs.Tables.{IsOldStation};
@@ -67,6 +68,9 @@ fn upgrade<S: Alter>(mut conn: Connection<S>) -> Result<Connection<S>, (Connecti
         → IsOldStation (state S.Store conn).now
         → HasMigrated (state S.Store conn).now (state S.Store new)) }
     ensures fault { IfErr result (λ e. e.1 ≡ AttachFault.Store) }
+    ensures undone { IfErr result (λ e. HasCleanDisk (state S.Store e.0)
+        → IsOldStation (state S.Store conn).now → IsSettled (state S.Store conn)
+        → IsUndone (state S.Store conn) (state S.Store e.0)) }
     ensures survives { IfErr result (λ e. Survives (state S.Store conn) (state S.Store e.0)
         (λ db. IsOldStation (state S.Store conn).now
         → MeansUpgraded (state S.Store conn).now.trees db)) }
@@ -95,6 +99,11 @@ fn settle<S: Alter>(
     ensures refused { IsJudged (read_as First (state S.Store conn).now) judged
         → IfErr result (λ e. RefusesAs First (state S.Store conn).now e.1) }
     ensures never { IfErr result (λ e. e.1 ≢ AttachFault.Occupied) }
+    ensures undone { IfErr result (λ e. HasCleanDisk (state S.Store e.0)
+        → IsOldStation (state S.Store conn).now → IsSettled (state S.Store conn)
+        → IsUndone (state S.Store conn) (state S.Store e.0)) }
+    ensures unmoved { IfErr result (λ e. e.1 ≢ AttachFault.Store → IsSettled (state S.Store conn)
+        → IsUndone (state S.Store conn) (state S.Store e.0)) }
     ensures survives { IfErr result (λ e. Survives (state S.Store conn) (state S.Store e.0)
         (λ db. IsOldStation (state S.Store conn).now
         → MeansUpgraded (state S.Store conn).now.trees db)) }
@@ -125,6 +134,10 @@ pub fn migrate<S: Alter>(
     ensures inside { (connection_view S.Store conn).in_transaction ≡ true
         → result ≡ Err (conn, AttachFault.Store) }
 
+    // A disk that is clean then was clean.
+    ensures clean { IfOk result (λ new. HasCleanDisk (state S.Store new)
+        → HasCleanDisk (state S.Store conn)) }
+
     // The file was a station's of version 1, and all of it was lawful.
     ensures was { IfOk result (λ new. HasCleanDisk (state S.Store new) → (s : State)
         × IsOldStateIn (state S.Store conn).now s) }
@@ -150,6 +163,15 @@ pub fn migrate<S: Alter>(
         → IsOldOwn (state S.Store conn).now.trees
         → LiesInOrder S.Store → (db : Trees) → (state S.Store e.0).may_leave db
         → (state S.Store conn).may_leave db ⊎ IsMigrated (state S.Store conn).now db) }
+
+    // At a fault no transaction is open, and the connection, if it is open, shows the last commit.
+    ensures undone { (connection_view S.Store conn).in_transaction ≡ false
+        → IfErr result (λ e. HasCleanDisk (state S.Store e.0)
+        → IsOldOwn (state S.Store conn).now.trees → LiesInOrder S.Store
+        → IsUndone (state S.Store conn) (state S.Store e.0)) }
+    ensures unmoved { (connection_view S.Store conn).in_transaction ≡ false
+        → IfErr result (λ e. HasCleanDisk (state S.Store e.0) → e.1 ≢ AttachFault.Store
+        → IsUndone (state S.Store conn) (state S.Store e.0)) }
 
     // Any other fault than the store's changes nothing.
     ensures spares { IfErr result (λ e. e.1 ≢ AttachFault.Store

@@ -4,7 +4,7 @@ use Rattle.found_station.specs.Reading.{read_as}
 use Rattle.table_load.specs.declared.station.FileVersion.TheVariants.{First}
 use Rattle.station_tables.specs.Attached.{IsJudged}
 use Rattle.station_tables.proofs.Looked.{survives_same}
-use Rattle.station_tables.proofs.Migrated.{found_was, store_says, not_store, same_after}
+use Rattle.station_tables.proofs.Migrated.{found_was, store_says, not_store, same_after, undone_same}
 use Rattle.station_tables.proofs.migrating.settle.Goals as goal
 
 pub returns-in-Ok-clause-was : goal.returns-in-Ok-clause-was
@@ -24,3 +24,12 @@ returns-in-Err-clause-survives g c = same_after _ _
 
 pub returns-in-Err-clause-spares : goal.returns-in-Err-clause-spares
 returns-in-Err-clause-spares g c = λ other. survives_same _
+
+pub returns-in-Ok-clause-unmoved : goal.returns-in-Ok-clause-unmoved
+returns-in-Ok-clause-unmoved g c = not_store _ _ c.upgrade.ensures.fault
+
+pub returns-in-Err-clause-undone : goal.returns-in-Err-clause-undone
+returns-in-Err-clause-undone g c = λ clean was rest. undone_same _ rest
+
+pub returns-in-Err-clause-unmoved : goal.returns-in-Err-clause-unmoved
+returns-in-Err-clause-unmoved g c = λ other rest. undone_same _ rest
