@@ -1,0 +1,12 @@
+-- Printable texts that grow.
+use Rattle.std.proofs.Common.{◌≡◌, ◌∙◌, refl, ℕ, ◌≤◌, true, List, [], ◌∷◌, ◌++◌}
+use Rattle.std.proofs.lemmas.Bool.{le-leb}
+use Rattle.std.proofs.lemmas.List.Folds.{list_all-append}
+use Rattle.std.specs.List.{list_all}
+use Rattle.imp_fields.specs.Characters.{is_printable}
+
+printable : (b : ℕ) → 32 ≤ b → b ≤ 126 → is_printable b ≡ true
+printable b least most = rw (le-leb 32 b least, le-leb b 126 most) refl
+
+pub grown : (old : List ℕ) (b : ℕ) → 32 ≤ b → b ≤ 126 → list_all is_printable old ≡ true → list_all is_printable (old ++ b ∷ []) ≡ true
+grown old b least most all = list_all-append is_printable old (b ∷ []) ∙ rw (all, printable b least most) refl

@@ -1,0 +1,121 @@
+//! Why a body says no command of its verb.
+ghost use Rattle.std.specs.Prelude.{◌≡◌, IfOk, codes, string_bytes};
+ghost use Rattle.input_reasons.specs.Reason.{IsReason};
+
+use crate::field::{Field, fields, fields_words, may_lack_flight};
+use crate::member::{kind_words, member_words};
+use crate::shown::{quoted, reason_line};
+use desk_commands::Verb;
+use serde_json::{Error, Value};
+use std::alloc::{AllocError, Global};
+
+/// The most bytes of a body.
+const LONGEST: usize = 65_536;
+
+/// What is said of a text that is no JSON.
+fn json_words(alloc: Global, error: &Error) -> Result<String, AllocError> {
+    if error.is_memory() {
+        return Err(AllocError);
+    }
+    let (line, column) = (error.line(), error.column());
+    if error.is_eof() {
+        format!(in alloc; "no JSON: it breaks off in line {line}, column {column}")
+    } else {
+        format!(in alloc; "no JSON: line {line}, column {column}")
+    }
+}
+
+/// What is said of a key that is no field's.
+fn unknown_words(alloc: Global, verb: Verb, key: &str) -> Result<String, AllocError> {
+    let (word, key) = (verb.word(), quoted(alloc, key.as_bytes())?);
+    let fields = fields_words(alloc, verb)?;
+    format!(in alloc; "no field of `{word}` is called {key}; it takes {fields}")
+}
+
+/// What is said of a field that is missing.
+fn missing_words(alloc: Global, verb: Verb, field: Field) -> Result<String, AllocError> {
+    let (word, name) = (verb.word(), field.name());
+    let fields = fields_words(alloc, verb)?;
+    format!(in alloc; "\"{name}\" is missing; `{word}` takes {fields}")
+}
+
+/// Whether a key is that of a field of the verb.
+fn is_field(verb: Verb, key: &str) -> bool {
+    fields(verb).iter().any(|field| field.name() == key)
+}
+
+/// Whether a field may be left out of this body.
+fn may_lack(verb: Verb, field: Field, body: &Value) -> bool {
+    may_lack_flight(verb)
+        && matches!(field, Field::Flight | Field::Date)
+        && body.get("flight").is_none()
+        && body.get("date").is_none()
+}
+
+/// What is said of the first key that is no field's.
+fn keys_words(alloc: Global, verb: Verb, body: &Value) -> Result<Option<String>, AllocError> {
+    let Some(members) = body.as_object() else {
+        let kind = kind_words(alloc, body)?;
+        let words = format!(in alloc; "it is {kind}, an object is wanted")?;
+        return Ok(Some(words));
+    };
+    for (key, _value) in members.iter() {
+        if !is_field(verb, key.as_str()) {
+            return Ok(Some(unknown_words(alloc, verb, key.as_str())?));
+        }
+    }
+    Ok(None)
+}
+
+/// What is said of the first field that is missing, or that holds something else.
+fn fields_fault(alloc: Global, verb: Verb, body: &Value) -> Result<Option<String>, AllocError> {
+    for field in fields(verb) {
+        if body.get(field.name()).is_none() && !may_lack(verb, *field, body) {
+            return Ok(Some(missing_words(alloc, verb, *field)?));
+        }
+    }
+    for field in fields(verb) {
+        if let Some(value) = body.get(field.name()) {
+            if let Some(words) = member_words(alloc, *field, value)? {
+                return Ok(Some(words));
+            }
+        }
+    }
+    Ok(None)
+}
+
+/// What is wrong with a body that is JSON: its keys, and then its values.
+fn value_words(alloc: Global, verb: Verb, body: &Value) -> Result<String, AllocError> {
+    if let Some(words) = keys_words(alloc, verb, body)? {
+        return Ok(words);
+    }
+    if let Some(words) = fields_fault(alloc, verb, body)? {
+        return Ok(words);
+    }
+    let word = verb.word();
+    format!(in alloc; "it says no command of `{word}`")
+}
+
+/// What is wrong with a body.
+fn body_words(alloc: Global, verb: Verb, bytes: &[u8]) -> Result<String, AllocError> {
+    if bytes.len() > LONGEST {
+        return String::from_str(alloc, "more than 65,536 bytes");
+    }
+    if bytes.iter().all(|b| b.is_ascii_whitespace()) {
+        return String::from_str(alloc, "it is empty, an object of JSON is wanted");
+    }
+    match Value::from_slice(alloc, bytes) {
+        Ok(body) => value_words(alloc, verb, &body),
+        Err(error) => json_words(alloc, &error),
+    }
+}
+
+/// Why these bytes say no command of a verb.
+///
+/// Returns [`AllocError`] when out of memory.
+pub fn body_reason(alloc: Global, verb: Verb, bytes: &[u8]) -> Result<String, AllocError>
+    ensures { IfOk result (λ line. IsReason (codes "body: ") (string_bytes line)) }
+{
+    let words = body_words(alloc, verb, bytes)?;
+    reason_line(alloc, "body: ", words.as_str())
+}

@@ -1,0 +1,15 @@
+//! Why an input is bad: reasons for people, each one line.
+#![tactic(auto)]
+
+mod body;
+mod field;
+mod member;
+mod row;
+mod shown;
+mod telegram;
+mod tell;
+
+pub use body::body_reason;
+pub use row::row_reason;
+pub use telegram::{is_unread, telegram_reason};
+pub use tell::tell_reason;

@@ -1,0 +1,125 @@
+//! Why a member of a body isn't what its field wants.
+
+use crate::field::Field;
+use crate::shown::{cut, digits_words, quoted};
+use awb_number::{Awb, AwbFault, check, decimal};
+use serde_json::Value;
+use std::alloc::{AllocError, Global};
+
+/// What a value is, in a word; a number stands for itself.
+pub(crate) fn kind_words(alloc: Global, value: &Value) -> Result<String, AllocError> {
+    match value {
+        Value::Null => String::from_str(alloc, "null"),
+        Value::Bool(true) => String::from_str(alloc, "true"),
+        Value::Bool(false) => String::from_str(alloc, "false"),
+        Value::Number(_) => {
+            let number = value.to_string(alloc)?;
+            cut(alloc, number.as_bytes())
+        }
+        Value::String(_) => String::from_str(alloc, "a text"),
+        Value::Array(_) => String::from_str(alloc, "a list"),
+        Value::Object(_) => String::from_str(alloc, "an object"),
+    }
+}
+
+/// What is said of a number that is none of its range.
+fn number_words(
+    alloc: Global,
+    field: Field,
+    range: (u64, u64),
+    value: &Value,
+) -> Result<Option<String>, AllocError> {
+    let (least, most) = range;
+    if let Some(number) = value.as_u64() {
+        if least <= number && number <= most {
+            return Ok(None);
+        }
+    }
+    let (name, kind) = (field.name(), kind_words(alloc, value)?);
+    let words = format!(in alloc;
+        "\"{name}\" is {kind}, a whole number from {least} to {most} is wanted"
+    )?;
+    Ok(Some(words))
+}
+
+/// The check digit that twelve bytes of the right shape should end with.
+fn check_digit(text: &[u8; 12]) -> Option<u8> {
+    let serial = decimal(&text[4..11])?;
+    Some(check(serial))
+}
+
+/// What is said of a waybill number that is none.
+fn awb_words(alloc: Global, text: &[u8]) -> Result<Option<String>, AllocError> {
+    if let Ok(bytes) = <[u8; 12]>::try_from(text) {
+        match Awb::read(&bytes) {
+            Ok(_) => return Ok(None),
+            Err(AwbFault::Check) => {
+                if let Some(digit) = check_digit(&bytes) {
+                    let text = cut(alloc, text)?;
+                    let words = format!(in alloc; "the check digit of \"awb\" {text} is {digit}")?;
+                    return Ok(Some(words));
+                }
+            }
+            Err(AwbFault::Shape) => {}
+        }
+    }
+    Ok(Some(other_words(alloc, Field::Awb, text)?))
+}
+
+/// What is said of a text that may not stand there.
+fn other_words(alloc: Global, field: Field, text: &[u8]) -> Result<String, AllocError> {
+    let (name, wanted) = (field.name(), field.wanted());
+    let text = quoted(alloc, text)?;
+    format!(in alloc; "\"{name}\" is {text}, {wanted}")
+}
+
+/// What is said of a text that isn't so many digits.
+fn code_words(
+    alloc: Global,
+    what: &str,
+    text: &[u8],
+    width: usize,
+) -> Result<Option<String>, AllocError> {
+    if text.len() == width && text.iter().all(|b| b.is_ascii_digit()) {
+        return Ok(None);
+    }
+    let wanted = format!(in alloc; "{width}")?;
+    Ok(Some(digits_words(alloc, what, text, wanted.as_str())?))
+}
+
+/// What is said of a text, where it isn't what its field wants.
+fn text_words(alloc: Global, field: Field, text: &[u8]) -> Result<Option<String>, AllocError> {
+    match field {
+        Field::Prefix => code_words(alloc, "\"prefix\"", text, 3),
+        Field::Serial => code_words(alloc, "\"serial\"", text, 7),
+        Field::Awb => awb_words(alloc, text),
+        _ => {
+            if field.reads(text) {
+                Ok(None)
+            } else {
+                Ok(Some(other_words(alloc, field, text)?))
+            }
+        }
+    }
+}
+
+/// What is said of a value that is no text where one is wanted.
+fn no_text_words(alloc: Global, field: Field, value: &Value) -> Result<String, AllocError> {
+    let (name, kind) = (field.name(), kind_words(alloc, value)?);
+    format!(in alloc; "\"{name}\" is {kind}, a text in quotes is wanted")
+}
+
+/// What is said of a member, where it isn't what its field wants.
+pub(crate) fn member_words(
+    alloc: Global,
+    field: Field,
+    value: &Value,
+) -> Result<Option<String>, AllocError> {
+    if let Some(range) = field.range() {
+        return number_words(alloc, field, range, value);
+    }
+    match value.as_str() {
+        Some(text) => text_words(alloc, field, text.as_bytes()),
+        None => Ok(Some(no_text_words(alloc, field, value)?)),
+    }
+}

@@ -1,0 +1,121 @@
+//! Why a row of a stock list is bad.
+ghost use Rattle.std.specs.Prelude.{◌≡◌, IfOk, codes, string_bytes};
+ghost use Rattle.input_reasons.specs.Reason.{IsReason};
+
+use crate::shown::{cut, digits_words, quoted, reason_line};
+use agent_stock::AgentCode;
+use csv::ByteRecord;
+use station_core::Key;
+use std::alloc::{AllocError, Global};
+
+/// How many fields a row has.
+const FIELDS: usize = 6;
+
+/// What is said of a row with another number of fields.
+fn count_words(alloc: Global, count: usize) -> Result<String, AllocError> {
+    if count == 1 {
+        String::from_str(alloc, "six fields are wanted, here is 1")
+    } else {
+        format!(in alloc; "six fields are wanted, here are {count}")
+    }
+}
+
+/// What is said of a key that is none.
+fn key_words(alloc: Global, key: &[u8]) -> Result<String, AllocError> {
+    let key = quoted(alloc, key)?;
+    format!(in alloc; "the key is {key}, 1 to 40 printable characters without a blank are wanted")
+}
+
+/// What is said of a verb that is none of a row.
+fn verb_words(alloc: Global, verb: &[u8]) -> Result<String, AllocError> {
+    if verb.is_empty() {
+        let words = "the verb is empty; take-in, issue, return or void is wanted";
+        return String::from_str(alloc, words);
+    }
+    let verb = quoted(alloc, verb)?;
+    format!(in alloc; "{verb} is no verb; take-in, issue, return or void is wanted")
+}
+
+/// What is said of an agent where a verb takes none.
+fn no_agent_words(alloc: Global, verb: &[u8], agent: &[u8]) -> Result<String, AllocError> {
+    let (verb, agent) = (cut(alloc, verb)?, quoted(alloc, agent)?);
+    format!(in alloc; "the agent is {agent}, and `{verb}` takes none")
+}
+
+/// What is said of an agent that is none.
+fn agent_words(alloc: Global, agent: &[u8]) -> Result<String, AllocError> {
+    let agent = quoted(alloc, agent)?;
+    format!(in alloc; "the agent is {agent}, 1 to 11 upper-case letters or digits are wanted")
+}
+
+/// Whether a text has from so many to so many digits, and nothing else.
+fn is_number(text: &[u8], least: usize, most: usize) -> bool {
+    least <= text.len() && text.len() <= most && text.iter().all(|b| b.is_ascii_digit())
+}
+
+/// Whether a verb of a row goes with an agent, where it is one.
+fn takes_agent(verb: &[u8]) -> Option<bool> {
+    if verb == b"issue".as_slice() || verb == b"return".as_slice() {
+        Some(true)
+    } else if verb == b"take-in".as_slice() || verb == b"void".as_slice() {
+        Some(false)
+    } else {
+        None
+    }
+}
+
+/// What is said of a run that is none: prefix, serial and count.
+fn run_words(alloc: Global, row: &ByteRecord) -> Result<Option<String>, AllocError> {
+    let (prefix, serial) = (field(row, 2), field(row, 3));
+    let count = field(row, 4);
+    if !is_number(prefix, 3, 3) {
+        return Ok(Some(digits_words(alloc, "the prefix", prefix, "3")?));
+    }
+    if !is_number(serial, 7, 7) {
+        return Ok(Some(digits_words(alloc, "the serial", serial, "7")?));
+    }
+    if !is_number(count, 1, 7) {
+        return Ok(Some(digits_words(alloc, "the count", count, "1 to 7")?));
+    }
+    Ok(None)
+}
+
+/// A field of a row; empty where it has none.
+fn field(row: &ByteRecord, place: usize) -> &[u8] {
+    row.get(place).unwrap_or(b"".as_slice())
+}
+
+/// What is wrong with a row, from the left.
+fn row_words(alloc: Global, row: &ByteRecord) -> Result<String, AllocError> {
+    let (key, verb, agent) = (field(row, 0), field(row, 1), field(row, 5));
+    if row.len() != FIELDS {
+        return count_words(alloc, row.len());
+    }
+    if Key::read(key).is_none() {
+        return key_words(alloc, key);
+    }
+    let Some(takes_agent) = takes_agent(verb) else {
+        return verb_words(alloc, verb);
+    };
+    if let Some(words) = run_words(alloc, row)? {
+        return Ok(words);
+    }
+    if !takes_agent && !agent.is_empty() {
+        return no_agent_words(alloc, verb, agent);
+    }
+    if takes_agent && AgentCode::read(agent).is_none() {
+        return agent_words(alloc, agent);
+    }
+    String::from_str(alloc, "it is no row of a stock list")
+}
+
+/// Why a row of a stock list is bad, which begins on this line of the list.
+///
+/// Returns [`AllocError`] when out of memory.
+pub fn row_reason(alloc: Global, row: &ByteRecord, line: u64) -> Result<String, AllocError>
+    ensures { IfOk result (λ text. IsReason (codes "line ") (string_bytes text)) }
+{
+    let words = row_words(alloc, row)?;
+    let words = format!(in alloc; "{line}: {words}")?;
+    reason_line(alloc, "line ", words.as_str())
+}

@@ -1,0 +1,98 @@
+//! Texts of the input as a reason repeats them.
+ghost use Rattle.std.specs.Prelude.{◌≡◌, ◌≤◌, ◌<◌, OnOk, IfOk, IsTrue, string_bytes};
+ghost use Rattle.std.specs.List.{list_all};
+ghost use Rattle.imp_fields.specs.Characters.{is_printable};
+ghost use Rattle.input_reasons.specs.Reason.{IsReason};
+
+use std::alloc::{AllocError, Global};
+
+/// How many bytes of a text a reason repeats.
+const MOST: usize = 40;
+
+/// The hexadecimal digit of a number.
+fn hex_digit(n: u8) -> u8
+    requires { n < 16 }
+    ensures least { 48 ≤ result }
+    ensures most { result ≤ 102 }
+{
+    if n < 10 { b'0' + n } else { b'a' + (n - 10) }
+}
+
+/// Appends a character of printable ASCII.
+#[tactic(auto, using(crate::proofs::Shown::grown))]
+fn push_printable(text: &mut String, byte: u8) -> Result<(), AllocError>
+    requires least { 32 ≤ byte }
+    requires most { byte ≤ 126 }
+    ensures { OnOk result (IsTrue (list_all is_printable (string_bytes text.old))
+        → IsTrue (list_all is_printable (string_bytes text.new))) }
+{
+    text.push(byte as char)
+}
+
+/// Appends a byte: itself where it is printable ASCII, else as `\x..`.
+fn push_shown(text: &mut String, byte: u8) -> Result<(), AllocError>
+    ensures { OnOk result (IsTrue (list_all is_printable (string_bytes text.old))
+        → IsTrue (list_all is_printable (string_bytes text.new))) }
+{
+    if 32 <= byte && byte <= 126 {
+        return push_printable(text, byte);
+    }
+    push_printable(text, b'\\')?;
+    push_printable(text, b'x')?;
+    push_printable(text, hex_digit(byte / 16))?;
+    push_printable(text, hex_digit(byte % 16))
+}
+
+/// Bytes as printable ASCII: each that isn't is written as `\x..`.
+fn printable(alloc: Global, bytes: &[u8]) -> Result<String, AllocError>
+    ensures { IfOk result (λ text. IsTrue (list_all is_printable (string_bytes text))) }
+{
+    let mut text = String::new(alloc);
+    for byte in bytes {
+        push_shown(&mut text, *byte)?;
+    }
+    Ok(text)
+}
+
+/// The line of a head and of words behind it.
+pub(crate) fn reason_line(alloc: Global, head: &str, words: &str) -> Result<String, AllocError>
+    ensures { IfOk result (λ line. IsReason head.now (string_bytes line)) }
+{
+    let words = printable(alloc, words.as_bytes())?;
+    format!(in alloc; "{head}{words}\n")
+}
+
+/// A text of the input, cut to forty bytes.
+pub(crate) fn cut(alloc: Global, text: &[u8]) -> Result<String, AllocError> {
+    let front = printable(alloc, &text[..text.len().min(MOST)])?;
+    if text.len() > MOST {
+        format!(in alloc; "{front}..")
+    } else {
+        Ok(front)
+    }
+}
+
+/// The same in quotes; of an empty text, that it is empty.
+pub(crate) fn quoted(alloc: Global, text: &[u8]) -> Result<String, AllocError> {
+    if text.is_empty() {
+        return String::from_str(alloc, "empty");
+    }
+    let text = cut(alloc, text)?;
+    format!(in alloc; "\"{text}\"")
+}
+
+/// What is said of a text that must be so many digits, as `7`.
+pub(crate) fn digits_words(
+    alloc: Global,
+    what: &str,
+    text: &[u8],
+    wanted: &str,
+) -> Result<String, AllocError> {
+    let count = text.len();
+    if count > 1 && text.iter().all(|b| b.is_ascii_digit()) {
+        let text = cut(alloc, text)?;
+        return format!(in alloc; "{what} {text} has {count} digits, {wanted} are wanted");
+    }
+    let text = quoted(alloc, text)?;
+    format!(in alloc; "{what} is {text}, {wanted} digits are wanted")
+}

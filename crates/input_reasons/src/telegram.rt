@@ -1,0 +1,63 @@
+//! Why a telegram can't be read.
+ghost use Rattle.std.specs.Prelude.{◌≡◌, IfOk, codes, string_bytes};
+ghost use Rattle.input_reasons.specs.Reason.{IsReason, is_unread};
+
+use crate::shown::reason_line;
+use imp_fields::Why;
+use shipment_machine::{Detail, Refusal};
+use std::alloc::{AllocError, Global};
+
+/// Whether a refusal says that a telegram can't be read.
+pub fn is_unread(refusal: &Refusal) -> bool
+    ensures { result ≡ is_unread refusal.now }
+{
+    refusal.number == 301 || refusal.number == 302
+}
+
+/// What is wrong with a line of a telegram, or with the whole.
+fn fault_words(why: Why) -> &'static str {
+    match why {
+        Why::Size => "it has more than 65,536 bytes",
+        Why::Lines => "it has more than 1,000 lines",
+        Why::Byte => "it has a byte that isn't printable ASCII",
+        Why::Long => "it has more than 255 bytes",
+        Why::Kind => "none of its first eleven lines begins with FWB/, FFM/ or FSU/ (302)",
+        Why::Ending => {
+            "the message ends here, too early: an FWB has a second line, an FSU a third, and an FFM ends with LAST or CONT"
+        }
+        Why::Head => "FWB, FFM or FSU, a slash and one to three digits are wanted, as FFM/8",
+        Why::Consignment => {
+            "a waybill number, two airports and a slash are wanted in front, as 020-12345675FRAJFK/"
+        }
+        Why::Number => "the check digit of the waybill number is wrong",
+        Why::Quantity => "a quantity is wanted behind the airports, as T10K100.0",
+        Why::Weight => "the quantity has no weight, as T10K100.0 has one",
+        Why::Date => "a date is wanted that means a day, as 12JAN or 12JAN1030",
+        Why::Flight => "part, flight, date and airport are wanted, as 1/LH400/12JAN/FRA",
+        Why::Order => "a consignment stands before the first point of unloading",
+        Why::Memory => "it can't be read",
+    }
+}
+
+/// The words of a fault of a line: which line it is, and what is wrong there.
+fn line_words(alloc: Global, line: u16, why: Why) -> Result<String, AllocError> {
+    let words = fault_words(why);
+    match why {
+        Why::Size | Why::Lines | Why::Kind | Why::Memory => String::from_str(alloc, words),
+        Why::Byte | Why::Long => format!(in alloc; "line {line} of the file: {words}"),
+        _ => format!(in alloc; "line {line} of the message: {words}"),
+    }
+}
+
+/// Why a telegram can't be read, by its refusal: the line, and what is wanted there.
+///
+/// Returns [`AllocError`] when out of memory.
+pub fn telegram_reason(alloc: Global, refusal: &Refusal) -> Result<String, AllocError>
+    ensures { IfOk result (λ line. IsReason (codes "telegram: ") (string_bytes line)) }
+{
+    let words = match refusal.detail {
+        Detail::Line { line, why } => line_words(alloc, line, why)?,
+        _ => String::from_str(alloc, fault_words(Why::Kind))?,
+    };
+    reason_line(alloc, "telegram: ", words.as_str())
+}
