@@ -3,7 +3,7 @@
 use crate::files::{make_file, open_file};
 use crate::service::{Service, serve_line};
 use cli_call::{DeskFault, end, run_line};
-use cli_run::{Feed, is_opening, tie};
+use cli_run::{Feed, Tied, is_opening, tie};
 use cli_words::{Line, LineCommand};
 use imp_fields::Moment;
 use memory_files::open_pages;
@@ -64,7 +64,7 @@ fn run_direct<S: Alter, R: Read + Drop>(
 }
 
 /// Runs a line over a connection. What it writes is gathered, and goes out before its input is read
-/// again, and before the end.
+/// again, before anything is told on standard error, and before the end.
 fn run_gathered<S: Alter, R: Read + Drop>(
     rt: &HostRuntime,
     line: &Line<'_>,
@@ -73,11 +73,16 @@ fn run_gathered<S: Alter, R: Read + Drop>(
     at: Moment,
 ) -> (u8, Connection<S>) {
     let alloc = rt.alloc();
-    let Ok((input, gathered)) = tie(alloc, reader, rt.stdout()) else {
+    let Ok(tied) = tie(alloc, reader, rt.stdout(), rt.stderr()) else {
         return (faulted(rt, RunFault::Memory), conn);
     };
-    let mut output = Counted::new(gathered);
-    let mut errors = Counted::new(rt.stderr());
+    let Tied {
+        input,
+        output,
+        errors,
+    } = tied;
+    let mut output = Counted::new(output);
+    let mut errors = Counted::new(errors);
     let mut feed = Feed::new(input);
     let (status, conn) = run_line(alloc, line, conn, &mut feed, &mut output, &mut errors, at);
     if output.into_inner().flush().is_err() {

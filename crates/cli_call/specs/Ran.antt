@@ -16,6 +16,7 @@ use Rattle.stock_list.specs.declared.answer.RunFault.{RunFault}
 use Rattle.cli_words.specs.declared.line.Line.{Line}
 use Rattle.cli_run.specs.Done.{HasDone}
 use Rattle.cli_run.specs.Place.{here_of, is_new}
+use Rattle.cli_run.specs.Reasons.{HasGivenReasons}
 use Rattle.cli_call.specs.Ended.{HasNoStation, HasToldEnd}
 use Rattle.cli_call.specs.Migrated.{HasMigrated}
 use Rattle.cli_call.specs.Opened.{HasOpened}
@@ -30,17 +31,20 @@ pub record HasReleased {S : Type 0} {g : Ghosts S} (keeps : Station S g → Stat
   pub shown : (s : State) → keeps station s
       → IfGivenBack (rows_view g conn (are_declared station.stored.store.store)) s
 
--- The line's command ran over its station, how it ended was reported, and the station gave its
--- connection back.
+-- The line's command ran over its station, and told why an input can't be read; behind that how it
+-- ended was reported, and the station gave its connection back.
 pub record HasRunLine {S E : Type 0} {g : Ghosts S} (line : Line) (keeps : Station S g → State → Type 0) (is_sound : Station S g → Type 0) (is_broken : Station S g → Bool)
     (may_find : Station S g → Option State → Type 0) (at : LocalMinute) (station : Station S g) (left : Option (List ℕ)) (read_old read_new sent_old sent_new : Given)
     (taken : E → Given) (errors_old errors_new : E) (result : ℕ × Held S) : Type 0 where
   pub last : Station S g
+  pub between : E
   pub ended : Result Bool RunFault
   pub sound : is_sound last → is_sound station
   pub works : is_broken station ≡ false → OnOk ended (is_broken last ≡ false)
   pub done : HasDone line.command (here_of line.station) keeps is_sound is_broken may_find at station last left read_old read_new sent_old sent_new ended
-  pub told : HasToldEnd taken ended errors_old errors_new result.0
+  pub explained : HasGivenReasons line.command keeps is_sound is_broken at station last left
+      read_old read_new taken errors_old between ended
+  pub told : HasToldEnd taken ended between errors_new result.0
   pub released : HasReleased keeps is_sound may_find last result.1
 
 -- a call over what its opening came to

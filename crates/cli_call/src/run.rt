@@ -24,7 +24,8 @@ fn give_back<S: Alter>(station: Station<S>) -> Connection<S>
     station.release()
 }
 
-/// Runs a line's command over its station, reports how it ended, and gives the connection back.
+/// Runs a line's command over its station, which tells why an input can't be read; reports how it
+/// ended, and gives the connection back.
 fn run_station<S: Alter, I: Watched + Read, W: ByteOut, E: ByteOut>(
     alloc: Global,
     line: &Line<'_>,
@@ -39,7 +40,7 @@ fn run_station<S: Alter, I: Watched + Read, W: ByteOut, E: ByteOut>(
         station (I.remaining reader.old) (I.given reader.old) (I.given reader.new)
         (W.taken output.old) (W.taken output.new) E.taken errors.old errors.new result }
 {
-    let ended = run_over(alloc, &mut station, line, reader, output, at);
+    let ended = run_over(alloc, &mut station, line, reader, output, errors, at);
     let status = end_run(errors, ended);
     (status, give_back(station))
 }
@@ -88,8 +89,8 @@ fn call_station<S: Alter, I: Watched + Read, W: ByteOut, E: ByteOut>(
 /// status and the connection.
 ///
 /// `migrate` makes the tables of version 1 that the connection has those of version 2, and prints
-/// `ok 2`. A fault is reported on `errors`: status 3, or 4 where the connection has no station for
-/// the line.
+/// `ok 2`. A fault is reported on `errors`, behind why a row, a telegram or a body can't be read:
+/// status 3, or 4 where the connection has no station for the line.
 pub fn run_line<S: Alter, I: Watched + Read, W: ByteOut, E: ByteOut>(
     alloc: Global,
     line: &Line<'_>,

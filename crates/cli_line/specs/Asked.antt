@@ -21,7 +21,7 @@ use Rattle.cli_line.specs.Came.{longest}
 abbrev pub IsTelegramAsked : List ℕ → Asked → Type 0
 IsTelegramAsked bytes (asked.Input i) = (t : Meant) × IsTelegram bytes t × (i ≡ Wire t)
 IsTelegramAsked bytes (asked.Refused refusal) = (told : TextFault) × (telegram_fault bytes ≡ Some told) × (refusal ≡ refusal_of told)
-IsTelegramAsked bytes asked.Bad = ⊥
+IsTelegramAsked bytes (asked.Bad verb body) = ⊥
 
 -- the bytes are a body of JSON that says this command of the verb
 abbrev pub IsSaid : Verb → List ℕ → Command → Type 0
@@ -30,7 +30,7 @@ IsSaid verb bytes command = (length bytes ≤ longest) × IsUtf8 bytes × ((d : 
 -- they say this command, under the key, or none
 abbrev pub IsCommandAsked : Verb → List ℕ → List ℕ → Asked → Type 0
 IsCommandAsked verb key bytes (asked.Input i) = (command : Command) × IsSaid verb bytes command × (i ≡ Keyed key command)
-IsCommandAsked verb key bytes asked.Bad = (command : Command) → ¬ (IsSaid verb bytes command)
+IsCommandAsked verb key bytes (asked.Bad other body) = (command : Command) → ¬ (IsSaid verb bytes command)
 IsCommandAsked verb key bytes (asked.Refused refusal) = ⊥
 
 -- the text of what is asked at a moment: the answer of the station's step, or a text that wants no
@@ -38,7 +38,7 @@ IsCommandAsked verb key bytes (asked.Refused refusal) = ⊥
 abbrev pub asked_text : State → Asked → LocalMinute → List ℕ
 asked_text s (asked.Input i) at = answer_text (step s i at).answer
 asked_text s (asked.Refused refusal) at = refusal_text refusal
-asked_text s asked.Bad at = codes "body bad"
+asked_text s (asked.Bad verb body) at = codes "body bad"
 
 abbrev pub asked_line : State → Asked → LocalMinute → List ℕ
 asked_line s asks at = asked_text s asks at ++ 10 ∷ []

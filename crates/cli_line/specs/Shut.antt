@@ -19,7 +19,7 @@ HasToldLine line old new (Err e) = HasToldPart line old new e
 -- written.
 abbrev pub IsAnsweredShut : Asked → Given → Given → Result Bool RunFault → Type 0
 IsAnsweredShut (asked.Refused refusal) old new r = HasToldLine (refusal_text refusal ++ 10 ∷ []) old new r
-IsAnsweredShut asked.Bad old new r = HasToldLine (codes "body bad\n") old new r
+IsAnsweredShut (asked.Bad verb body) old new r = HasToldLine (codes "body bad\n") old new r
 IsAnsweredShut (asked.Input i) old new (Ok good) = ⊥
 IsAnsweredShut (asked.Input i) old new (Err e) = (e ≡ fault.Store) × (new ≡ old)
 

@@ -1,10 +1,11 @@
-ghost use Rattle.std.specs.Prelude.{◌≡◌, ◌⊎◌, true, false, Err, IfErr, OnOk};
+ghost use Rattle.std.specs.Prelude.{◌≡◌, ◌⊎◌, true, false, Ok, Err, IfErr, OnOk};
 ghost use Rattle.station_core.specs.Ends.{HasCause};
 ghost use Rattle.station_core.specs.Step.{State};
 ghost use Rattle.stock_list.specs.Ended.{IsShutAfter, IsUntroubled};
 ghost use Rattle.cli_line.specs.Asked.{IsCommandAsked};
 ghost use Rattle.cli_line.specs.Came.{HasFailed};
 ghost use Rattle.cli_line.specs.Ended.{HasRun};
+ghost use Rattle.cli_line.specs.Reasons.{HasExplainedRun};
 ghost use Rattle.cli_line.specs.Shut.{HasRunShut};
 
 use crate::answer::answer_asked;
@@ -18,21 +19,22 @@ use stock_list::RunFault;
 
 /// Reads the body of one command, hands it to the station under a key at a moment, and writes the
 /// line of its answer: `ok 3`, `refused 102 020-12345723`, or `body bad` where the body is no JSON
-/// that says a command of the verb, or has more than 65,536 bytes. `Ok` says whether it was
-/// accepted.
+/// that says a command of the verb, or has more than 65,536 bytes. Why a body is bad is written on
+/// `errors`, behind the line. `Ok` says whether the command was accepted.
 ///
 /// Returns [`RunFault::Read`] where the reader fails, and [`RunFault::Memory`] where memory runs
 /// out before the station is asked: nothing was done or written. Returns [`RunFault::Store`] where
 /// the store fails, or failed before: nothing was written, and the command was done wholly or not
 /// at all. Returns [`RunFault::Write`] where the writer fails, and [`RunFault::Memory`] where
 /// memory for the line runs out: the command was answered, and a beginning of the line was written.
-pub fn run_act<K: Keeper, I: ByteIn, O: ByteOut>(
+pub fn run_act<K: Keeper, I: ByteIn, O: ByteOut, E: ByteOut>(
     alloc: Global,
     keeper: &mut K,
     verb: Verb,
     key: Key,
     reader: &mut I,
     writer: &mut O,
+    errors: &mut E,
     at: Moment,
 ) -> Result<bool, RunFault>
     ensures sound { K.is_sound keeper.new → K.is_sound keeper.old }
@@ -56,6 +58,12 @@ pub fn run_act<K: Keeper, I: ByteIn, O: ByteOut>(
         ⊎ IsUntroubled (O.taken writer.old) (O.taken writer.new)) }
     ensures untroubled { OnOk result (IsUntroubled (O.taken writer.old) (O.taken writer.new)) }
 
+    // Behind its line a bad body has its reason, or a beginning of it, and nothing else goes there.
+    ensures quiet { result ≡ Ok true → errors.new ≡ errors.old }
+    ensures reasons { HasExplainedRun (IsCommandAsked verb key) K.keeps K.is_sound K.is_broken at
+        keeper.old keeper.new (I.given reader.old) (I.given reader.new)
+        E.taken errors.old errors.new result }
+
     // A station that has to be opened again stays as it is, and nothing is asked of it.
     ensures same { K.is_broken keeper.old ≡ true → keeper.new ≡ keeper.old }
     ensures reopen { K.is_broken keeper.old ≡ true
@@ -64,7 +72,7 @@ pub fn run_act<K: Keeper, I: ByteIn, O: ByteOut>(
 {
     let bytes = read_input(alloc, reader)?;
     match command_asked(alloc, verb, key, bytes.as_slice()) {
-        Ok(asked) => answer_asked(alloc, keeper, writer, &asked, at),
+        Ok(asked) => answer_asked(alloc, keeper, writer, errors, &asked, at),
         Err(_) => Err(RunFault::Memory),
     }
 }

@@ -5,10 +5,14 @@ ghost use Rattle.station_core.specs.Step.{State};
 ghost use Rattle.station_core.specs.Texts.{refusal_text};
 ghost use Rattle.stock_list.specs.Ended.{IsShutAfter, IsUntroubled};
 ghost use Rattle.stock_list.specs.Lines.{answer_text};
+ghost use Rattle.input_reasons.specs.Reason.{is_unread};
 ghost use Rattle.cli_line.specs.Ended.{HasToldPart, IsAnswered, IsStopped};
+ghost use Rattle.cli_line.specs.Reasons.{HasExplained, HasGivenReason};
 ghost use Rattle.cli_line.specs.Shut.{HasToldLine, IsAnsweredShut};
 
 use crate::asked::Asked;
+use crate::telling::{tell_answer, tell_body, tell_refusal};
+use desk_commands::Verb;
 use imp_fields::Moment;
 use shipment_machine::Refusal;
 use station_core::{Answer, ByteOut, Input, Keeper, answer_one, refusal_text};
@@ -34,11 +38,13 @@ fn refusal_line(alloc: Global, refusal: &Refusal) -> Result<String, AllocError>
     format!(in alloc; "{text}\n")
 }
 
-/// Hands an input to the station, then writes the line of its answer.
-fn answer_input<K: Keeper, O: ByteOut>(
+/// Hands an input to the station, then writes the line of its answer, and why a telegram can't be
+/// read.
+fn answer_input<K: Keeper, O: ByteOut, E: ByteOut>(
     alloc: Global,
     keeper: &mut K,
     writer: &mut O,
+    errors: &mut E,
     input: &Input<'_>,
     at: Moment,
 ) -> Result<bool, RunFault>
@@ -63,6 +69,8 @@ fn answer_input<K: Keeper, O: ByteOut>(
     ensures same { K.is_broken keeper.old ≡ true → keeper.new ≡ keeper.old }
     ensures reopen { K.is_broken keeper.old ≡ true
         → IsAnsweredShut (Asked.Input input.now) (O.taken writer.old) (O.taken writer.new) result }
+    ensures reasons { HasExplained K.keeps K.is_sound K.is_broken (Asked.Input input.now) at
+        keeper.old keeper.new E.taken errors.old errors.new result }
 {
     let answer = match answer_one(keeper, input, at) {
         Ok(answer) => answer,
@@ -72,13 +80,15 @@ fn answer_input<K: Keeper, O: ByteOut>(
         return Err(RunFault::Memory);
     };
     send_line(writer, &line)?;
+    tell_answer(alloc, errors, input, &answer);
     Ok(matches!(answer, Answer::Done(_)))
 }
 
-/// Writes the line of a telegram that is refused unread.
-fn answer_refusal<O: ByteOut>(
+/// Writes the line of a telegram that is refused unread, and why.
+fn answer_refusal<O: ByteOut, E: ByteOut>(
     alloc: Global,
     writer: &mut O,
+    errors: &mut E,
     refusal: &Refusal,
 ) -> Result<bool, RunFault>
     ensures answered { IfOk result (λ good. (good ≡ false)
@@ -92,16 +102,25 @@ fn answer_refusal<O: ByteOut>(
     ensures write_told { IfErr result (λ e. (e ≡ RunFault.Write)
         ⊎ IsUntroubled (O.taken writer.old) (O.taken writer.new)) }
     ensures untroubled { OnOk result (IsUntroubled (O.taken writer.old) (O.taken writer.new)) }
+    ensures reasons { HasGivenReason E.taken (is_unread refusal.now) (codes "telegram: ") errors.old
+        errors.new result }
 {
     let Ok(line) = refusal_line(alloc, refusal) else {
         return Err(RunFault::Memory);
     };
     send_line(writer, &line)?;
+    tell_refusal(alloc, errors, refusal);
     Ok(false)
 }
 
-/// Writes the line of a bad body.
-fn answer_bad<O: ByteOut>(writer: &mut O) -> Result<bool, RunFault>
+/// Writes the line of a body that is none of a verb, and why.
+fn answer_bad<O: ByteOut, E: ByteOut>(
+    alloc: Global,
+    writer: &mut O,
+    errors: &mut E,
+    verb: Verb,
+    body: &[u8],
+) -> Result<bool, RunFault>
     ensures answered { IfOk result (λ good. (good ≡ false)
         × ((O.taken writer.new).bytes ≡ (O.taken writer.old).bytes ++ codes "body bad\n")) }
     ensures stopped { IfErr result
@@ -111,16 +130,19 @@ fn answer_bad<O: ByteOut>(writer: &mut O) -> Result<bool, RunFault>
     ensures write_told { IfErr result (λ e. (e ≡ RunFault.Write)
         ⊎ IsUntroubled (O.taken writer.old) (O.taken writer.new)) }
     ensures untroubled { OnOk result (IsUntroubled (O.taken writer.old) (O.taken writer.new)) }
+    ensures reasons { HasGivenReason E.taken true (codes "body: ") errors.old errors.new result }
 {
     send_line(writer, BAD_BODY)?;
+    tell_body(alloc, errors, verb, body);
     Ok(false)
 }
 
-/// Does what is asked, then writes its line.
-pub(crate) fn answer_asked<K: Keeper, O: ByteOut>(
+/// Does what is asked, then writes its line, and why it can't be read where it can't.
+pub(crate) fn answer_asked<K: Keeper, O: ByteOut, E: ByteOut>(
     alloc: Global,
     keeper: &mut K,
     writer: &mut O,
+    errors: &mut E,
     asked: &Asked<'_>,
     at: Moment,
 ) -> Result<bool, RunFault>
@@ -145,10 +167,12 @@ pub(crate) fn answer_asked<K: Keeper, O: ByteOut>(
     ensures same { K.is_broken keeper.old ≡ true → keeper.new ≡ keeper.old }
     ensures reopen { K.is_broken keeper.old ≡ true
         → IsAnsweredShut asked.now (O.taken writer.old) (O.taken writer.new) result }
+    ensures reasons { HasExplained K.keeps K.is_sound K.is_broken asked.now at keeper.old
+        keeper.new E.taken errors.old errors.new result }
 {
     match asked {
-        Asked::Input(input) => answer_input(alloc, keeper, writer, input, at),
-        Asked::Refused(refusal) => answer_refusal(alloc, writer, refusal),
-        Asked::Bad => answer_bad(writer),
+        Asked::Input(input) => answer_input(alloc, keeper, writer, errors, input, at),
+        Asked::Refused(refusal) => answer_refusal(alloc, writer, errors, refusal),
+        Asked::Bad { verb, body } => answer_bad(alloc, writer, errors, *verb, body),
     }
 }

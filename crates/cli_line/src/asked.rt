@@ -15,8 +15,8 @@ use telegrams::{TelegramFault, read_telegram};
 pub enum Asked<'a> {
     /// It is no telegram, and is refused.
     Refused(Refusal),
-    /// It is no body of the verb.
-    Bad,
+    /// It is no body of this verb.
+    Bad { verb: Verb, body: &'a [u8] },
     /// It is for the station.
     Input(Input<'a>),
 }
@@ -33,27 +33,27 @@ pub(crate) fn telegram_asked<'a>(alloc: Global, bytes: &'a [u8]) -> Result<Asked
 }
 
 /// What a body of JSON asks under a key.
-pub(crate) fn command_asked(
+pub(crate) fn command_asked<'a>(
     alloc: Global,
     verb: Verb,
     key: Key,
-    bytes: &[u8],
-) -> Result<Asked<'static>, AllocError>
-    ensures { IfOk result (IsCommandAsked verb key bytes.now) }
+    body: &'a [u8],
+) -> Result<Asked<'a>, AllocError>
+    ensures { IfOk result (IsCommandAsked verb key body.entry.now) }
 {
-    if bytes.len() > LONGEST {
-        return Ok(Asked::Bad);
+    if body.len() > LONGEST {
+        return Ok(Asked::Bad { verb, body });
     }
-    match Value::from_slice(alloc, bytes) {
+    match Value::from_slice(alloc, body) {
         Ok(value) => match read_command(verb, &value) {
             Ok(command) => Ok(Asked::Input(Input::Keyed(key, command))),
-            Err(BadBody) => Ok(Asked::Bad),
+            Err(BadBody) => Ok(Asked::Bad { verb, body }),
         },
         Err(e) => {
             if e.is_memory() {
                 Err(AllocError)
             } else {
-                Ok(Asked::Bad)
+                Ok(Asked::Bad { verb, body })
             }
         }
     }

@@ -7,6 +7,7 @@ mod asked;
 mod reading;
 mod report;
 mod take;
+mod telling;
 
 pub use act::run_act;
 pub use asked::Asked;

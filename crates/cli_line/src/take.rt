@@ -1,10 +1,11 @@
-ghost use Rattle.std.specs.Prelude.{◌≡◌, ◌⊎◌, true, false, Err, IfErr, OnOk};
+ghost use Rattle.std.specs.Prelude.{◌≡◌, ◌⊎◌, true, false, Ok, Err, IfErr, OnOk};
 ghost use Rattle.station_core.specs.Ends.{HasCause};
 ghost use Rattle.station_core.specs.Step.{State};
 ghost use Rattle.stock_list.specs.Ended.{IsShutAfter, IsUntroubled};
 ghost use Rattle.cli_line.specs.Asked.{IsTelegramAsked};
 ghost use Rattle.cli_line.specs.Came.{HasFailed};
 ghost use Rattle.cli_line.specs.Ended.{HasRun};
+ghost use Rattle.cli_line.specs.Reasons.{HasExplainedRun};
 ghost use Rattle.cli_line.specs.Shut.{HasRunShut};
 
 use crate::answer::answer_asked;
@@ -17,8 +18,9 @@ use stock_list::RunFault;
 
 /// Reads one telegram, hands it to the station at a moment, and writes the line of its answer: `ok
 /// 10`, `refused 213 LH400/2026-01-12/FRA/1`, or `refused 301 4 ending` where it can't be read. Of
-/// an input with more than 65,536 bytes, which is refused, only a beginning is read. `Ok` says
-/// whether it was accepted.
+/// an input with more than 65,536 bytes, which is refused, only a beginning is read. Why a telegram
+/// can't be read (301, 302) is written on `errors`, behind the line. `Ok` says whether it was
+/// accepted.
 ///
 /// Returns [`RunFault::Read`] where the reader fails, and [`RunFault::Memory`] where memory runs
 /// out before the station is asked: nothing was done or written. Returns [`RunFault::Store`] where
@@ -26,11 +28,12 @@ use stock_list::RunFault;
 /// at all. Returns [`RunFault::Write`] where the writer fails, and [`RunFault::Memory`] where
 /// memory for the line runs out: the telegram was answered, and a beginning of the line was
 /// written.
-pub fn run_take<K: Keeper, I: ByteIn, O: ByteOut>(
+pub fn run_take<K: Keeper, I: ByteIn, O: ByteOut, E: ByteOut>(
     alloc: Global,
     keeper: &mut K,
     reader: &mut I,
     writer: &mut O,
+    errors: &mut E,
     at: Moment,
 ) -> Result<bool, RunFault>
     ensures sound { K.is_sound keeper.new → K.is_sound keeper.old }
@@ -54,6 +57,13 @@ pub fn run_take<K: Keeper, I: ByteIn, O: ByteOut>(
         ⊎ IsUntroubled (O.taken writer.old) (O.taken writer.new)) }
     ensures untroubled { OnOk result (IsUntroubled (O.taken writer.old) (O.taken writer.new)) }
 
+    // Behind its line a telegram that can't be read has its reason, or a beginning of it, and
+    // nothing else goes there.
+    ensures quiet { result ≡ Ok true → errors.new ≡ errors.old }
+    ensures reasons { HasExplainedRun IsTelegramAsked K.keeps K.is_sound K.is_broken at
+        keeper.old keeper.new (I.given reader.old) (I.given reader.new)
+        E.taken errors.old errors.new result }
+
     // A station that has to be opened again stays as it is, and nothing is asked of it.
     ensures same { K.is_broken keeper.old ≡ true → keeper.new ≡ keeper.old }
     ensures reopen { K.is_broken keeper.old ≡ true
@@ -62,7 +72,7 @@ pub fn run_take<K: Keeper, I: ByteIn, O: ByteOut>(
 {
     let bytes = read_input(alloc, reader)?;
     match telegram_asked(alloc, bytes.as_slice()) {
-        Ok(asked) => answer_asked(alloc, keeper, writer, &asked, at),
+        Ok(asked) => answer_asked(alloc, keeper, writer, errors, &asked, at),
         Err(_) => Err(RunFault::Memory),
     }
 }

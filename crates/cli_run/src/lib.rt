@@ -13,4 +13,4 @@ pub use feed::Feed;
 pub use place::{airport_of_line, is_migration, is_opening};
 pub use run::run_over;
 pub use sent::{send_part, send_word};
-pub use tied::{TiedInput, TiedOutput, tie};
+pub use tied::{Tied, TiedErrors, TiedInput, TiedOutput, tie};

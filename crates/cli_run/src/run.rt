@@ -3,6 +3,7 @@ ghost use Rattle.std.specs.Prelude.{◌≡◌, false, OnOk};
 ghost use Rattle.cli_line.specs.Asked.{IsCommandAsked, IsTelegramAsked};
 ghost use Rattle.cli_run.specs.Done.{HasAnsweredAsked, HasAnsweredRows, HasDone, HasToldMade};
 ghost use Rattle.cli_run.specs.Place.{here_of};
+ghost use Rattle.cli_run.specs.Reasons.{HasExplainedAsked, HasExplainedRows, HasGivenReasons};
 
 use crate::look::{do_holder, do_waybill};
 use crate::place::airport_of_line;
@@ -33,11 +34,12 @@ fn do_init<K: Keeper, W: ByteOut>(
 }
 
 /// `stock`: the answers of a stock list.
-fn do_stock<K: Keeper, I: Watched + Read, W: ByteOut>(
+fn do_stock<K: Keeper, I: Watched + Read, W: ByteOut, E: ByteOut>(
     alloc: Global,
     keeper: &mut K,
     reader: &mut I,
     output: &mut W,
+    errors: &mut E,
     at: Moment,
 ) -> Result<bool, RunFault>
     ensures sound { K.is_sound keeper.new → K.is_sound keeper.old }
@@ -45,16 +47,19 @@ fn do_stock<K: Keeper, I: Watched + Read, W: ByteOut>(
     ensures answered { HasAnsweredRows K.keeps K.is_sound K.is_broken K.may_find
         (I.remaining reader.old) at keeper.old keeper.new
         (I.given reader.new) (W.taken output.old) (W.taken output.new) result }
+    ensures explained { HasExplainedRows (I.remaining reader.old) E.taken errors.old errors.new
+        result }
 {
-    run_stock(alloc, keeper, reader, output, at)
+    run_stock(alloc, keeper, reader, output, errors, at)
 }
 
 /// `take FILE`: the answer of a telegram.
-fn do_take<K: Keeper, I: ByteIn, W: ByteOut>(
+fn do_take<K: Keeper, I: ByteIn, W: ByteOut, E: ByteOut>(
     alloc: Global,
     keeper: &mut K,
     reader: &mut I,
     output: &mut W,
+    errors: &mut E,
     at: Moment,
 ) -> Result<bool, RunFault>
     ensures sound { K.is_sound keeper.new → K.is_sound keeper.old }
@@ -62,18 +67,22 @@ fn do_take<K: Keeper, I: ByteIn, W: ByteOut>(
     ensures answered { HasAnsweredAsked IsTelegramAsked K.keeps K.is_sound K.is_broken K.may_find at
         keeper.old keeper.new
         (I.given reader.old) (I.given reader.new) (W.taken output.old) (W.taken output.new) result }
+    ensures explained { HasExplainedAsked IsTelegramAsked K.keeps K.is_sound K.is_broken at
+        keeper.old keeper.new (I.given reader.old) (I.given reader.new)
+        E.taken errors.old errors.new result }
 {
-    run_take(alloc, keeper, reader, output, at)
+    run_take(alloc, keeper, reader, output, errors, at)
 }
 
 /// `act VERB KEY`: the answer of a command under its key.
-fn do_act<K: Keeper, I: ByteIn, W: ByteOut>(
+fn do_act<K: Keeper, I: ByteIn, W: ByteOut, E: ByteOut>(
     alloc: Global,
     keeper: &mut K,
     verb: Verb,
     key: Key,
     reader: &mut I,
     output: &mut W,
+    errors: &mut E,
     at: Moment,
 ) -> Result<bool, RunFault>
     ensures sound { K.is_sound keeper.new → K.is_sound keeper.old }
@@ -81,22 +90,27 @@ fn do_act<K: Keeper, I: ByteIn, W: ByteOut>(
     ensures answered { HasAnsweredAsked (IsCommandAsked verb key) K.keeps K.is_sound K.is_broken
         K.may_find at keeper.old keeper.new
         (I.given reader.old) (I.given reader.new) (W.taken output.old) (W.taken output.new) result }
+    ensures explained { HasExplainedAsked (IsCommandAsked verb key) K.keeps K.is_sound K.is_broken
+        at keeper.old keeper.new (I.given reader.old) (I.given reader.new)
+        E.taken errors.old errors.new result }
 {
-    run_act(alloc, keeper, verb, key, reader, output, at)
+    run_act(alloc, keeper, verb, key, reader, output, errors, at)
 }
 
 /// Runs the command of a line over its station, at a moment. `serve` and `migrate` aren't run here:
-/// nothing is done or written.
+/// nothing is done or written. Why a row, a telegram or a body can't be read is written on
+/// `errors`.
 ///
 /// `Ok` says whether all was accepted. Returns [`RunFault::Read`], [`RunFault::Write`],
 /// [`RunFault::Memory`] or [`RunFault::Store`] where the run stopped, as its command's own call
 /// says.
-pub fn run_over<K: Keeper, I: Watched + Read, W: ByteOut>(
+pub fn run_over<K: Keeper, I: Watched + Read, W: ByteOut, E: ByteOut>(
     alloc: Global,
     keeper: &mut K,
     line: &Line<'_>,
     reader: &mut I,
     output: &mut W,
+    errors: &mut E,
     at: Moment,
 ) -> Result<bool, RunFault>
     ensures sound { K.is_sound keeper.new → K.is_sound keeper.old }
@@ -105,12 +119,17 @@ pub fn run_over<K: Keeper, I: Watched + Read, W: ByteOut>(
         K.is_broken K.may_find at keeper.old keeper.new
         (I.remaining reader.old) (I.given reader.old) (I.given reader.new) (W.taken output.old)
         (W.taken output.new) result }
+    ensures explained { HasGivenReasons line.now.command K.keeps K.is_sound K.is_broken at
+        keeper.old keeper.new (I.remaining reader.old) (I.given reader.old) (I.given reader.new)
+        E.taken errors.old errors.new result }
 {
     match line.command {
         LineCommand::Init => do_init(keeper, airport_of_line(line), output),
-        LineCommand::Stock => do_stock(alloc, keeper, reader, output, at),
-        LineCommand::Take(_) => do_take(alloc, keeper, reader, output, at),
-        LineCommand::Act { verb, key } => do_act(alloc, keeper, verb, key, reader, output, at),
+        LineCommand::Stock => do_stock(alloc, keeper, reader, output, errors, at),
+        LineCommand::Take(_) => do_take(alloc, keeper, reader, output, errors, at),
+        LineCommand::Act { verb, key } => {
+            do_act(alloc, keeper, verb, key, reader, output, errors, at)
+        }
         LineCommand::Outbox => do_outbox(alloc, keeper, output),
         LineCommand::Report(name) => do_report(alloc, keeper, name, output),
         LineCommand::Waybill(number) => do_waybill(alloc, keeper, &number, output),

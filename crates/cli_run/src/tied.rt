@@ -1,4 +1,4 @@
-//! An output that goes out before its input is read.
+//! An output that goes out before its input is read, and before anything is told behind it.
 
 use std::alloc::{AllocError, Global};
 use std::cell::RefCell;
@@ -24,15 +24,32 @@ pub struct TiedInput<R, W: Write + Drop> {
     gathered: Gathered<W>,
 }
 
-/// Ties an output to an input, so that who writes the one and reads the other has each answer
-/// before the next question.
+/// What is told of a command, as on standard error. Before each write what was written to the tied
+/// output goes out, so that what is told of a line stands behind it.
+#[derive(Drop)]
+pub struct TiedErrors<E, W: Write + Drop> {
+    errors: E,
+    gathered: Gathered<W>,
+}
+
+/// An output, with the input and the errors that are tied to it.
+#[derive(Drop)]
+pub struct Tied<R, W: Write + Drop, E> {
+    pub input: TiedInput<R, W>,
+    pub output: TiedOutput<W>,
+    pub errors: TiedErrors<E, W>,
+}
+
+/// Ties an output to an input and to errors, so that who writes the input and reads the output has
+/// each answer before the next question, and before what is told of it.
 ///
 /// Returns [`AllocError`] when out of memory.
-pub fn tie<R: Read + Drop, W: Write + Drop>(
+pub fn tie<R: Read + Drop, W: Write + Drop, E: Write + Drop>(
     alloc: Global,
     reader: R,
     writer: W,
-) -> Result<(TiedInput<R, W>, TiedOutput<W>), AllocError> {
+    errors: E,
+) -> Result<Tied<R, W, E>, AllocError> {
     let Ok(writer) = BufWriter::new(alloc, writer) else {
         return Err(AllocError);
     };
@@ -41,7 +58,15 @@ pub fn tie<R: Read + Drop, W: Write + Drop>(
         reader,
         gathered: gathered.clone()?,
     };
-    Ok((input, TiedOutput { gathered }))
+    let errors = TiedErrors {
+        errors,
+        gathered: gathered.clone()?,
+    };
+    Ok(Tied {
+        input,
+        output: TiedOutput { gathered },
+        errors,
+    })
 }
 
 /// The error of a buffer that is in use. It never is, since each use ends within its call.
@@ -49,16 +74,31 @@ fn in_use() -> io::Error {
     ErrorKind::Other.into()
 }
 
+/// Lets what was gathered go out. A failure is told by the next write, or by the last flush: what
+/// didn't go out is still there.
+fn let_out<W: Write + Drop>(gathered: &Gathered<W>) {
+    if let Ok(mut gathered) = gathered.try_borrow_mut() {
+        let _told_later = gathered.flush();
+    }
+}
+
 impl<R: Read, W: Write + Drop> Read for TiedInput<R, W> {
     ghost remaining = { λ t. R.remaining t.reader };
 
     fn read(&mut self, buf: &mut [u8]) -> io::Result<usize> {
-        // A failure is told by the next write, or by the last flush: what didn't go out is still
-        // there.
-        if let Ok(mut gathered) = self.gathered.try_borrow_mut() {
-            let _told_later = gathered.flush();
-        }
+        let_out(&self.gathered);
         self.reader.read(buf)
+    }
+}
+
+impl<E: Write, W: Write + Drop> Write for TiedErrors<E, W> {
+    fn write(&mut self, buf: &[u8]) -> io::Result<usize> {
+        let_out(&self.gathered);
+        self.errors.write(buf)
+    }
+
+    fn flush(&mut self) -> io::Result<()> {
+        self.errors.flush()
     }
 }
 

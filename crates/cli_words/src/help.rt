@@ -47,7 +47,8 @@ pub(crate) const STOCK: &str = "Answers a stock list, CSV on standard input, row
 
 pub(crate) const STOCK_EXAMPLES: &str = "\
 A row has six fields: key, verb (take-in, issue, return, void), prefix (3 digits), serial (7 digits),
-count (1 to 7 digits), agent (empty for take-in and void). A row of another shape is told as `row N bad`.
+count (1 to 7 digits), agent (empty for take-in and void). A row of another shape is told as `row N bad`,
+and standard error says why, with its line.
 
 Example:
   printf 'k1,take-in,020,1234567,10,\\nk2,issue,020,1234570,3,ACME\\n' | cargo_desk stock
@@ -58,7 +59,8 @@ prints
 pub(crate) const TAKE: &str = "Takes one telegram (FWB, FFM or FSU)";
 
 pub(crate) const TAKE_EXAMPLES: &str = "\
-Prints `ok 10`, with what it counted, or the refusal, as `refused 301 4 ending`.
+Prints `ok 10`, with what it counted, or the refusal, as `refused 301 4 ending`. Where the telegram
+can't be read (301, 302) standard error says why.
 
 Example:
   cargo_desk --station FRA take telegram.txt";
@@ -70,7 +72,8 @@ Each verb is refused 501 too where KEY was used for another command, and 402 whe
 full. `cargo_desk act VERB --help` tells what the fields are.
 
 KEY is the command's own, 1 to 40 printable characters: the same key again is the same command
-again. Prints `ok 3`, the refusal, as `refused 102 020-12345723`, or `body bad`.
+again. Prints `ok 3`, the refusal, as `refused 102 020-12345723`, or `body bad`, and then standard
+error says why.
 
 Example:
   echo '{\"prefix\":\"020\",\"serial\":\"1234570\",\"count\":3,\"agent\":\"ACME\"}' | cargo_desk act issue k2";

@@ -1,2 +1,2 @@
-pub mod Shown
+pub mod Printable
 pub mod Told

@@ -7,7 +7,7 @@ use Rattle.shipment_machine.specs.declared.plans.Refusal.{Refusal}
 -- a line of printable ASCII that begins with this head
 abbrev pub IsReason : List ℕ → List ℕ → Type 0
 IsReason head text =
-    (words : List ℕ) × IsTrue (list_all is_printable words) × (text ≡ head ++ words ++ 10 ∷ [])
+    (words : List ℕ) × IsTrue (list_all is_printable words) × (text ≡ head ++ (words ++ 10 ∷ []))
 
 -- a reason with this head was written, or a beginning of one, which may be nothing
 abbrev pub HasReason : List ℕ → List ℕ → List ℕ → Type 0

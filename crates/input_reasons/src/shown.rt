@@ -19,7 +19,7 @@ fn hex_digit(n: u8) -> u8
 }
 
 /// Appends a character of printable ASCII.
-#[tactic(auto, using(crate::proofs::Shown::grown))]
+#[tactic(auto, using(crate::proofs::Printable::grown))]
 fn push_printable(text: &mut String, byte: u8) -> Result<(), AllocError>
     requires least { 32 ≤ byte }
     requires most { byte ≤ 126 }

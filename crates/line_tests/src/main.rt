@@ -17,7 +17,7 @@ use std::process::ExitCode;
 use std::{fs, io};
 
 /// The files of cases, in the order in which they are gone through.
-const FILES: [&str; 4] = ["words", "clock", "calls", "cut-calls"];
+const FILES: [&str; 5] = ["words", "clock", "calls", "cut-calls", "reasons"];
 
 /// What answers the cases of a file.
 #[derive(Drop)]
@@ -32,7 +32,12 @@ impl Answers for FileAnswers {
         match self.file {
             "words" => words::answer(self.alloc, asked, text),
             "clock" => clock::answer(self.alloc, asked, text),
-            "calls" | "cut-calls" => calls::answer(self.alloc, &mut self.desk, asked, text),
+            "calls" | "cut-calls" | "reasons" => calls::answer(
+                self.alloc,
+                &mut self.desk,
+                asked,
+                text,
+            ),
             _ => None,
         }
     }

@@ -2,6 +2,7 @@ pub mod Digits
 mod Fields
 mod ListLaw
 mod More
+mod Reasons
 mod Records
 mod Told
 mod Unanswered

@@ -49,6 +49,11 @@ pub all_first : (rows : List Row) (left : Option (List ℕ)) → IfSome left (λ
 all_first rows None all = tt
 all_first rows (Some bytes) all = ([], sym all ∙ sym (no_more rows))
 
+-- and so is none of them
+pub none_first : (left : Option (List ℕ)) → IfSome left (AreFirst [])
+none_first None = tt
+none_first (Some bytes) = (stock_rows bytes, refl)
+
 -- `Read`, told as `Memory`
 out_of_memory : (s : State) (rows : List Row) (next : Option Row) (at : LocalMinute) (before after : List ℕ) (keeps : State → Type 0) (may_find : Option State → Type 0)
     → HasStopped s rows next at fault.Read before after keeps may_find → HasStopped s rows next at fault.Memory before after keeps may_find

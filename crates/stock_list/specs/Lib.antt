@@ -3,3 +3,4 @@ pub mod Lines
 pub mod Ended
 pub mod Shut
 pub mod Law
+pub mod Reasons

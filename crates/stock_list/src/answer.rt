@@ -3,7 +3,9 @@ ghost use Rattle.csv.specs.Records.{fields_of};
 ghost use Rattle.station_core.specs.Ends.{HasCause};
 ghost use Rattle.station_core.specs.Step.{State};
 ghost use Rattle.stock_list.specs.Ended.{run_fault, IsAnswered, IsShutAfter, IsStopped, IsUntroubled};
+ghost use Rattle.input_reasons.specs.Reason.{HasReason};
 ghost use Rattle.stock_list.specs.Lines.{answer_text, answer_line, bad_line};
+ghost use Rattle.stock_list.specs.Reasons.{row_head, HasToldRow};
 ghost use Rattle.stock_list.specs.Row.{row_asks};
 ghost use Rattle.stock_list.specs.Shut.{IsAnsweredShut};
 
@@ -11,6 +13,7 @@ use crate::row::read_row;
 use csv::ByteRecord;
 use desk_commands::Command;
 use imp_fields::Moment;
+use input_reasons::{row_reason, tell_reason};
 use station_core::{
     ActFault, Answer, ByteOut, Input, Keeper, Key, answer_one, refusal_text, reply_text, send,
 };
@@ -27,6 +30,15 @@ pub enum RunFault {
     Memory,
     /// The store failed, in this row or before.
     Store,
+}
+
+/// Where a row stands in its list.
+#[derive(Clone, Copy, Debug, PartialEq, Eq)]
+pub struct RowPlace {
+    /// Its number among the records, from 1.
+    pub number: u64,
+    /// The line on which it begins, from 1.
+    pub line: u64,
 }
 
 /// An answer as it is printed: `ok 10`, or `refused 102 020-12345723`.
@@ -84,12 +96,22 @@ pub fn keeper_fault(fault: ActFault) -> RunFault
     }
 }
 
-/// Answers a row, after what it asks was done, at a moment. `Ok` says whether it was accepted.
-pub fn answer_row<K: Keeper, W: ByteOut>(
+/// Writes why a row asks nothing, as far as the writer takes it. Where memory runs out nothing is
+/// written.
+fn tell_row<E: ByteOut>(alloc: Global, errors: &mut E, row: &ByteRecord, line: u64)
+    ensures { HasReason row_head (E.taken errors.old).bytes (E.taken errors.new).bytes }
+{
+    tell_reason(errors, row_reason(alloc, row, line));
+}
+
+/// Answers a row, after what it asks was done, at a moment. `Ok` says whether it was accepted. One
+/// that asks nothing has its reason on `errors`, behind its line.
+pub fn answer_row<K: Keeper, W: ByteOut, E: ByteOut>(
     alloc: Global,
     keeper: &mut K,
     writer: &mut W,
-    number: u64,
+    errors: &mut E,
+    place: RowPlace,
     row: &ByteRecord,
     at: Moment,
 ) -> Result<bool, RunFault>
@@ -99,30 +121,34 @@ pub fn answer_row<K: Keeper, W: ByteOut>(
         → IfErr result (λ e. IsShutAfter e (K.is_broken keeper.new)) }
     ensures answered { (s : State) → K.keeps keeper.old s → K.is_broken keeper.old ≡ false
         → K.is_sound keeper.new
-        → IfOk result (λ good. IsAnswered number s (fields_of row.now) at good
+        → IfOk result (λ good. IsAnswered place.number s (fields_of row.now) at good
         (W.taken writer.old).bytes (W.taken writer.new).bytes (K.keeps keeper.new)) }
     ensures stopped { (s : State) → K.keeps keeper.old s → K.is_broken keeper.old ≡ false
         → K.is_sound keeper.new
-        → IfErr result (λ e. IsStopped number s (fields_of row.now) at e (W.taken writer.old).bytes
-        (W.taken writer.new).bytes (K.keeps keeper.new) (K.may_find keeper.new)) }
+        → IfErr result (λ e. IsStopped place.number s (fields_of row.now) at e
+        (W.taken writer.old).bytes (W.taken writer.new).bytes (K.keeps keeper.new)
+        (K.may_find keeper.new)) }
     ensures untroubled { OnOk result (IsUntroubled (W.taken writer.old) (W.taken writer.new)) }
     ensures write_cause { result ≡ Err RunFault.Write
         → HasCause (W.taken writer.old) (W.taken writer.new) }
     ensures write_told { IfErr result (λ e. (e ≡ RunFault.Write)
         ⊎ IsUntroubled (W.taken writer.old) (W.taken writer.new)) }
     ensures unread { result ≡ Err RunFault.Read → ⊥ }
+    ensures reasons { HasToldRow E.taken result (row_asks (fields_of row.now)) errors.old
+        errors.new }
 
     // A station that has to be opened again stays as it is, and no row is asked of it.
     ensures same { K.is_broken keeper.old ≡ true → keeper.new ≡ keeper.old }
     ensures reopen { K.is_broken keeper.old ≡ true
-        → IsAnsweredShut number (row_asks (fields_of row.now)) (W.taken writer.old)
+        → IsAnsweredShut place.number (row_asks (fields_of row.now)) (W.taken writer.old)
         (W.taken writer.new) result }
 {
     let Some(asked) = read_row(row) else {
-        let Ok(line) = bad_line(alloc, number) else {
+        let Ok(line) = bad_line(alloc, place.number) else {
             return Err(RunFault::Memory);
         };
         send_line(writer, &line)?;
+        tell_row(alloc, errors, row, place.line);
         return Ok(false);
     };
     let input = Input::Keyed(asked.0, Command::Stock(asked.1));

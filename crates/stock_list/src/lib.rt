@@ -3,11 +3,12 @@
 
 mod answer;
 mod law;
+mod lines;
 mod row;
 mod run;
 mod watched;
 
-pub use answer::{RunFault, answer_row, answer_text, keeper_fault, send_line};
+pub use answer::{RowPlace, RunFault, answer_row, answer_text, keeper_fault, send_line};
 pub use law::list_law;
 pub use row::read_row;
 pub use run::run_stock;

@@ -1,12 +1,14 @@
-ghost use Rattle.std.specs.Prelude.{◌≡◌, ◌<◌, ◌⊎◌, true, false, Err, List, Option, OnOk, IfOk, IfErr, IfSome};
+ghost use Rattle.std.specs.Prelude.{◌≡◌, ◌<◌, ◌⊎◌, true, false, Ok, Err, List, Option, OnOk, IfOk, IfErr, IfSome};
 ghost use Rattle.csv.specs.Reading.{error_kind};
 ghost use Rattle.station_core.specs.Ends.{HasCause};
 ghost use Rattle.station_core.specs.Step.{State};
 ghost use Rattle.stock_list.specs.Ended.{reader_fault, told_by, HasRun, HasStopped, IsShutAfter, IsUntroubled, rows_read, AreFirst};
 ghost use Rattle.stock_list.specs.Lines.{Row, stock_rows};
+ghost use Rattle.stock_list.specs.Reasons.{HasToldRows};
 ghost use Rattle.stock_list.specs.Shut.{HasRunShut};
 
-use crate::answer::{RunFault, answer_row};
+use crate::answer::{RowPlace, RunFault, answer_row};
+use crate::lines::{LineCount, line_by_line};
 use crate::watched::Watched;
 use csv::{Error, ErrorKind, ReaderBuilder};
 use imp_fields::Moment;
@@ -25,11 +27,13 @@ fn reader_fault(e: Error) -> RunFault
 }
 
 /// Answers the rows that a reader gives up to its end, or up to an error.
-fn run_rows<K: Keeper, R: Read + Drop, W: ByteOut>(
+fn run_rows<K: Keeper, R: Read + Drop, W: ByteOut, E: ByteOut>(
     alloc: Global,
     keeper: &mut K,
     reader: R,
     writer: &mut W,
+    errors: &mut E,
+    lines: &LineCount,
     at: Moment,
 ) -> Result<bool, RunFault>
     ensures sound { K.is_sound keeper.new → K.is_sound keeper.old }
@@ -53,6 +57,9 @@ fn run_rows<K: Keeper, R: Read + Drop, W: ByteOut>(
     ensures write_told { IfErr result (λ e. (e ≡ RunFault.Write)
         ⊎ IsUntroubled (W.taken writer.old) (W.taken writer.new)) }
     ensures untroubled { OnOk result (IsUntroubled (W.taken writer.old) (W.taken writer.new)) }
+    ensures quiet { result ≡ Ok true → errors.new ≡ errors.old }
+    ensures reasons { HasToldRows (R.remaining reader) (E.taken errors.old).bytes
+        (E.taken errors.new).bytes result }
     ensures same { K.is_broken keeper.old ≡ true → keeper.new ≡ keeper.old }
     ensures reopen { K.is_broken keeper.old ≡ true
         → HasRunShut (R.remaining reader) (W.taken writer.old).bytes (W.taken writer.new).bytes
@@ -68,7 +75,9 @@ fn run_rows<K: Keeper, R: Read + Drop, W: ByteOut>(
         number += 1;
         match row {
             Ok(row) => {
-                let accepted = answer_row(alloc, keeper, writer, number, &row, at)?;
+                let line = lines.first_line(&row);
+                let place = RowPlace { number, line };
+                let accepted = answer_row(alloc, keeper, writer, errors, place, &row, at)?;
                 good &= accepted;
             }
             Err(e) => return Err(reader_fault(e)),
@@ -101,12 +110,13 @@ fn told_by(ended: Result<bool, RunFault>, failed: bool) -> Result<bool, RunFault
 }
 
 /// Answers the rows of a stock list, each after what it asks was done, all at one moment. `Ok` says
-/// whether all were accepted.
-pub fn run_stock<K: Keeper, R: Watched + Read, W: ByteOut>(
+/// whether all were accepted. One that asks nothing has its reason on `errors`, behind its line.
+pub fn run_stock<K: Keeper, R: Watched + Read, W: ByteOut, E: ByteOut>(
     alloc: Global,
     keeper: &mut K,
     reader: &mut R,
     writer: &mut W,
+    errors: &mut E,
     at: Moment,
 ) -> Result<bool, RunFault>
     ensures sound { K.is_sound keeper.new → K.is_sound keeper.old }
@@ -143,6 +153,12 @@ pub fn run_stock<K: Keeper, R: Watched + Read, W: ByteOut>(
         ⊎ IsUntroubled (W.taken writer.old) (W.taken writer.new)) }
     ensures untroubled { OnOk result (IsUntroubled (W.taken writer.old) (W.taken writer.new)) }
 
+    // Each row that asks nothing has its reason on `errors`, or a beginning of it, and nothing else
+    // goes there. Where all was accepted nothing does.
+    ensures quiet { result ≡ Ok true → errors.new ≡ errors.old }
+    ensures reasons { HasToldRows (R.remaining reader.old) (E.taken errors.old).bytes
+        (E.taken errors.new).bytes result }
+
     // A station that has to be opened again stays as it is. The first row that asks anything of it
     // ends the run.
     ensures same { K.is_broken keeper.old ≡ true → keeper.new ≡ keeper.old }
@@ -150,6 +166,10 @@ pub fn run_stock<K: Keeper, R: Watched + Read, W: ByteOut>(
         → HasRunShut (R.remaining reader.old) (W.taken writer.old).bytes (W.taken writer.new).bytes
         result }
 {
-    let ended = run_rows(alloc, keeper, &mut *reader, writer, at);
+    let count = LineCount::new();
+    let Ok(lines) = line_by_line(alloc, &mut *reader, &count) else {
+        return Err(RunFault::Memory);
+    };
+    let ended = run_rows(alloc, keeper, lines, writer, errors, &count, at);
     told_by(ended, reader.has_failed())
 }

@@ -1,5 +1,6 @@
 use Rattle.std.proofs.Common.{refl, inr}
 use Rattle.cli_line.specs.Asked.{IsTelegramAsked}
+use Rattle.cli_line.proofs.Reasons.{explained_run, unexplained, quiet_run}
 use Rattle.cli_line.proofs.Ran.{has_run, has_run_shut, not_come, works_unheard, passed_on, each_heard}
 use Rattle.cli_line.proofs.take.run_take.Goals as goal
 
@@ -34,3 +35,21 @@ returns-in_err-bytes-clause-write_told g c =
 
 pub returns-in-Ok-clause-read_told : goal.returns-in-Ok-clause-read_told
 returns-in-Ok-clause-read_told g c = each_heard c.answer_asked.result _ _ c.in_ok-bytes.ensures.come.failures
+
+pub returns-in-Ok-clause-quiet : goal.returns-in-Ok-clause-quiet
+returns-in-Ok-clause-quiet g c =
+    quiet_run g.K.Keeper.keeps g.K.Keeper.is_sound g.K.Keeper.is_broken c.in-Ok.asked c.args.at c.args.keeper.now c.answer_asked.new.keeper
+    g.E.ByteOut.taken c.args.errors.now c.answer_asked.new.errors c.answer_asked.result c.answer_asked.ensures.reasons
+
+pub returns-in-Ok-clause-reasons : goal.returns-in-Ok-clause-reasons
+returns-in-Ok-clause-reasons g c =
+    explained_run IsTelegramAsked g.K.Keeper.keeps g.K.Keeper.is_sound g.K.Keeper.is_broken c.args.at c.args.keeper.now c.answer_asked.new.keeper
+    (g.I.ByteIn.given c.args.reader.now) (g.I.ByteIn.given c.read_input.new.reader) g.E.ByteOut.taken c.args.errors.now c.answer_asked.new.errors
+    c.in_ok-bytes.bytes.items c.in-Ok.asked c.answer_asked.result c.in_ok-bytes.ensures.come (rw c.as_slice.ensures.value at c.in-Ok.ensures)
+    c.answer_asked.ensures.reasons
+
+pub returns-in_err-bytes-clause-reasons : goal.returns-in_err-bytes-clause-reasons
+returns-in_err-bytes-clause-reasons g c =
+    unexplained IsTelegramAsked g.K.Keeper.keeps g.K.Keeper.is_sound g.K.Keeper.is_broken c.args.at c.args.keeper.now c.args.keeper.now
+    (g.I.ByteIn.given c.args.reader.now) (g.I.ByteIn.given c.read_input.new.reader) g.E.ByteOut.taken c.args.errors.now
+    c.from_residual.result c.in_err-bytes.field-0.0 c.from_residual.ensures.1

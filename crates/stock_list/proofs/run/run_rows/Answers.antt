@@ -1,9 +1,11 @@
-use Rattle.std.proofs.Common.{rules, arith, ◌∙◌, sym, refl, inl, inr, ap, ◌+◌, ◌<◌, ◌≤◌, List, [], ◌∷◌, ◌++◌, Some, None, Err, subst, Fits, w64}
+use Rattle.std.proofs.Common.{rules, arith, ◌≡◌, ◌∙◌, true, sym, refl, inl, inr, ap, ◌+◌, ◌<◌, ◌≤◌, List, [], ◌∷◌, ◌++◌, Some, None, Err, subst, Fits, w64}
 use Rattle.station_core.specs.Ends.{HasCause}
 use Rattle.stock_list.specs.Ended.{IsReadersFault, IsShutAfter, IsUntroubled}
 use Rattle.csv.specs.Records.{fields_of}
 use Rattle.stock_list.specs.Lines.{Row, rows_after}
+use Rattle.stock_list.specs.Row.{row_asks}
 use Rattle.stock_list.proofs.More.{append_nil, known_start, known_more, known_end, known_first, counted_more, run_more, readers_fault, works_still, stops_more}
+use Rattle.stock_list.proofs.Reasons.{told_more, quiet_more, told_stop, passed_told, never_accepted}
 use Rattle.stock_list.proofs.Shut.{untroubled_more, told_behind, cause_behind, passed_cause, no_write, shut_start, shut_more, shut_stops, passed_shut}
 use Rattle.stock_list.proofs.Unanswered.{passed_on}
 use Rattle.stock_list.proofs.run.run_rows.Goals as goal
@@ -27,6 +29,7 @@ loop-row-init g c =
       sound = λ sound. sound;
       works = λ works. works;
       untroubled = record { failures = refl; idle = refl };
+      quiet = λ accepted. refl;
       same = λ broken. refl;
       rows = (
         [],
@@ -34,6 +37,7 @@ loop-row-init g c =
         rw (start, rdr) known,
         λ s keeps works sound. record { lines = sym (append_nil (g.W.ByteOut.taken c.args.writer.now).bytes); good_is = refl; state = keeps },
         λ broken. shut_start (g.W.ByteOut.taken c.args.writer.now).bytes,
+        refl,
       );
     }
 
@@ -66,6 +70,8 @@ loop-row-preserved g c =
       works = λ works. c.in_ok-accepted-in-Ok.ensures.works (inv.works works);
       untroubled = untroubled_more (g.W.ByteOut.taken c.args.writer.now) (g.W.ByteOut.taken c.loop-row.writer) (g.W.ByteOut.taken c.answer_row.new.writer)
           inv.untroubled c.in_ok-accepted-in-Ok.ensures.untroubled;
+      quiet = quiet_more g.E.ByteOut.taken (row_asks f) c.loop-row.good c.in_ok-accepted-in-Ok.accepted c.args.errors.now c.loop-row.errors c.answer_row.new.errors
+          inv.quiet c.in_ok-accepted-in-Ok.ensures.reasons;
       same = λ broken. c.answer_row.ensures.same (ap g.K.Keeper.is_broken (inv.same broken) ∙ broken) ∙ inv.same broken;
       rows = (
         rows ++ f ∷ [],
@@ -78,6 +84,8 @@ loop-row-preserved g c =
         λ broken. shut_more rows f c.loop-row.number c.loop-row.good c.in_ok-accepted-in-Ok.accepted (g.W.ByteOut.taken c.args.writer.now).bytes
             (g.W.ByteOut.taken c.loop-row.writer) (g.W.ByteOut.taken c.answer_row.new.writer) inv.rows.1 (inv.rows.4 broken)
             (c.in_ok-accepted-in-Ok.ensures.reopen (ap g.K.Keeper.is_broken (inv.same broken) ∙ broken)),
+        told_more g.E.ByteOut.taken rows f c.in_ok-accepted-in-Ok.accepted (g.E.ByteOut.taken c.args.errors.now).bytes c.loop-row.errors c.answer_row.new.errors
+            inv.rows.5 c.in_ok-accepted-in-Ok.ensures.reasons,
       );
     }
 
@@ -217,4 +225,33 @@ returns-in_err-accepted-in-Ok-clause-reopen g c = λ broken.
           (shut.have.ask, shut_stops rows f c.loop-row.number c.loop-row.good c.in_err-accepted-in-Ok.field-0.0 old.bytes mid new inv.rows.1 shut told),
         ),
       ),
+    )
+
+pub returns-clause-quiet : goal.returns-clause-quiet
+returns-clause-quiet g c = λ is. let accepted : c.loop-row.good ≡ true = cc in c.loop-row.invariant.quiet accepted
+
+pub returns-in_err-accepted-in-Ok-clause-quiet : goal.returns-in_err-accepted-in-Ok-clause-quiet
+returns-in_err-accepted-in-Ok-clause-quiet g c = λ is.
+    never_accepted _ c.from_residual.result c.in_err-accepted-in-Ok.field-0.0 c.from_residual.ensures.1 is
+
+pub returns-clause-reasons : goal.returns-clause-reasons
+returns-clause-reasons g c =
+    let inv = c.loop-row.invariant in
+    let step = rw c.in-None.is at ((c.next.ensures.steps inv.left inv.trim).0 inv.ready) in
+    let all = known_end g.R.Read.remaining c.loop-row.row-iterator.rdr c.next.new.self.rdr [] inv.rows.0 (g.R.Read.remaining c.args.reader) inv.config step inv.rows.2 in
+    (inv.rows.0, all, inv.rows.5)
+
+pub returns-in-Err-clause-reasons : goal.returns-in-Err-clause-reasons
+returns-in-Err-clause-reasons g c =
+    let inv = c.loop-row.invariant in
+    (inv.rows.0, known_first g.R.Read.remaining c.loop-row.row-iterator.rdr inv.rows.0 (g.R.Read.remaining c.args.reader) inv.rows.2, inv.rows.5)
+
+pub returns-in_err-accepted-in-Ok-clause-reasons : goal.returns-in_err-accepted-in-Ok-clause-reasons
+returns-in_err-accepted-in-Ok-clause-reasons g c =
+    let inv = c.loop-row.invariant in
+    passed_told (g.R.Read.remaining c.args.reader) (g.E.ByteOut.taken c.args.errors.now).bytes (g.E.ByteOut.taken c.answer_row.new.errors).bytes
+    c.from_residual.result c.in_err-accepted-in-Ok.field-0.0 c.from_residual.ensures.1 (
+      inv.rows.0,
+      known_first g.R.Read.remaining c.loop-row.row-iterator.rdr inv.rows.0 (g.R.Read.remaining c.args.reader) inv.rows.2,
+      told_stop g.E.ByteOut.taken inv.rows.0 (g.E.ByteOut.taken c.args.errors.now).bytes c.loop-row.errors c.answer_row.new.errors inv.rows.5 c.in_err-accepted-in-Ok.ensures.reasons,
     )

@@ -4,6 +4,7 @@ use Rattle.csv.specs.declared.reader.Trim.TheVariants as trim
 use Rattle.station_core.specs.Step.{State}
 use Rattle.stock_list.specs.Lines.{Row}
 use Rattle.stock_list.specs.Ended.{HasRun, IsUntroubled}
+use Rattle.stock_list.specs.Reasons.{AreToldRows}
 use Rattle.stock_list.proofs.More.{Known}
 use Rattle.stock_list.proofs.Shut.{IsShut}
 use Rattle.stock_list.proofs.run.run_rows.Given as goal
@@ -20,9 +21,11 @@ invariant-loop-row g l =
       sound : g.K.Keeper.is_sound l.keeper → g.K.Keeper.is_sound l.fn.keeper;
       works : g.K.Keeper.is_broken l.fn.keeper ≡ false → g.K.Keeper.is_broken l.keeper ≡ false;
       untroubled : IsUntroubled (g.W.ByteOut.taken l.fn.writer) (g.W.ByteOut.taken l.writer);
+      quiet : l.good ≡ true → l.errors ≡ l.fn.errors;
       same : g.K.Keeper.is_broken l.fn.keeper ≡ true → l.keeper ≡ l.fn.keeper;
       rows : (rows : List Row) × (l.number ≡ length rows) × IfSome (g.R.Read.remaining l.fn.reader) (Known g.R.Read.remaining l.row-iterator.rdr rows)
           × ((s : State) → g.K.Keeper.keeps l.fn.keeper s → g.K.Keeper.is_broken l.fn.keeper ≡ false → g.K.Keeper.is_sound l.keeper
           → HasRun s rows l.fn.at l.good (g.W.ByteOut.taken l.fn.writer).bytes (g.W.ByteOut.taken l.writer).bytes (g.K.Keeper.keeps l.keeper))
-          × (g.K.Keeper.is_broken l.fn.keeper ≡ true → IsShut rows l.good (g.W.ByteOut.taken l.fn.writer).bytes (g.W.ByteOut.taken l.writer).bytes);
+          × (g.K.Keeper.is_broken l.fn.keeper ≡ true → IsShut rows l.good (g.W.ByteOut.taken l.fn.writer).bytes (g.W.ByteOut.taken l.writer).bytes)
+          × AreToldRows rows (g.E.ByteOut.taken l.fn.errors).bytes (g.E.ByteOut.taken l.errors).bytes;
     }
