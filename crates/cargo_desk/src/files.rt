@@ -16,23 +16,37 @@ use stock_list::RunFault;
 /// that it changed as a whole.
 const PAGE_LEN: usize = 1024;
 
-const MEMORY: DeskFault = DeskFault::Run(RunFault::Memory);
+/// Why a file isn't opened.
+#[derive(Clone, Copy, Debug, PartialEq, Eq)]
+pub enum FileFault {
+    /// It is missing or empty, or a database was only begun in it.
+    NoStation,
+    /// Another program has it open.
+    Busy,
+    /// Memory ran out.
+    Memory,
+    /// It can't be read or written, or it is no database.
+    Store,
+}
 
-const STORE: DeskFault = DeskFault::Run(RunFault::Store);
-
-/// Why a call ends where a file isn't opened.
-fn open_fault(error: &Error) -> DeskFault {
-    match error {
-        Error::SqliteFailure(ErrorCode::OutOfMemory) => MEMORY,
-        _ => STORE,
+impl FileFault {
+    /// How the call ends.
+    pub fn ended(self) -> DeskFault {
+        match self {
+            FileFault::NoStation => DeskFault::Attach(AttachFault::NoStation),
+            FileFault::Memory => DeskFault::Run(RunFault::Memory),
+            FileFault::Busy | FileFault::Store => DeskFault::Run(RunFault::Store),
+        }
     }
 }
 
 /// Opens a file that has a database.
-fn open(rt: &HostRuntime, path: &str) -> Result<Connection<FileStore<File>>, DeskFault> {
+fn open(rt: &HostRuntime, path: &str) -> Result<Connection<FileStore<File>>, FileFault> {
     match Connection::open(rt, path) {
         Ok(conn) => Ok(conn),
-        Err(error) => Err(open_fault(&error)),
+        Err(Error::SqliteFailure(ErrorCode::OutOfMemory)) => Err(FileFault::Memory),
+        Err(Error::SqliteFailure(ErrorCode::DatabaseBusy)) => Err(FileFault::Busy),
+        Err(_) => Err(FileFault::Store),
     }
 }
 
@@ -55,44 +69,45 @@ fn is_blank(rt: &HostRuntime, path: &str) -> io::Result<bool> {
 }
 
 /// What a log's salts are made from: a random number.
-fn options(rt: &HostRuntime) -> Result<Options, DeskFault> {
+fn options(rt: &HostRuntime) -> Result<Options, FileFault> {
     match RandomState::new(rt) {
         Ok(state) => Ok(Options::new(state.hash_one(&0u8))),
-        Err(_) => Err(STORE),
+        Err(_) => Err(FileFault::Store),
     }
 }
 
 /// Makes a database with no table in a file that has none. Whatever stops it, the file has none or
 /// the whole one, and the next call goes on from there.
-fn lay_first_page(rt: &HostRuntime, path: &str) -> Result<(), DeskFault> {
+fn lay_first_page(rt: &HostRuntime, path: &str) -> Result<(), FileFault> {
     let alloc = rt.alloc();
     let mut files = match sqlite_std_file::open(rt, path, Unknown) {
         Ok(files) => files,
-        Err(sqlite_std_file::OpenError::OutOfMemory) => return Err(MEMORY),
-        Err(_) => return Err(STORE),
+        Err(sqlite_std_file::OpenError::OutOfMemory) => return Err(FileFault::Memory),
+        Err(sqlite_std_file::OpenError::Busy) => return Err(FileFault::Busy),
+        Err(_) => return Err(FileFault::Store),
     };
     let size = PageSize::new(PAGE_LEN).unwrap();
     match probe_blank(alloc, &mut files, size, false) {
         Ok(true) => {}
         Ok(false) => return Ok(()),
-        Err(sqlite_wal::Error::OutOfMemory) => return Err(MEMORY),
-        Err(_) => return Err(STORE),
+        Err(sqlite_wal::Error::OutOfMemory) => return Err(FileFault::Memory),
+        Err(_) => return Err(FileFault::Store),
     }
     let Ok(pager) = Pager::new(alloc, files, size, options(rt)?) else {
-        return Err(MEMORY);
+        return Err(FileFault::Memory);
     };
     let Ok(fresh) = Unopened::new(alloc, pager, &[]) else {
-        return Err(MEMORY);
+        return Err(FileFault::Memory);
     };
     match fresh.create() {
         Ok(_store) => Ok(()),
-        Err((sqlite_store::OpenError::OutOfMemory, _files)) => Err(MEMORY),
-        Err(_) => Err(STORE),
+        Err((sqlite_store::OpenError::OutOfMemory, _files)) => Err(FileFault::Memory),
+        Err(_) => Err(FileFault::Store),
     }
 }
 
 /// Opens a file, or makes it where it is missing or empty.
-pub fn make_file(rt: &HostRuntime, path: &str) -> Result<Connection<FileStore<File>>, DeskFault> {
+pub fn make_file(rt: &HostRuntime, path: &str) -> Result<Connection<FileStore<File>>, FileFault> {
     // The library opens no file of these names.
     if path != ":memory:" && !path.starts_with("file:") {
         lay_first_page(rt, path)?;
@@ -101,10 +116,10 @@ pub fn make_file(rt: &HostRuntime, path: &str) -> Result<Connection<FileStore<Fi
 }
 
 /// Opens a file that is there. A file that is missing or empty has no station, and stays as it is.
-pub fn open_file(rt: &HostRuntime, path: &str) -> Result<Connection<FileStore<File>>, DeskFault> {
+pub fn open_file(rt: &HostRuntime, path: &str) -> Result<Connection<FileStore<File>>, FileFault> {
     match is_blank(rt, path) {
-        Ok(true) => Err(DeskFault::Attach(AttachFault::NoStation)),
+        Ok(true) => Err(FileFault::NoStation),
         Ok(false) => open(rt, path),
-        Err(_) => Err(STORE),
+        Err(_) => Err(FileFault::Store),
     }
 }

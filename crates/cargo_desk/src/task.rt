@@ -1,6 +1,6 @@
 //! A line over its store: memory, or a file.
 
-use crate::files::{make_file, open_file};
+use crate::files::{FileFault, make_file, open_file};
 use crate::service::{Service, serve_line};
 use cli_call::{DeskFault, end, run_line};
 use cli_run::{Feed, Tied, is_opening, tie};
@@ -121,6 +121,18 @@ fn run_in_memory<R: Read + Drop>(rt: &HostRuntime, line: &Line<'_>, task: Task<'
     }
 }
 
+/// Ends a call whose file isn't opened. Behind the line of its fault it is told where another
+/// program has the file.
+fn end_unopened(rt: &HostRuntime, path: &str, fault: FileFault) -> u8 {
+    let status = end_call(rt, Err(fault.ended()));
+    if fault == FileFault::Busy {
+        let _told = eprint!(rt;
+            "{path}: another program has this file; wait until that ends, or ask it over HTTP\n"
+        );
+    }
+    status
+}
+
 /// Does a line's task over a file, which is closed behind a run: its log is copied into it.
 fn run_in_file<R: Read + Drop>(
     rt: &HostRuntime,
@@ -135,7 +147,7 @@ fn run_in_file<R: Read + Drop>(
     };
     let conn = match opened {
         Ok(conn) => conn,
-        Err(fault) => return end_call(rt, Err(fault)),
+        Err(fault) => return end_unopened(rt, path, fault),
     };
     let (status, conn) = run_task(rt, line, conn, task);
     if status <= 1 && conn.close().is_err() {
