@@ -111,3 +111,24 @@ module _ {K C : Type 0} (db : Database) (i : Input) (at : LocalMinute) (keeps : 
           → IfErr r (λ e. Clean e.0 → ((s : State) → ¬ IsStateIn db s) → (f : Option State) → Finds e.0 f → Before f)
       go (Ok p) clean = tt
       go (Err e) clean = λ on none f finds. let it = found (clean on) in absurd (none it.0 it.1)
+
+  pub untouched_on : (Clean : C → Type 0) (Left : C → Type 0) → IfErr r (λ e. Clean e.0 → is_clean station)
+      → IfErr r (λ e. Clean e.0 → ((s : State) → ¬ IsStateIn db s) → Left e.0)
+  untouched_on Clean Left clean = go r clean
+    where
+      go : (r : Result (K × Answer) (C × AttachFault)) → IfErr r (λ e. Clean e.0 → is_clean station) → IfErr r (λ e. Clean e.0 → ((s : State) → ¬ IsStateIn db s) → Left e.0)
+      go (Ok p) clean = tt
+      go (Err e) clean = λ on none. let it = found (clean on) in absurd (none it.0 it.1)
+
+-- where an input failed, a fault that names what is wrong with the tables doesn't come
+pub never_named : {X C : Type 0} (Left : C → Type 0) (r : Result X (C × AttachFault)) → IfErr r (λ e. IsBreakdown e.1) → IfErr r (λ e. ¬ IsBreakdown e.1 → Left e.0)
+never_named Left (Ok x) broke = tt
+never_named Left (Err e) broke = λ named. absurd (named broke)
+
+pub never_named_clean : {X C : Type 0} (Clean Left : C → Type 0) (r : Result X (C × AttachFault)) → IfErr r (λ e. IsBreakdown e.1) → IfErr r (λ e. Clean e.0 → ¬ IsBreakdown e.1 → Left e.0)
+never_named_clean Clean Left (Ok x) broke = tt
+never_named_clean Clean Left (Err e) broke = λ clean named. absurd (named broke)
+
+-- such a fault isn't the store's
+pub named_other : (f : AttachFault) → ¬ IsBreakdown f → f ≡ fault.Store → ⊥
+named_other f named is = named (subst IsBreakdown (sym is) tt)

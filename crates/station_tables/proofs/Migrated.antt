@@ -146,6 +146,15 @@ undone_seen a d e seen back =
     let last = sym seen.rest ∙ seen.same ∙ seen.was_at_rest in
     record { outside = back.outside; was_open = λ _. seen.was_open; committed = λ is. back.committed is ∙ last; now = λ is. back.now is ∙ last }
 
+-- what was refused behind a look, with no fault of the store
+pub unmoved_seen : {K C : Type 0} (at_err : C → sqlite.State) (a d : sqlite.State) → (HasCleanDisk d → IsSeen a d) → (r : Result K (C × AttachFault))
+    → IfErr r (λ e. sqlite.Survives d (at_err e.0) (λ _. ⊥)) → IfErr r (λ e. (e.1 ≢ fault.Store) → IsSettled d → IsUndone d (at_err e.0))
+    → IfErr r (λ e. HasCleanDisk (at_err e.0) → (e.1 ≢ fault.Store) → IsUndone a (at_err e.0))
+unmoved_seen at_err a d look (Ok k) survives unmoved = tt
+unmoved_seen at_err a d look (Err e) survives unmoved = λ clean other.
+    let seen = look (was_clean d (at_err e.0) survives clean) in
+    undone_seen a d (at_err e.0) seen (unmoved other (settled_seen a d seen))
+
 -- a transaction is open, so nothing is said
 pub none_open : {P : Type 0} (in_ auto : Bool) → auto ≡ not in_ → auto ≡ false → in_ ≡ false → P
 none_open true auto says shut outside = absurd (cc)

@@ -1,6 +1,6 @@
 ghost use Rattle.std.specs.Prelude.{◌≡◌, ◌≢◌, true, false, Option, Some, Err, IsTrue, IfOk, IfErr};
 ghost use Rattle.sqlite.specs.State.{HasCleanDisk, IsUnchanged, Survives};
-ghost use Rattle.row_laws.specs.Calls.{Reads};
+ghost use Rattle.row_laws.specs.Calls.{IsSettled, IsUndone, Reads};
 ghost use Rattle.sqlite.specs.Held.{state};
 ghost use Rattle.sqlite.specs.Effect.{Database};
 ghost use Rattle.found_station.specs.Reading.{read_as};
@@ -180,6 +180,8 @@ fn settle<S: Alter>(
         → IsUnchanged (state S.Store conn) (state S.Store (connection_in station))) }
     ensures unwritten_at_err { IfErr result
         (λ e. Survives (state S.Store conn) (state S.Store e.0) (λ _. ⊥)) }
+    ensures unmoved { IfErr result (λ e. e.1 ≢ AttachFault.Store → IsSettled (state S.Store conn)
+        → IsUndone (state S.Store conn) (state S.Store e.0)) }
 {
     match judged {
         Ok(found) => go_on(alloc, conn, found),
@@ -241,6 +243,12 @@ pub fn attach<S: Alter>(
         → IsUnchanged (state S.Store conn) (state S.Store (connection_in station))) }
     ensures unwritten_at_err { IfErr result
         (λ e. Survives (state S.Store conn) (state S.Store e.0) (λ _. ⊥)) }
+
+    // At any fault but the store's no transaction is open, and the connection, if it is open, shows
+    // what it showed.
+    ensures unmoved { (connection_view S.Store conn).in_transaction ≡ false
+        → IfErr result (λ e. HasCleanDisk (state S.Store e.0) → e.1 ≢ AttachFault.Store
+        → IsUndone (state S.Store conn) (state S.Store e.0)) }
 {
     shows_own_station(&conn);
     if !conn.is_autocommit() {

@@ -1,5 +1,6 @@
 ghost use Rattle.std.specs.Prelude.{◌≡◌, ◌≢◌, true, false, Err, Option, Some, IfOk, IfErr, OnOk};
-ghost use Rattle.sqlite.specs.State.{HasCleanDisk};
+ghost use Rattle.sqlite.specs.State.{HasCleanDisk, Survives};
+ghost use Rattle.row_laws.specs.Calls.{IsUndone};
 ghost use Rattle.sqlite.specs.Held.{state};
 ghost use Rattle.row_schema.specs.Own.{IsOwn, LiesInOrder};
 ghost use Rattle.row_schema.specs.Connection.{connection_view};
@@ -166,6 +167,17 @@ pub fn attach_and_repeat<S: Alter>(
         → ((s : State) → ¬ IsStateIn (state S.Store conn).now s)
         → (found : Option State) → Finds (connection_view S.Store e.0) found
         → Finds (connection_view S.Store conn) found) }
+    ensures untouched { IfErr result (λ e. HasCleanDisk (state S.Store e.0)
+        → ((s : State) → ¬ IsStateIn (state S.Store conn).now s)
+        → Survives (state S.Store conn) (state S.Store e.0) (λ _. ⊥)) }
+
+    // A fault that names what is wrong with the tables comes before the input: nothing is written,
+    // no transaction is open, and the connection, if it is open, shows what it showed.
+    ensures unwritten_at_err { IfErr result (λ e. ¬ IsBreakdown e.1
+        → Survives (state S.Store conn) (state S.Store e.0) (λ _. ⊥)) }
+    ensures unmoved { (connection_view S.Store conn).in_transaction ≡ false
+        → IfErr result (λ e. HasCleanDisk (state S.Store e.0) → ¬ IsBreakdown e.1
+        → IsUndone (state S.Store conn) (state S.Store e.0)) }
 {
     match attach(alloc, conn) {
         Ok(station) => repeat_on(station, input, at),

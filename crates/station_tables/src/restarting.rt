@@ -1,8 +1,11 @@
-ghost use Rattle.std.specs.Prelude.{◌≡◌, ◌<◌, false, [], None, Some, length, take, IfOk, IfErr};
-ghost use Rattle.sqlite.specs.State.{HasCleanDisk};
+ghost use Rattle.std.specs.Prelude.{◌≡◌, ◌<◌, true, false, [], None, Some, length, take, IfOk, IfErr};
+ghost use Rattle.sqlite.specs.State.{HasCleanDisk, Survives};
 ghost use Rattle.sqlite.specs.Held.{state};
-ghost use Rattle.station_core.specs.Keeping.{IsBrokenAtEnd, IsMemoryOrStore};
-ghost use Rattle.station_core.specs.Step.{State, answers_of};
+ghost use Rattle.station_core.specs.Keeping.{IsBrokenAtEnd, IsMemoryOrReopen, IsMemoryOrStore};
+ghost use Rattle.station_core.specs.Step.{State, after_all, answers_of};
+ghost use Rattle.station_rows.specs.Own.{are_declared};
+ghost use Rattle.station_rows.specs.Shown.{rows_view};
+ghost use Rattle.table_state.specs.Shown.{IfGivenBack};
 ghost use Rattle.station_tables.specs.Attached.{connection_in, IsBreakdown};
 ghost use Rattle.station_tables.specs.Restarted.{IsRestored};
 
@@ -61,6 +64,20 @@ pub fn act_and_restart<S: Alter>(
     ensures breaks { ⟦<Station<S> as Keeper>⟧.is_broken station ≡ false
         → IsBrokenAtEnd result.given.fault (⟦<Station<S> as Keeper>⟧.is_broken result.stopped) }
 
+    // Unless the store failed, the one that stopped keeps the state after what it answered.
+    ensures state { (s : State) → ⟦<Station<S> as Keeper>⟧.keeps station s
+        → ⟦<Station<S> as Keeper>⟧.is_broken station ≡ false
+        → ⟦<Station<S> as Keeper>⟧.is_sound result.stopped
+        → (result.given.fault ≡ Some ActFault.Store → ⊥)
+        → ⟦<Station<S> as Keeper>⟧.keeps result.stopped
+        (after_all s (take (length result.given.answers.items) inputs.now)) }
+
+    // One that has to be opened again answers nothing, and stays as it is.
+    ensures reopen { ⟦<Station<S> as Keeper>⟧.is_broken station ≡ true
+        → (result.given.answers.items ≡ []) × (result.stopped ≡ station) }
+    ensures reopen_fault { ⟦<Station<S> as Keeper>⟧.is_broken station ≡ true → (e : ActFault)
+        → result.given.fault ≡ Some e → IsMemoryOrReopen e }
+
     // What a crash leaves is no reason to refuse it: a fault says that the store failed, or that
     // memory was out.
     ensures opens { (s : State) → ⟦<Station<S> as Keeper>⟧.keeps station s
@@ -74,6 +91,12 @@ pub fn act_and_restart<S: Alter>(
         → (state S.Store (connection_in result.stopped)).may_leave (state S.Store other).now.trees
         → IfOk result.opened (λ again. HasCleanDisk (state S.Store (connection_in again))
         → ⟦<Station<S> as Keeper>⟧.is_sound again) }
+
+    // Opening writes nothing.
+    ensures unwritten { IfOk result.opened
+        (λ again. Survives (state S.Store other) (state S.Store (connection_in again)) (λ _. ⊥)) }
+    ensures unwritten_at_err { IfErr result.opened
+        (λ e. Survives (state S.Store other) (state S.Store e.0) (λ _. ⊥)) }
 {
     let given = act_all(alloc, &mut station, inputs);
     let opened = attach(alloc, other);
@@ -120,6 +143,16 @@ pub fn release_and_restart<S: Alter>(
         → (state S.Store result.left).may_leave (state S.Store other).now.trees
         → IfOk result.opened (λ again. HasCleanDisk (state S.Store (connection_in again))
         → ⟦<Station<S> as Keeper>⟧.is_sound again) }
+
+    // What is given back is as `release` leaves it, and opening writes nothing.
+    ensures left { Survives (state S.Store (connection_in station)) (state S.Store result.left)
+        (λ _. ⊥) }
+    ensures shown { (s : State) → ⟦<Station<S> as Keeper>⟧.keeps station s
+        → IfGivenBack (rows_view S.Store result.left (are_declared station.stored.store.store)) s }
+    ensures unwritten { IfOk result.opened
+        (λ again. Survives (state S.Store other) (state S.Store (connection_in again)) (λ _. ⊥)) }
+    ensures unwritten_at_err { IfErr result.opened
+        (λ e. Survives (state S.Store other) (state S.Store e.0) (λ _. ⊥)) }
 {
     let left = station.release();
     let opened = attach(alloc, other);

@@ -1,4 +1,6 @@
-use Rattle.station_tables.proofs.Looked.{finds_after, finds_after_one, fit_on, own_fit_on, found_on, judged_there, leaves_on, own_on, refused_on, seen_on, survives_both, survives_same, typed_on, unwritten_at, unwritten_on}
+use Rattle.sqlite.specs.Held.{state}
+use Rattle.station_tables.proofs.Looked.{finds_after, finds_after_one, fit_on, own_fit_on, found_on, judged_there, leaves_on, own_on, refused_on, seen_on, survives_both, survives_same, typed_on, unwritten_at, unwritten_on, was_clean}
+use Rattle.station_tables.proofs.Migrated.{none_open, undone_read, unmoved_seen}
 use Rattle.station_tables.proofs.attaching.attach.Goals as goal
 
 pub returns-then-not-is_live-clause-leaves : goal.returns-then-not-is_live-clause-leaves
@@ -54,3 +56,17 @@ returns-in-Ok-clause-unwritten_at_err g c = unwritten_at _ _ _ _ (survives_both 
 
 pub returns-in-Err-clause-unwritten_at_err : goal.returns-in-Err-clause-unwritten_at_err
 returns-in-Err-clause-unwritten_at_err g c = survives_both _ _ _ c.is_live.ensures.survives c.in-Err.ensures.survives
+
+pub returns-then-not-is_autocommit-clause-unmoved : goal.returns-then-not-is_autocommit-clause-unmoved
+returns-then-not-is_autocommit-clause-unmoved g c = λ outside. none_open (state g.S.Store c.args.conn).in_transaction _ c.is_autocommit.ensures.value c.if-not-is_autocommit.true outside
+
+pub returns-in-Ok-clause-unmoved : goal.returns-in-Ok-clause-unmoved
+returns-in-Ok-clause-unmoved g c = λ outside. unmoved_seen (state g.S.Store) _ _
+    (λ clean. (judged_there _ _ _ _ c.is_autocommit.ensures.value c.is_autocommit.ensures.settled c.if-not-is_autocommit.false (c.is_live.ensures.same c.if-not-is_live.false) c.in-Ok.ensures.survives _ _ c.in-Ok.ensures.read clean).0)
+    _ c.settle.ensures.unwritten_at_err c.settle.ensures.unmoved
+
+pub returns-in-Err-clause-unmoved : goal.returns-in-Err-clause-unmoved
+returns-in-Err-clause-unmoved g c = λ outside clean other.
+    let live = c.is_live.ensures.same c.if-not-is_live.false (was_clean _ _ c.in-Err.ensures.survives clean) in
+    undone_read (state g.S.Store c.args.conn) (c.is_autocommit.ensures.settled c.if-not-is_autocommit.false) outside _ _ live
+    (c.in-Err.ensures.read clean live.0.is_open)

@@ -5,6 +5,7 @@ use Rattle.table_load.specs.declared.station.FileVersion.TheVariants.{Second}
 use Rattle.station_tables.specs.Attached.{IsJudged}
 use Rattle.station_tables.proofs.Attached.{kept_on, store_says_nothing}
 use Rattle.station_tables.proofs.Looked.{survives_same}
+use Rattle.station_tables.proofs.Migrated.{not_store, undone_same}
 use Rattle.station_tables.proofs.attaching.settle.Goals as goal
 
 pub returns-in-Ok-clause-found : goal.returns-in-Ok-clause-found
@@ -19,3 +20,9 @@ returns-in-Err-clause-refused g c = λ at. c.unfit_fault.ensures.refuses _ (subs
 
 pub returns-in-Err-clause-unwritten_at_err : goal.returns-in-Err-clause-unwritten_at_err
 returns-in-Err-clause-unwritten_at_err g c = survives_same _
+
+pub returns-in-Ok-clause-unmoved : goal.returns-in-Ok-clause-unmoved
+returns-in-Ok-clause-unmoved g c = not_store _ _ c.go_on.ensures.fault
+
+pub returns-in-Err-clause-unmoved : goal.returns-in-Err-clause-unmoved
+returns-in-Err-clause-unmoved g c = λ other rest. undone_same _ rest

@@ -1,11 +1,12 @@
 use Rattle.std.proofs.Common.{inl}
 use Rattle.sqlite.specs.Held.{state}
-use Rattle.sqlite.specs.State.{HasCleanDisk}
+use Rattle.sqlite.specs.State.{HasCleanDisk, Survives}
+use Rattle.row_laws.specs.Calls.{IsUndone}
 use Rattle.row_schema.specs.Own.{IsOwn, LiesInOrder}
 use Rattle.row_schema.specs.Connection.{connection_view}
 use Rattle.station_tables.specs.Attached.{connection_in}
 use Rattle.station_tables.specs.Found.{Finds}
-use Rattle.station_tables.proofs.Again.{left_on, memory_on, refuses_on, repeated_on, sound_on, spared_on}
+use Rattle.station_tables.proofs.Again.{left_on, memory_on, named_other, never_named, never_named_clean, refuses_on, repeated_on, sound_on, spared_on, untouched_on}
 use Rattle.station_tables.specs.contracts.station.StationKeeper.TheImpl.{ghosts}
 use Rattle.station_tables.proofs.repeating.attach_and_repeat.Goals as goal
 
@@ -49,3 +50,24 @@ returns-in-Ok-clause-memory g c =
 
 pub returns-in-Err-clause-memory : goal.returns-in-Err-clause-memory
 returns-in-Err-clause-memory g c = λ is clean own lies found finds. inl (c.in-Err.ensures.leaves clean found finds)
+
+pub returns-in-Ok-clause-untouched : goal.returns-in-Ok-clause-untouched
+returns-in-Ok-clause-untouched g c =
+    let station = ghosts g.row.S g.S.Alter g.S.Alter-dict g.S.Store g.S.Store-dict in
+    untouched_on _ c.args.input.now c.args.at station.keeps station.is_sound (λ k. HasCleanDisk (state g.S.Store (connection_in k))) c.in-Ok.station _ c.in-Ok.ensures.found (λ conn. HasCleanDisk (state g.S.Store conn))
+    (λ conn. Survives (state g.S.Store c.args.conn) (state g.S.Store conn) (λ _. ⊥)) c.repeat_on.ensures.left_clean
+
+pub returns-in-Err-clause-untouched : goal.returns-in-Err-clause-untouched
+returns-in-Err-clause-untouched g c = λ clean none. c.in-Err.ensures.unwritten_at_err
+
+pub returns-in-Ok-clause-unwritten_at_err : goal.returns-in-Ok-clause-unwritten_at_err
+returns-in-Ok-clause-unwritten_at_err g c = never_named (λ conn. Survives (state g.S.Store c.args.conn) (state g.S.Store conn) (λ _. ⊥)) _ c.repeat_on.ensures.fault
+
+pub returns-in-Err-clause-unwritten_at_err : goal.returns-in-Err-clause-unwritten_at_err
+returns-in-Err-clause-unwritten_at_err g c = λ named. c.in-Err.ensures.unwritten_at_err
+
+pub returns-in-Ok-clause-unmoved : goal.returns-in-Ok-clause-unmoved
+returns-in-Ok-clause-unmoved g c = λ outside. never_named_clean (λ conn. HasCleanDisk (state g.S.Store conn)) (λ conn. IsUndone (state g.S.Store c.args.conn) (state g.S.Store conn)) _ c.repeat_on.ensures.fault
+
+pub returns-in-Err-clause-unmoved : goal.returns-in-Err-clause-unmoved
+returns-in-Err-clause-unmoved g c = λ outside clean named. c.in-Err.ensures.unmoved outside clean (named_other _ named)
