@@ -6,6 +6,14 @@ use Rattle.station_core.specs.Given.{Given}
 abbrev pub longest : ℕ
 longest = 65_536
 
+-- and of an input at all: one read more than the most bytes that a telegram or a body has
+abbrev pub most_bytes : ℕ
+most_bytes = longest + 4_096
+
+-- not more than so many bytes more have come
+abbrev pub IsWithin : ℕ → Given → Given → Type 0
+IsWithin most old new = length new.bytes ≤ length old.bytes + most
+
 -- some reads more, whose bytes stand behind those that had come; no read failed
 pub record HasGrown (old new : Given) (before after : List ℕ) : Type 0 where
   pub part : List ℕ

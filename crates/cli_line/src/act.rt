@@ -3,7 +3,7 @@ ghost use Rattle.station_core.specs.Ends.{HasCause};
 ghost use Rattle.station_core.specs.Step.{State};
 ghost use Rattle.stock_list.specs.Ended.{IsShutAfter, IsUntroubled};
 ghost use Rattle.cli_line.specs.Asked.{IsCommandAsked};
-ghost use Rattle.cli_line.specs.Came.{HasFailed};
+ghost use Rattle.cli_line.specs.Came.{HasFailed, IsWithin, most_bytes};
 ghost use Rattle.cli_line.specs.Ended.{HasRun};
 ghost use Rattle.cli_line.specs.Reasons.{HasExplainedRun};
 ghost use Rattle.cli_line.specs.Shut.{HasRunShut};
@@ -25,8 +25,9 @@ use stock_list::RunFault;
 /// Returns [`RunFault::Read`] where the reader fails, and [`RunFault::Memory`] where memory runs
 /// out before the station is asked: nothing was done or written. Returns [`RunFault::Store`] where
 /// the store fails, or failed before: nothing was written, and the command was done wholly or not
-/// at all. Returns [`RunFault::Write`] where the writer fails, and [`RunFault::Memory`] where
-/// memory for the line runs out: the command was answered, and a beginning of the line was written.
+/// at all. Returns [`RunFault::Write`] where the writer fails: the command was answered, and a
+/// beginning of the line was written. Returns [`RunFault::Memory`] too where memory for the line
+/// runs out: the command was answered, and nothing was written.
 pub fn run_act<K: Keeper, I: ByteIn, O: ByteOut, E: ByteOut>(
     alloc: Global,
     keeper: &mut K,
@@ -57,6 +58,13 @@ pub fn run_act<K: Keeper, I: ByteIn, O: ByteOut, E: ByteOut>(
     ensures write_told { IfErr result (λ e. (e ≡ RunFault.Write)
         ⊎ IsUntroubled (O.taken writer.old) (O.taken writer.new)) }
     ensures untroubled { OnOk result (IsUntroubled (O.taken writer.old) (O.taken writer.new)) }
+
+    // At any fault but the writer's nothing was written.
+    ensures unwritten { IfErr result (λ e. (e ≡ RunFault.Write)
+        ⊎ (O.taken writer.new ≡ O.taken writer.old)) }
+
+    // Of an input that is too long only a beginning is read.
+    ensures most { IsWithin most_bytes (I.given reader.old) (I.given reader.new) }
 
     // Behind its line a bad body has its reason, or a beginning of it, and nothing else goes there.
     ensures quiet { result ≡ Ok true → errors.new ≡ errors.old }

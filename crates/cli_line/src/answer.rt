@@ -66,6 +66,8 @@ fn answer_input<K: Keeper, O: ByteOut, E: ByteOut>(
     ensures write_told { IfErr result (λ e. (e ≡ RunFault.Write)
         ⊎ IsUntroubled (O.taken writer.old) (O.taken writer.new)) }
     ensures untroubled { OnOk result (IsUntroubled (O.taken writer.old) (O.taken writer.new)) }
+    ensures unwritten { IfErr result (λ e. (e ≡ RunFault.Write)
+        ⊎ (O.taken writer.new ≡ O.taken writer.old)) }
     ensures same { K.is_broken keeper.old ≡ true → keeper.new ≡ keeper.old }
     ensures reopen { K.is_broken keeper.old ≡ true
         → IsAnsweredShut (Asked.Input input.now) (O.taken writer.old) (O.taken writer.new) result }
@@ -102,6 +104,8 @@ fn answer_refusal<O: ByteOut, E: ByteOut>(
     ensures write_told { IfErr result (λ e. (e ≡ RunFault.Write)
         ⊎ IsUntroubled (O.taken writer.old) (O.taken writer.new)) }
     ensures untroubled { OnOk result (IsUntroubled (O.taken writer.old) (O.taken writer.new)) }
+    ensures unwritten { IfErr result (λ e. (e ≡ RunFault.Write)
+        ⊎ (O.taken writer.new ≡ O.taken writer.old)) }
     ensures reasons { HasGivenReason E.taken (is_unread refusal.now) (codes "telegram: ") errors.old
         errors.new result }
 {
@@ -130,6 +134,8 @@ fn answer_bad<O: ByteOut, E: ByteOut>(
     ensures write_told { IfErr result (λ e. (e ≡ RunFault.Write)
         ⊎ IsUntroubled (O.taken writer.old) (O.taken writer.new)) }
     ensures untroubled { OnOk result (IsUntroubled (O.taken writer.old) (O.taken writer.new)) }
+    ensures unwritten { IfErr result (λ e. (e ≡ RunFault.Write)
+        ⊎ (O.taken writer.new ≡ O.taken writer.old)) }
     ensures reasons { HasGivenReason E.taken true (codes "body: ") errors.old errors.new result }
 {
     send_line(writer, BAD_BODY)?;
@@ -164,6 +170,8 @@ pub(crate) fn answer_asked<K: Keeper, O: ByteOut, E: ByteOut>(
     ensures write_told { IfErr result (λ e. (e ≡ RunFault.Write)
         ⊎ IsUntroubled (O.taken writer.old) (O.taken writer.new)) }
     ensures untroubled { OnOk result (IsUntroubled (O.taken writer.old) (O.taken writer.new)) }
+    ensures unwritten { IfErr result (λ e. (e ≡ RunFault.Write)
+        ⊎ (O.taken writer.new ≡ O.taken writer.old)) }
     ensures same { K.is_broken keeper.old ≡ true → keeper.new ≡ keeper.old }
     ensures reopen { K.is_broken keeper.old ≡ true
         → IsAnsweredShut asked.now (O.taken writer.old) (O.taken writer.new) result }

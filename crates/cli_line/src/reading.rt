@@ -2,7 +2,7 @@
 ghost use Rattle.std.specs.Prelude.{◌≡◌, ◌⊎◌, ◌+◌, ◌<◌, true, Err, IfOk, IfErr, OnOk};
 ghost use Rattle.station_core.specs.Ends.{HasCause};
 ghost use Rattle.stock_list.specs.Ended.{IsReadersFault};
-ghost use Rattle.cli_line.specs.Came.{HasGrown, HasCome, HasFailed};
+ghost use Rattle.cli_line.specs.Came.{HasGrown, HasCome, HasFailed, IsWithin, most_bytes};
 
 use station_core::{ByteIn, ReadFault};
 use std::alloc::Global;
@@ -16,6 +16,7 @@ const CHUNK: usize = 4096;
 
 /// One read behind the bytes that have come. `true`: the input has ended. An interrupted read
 /// brings nothing.
+#[tactic(auto, using(crate::proofs::Grown::read_within))]
 fn read_more<I: ByteIn>(reader: &mut I, bytes: &mut Vec<u8>) -> Result<bool, RunFault>
     ensures come { OnOk result
         (HasGrown (I.given reader.old) (I.given reader.new) bytes.old.items bytes.new.items) }
@@ -27,6 +28,7 @@ fn read_more<I: ByteIn>(reader: &mut I, bytes: &mut Vec<u8>) -> Result<bool, Run
         → (I.given reader.old).failures < (I.given reader.new).failures }
     ensures told { IfErr result (λ e. (e ≡ RunFault.Read)
         ⊎ ((I.given reader.new).failures ≡ (I.given reader.old).failures)) }
+    ensures part { IsWithin 4_096 (I.given reader.old) (I.given reader.new) }
 {
     let mut room = [0; CHUNK];
     match reader.read(&mut room) {
@@ -41,6 +43,7 @@ fn read_more<I: ByteIn>(reader: &mut I, bytes: &mut Vec<u8>) -> Result<bool, Run
 }
 
 /// Reads an input to its end, or until more bytes have come than a telegram or a body has.
+#[tactic(auto, using(crate::proofs::Grown::more_within, crate::proofs::Grown::still_within))]
 pub(crate) fn read_input<I: ByteIn>(alloc: Global, reader: &mut I) -> Result<Vec<u8>, RunFault>
     ensures come { IfOk result
         (λ bytes. HasCome (I.given reader.old) (I.given reader.new) bytes.items) }
@@ -49,6 +52,7 @@ pub(crate) fn read_input<I: ByteIn>(alloc: Global, reader: &mut I) -> Result<Vec
         → HasFailed (I.given reader.old) (I.given reader.new) }
     ensures told { IfErr result (λ e. (e ≡ RunFault.Read)
         ⊎ ((I.given reader.new).failures ≡ (I.given reader.old).failures)) }
+    ensures most { IsWithin most_bytes (I.given reader.old) (I.given reader.new) }
 {
     let mut bytes = Vec::new(alloc);
     for _turn in 0..u64::MAX {

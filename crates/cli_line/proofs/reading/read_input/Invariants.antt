@@ -1,5 +1,5 @@
-use Rattle.std.proofs.Common.{◌≡◌, ◌+◌, []}
-use Rattle.cli_line.specs.Came.{HasGrown}
+use Rattle.std.proofs.Common.{◌≡◌, ◌≤◌, ◌+◌, [], length}
+use Rattle.cli_line.specs.Came.{longest, HasGrown}
 use Rattle.cli_line.proofs.reading.read_input.Given as goal
 
 abbrev pub invariant-loop-turn : goal.invariant-loop-turn
@@ -9,4 +9,5 @@ invariant-loop-turn g l =
     record {
       grown : HasGrown before now [] l.bytes.items;
       calls : now.calls ≡ before.calls + l._turn;
+      few : length l.bytes.items ≤ longest;
     }

@@ -33,6 +33,9 @@ pub returns-in_err-bytes-clause-write_told : goal.returns-in_err-bytes-clause-wr
 returns-in_err-bytes-clause-write_told g c =
     passed_on c.from_residual.result c.in_err-bytes.field-0.0 _ c.from_residual.ensures.1 (inr (record { failures = refl; idle = refl }))
 
+pub returns-in_err-bytes-clause-unwritten : goal.returns-in_err-bytes-clause-unwritten
+returns-in_err-bytes-clause-unwritten g c = passed_on c.from_residual.result c.in_err-bytes.field-0.0 _ c.from_residual.ensures.1 (inr refl)
+
 pub returns-in-Ok-clause-read_told : goal.returns-in-Ok-clause-read_told
 returns-in-Ok-clause-read_told g c = each_heard c.answer_asked.result _ _ c.in_ok-bytes.ensures.come.failures
 
