@@ -1,5 +1,5 @@
 -- What the statements on `counts` do.
-use Rattle.std.proofs.Common.{Bool, List, Ok, [], ap, ap₂, false, filter, int_cmp, int_eq, map, refl, sym, ℕ, ℤ, ◌∙◌, ◌∷◌, ◌≡◌}
+use Rattle.std.proofs.Common.{Bool, List, Ok, [], ap, ap₂, false, filter, int_cmp, int_eq, map, refl, sym, true, ℕ, ℤ, ◌∙◌, ◌∷◌, ◌≡◌}
 use Rattle.std.specs.FinMap.{entries, insert, remove}
 use Rattle.std.specs.List.{list_all}
 use Rattle.std.specs.Ordering.{eq_by_cmp, ordering_then}
@@ -15,7 +15,8 @@ use Rattle.sqlite_value.proofs.OrderLemmas.{value_cmp-Int}
 use Rattle.sqlite_value.specs.Keys.{first_key}
 use Rattle.sqlite_schema.specs.declared.schema.Constraint.TheVariants.{Unique}
 use Rattle.sqlite_sql.specs.declared.ops.CompareOp.TheVariants.{Eq}
-use Rattle.sqlite_typed.proofs.TestLemmas.{at_ints, last_key, last_term, then_term}
+use Rattle.sqlite_typed.proofs.AnswerLemmas.{unfiltered}
+use Rattle.sqlite_typed.proofs.TestLemmas.{at_ints, last_key, last_term, then_key, then_term}
 use Rattle.row_laws.proofs.Columns.{Compares, IsMap, deleted_at, inserted, map_of, rows_in_order, updated_at}
 use Rattle.row_laws.proofs.Keyed.{one_table}
 use Rattle.row_laws.proofs.Keys.{int_both, int_tied, int_turned, pair_eq}
@@ -29,7 +30,7 @@ use Rattle.row_schema.proofs.Stored.{edits_counts}
 use Rattle.row_schema.specs.Calls.{Edits, IsInside}
 use Rattle.row_schema.specs.Schema.{counts, station_schema}
 use Rattle.row_schema.specs.Tables.{Count, CountKey, IsStation, count_cmp, count_in, count_row, tables_of, typed_counts}
-use Rattle.cargo_rows.proofs.Texts.{count_columns, count_key_is, count_names, count_terms, delete_count_is, delete_count_text, insert_count_is, insert_count_text, list_count_is, list_count_text, list_count_where, update_count_is, update_count_terms, update_count_text}
+use Rattle.cargo_rows.proofs.Texts.{all_count_is, all_count_text, count_columns, count_key_is, count_names, count_terms, delete_count_is, delete_count_text, insert_count_is, insert_count_text, list_count_is, list_count_text, list_count_where, update_count_is, update_count_terms, update_count_text}
 use Rattle.cargo_rows.specs.Meant.{changing_count, counts_for, with_count, without_count}
 
 count_placed : IsPlaced station_schema 11 counts
@@ -102,3 +103,11 @@ lists_count old new awb rows was h =
     rows_in_order count_cmp count_total count_row old.now.schema old.now.trees 18 (tables_of old.now.trees).counts (count_map old.now was) (Int awb ∷ []) list_count_where count_columns (counts_for awb)
     (λ n e. last_term (at_ints false Eq e.0.0 awb)) count_row (λ _ _. refl) (by_column 2 ∷ []) (λ _ _. refl)
     (λ a b pa pb. last_key (value_cmp-Int a.0.1 b.0.1) ∙ ap (λ o. ordering_then o (int_cmp a.0.1 b.0.1)) (sym (int_both a.0.0 b.0.0 awb pa pb))) rows read
+
+-- ORDER BY the key
+pub lists_all_counts : (old new : State) (rows : List Row) → IsStation old.now → Shown all_count_text [] old new rows → rows ≡ map count_row (entries (tables_of old.now.trees).counts)
+lists_all_counts old new rows was h =
+    let read = reads_as all_count_text [] old new station_schema was.schema (Select (asks (one_table 18 [] count_columns (by_column 1 ∷ by_column 2 ∷ []))) count_names) all_count_is.0 all_count_is.1 all_count_is.2 rows h in
+    rows_in_order count_cmp count_total count_row old.now.schema old.now.trees 18 (tables_of old.now.trees).counts (count_map old.now was) [] [] count_columns (λ _. true) (λ _ _. refl) count_row (λ _ _. refl)
+    (by_column 1 ∷ by_column 2 ∷ []) (λ _ _. refl) (λ a b _ _. then_key (value_cmp-Int a.0.0 b.0.0) (last_key (value_cmp-Int a.0.1 b.0.1))) rows read
+    ∙ ap (map count_row) (unfiltered (entries (tables_of old.now.trees).counts) refl)

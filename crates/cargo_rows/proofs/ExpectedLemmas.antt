@@ -1,6 +1,6 @@
 -- What the statements on `expected` do.
-use Rattle.std.proofs.Common.{Bool, List, None, Ok, Option, Some, [], ap₂, false, int_cmp, int_eq, map, option_map, refl, sym, ℕ, ℤ, ◌∙◌, ◌∷◌, ◌≡◌}
-use Rattle.std.specs.FinMap.{get, insert}
+use Rattle.std.proofs.Common.{Bool, List, None, Ok, Option, Some, [], ap, ap₂, false, int_cmp, int_eq, map, option_map, refl, sym, true, ℕ, ℤ, ◌∙◌, ◌∷◌, ◌≡◌}
+use Rattle.std.specs.FinMap.{entries, get, insert}
 use Rattle.std.specs.List.{list_all}
 use Rattle.std.specs.Ordering.{eq_by_cmp}
 use Rattle.std.specs.Prelude.{option_to_list, ◌&&◌}
@@ -11,18 +11,20 @@ use Rattle.sqlite.specs.Order.{Row}
 use Rattle.sqlite.specs.State.{CommitsBy, Executes, Shown, State, Survives}
 use Rattle.sqlite.specs.Term.{holds}
 use Rattle.sqlite.specs.declared.types.Value.TheVariants.{Int, Text}
+use Rattle.sqlite_value.proofs.OrderLemmas.{value_cmp-Int, value_cmp-Text}
 use Rattle.sqlite_value.specs.Keys.{first_key}
 use Rattle.sqlite_schema.specs.declared.schema.Constraint.TheVariants.{Unique}
 use Rattle.sqlite_sql.specs.declared.ops.CompareOp.TheVariants.{Eq}
 use Rattle.sqlite_keyed.proofs.SortLemmas.{pair_cmp}
-use Rattle.sqlite_typed.proofs.TestLemmas.{at_ints, at_texts, last_term, then_term, turn_eq}
+use Rattle.sqlite_typed.proofs.AnswerLemmas.{unfiltered}
+use Rattle.sqlite_typed.proofs.TestLemmas.{at_ints, at_texts, last_key, last_term, then_key, then_term, turn_eq}
 use Rattle.sqlite_typed.specs.Tests.{bytes_cmp}
-use Rattle.row_laws.proofs.Columns.{Compares, IsMap, inserted, map_of, row_shown, updated_at}
+use Rattle.row_laws.proofs.Columns.{Compares, IsMap, inserted, map_of, row_shown, rows_in_order, updated_at}
 use Rattle.row_laws.proofs.Keyed.{one_table}
 use Rattle.row_laws.proofs.Keys.{int_tied, int_turned, pair_eq, texts_total}
 use Rattle.row_laws.proofs.Ran.{IsPlaced, insert_ran, update_ran}
 use Rattle.row_laws.proofs.Shared.{cast_int, cast_null}
-use Rattle.row_laws.proofs.Texts.{asks}
+use Rattle.row_laws.proofs.Texts.{asks, by_column}
 use Rattle.row_laws.specs.Columns.{adjust}
 use Rattle.row_schema.proofs.Keys.{expected_same, expected_total}
 use Rattle.row_schema.proofs.Statements.{execute_survives}
@@ -30,7 +32,7 @@ use Rattle.row_schema.proofs.Stored.{edits_expected}
 use Rattle.row_schema.specs.Calls.{Edits, IsInside}
 use Rattle.row_schema.specs.Schema.{expected, station_schema}
 use Rattle.row_schema.specs.Tables.{Expected, ExpectedKey, IsStation, expected_cmp, expected_in, expected_row, tables_of, typed_expected}
-use Rattle.cargo_rows.proofs.Texts.{expected_columns, expected_key_is, expected_names, expected_terms, get_expected_is, get_expected_text, insert_expected_is, insert_expected_text, update_expected_is, update_expected_terms, update_expected_text}
+use Rattle.cargo_rows.proofs.Texts.{all_expected_is, all_expected_text, expected_columns, expected_key_is, expected_names, expected_terms, get_expected_is, get_expected_text, insert_expected_is, insert_expected_text, listed_waybill_columns, listed_waybill_names, update_expected_is, update_expected_terms, update_expected_text}
 use Rattle.cargo_rows.specs.Meant.{changing_expected, with_expected}
 use Rattle.cargo_rows.specs.Shown.{expected_shown}
 
@@ -96,3 +98,11 @@ gets_expected old new k rows was h =
     let read = reads_as get_expected_text (Text k.0 ∷ Int k.1.0 ∷ Int k.1.1 ∷ []) old new station_schema was.schema (Select (asks (one_table 8 expected_key_is expected_columns [])) expected_names) get_expected_is.0 get_expected_is.1 get_expected_is.2 rows h in
     row_shown expected_cmp expected_total expected_row old.now.schema old.now.trees 8 (tables_of old.now.trees).expected (expected_map old.now was) (Text k.0 ∷ Int k.1.0 ∷ Int k.1.1 ∷ []) expected_key_is expected_columns (has_key k) (expected_tests k []) (λ e. expected_shown e.1) (λ _ _. refl) expected_same k (expected_at k) rows read
     ∙ shown_at k _
+
+-- ORDER BY the key
+pub lists_all_expected : (old new : State) (rows : List Row) → IsStation old.now → Shown all_expected_text [] old new rows → rows ≡ map expected_row (entries (tables_of old.now.trees).expected)
+lists_all_expected old new rows was h =
+    let read = reads_as all_expected_text [] old new station_schema was.schema (Select (asks (one_table 8 [] listed_waybill_columns (by_column 1 ∷ by_column 2 ∷ by_column 3 ∷ []))) listed_waybill_names) all_expected_is.0 all_expected_is.1 all_expected_is.2 rows h in
+    rows_in_order expected_cmp expected_total expected_row old.now.schema old.now.trees 8 (tables_of old.now.trees).expected (expected_map old.now was) [] [] listed_waybill_columns (λ _. true) (λ _ _. refl) expected_row (λ _ _. refl)
+    (by_column 1 ∷ by_column 2 ∷ by_column 3 ∷ []) (λ _ _. refl) (λ a b _ _. then_key (value_cmp-Text a.0.0 b.0.0) (then_key (value_cmp-Int a.0.1.0 b.0.1.0) (last_key (value_cmp-Int a.0.1.1 b.0.1.1)))) rows read
+    ∙ ap (map expected_row) (unfiltered (entries (tables_of old.now.trees).expected) refl)

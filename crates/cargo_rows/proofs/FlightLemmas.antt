@@ -1,6 +1,6 @@
 -- What the statements on `flight` do.
-use Rattle.std.proofs.Common.{Bool, List, None, Ok, Option, Some, [], ap₂, false, int_cmp, int_eq, map, option_map, refl, sym, ℕ, ℤ, ◌∙◌, ◌∷◌, ◌≡◌}
-use Rattle.std.specs.FinMap.{get, insert}
+use Rattle.std.proofs.Common.{Bool, List, None, Ok, Option, Some, [], ap, ap₂, false, int_cmp, int_eq, map, option_map, refl, sym, true, ℕ, ℤ, ◌∙◌, ◌∷◌, ◌≡◌}
+use Rattle.std.specs.FinMap.{entries, get, insert}
 use Rattle.std.specs.List.{list_all}
 use Rattle.std.specs.Ordering.{eq_by_cmp}
 use Rattle.std.specs.Prelude.{option_to_list, ◌&&◌}
@@ -11,17 +11,19 @@ use Rattle.sqlite.specs.Order.{Row}
 use Rattle.sqlite.specs.State.{CommitsBy, Executes, Shown, State, Survives}
 use Rattle.sqlite.specs.Term.{holds}
 use Rattle.sqlite.specs.declared.types.Value.TheVariants.{Int, Text}
+use Rattle.sqlite_value.proofs.OrderLemmas.{value_cmp-Int, value_cmp-Text}
 use Rattle.sqlite_value.specs.Keys.{first_key}
 use Rattle.sqlite_schema.specs.declared.schema.Constraint.TheVariants.{Unique}
 use Rattle.sqlite_sql.specs.declared.ops.CompareOp.TheVariants.{Eq}
-use Rattle.sqlite_typed.proofs.TestLemmas.{at_ints, at_texts, last_term, then_term, turn_eq}
+use Rattle.sqlite_typed.proofs.AnswerLemmas.{unfiltered}
+use Rattle.sqlite_typed.proofs.TestLemmas.{at_ints, at_texts, last_key, last_term, then_key, then_term, turn_eq}
 use Rattle.sqlite_typed.specs.Tests.{bytes_cmp}
-use Rattle.row_laws.proofs.Columns.{Compares, IsMap, inserted, map_of, row_shown, updated_at}
+use Rattle.row_laws.proofs.Columns.{Compares, IsMap, inserted, map_of, row_shown, rows_in_order, updated_at}
 use Rattle.row_laws.proofs.Keyed.{one_table}
 use Rattle.row_laws.proofs.Keys.{int_tied, int_turned, pair_eq, texts_total}
 use Rattle.row_laws.proofs.Ran.{IsPlaced, insert_ran, update_ran}
 use Rattle.row_laws.proofs.Shared.{cast_int, cast_null}
-use Rattle.row_laws.proofs.Texts.{asks}
+use Rattle.row_laws.proofs.Texts.{asks, by_column}
 use Rattle.row_laws.specs.Columns.{adjust}
 use Rattle.row_schema.proofs.Keys.{flight_same, flight_total}
 use Rattle.row_schema.proofs.Statements.{execute_survives}
@@ -29,7 +31,7 @@ use Rattle.row_schema.proofs.Stored.{edits_flights}
 use Rattle.row_schema.specs.Calls.{Edits, IsInside}
 use Rattle.row_schema.specs.Schema.{flight, station_schema}
 use Rattle.row_schema.specs.Tables.{Flight, FlightKey, IsStation, flight_cmp, flight_in, flight_row, tables_of, typed_flights}
-use Rattle.cargo_rows.proofs.Texts.{flight_columns, flight_key_is, flight_names, flight_terms, get_flight_is, get_flight_text, insert_flight_is, insert_flight_text, update_flight_is, update_flight_terms, update_flight_text}
+use Rattle.cargo_rows.proofs.Texts.{all_flight_is, all_flight_text, flight_columns, flight_key_is, flight_names, flight_terms, get_flight_is, get_flight_text, insert_flight_is, insert_flight_text, noted_flight_columns, noted_flight_names, update_flight_is, update_flight_terms, update_flight_text}
 use Rattle.cargo_rows.specs.Meant.{changing_flight, with_flight}
 use Rattle.cargo_rows.specs.Shown.{flight_shown}
 
@@ -95,3 +97,11 @@ gets_flight old new k rows was h =
     let read = reads_as get_flight_text (Text k.0 ∷ Int k.1 ∷ []) old new station_schema was.schema (Select (asks (one_table 4 flight_key_is flight_columns [])) flight_names) get_flight_is.0 get_flight_is.1 get_flight_is.2 rows h in
     row_shown flight_cmp flight_total flight_row old.now.schema old.now.trees 4 (tables_of old.now.trees).flights (flight_map old.now was) (Text k.0 ∷ Int k.1 ∷ []) flight_key_is flight_columns (has_key k) (flight_tests k []) (λ e. flight_shown e.1) (λ _ _. refl) flight_same k (flight_at k) rows read
     ∙ shown_at k _
+
+-- ORDER BY the key
+pub lists_all_flights : (old new : State) (rows : List Row) → IsStation old.now → Shown all_flight_text [] old new rows → rows ≡ map flight_row (entries (tables_of old.now.trees).flights)
+lists_all_flights old new rows was h =
+    let read = reads_as all_flight_text [] old new station_schema was.schema (Select (asks (one_table 4 [] noted_flight_columns (by_column 1 ∷ by_column 2 ∷ []))) noted_flight_names) all_flight_is.0 all_flight_is.1 all_flight_is.2 rows h in
+    rows_in_order flight_cmp flight_total flight_row old.now.schema old.now.trees 4 (tables_of old.now.trees).flights (flight_map old.now was) [] [] noted_flight_columns (λ _. true) (λ _ _. refl) flight_row (λ _ _. refl)
+    (by_column 1 ∷ by_column 2 ∷ []) (λ _ _. refl) (λ a b _ _. then_key (value_cmp-Text a.0.0 b.0.0) (last_key (value_cmp-Int a.0.1 b.0.1))) rows read
+    ∙ ap (map flight_row) (unfiltered (entries (tables_of old.now.trees).flights) refl)

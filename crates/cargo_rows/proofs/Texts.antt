@@ -94,6 +94,19 @@ pub get_flight_is : Asks station_schema get_flight_text (one_table 4 flight_key_
 unfolding understood everything
 get_flight_is = (refl, (refl, refl), refl)
 
+abbrev pub noted_flight_columns : List Term
+noted_flight_columns = col 1 1 ∷ col 1 2 ∷ col 1 3 ∷ col 1 4 ∷ []
+
+abbrev pub noted_flight_names : List (List ℕ)
+noted_flight_names = codes "flight" ∷ codes "day" ∷ codes "unload" ∷ codes "closed" ∷ []
+
+abbrev pub all_flight_text : List ℕ
+all_flight_text = codes "SELECT flight, day, unload, closed FROM flight ORDER BY flight, day"
+
+pub all_flight_is : Asks station_schema all_flight_text (one_table 4 [] noted_flight_columns (by_column 1 ∷ by_column 2 ∷ [])) noted_flight_names
+unfolding understood everything
+all_flight_is = (refl, (refl, refl), refl)
+
 -- ---- moves
 
 abbrev pub move_terms : List Term
@@ -172,6 +185,20 @@ pub get_expected_is : Asks station_schema get_expected_text (one_table 8 expecte
 unfolding understood everything
 get_expected_is = (refl, (refl, refl), refl)
 
+abbrev pub listed_waybill_columns : List Term
+listed_waybill_columns = col 1 1 ∷ col 1 2 ∷ col 1 3 ∷ col 1 4 ∷ col 1 5 ∷ col 1 6 ∷ []
+
+abbrev pub listed_waybill_names : List (List ℕ)
+listed_waybill_names = codes "flight" ∷ codes "day" ∷ codes "awb" ∷ codes "pieces" ∷ codes "tenths"
+    ∷ codes "checked" ∷ []
+
+abbrev pub all_expected_text : List ℕ
+all_expected_text = codes "SELECT flight, day, awb, pieces, tenths, checked FROM expected ORDER BY flight, day, awb"
+
+pub all_expected_is : Asks station_schema all_expected_text (one_table 8 [] listed_waybill_columns (by_column 1 ∷ by_column 2 ∷ by_column 3 ∷ [])) listed_waybill_names
+unfolding understood everything
+all_expected_is = (refl, (refl, refl), refl)
+
 -- ---- counts
 
 abbrev pub count_terms : List Term
@@ -220,6 +247,13 @@ list_count_where = op2 (Compare Eq Binary) (col 1 1) (col 0 0) ∷ []
 pub list_count_is : Asks station_schema list_count_text (one_table 18 list_count_where count_columns (by_column 2 ∷ [])) count_names
 unfolding understood everything
 list_count_is = (refl, (refl, refl), refl)
+
+abbrev pub all_count_text : List ℕ
+all_count_text = codes "SELECT awb, place, pieces, tenths FROM counts ORDER BY awb, place"
+
+pub all_count_is : Asks station_schema all_count_text (one_table 18 [] count_columns (by_column 1 ∷ by_column 2 ∷ [])) count_names
+unfolding understood everything
+all_count_is = (refl, (refl, refl), refl)
 
 -- ---- build
 

@@ -8,8 +8,10 @@ use Rattle.sqlite_keyed.specs.Lists.{update_where}
 use Rattle.row_laws.specs.Columns.{adjust}
 use Rattle.cargo_rows.specs.declared.waybills.WaybillRow.{WaybillRow}
 use Rattle.cargo_rows.specs.declared.flights.FlightRow.{FlightRow}
+use Rattle.cargo_rows.specs.declared.flights.NotedFlightRow.{NotedFlightRow}
 use Rattle.cargo_rows.specs.declared.moves.MoveRow.{MoveRow}
 use Rattle.cargo_rows.specs.declared.expected.ExpectedRow.{ExpectedRow}
+use Rattle.cargo_rows.specs.declared.expected.ListedWaybillRow.{ListedWaybillRow}
 use Rattle.cargo_rows.specs.declared.counts.CountRow.{CountRow}
 use Rattle.cargo_rows.specs.declared.builds.BuildRow.{BuildRow}
 use Rattle.row_schema.specs.Tables.{Tables, Waybill, waybill_id, Flight, FlightKey, Move, move_id, Expected, ExpectedKey, Count, CountKey, Build, BuildKey}
@@ -41,6 +43,10 @@ changing_waybill new tables = record tables {
 
 abbrev pub flight_meant : FlightRow → Flight
 flight_meant row = record { unload = string_bytes row.unload; closed = row.closed }
+
+-- a row and its key
+abbrev pub noted_flight_meant : NotedFlightRow → FlightKey × Flight
+noted_flight_meant row = ((string_bytes row.flight, row.day), record { unload = string_bytes row.unload; closed = row.closed })
 
 abbrev pub with_flight : FlightKey → Flight → Tables → Tables
 with_flight key new tables = record tables { flights = insert tables.flights key new }
@@ -76,6 +82,13 @@ is_of awb m = int_eq m.awb awb
 
 abbrev pub expected_meant : ExpectedRow → Expected
 expected_meant row = record { pieces = row.pieces; tenths = row.tenths; checked = row.checked }
+
+-- a row and its key
+abbrev pub listed_waybill_meant : ListedWaybillRow → ExpectedKey × Expected
+listed_waybill_meant row = (
+  (string_bytes row.flight, (row.day, row.awb)),
+  record { pieces = row.pieces; tenths = row.tenths; checked = row.checked },
+)
 
 abbrev pub with_expected : ExpectedKey → Expected → Tables → Tables
 with_expected key new tables = record tables { expected = insert tables.expected key new }

@@ -3,7 +3,7 @@ use Rattle.std.specs.Prelude.{ℤ, [], ◌∷◌}
 use Rattle.sqlite.specs.declared.types.Value.TheVariants.{Int, Text}
 use Rattle.sqlite.specs.Order.{Row, column}
 use Rattle.sqlite_typed.specs.Columns.{int_of, bytes_of}
-use Rattle.row_schema.specs.Tables.{Build, BuildKey, Count, CountKey, Expected, Flight, Move, Waybill}
+use Rattle.row_schema.specs.Tables.{Build, BuildKey, Count, CountKey, Expected, ExpectedKey, Flight, FlightKey, Move, Waybill}
 
 abbrev pub waybill_shown : Waybill → Row
 waybill_shown w = Int w.awb ∷ Text w.origin ∷ Text w.destination ∷ Int w.pieces ∷ Int w.tenths
@@ -26,6 +26,12 @@ flight_shown f = Text f.unload ∷ Int f.closed ∷ []
 
 abbrev pub flight_read : Row → Flight
 flight_read r = record { unload = bytes_of (column r 0); closed = int_of (column r 1) }
+
+abbrev pub noted_flight_read : Row → FlightKey × Flight
+noted_flight_read r = (
+  (bytes_of (column r 0), int_of (column r 1)),
+  record { unload = bytes_of (column r 2); closed = int_of (column r 3) },
+)
 
 abbrev pub move_shown : Move → Row
 move_shown m = Int m.number ∷ Int m.awb ∷ Int m.src ∷ Int m.dst ∷ Int m.pieces ∷ Int m.tenths
@@ -50,6 +56,12 @@ expected_shown e = Int e.pieces ∷ Int e.tenths ∷ Int e.checked ∷ []
 
 abbrev pub expected_read : Row → Expected
 expected_read r = record { pieces = int_of (column r 0); tenths = int_of (column r 1); checked = int_of (column r 2) }
+
+abbrev pub listed_waybill_read : Row → ExpectedKey × Expected
+listed_waybill_read r = (
+  (bytes_of (column r 0), (int_of (column r 1), int_of (column r 2))),
+  record { pieces = int_of (column r 3); tenths = int_of (column r 4); checked = int_of (column r 5) },
+)
 
 abbrev pub count_read : Row → CountKey × Count
 count_read r = ((int_of (column r 0), int_of (column r 1)), record { pieces = int_of (column r 2); tenths = int_of (column r 3) })

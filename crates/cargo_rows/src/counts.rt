@@ -104,3 +104,25 @@ pub fn counts_of<S: Alter>(conn: &mut Connection<S>, awb: i64) -> Result<Vec<Cou
     let rows = shown_counts_of(conn, awb)?;
     read_counts(*rows.allocator(), &rows)
 }
+
+fn shown_counts<S: Alter>(conn: &mut Connection<S>) -> Result<Vec<Row>, Error>
+    ensures read { Tells S.Store conn.old conn.new result
+        (λ tables rows. rows.items ≡ map count_row (entries tables.counts)) }
+    ensures survives { LeavesAll S.Store conn.old conn.new }
+{
+    conn.query_all(
+        "SELECT awb, place, pieces, tenths FROM counts ORDER BY awb, place",
+        &[],
+    )
+}
+
+/// What each waybill has at each place, by waybill and then by place. It fails where the database call
+/// fails or memory runs out.
+pub fn all_counts<S: Alter>(conn: &mut Connection<S>) -> Result<Vec<CountRow>, Error>
+    ensures read { Tells S.Store conn.old conn.new result
+        (λ tables all. map count_meant all.items ≡ entries tables.counts) }
+    ensures survives { LeavesAll S.Store conn.old conn.new }
+{
+    let rows = shown_counts(conn)?;
+    read_counts(*rows.allocator(), &rows)
+}

@@ -1,14 +1,33 @@
 ghost use Rattle.std.specs.Prelude.{◌≡◌, map, option_map, option_to_list, IfOk};
-ghost use Rattle.std.specs.FinMap.{get};
+ghost use Rattle.std.specs.FinMap.{entries, get};
 ghost use Rattle.row_schema.specs.Calls.{Alters, CommitsNothing, LeavesAll, Tells};
-ghost use Rattle.cargo_rows.specs.Shown.{expected_read, expected_shown};
-ghost use Rattle.cargo_rows.specs.Meant.{changing_expected, expected_meant, with_expected};
+ghost use Rattle.row_schema.specs.Tables.{expected_row as listed_row};
+ghost use Rattle.cargo_rows.specs.Shown.{expected_read, expected_shown, listed_waybill_read};
+ghost use Rattle.cargo_rows.specs.Meant.{changing_expected, expected_meant, listed_waybill_meant, with_expected};
 
 use sqlite::{Alter, Connection, Error, Row, params};
+use std::alloc::Global;
 
 /// A row of `expected`, apart from its key: flight, day and waybill.
 #[derive(Debug, Drop)]
 pub struct ExpectedRow {
+    /// The pieces that the manifest lists.
+    pub pieces: i64,
+    /// Their weight in tenths of a kilogram.
+    pub tenths: i64,
+    /// 1 where the waybill was checked in from this flight, else 0.
+    pub checked: i64,
+}
+
+/// A row of `expected` with its key: flight, day and waybill.
+#[derive(Debug, Drop)]
+pub struct ListedWaybillRow {
+    /// The flight.
+    pub flight: String,
+    /// The day of the flight.
+    pub day: i64,
+    /// The waybill's number.
+    pub awb: i64,
     /// The pieces that the manifest lists.
     pub pieces: i64,
     /// Their weight in tenths of a kilogram.
@@ -99,4 +118,50 @@ pub fn expected_row<S: Alter>(
         Some(row) => Ok(Some(read_expected(row)?)),
         None => Ok(None),
     }
+}
+
+fn shown_all_expected<S: Alter>(conn: &mut Connection<S>) -> Result<Vec<Row>, Error>
+    ensures read { Tells S.Store conn.old conn.new result
+        (λ tables rows. rows.items ≡ map listed_row (entries tables.expected)) }
+    ensures survives { LeavesAll S.Store conn.old conn.new }
+{
+    conn.query_all(
+        "SELECT flight, day, awb, pieces, tenths, checked FROM expected ORDER BY flight, day, awb",
+        &[],
+    )
+}
+
+fn read_listed_waybill(row: &Row) -> Result<ListedWaybillRow, Error>
+    ensures { IfOk result (λ r. listed_waybill_meant r ≡ listed_waybill_read row.now) }
+{
+    Ok(ListedWaybillRow {
+        flight: row.get(0)?,
+        day: row.get(1)?,
+        awb: row.get(2)?,
+        pieces: row.get(3)?,
+        tenths: row.get(4)?,
+        checked: row.get(5)?,
+    })
+}
+
+fn read_all_expected(alloc: Global, rows: &[Row]) -> Result<Vec<ListedWaybillRow>, Error>
+    ensures { IfOk result (λ all. map listed_waybill_meant all.items
+        ≡ map listed_waybill_read rows.now) }
+{
+    let mut all = Vec::new(alloc);
+    for row in rows {
+        all.push(read_listed_waybill(row)?)?;
+    }
+    Ok(all)
+}
+
+/// What each flight is to bring of each waybill, by flight, then by day, then by waybill. It fails where
+/// the database call fails or memory runs out.
+pub fn all_expected<S: Alter>(conn: &mut Connection<S>) -> Result<Vec<ListedWaybillRow>, Error>
+    ensures read { Tells S.Store conn.old conn.new result
+        (λ tables all. map listed_waybill_meant all.items ≡ entries tables.expected) }
+    ensures survives { LeavesAll S.Store conn.old conn.new }
+{
+    let rows = shown_all_expected(conn)?;
+    read_all_expected(*rows.allocator(), &rows)
 }

@@ -13,8 +13,12 @@ mod waybills;
 pub use builds::{
     BuildRow, build_row, builds_on, delete_build, insert_build, pieces_on, update_build,
 };
-pub use counts::{CountRow, counts_of, delete_count, insert_count, update_count};
-pub use expected::{ExpectedRow, expected_row, insert_expected, update_expected};
-pub use flights::{FlightRow, flight_row, insert_flight, update_flight};
-pub use moves::{MoveRow, all_moves, hand_out_moves, insert_move, moves_of};
+pub use counts::{CountRow, all_counts, counts_of, delete_count, insert_count, update_count};
+pub use expected::{
+    ExpectedRow, ListedWaybillRow, all_expected, expected_row, insert_expected, update_expected,
+};
+pub use flights::{
+    FlightRow, NotedFlightRow, all_flights, flight_row, insert_flight, update_flight,
+};
+pub use moves::{MoveRow, hand_out_moves, insert_move, moves_of};
 pub use waybills::{WaybillRow, insert_waybill, update_waybill, waybill_row};

@@ -109,27 +109,6 @@ pub fn moves_of<S: Alter>(conn: &mut Connection<S>, awb: i64) -> Result<Vec<Move
     read_moves(*rows.allocator(), &rows)
 }
 
-fn shown_all_moves<S: Alter>(conn: &mut Connection<S>) -> Result<Vec<Row>, Error>
-    ensures read { Tells S.Store conn.old conn.new result
-        (λ tables rows. rows.items ≡ map move_shown tables.moves) }
-    ensures survives { LeavesAll S.Store conn.old conn.new }
-{
-    conn.query_all(
-        "SELECT number, awb, src, dst, pieces, tenths, flight, fday, day, minute FROM moves ORDER BY number",
-        &[],
-    )
-}
-
-/// All moves, in order. It fails where the database call fails or memory runs out.
-pub fn all_moves<S: Alter>(conn: &mut Connection<S>) -> Result<Vec<MoveRow>, Error>
-    ensures read { Tells S.Store conn.old conn.new result
-        (λ tables all. map move_meant all.items ≡ tables.moves) }
-    ensures survives { LeavesAll S.Store conn.old conn.new }
-{
-    let rows = shown_all_moves(conn)?;
-    read_moves(*rows.allocator(), &rows)
-}
-
 /// Hands out all moves, in order, as the query gives them, until the sink takes no more. It fails where the database call fails or
 /// memory runs out; what was handed out before is a beginning.
 pub fn hand_out_moves<S: Alter, K: Sink<MoveRow>>(

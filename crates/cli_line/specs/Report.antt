@@ -4,7 +4,7 @@ use Rattle.std.specs.Str.{bytes_eq}
 use Rattle.station_core.specs.Given.{Given}
 use Rattle.station_core.specs.Ends.{HasCause, NoneFailed, OneFailed}
 use Rattle.station_core.specs.Step.{State}
-use Rattle.reports.specs.Reports.{IsStockReport, irregularity_report, movement_book, trail_report}
+use Rattle.reports.specs.Reports.{IsStockReport, shed_report, IsFlightReport, IsExpectedReport, irregularity_report, movement_book, trail_report}
 use Rattle.reports.specs.declared.fault.ReportCause.{ReportCause}
 use Rattle.reports.specs.declared.fault.ReportCause.TheVariants as cause
 use Rattle.reports.specs.declared.fault.ReportFault.{ReportFault}
@@ -18,6 +18,9 @@ use Rattle.cli_line.specs.declared.report.ReportName.TheVariants as report
 abbrev pub report_called : List ℕ → Option ReportName
 report_called name =
     if bytes_eq name (codes "stock") then Some report.Stock
+    else if bytes_eq name (codes "shed") then Some report.Shed
+    else if bytes_eq name (codes "flights") then Some report.Flights
+    else if bytes_eq name (codes "expected") then Some report.Expected
     else if bytes_eq name (codes "irregularities") then Some report.Irregularities
     else if bytes_eq name (codes "movements") then Some report.Movements
     else if bytes_eq name (codes "trail") then Some report.Trail
@@ -26,6 +29,9 @@ report_called name =
 -- the text is that report of the state
 abbrev pub IsReport : State → ReportName → List ℕ → Type 0
 IsReport s report.Stock text = IsStockReport s.cargo.holders text
+IsReport s report.Shed text = text ≡ shed_report s.cargo
+IsReport s report.Flights text = IsFlightReport s.cargo text
+IsReport s report.Expected text = IsExpectedReport s.cargo text
 IsReport s report.Irregularities text = text ≡ irregularity_report s.cargo
 IsReport s report.Movements text = text ≡ movement_book s.cargo
 IsReport s report.Trail text = text ≡ trail_report s.cargo

@@ -1,6 +1,5 @@
 //! Reading the input of a command.
 ghost use Rattle.std.specs.Prelude.{◌≡◌, ◌⊎◌, ◌+◌, ◌<◌, true, Err, IfOk, IfErr, OnOk};
-ghost use Rattle.station_core.specs.Ends.{HasCause};
 ghost use Rattle.stock_list.specs.Ended.{IsReadersFault};
 ghost use Rattle.cli_line.specs.Came.{HasGrown, HasCome, HasFailed, IsWithin, most_bytes};
 

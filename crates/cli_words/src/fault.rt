@@ -44,6 +44,10 @@ const NUMBER: &str =
 const CHECK_DIGIT: &str =
     "AWB is wanted, and its check digit is wrong: it is the seven digits before it modulo 7";
 
+/// What is wanted where no report's name stands.
+const REPORT_NAME: &str =
+    "NAME is wanted: stock, shed, flights, expected, irregularities, movements or trail";
+
 /// The word and what is wanted in its place.
 fn told_of(alloc: Global, word: &str, wanted: &str) -> Result<String, AllocError> {
     format!(in alloc; "'{word}' stands where {wanted}")
@@ -56,10 +60,7 @@ impl BadValue<'_> {
             BadValue::Station(word) => (word, "--station wants an airport: three letters, A to Z"),
             BadValue::Verb(word) => (word, "VERB is wanted: `cargo_desk act --help` lists them"),
             BadValue::Key(word) => (word, KEY),
-            BadValue::ReportName(word) => (
-                word,
-                "NAME is wanted: stock, irregularities, movements or trail",
-            ),
+            BadValue::ReportName(word) => (word, REPORT_NAME),
             BadValue::Number(word) => (word, NUMBER),
             BadValue::CheckDigit(word) => (word, CHECK_DIGIT),
             BadValue::Port(word) => (word, "--port wants a number from 1 to 65535"),

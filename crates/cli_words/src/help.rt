@@ -275,7 +275,8 @@ The last line is `END n`, with the number of rows.
 Example:
   cargo_desk report stock";
 
-pub(crate) const REPORT_NAMES: &str = "stock, irregularities, movements or trail";
+pub(crate) const REPORT_NAMES: &str =
+    "stock, shed, flights, expected, irregularities, movements or trail";
 
 pub(crate) const AWB: &str = "A waybill number with its check digit, as 020-12345675";
 

@@ -37,6 +37,9 @@ pub enum Form {
 #[derive(Clone, Copy, Debug, PartialEq, Eq)]
 pub enum Report {
     Stock,
+    Shed,
+    Flights,
+    Expected,
     Irregularities,
     Movements,
     Trail,

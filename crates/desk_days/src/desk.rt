@@ -7,8 +7,8 @@ use http_desk::serve_one;
 use imp_fields::{Airport, Moment};
 use plain_station::PlainStation;
 use reports::{
-    ReportCause, ReportFault, irregularity_report, movement_book, pending_report, stock_report,
-    trail_report,
+    ReportCause, ReportFault, expected_report, flight_report, irregularity_report, movement_book,
+    pending_report, shed_report, stock_report, trail_report,
 };
 use sqlite::MemStore;
 use station_core::{ActFault, Answer, Counted, Input, Keeper, Waybill, act_all, answer_one};
@@ -55,6 +55,9 @@ fn put_report<K: Keeper>(
 ) -> Result<(), ReportFault> {
     match report {
         Report::Stock => stock_report(alloc, keeper, writer),
+        Report::Shed => shed_report(alloc, keeper, writer),
+        Report::Flights => flight_report(alloc, keeper, writer),
+        Report::Expected => expected_report(alloc, keeper, writer),
         Report::Irregularities => irregularity_report(alloc, keeper, writer),
         Report::Movements => movement_book(alloc, keeper, writer),
         Report::Trail => trail_report(alloc, keeper, writer),

@@ -284,6 +284,9 @@ fn at_once(
 fn rows_told(alloc: Global, desk: &mut Desk, out: &mut Vec<u8>) -> Result<(), ActFault> {
     for report in [
         Report::Stock,
+        Report::Shed,
+        Report::Flights,
+        Report::Expected,
         Report::Irregularities,
         Report::Movements,
         Report::Trail,

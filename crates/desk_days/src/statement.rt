@@ -47,6 +47,9 @@ fn form(rest: &str) -> Option<Form> {
 fn report(rest: &str) -> Option<Report> {
     match rest {
         "stock" => Some(Report::Stock),
+        "shed" => Some(Report::Shed),
+        "flights" => Some(Report::Flights),
+        "expected" => Some(Report::Expected),
         "irregularities" => Some(Report::Irregularities),
         "movements" => Some(Report::Movements),
         "trail" => Some(Report::Trail),

@@ -64,6 +64,9 @@ IsThere place path = IsPath path → place_of path ≡ Some place
 
 report_there : (name : Report) → IsThere (gets (got_report name)) (report_path name)
 report_there report.Stock all = at_page _ page.Report _ all (codes "stock", (omega arith, refl), refl) refl
+report_there report.Shed all = at_page _ page.Report _ all (codes "shed", (omega arith, refl), refl) refl
+report_there report.Flights all = at_page _ page.Report _ all (codes "flights", (omega arith, refl), refl) refl
+report_there report.Expected all = at_page _ page.Report _ all (codes "expected", (omega arith, refl), refl) refl
 report_there report.Irregularities all = at_page _ page.Report _ all (codes "irregularities", (omega arith, refl), refl) refl
 report_there report.Movements all = at_page _ page.Report _ all (codes "movements", (omega arith, refl), refl) refl
 report_there report.Trail all = at_page _ page.Report _ all (codes "trail", (omega arith, refl), refl) refl
@@ -113,9 +116,12 @@ called_at name text r rest false same path found more e = more e
 called_only : (name : List ℕ) (found : Report) → report_called name ≡ Some found → IsCalled name found
 called_only name found e =
     called_at name (codes "stock") report.Stock _ (bytes_eq name (codes "stock")) refl refl found
+    (called_at name (codes "shed") report.Shed _ (bytes_eq name (codes "shed")) refl refl found
+    (called_at name (codes "flights") report.Flights _ (bytes_eq name (codes "flights")) refl refl found
+    (called_at name (codes "expected") report.Expected _ (bytes_eq name (codes "expected")) refl refl found
     (called_at name (codes "irregularities") report.Irregularities _ (bytes_eq name (codes "irregularities")) refl refl found
     (called_at name (codes "movements") report.Movements _ (bytes_eq name (codes "movements")) refl refl found
-    (called_at name (codes "trail") report.Trail None (bytes_eq name (codes "trail")) refl refl found (λ none. absurd (no_some found none)))))
+    (called_at name (codes "trail") report.Trail None (bytes_eq name (codes "trail")) refl refl found (λ none. absurd (no_some found none))))))))
     e
 
 report_only : (name : List ℕ) (place : Place) → place_at (codes "/v1/reports/" ++ name) page.Report ≡ Some place → LeadsTo (codes "/v1/reports/" ++ name) place

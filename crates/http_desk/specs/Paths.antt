@@ -21,6 +21,9 @@ IsName name = (0 < length name) × (has_slash name ≡ false)
 -- the path of a report
 abbrev pub report_path : Report → List ℕ
 report_path report.Stock = codes "/v1/reports/stock"
+report_path report.Shed = codes "/v1/reports/shed"
+report_path report.Flights = codes "/v1/reports/flights"
+report_path report.Expected = codes "/v1/reports/expected"
 report_path report.Irregularities = codes "/v1/reports/irregularities"
 report_path report.Movements = codes "/v1/reports/movements"
 report_path report.Trail = codes "/v1/reports/trail"

@@ -39,8 +39,8 @@ IsUnfinished bytes = HasNoHeadYet bytes ⊎ LacksBody bytes
 abbrev pub GetsReport : List ℕ → Report → Type 0
 GetsReport bytes name = (h : RequestHead) × HasHead bytes h × (head_asks (head_of h) ≡ looks_up (got_report name))
 
--- What holds of a report's bytes behind its head: of one text of it, or of each. The text of a
--- stock is known by its runs.
+-- What holds of a report's bytes behind its head: of one text of it, or of each. The texts of a
+-- stock, of flights and of what is expected are known by their rows.
 abbrev pub SomeOrEach : State → Report → (List ℕ → Type 0) → Type 0
 SomeOrEach s name P = ((text : List ℕ) × IsReport s name text × P (report_head ++ text)) ⊎ ((text : List ℕ) → IsReport s name text → P (report_head ++ text))
 

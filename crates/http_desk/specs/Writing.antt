@@ -4,8 +4,8 @@ use Rattle.imp_fields.specs.Date.{LocalMinute}
 use Rattle.station_core.specs.Given.{Given}
 use Rattle.station_core.specs.Ends.{Sent, HasCause}
 use Rattle.station_core.specs.Step.{State}
-use Rattle.reports.specs.Ended.{HasEnded, HasEndedStock}
-use Rattle.reports.specs.Reports.{irregularity_report, movement_book, pending_report, trail_report}
+use Rattle.reports.specs.Ended.{HasEnded, HasEndedBy}
+use Rattle.reports.specs.Reports.{IsStockReport, shed_report, IsFlightReport, IsExpectedReport, irregularity_report, movement_book, pending_report, trail_report}
 use Rattle.reports.specs.declared.fault.ReportFault.{ReportFault}
 use Rattle.http_desk.specs.declared.asking.Told.{Told}
 use Rattle.http_desk.specs.declared.asking.Told.TheVariants as told
@@ -37,7 +37,10 @@ HasSent status reopen bytes old new (Err (serve.Write sent)) = Sent old new byte
 -- a report ended behind what stands in front of it
 abbrev pub HasEndedReport : Type 0 → State → Report → List ℕ → Given → Given
     → Result (Unit {0}) ReportFault → Type 0
-HasEndedReport open_station s report.Stock front old new r = HasEndedStock open_station s.cargo.holders front old new r
+HasEndedReport open_station s report.Stock front old new r = HasEndedBy open_station (IsStockReport s.cargo.holders) front old new r
+HasEndedReport open_station s report.Shed front old new r = HasEnded open_station (front ++ shed_report s.cargo) old new r
+HasEndedReport open_station s report.Flights front old new r = HasEndedBy open_station (IsFlightReport s.cargo) front old new r
+HasEndedReport open_station s report.Expected front old new r = HasEndedBy open_station (IsExpectedReport s.cargo) front old new r
 HasEndedReport open_station s report.Irregularities front old new r = HasEnded open_station (front ++ irregularity_report s.cargo) old new r
 HasEndedReport open_station s report.Movements front old new r = HasEnded open_station (front ++ movement_book s.cargo) old new r
 HasEndedReport open_station s report.Trail front old new r = HasEnded open_station (front ++ trail_report s.cargo) old new r

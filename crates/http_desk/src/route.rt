@@ -21,6 +21,9 @@ pub enum Page {
 #[derive(Clone, Copy, Debug, PartialEq, Eq)]
 pub enum Report {
     Stock,
+    Shed,
+    Flights,
+    Expected,
     Irregularities,
     Movements,
     Trail,
@@ -67,6 +70,12 @@ fn report_called(name: &[u8]) -> Option<Report>
 {
     if name == b"stock".as_slice() {
         Some(Report::Stock)
+    } else if name == b"shed".as_slice() {
+        Some(Report::Shed)
+    } else if name == b"flights".as_slice() {
+        Some(Report::Flights)
+    } else if name == b"expected".as_slice() {
+        Some(Report::Expected)
     } else if name == b"irregularities".as_slice() {
         Some(Report::Irregularities)
     } else if name == b"movements".as_slice() {

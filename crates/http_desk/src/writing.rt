@@ -14,8 +14,9 @@ use crate::asking::Told;
 use crate::route::Report;
 use crate::serve::{ServeFault, Served};
 use reports::{
-    ReportCause, ReportFault, irregularity_report_behind, movement_book_behind,
-    pending_report_behind, stock_report_behind, trail_report_behind,
+    ReportCause, ReportFault, expected_report_behind, flight_report_behind,
+    irregularity_report_behind, movement_book_behind, pending_report_behind, shed_report_behind,
+    stock_report_behind, trail_report_behind,
 };
 use station_core::{ActFault, ByteOut, Keeper, send};
 use std::alloc::Global;
@@ -78,6 +79,9 @@ fn send_report<K: Keeper, O: ByteOut>(
 {
     match report {
         Report::Stock => stock_report_behind(alloc, keeper, writer, head),
+        Report::Shed => shed_report_behind(alloc, keeper, writer, head),
+        Report::Flights => flight_report_behind(alloc, keeper, writer, head),
+        Report::Expected => expected_report_behind(alloc, keeper, writer, head),
         Report::Irregularities => irregularity_report_behind(alloc, keeper, writer, head),
         Report::Movements => movement_book_behind(alloc, keeper, writer, head),
         Report::Trail => trail_report_behind(alloc, keeper, writer, head),

@@ -10,8 +10,11 @@ use station_core::{Answer, Counted, Input, Key, answer_one};
 use std::alloc::{AllocError, Global};
 
 /// What is looked at of a station.
-const LOOKS: [&str; 7] = [
+const LOOKS: [&str; 10] = [
     "reports/stock",
+    "reports/shed",
+    "reports/flights",
+    "reports/expected",
     "reports/irregularities",
     "reports/movements",
     "reports/trail",

@@ -1,8 +1,9 @@
 -- One more element of a list that is walked.
-use Rattle.std.proofs.Common.{◌≡◌, ℕ, ◌+◌, ◌<◌, ◌≤◌, Bool, true, false, List, [], ◌∷◌, ◌++◌, length, take, drop, map, refl, sym, ap, ◌∙◌, get_or, All, append-nil, subst}
+use Rattle.std.proofs.Common.{◌≡◌, ℕ, ◌+◌, ◌<◌, ◌≤◌, Bool, true, false, List, [], ◌∷◌, ◌++◌, length, take, drop, map, refl, sym, ap, ◌∙◌, get_or, sum_by, All, append-nil, subst}
 use Rattle.std.specs.List.{filter}
 use Rattle.std.proofs.lemmas.Bool.{cond-true, cond-false}
-use Rattle.std.proofs.lemmas.List.{map_more, drop_more, drop_all}
+use Rattle.std.proofs.lemmas.List.{map_more, take_more, drop_more, drop_all}
+use Rattle.std.proofs.lemmas.List.Sums.{sum_by_more}
 use Rattle.std.proofs.lemmas.List.Elements.{filter_more, All-get_or}
 use Rattle.std.proofs.Math.Bool.{cond}
 
@@ -36,3 +37,10 @@ left_from xs i x lt read = drop_more xs i x lt ∙ ap (λ y. y ∷ drop (i + 1) 
 
 pub none_left : {X : Type 0} (xs : List X) (i : ℕ) → length xs ≤ i → drop i xs ≡ []
 none_left xs i le = drop_all i xs le
+
+-- the elements so far with the one that was read, and their sum
+pub taken_more : {X : Type 0} (xs : List X) (i : ℕ) (x : X) → i < length xs → x ≡ get_or xs i x → take (i + 1) xs ≡ take i xs ++ x ∷ []
+taken_more xs i x lt read = take_more xs i x lt ∙ ap (λ y. take i xs ++ y ∷ []) (sym read)
+
+pub summed : {X : Type 0} (f : X → ℕ) (xs : List X) (i s n : ℕ) (x : X) → i < length xs → x ≡ get_or xs i x → s ≡ sum_by f (take i xs) → n ≡ f x → s + n ≡ sum_by f (take (i + 1) xs)
+summed f xs i s n x lt read before is = (λ k. before k + (is ∙ ap f read) k) ∙ sym (sum_by_more f xs i x lt)

@@ -3,7 +3,9 @@ ghost use Rattle.std.specs.Prelude.{◌≡◌, List, ◌≤◌, ◌<◌, ℕ, �
 ghost use Rattle.agent_stock.specs.Runs.{AreStockRuns};
 ghost use Rattle.agent_stock.specs.declared.runs.StockRun.{StockRun};
 ghost use Rattle.row_sinks.specs.Handed.{HandedOut};
-ghost use Rattle.station_core.specs.Readers.{told_of, waybill_of, is_irregular, irregular_row, irregular_rows, book_rows, message, pending_messages, trail_row, trail_rows};
+ghost use Rattle.shipment_machine.specs.Amount.{less};
+ghost use Rattle.shipment_machine.specs.Book.{store};
+ghost use Rattle.station_core.specs.Readers.{told_of, waybill_of, is_irregular, irregular_row, irregular_rows, is_in_shed, shed_row, shed_rows, book_rows, message, pending_messages, trail_row, trail_rows};
 ghost use Rattle.plain_station.specs.Lists.{cargo_of, trail_row as kept_line, texts_in};
 
 use crate::balances::stored;
@@ -11,9 +13,9 @@ use crate::cargo::PlainCargo;
 use crate::rows;
 use agent_stock::{Holder, StockRun};
 use awb_number::Awb;
-use shipment_machine::{Balances, Declared, waybills_of};
+use shipment_machine::{Amount, Balances, Declared, waybills_of};
 use station_core::{
-    ActFault, BookRow, IrregularRow, Message, RowText, Sink, TrailRow, Waybill, hand_out,
+    ActFault, BookRow, IrregularRow, Message, RowText, ShedRow, Sink, TrailRow, Waybill, hand_out,
 };
 use std::alloc::AllocError;
 
@@ -125,6 +127,84 @@ impl PlainCargo {
             return Err(ActFault::Memory);
         };
         hand_out(sink, waybills);
+        Ok(())
+    }
+}
+
+impl PlainCargo {
+    /// What is in store of a waybill but isn't free: it is built on flights.
+    fn built_anywhere(&self, number: &Awb, free: &Amount) -> Amount
+        ensures { result ≡ less (store self.now.lists.book.items number.now) free.now }
+    {
+        let store = stored(self.lists.book.as_slice(), number);
+        Amount {
+            pieces: store.pieces.saturating_sub(free.pieces),
+            tenths: store.tenths.saturating_sub(free.tenths),
+        }
+    }
+
+    /// A waybill with what is free of it and what is built.
+    fn shed_row(&self, number: &Awb) -> ShedRow
+        requires declared { IsSome ((cargo_of self.now.lists).declared number.now) }
+        ensures { result ≡ shed_row (cargo_of self.now.lists) number.now }
+    {
+        let declared = self.lists.declaration_of(number);
+        let Balances { free, .. } = self.balances(number);
+        ShedRow {
+            awb: *number,
+            origin: declared.origin,
+            destination: declared.destination,
+            free,
+            built: self.built_anywhere(number, &free),
+            notified: declared.notified,
+        }
+    }
+
+    /// Whether pieces of a waybill are in store.
+    fn is_in_shed(&self, number: &Awb) -> bool
+        ensures { result ≡ is_in_shed (cargo_of self.now.lists) number.now }
+    {
+        stored(self.lists.book.as_slice(), number).pieces > 0
+    }
+
+    /// Puts a waybill behind the others, if pieces of it are in store.
+    fn put_stored(&self, rows: &mut Vec<ShedRow>, number: &Awb) -> Result<(), AllocError>
+        requires declared { IsSome ((cargo_of self.now.lists).declared number.now) }
+        ensures { OnOk result (rows.new.items ≡ rows.old.items ++
+            (if is_in_shed (cargo_of self.now.lists) number.now then shed_row
+            (cargo_of self.now.lists) number.now ∷ [] else [])) }
+    {
+        if self.is_in_shed(number) {
+            rows.push(self.shed_row(number))?;
+        }
+        Ok(())
+    }
+
+    /// The waybills with pieces in store, ascending.
+    fn shed_rows(&self) -> Result<Vec<ShedRow>, AllocError>
+        ensures { IfOk result (λ rows. rows.items ≡ shed_rows (cargo_of self.now.lists)) }
+    {
+        let mut rows = Vec::new(self.lists.alloc);
+        for number in &waybills_of(self.lists.alloc, self.lists.book.as_slice())? {
+            self.put_stored(&mut rows, number)?;
+        }
+        Ok(rows)
+    }
+
+    /// Hands out the waybills with pieces in store, ascending, until the sink takes no more. Out of
+    /// memory, it hands out none.
+    pub(crate) fn shed<S: Sink<ShedRow>>(&self, sink: &mut S) -> Result<(), ActFault>
+        ensures rows { OnOk result
+            (HandedOut S.takes (shed_rows (cargo_of self.now.lists)) sink.old sink.new) }
+        ensures beginning { OnErr result ((n : ℕ)
+            × HandedOut S.takes (take n (shed_rows (cargo_of self.now.lists))) sink.old sink.new) }
+        ensures memory { IfErr result (λ fault. fault ≡ ActFault.Memory) }
+        ensures none { OnErr result (sink.new ≡ sink.old) }
+    {
+        let Ok(stored) = self.shed_rows() else {
+            return Err(ActFault::Memory);
+        };
+        hand_out(sink, stored);
         Ok(())
     }
 }

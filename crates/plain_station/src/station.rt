@@ -5,8 +5,10 @@ ghost use Rattle.desk_commands.specs.Command.{command_text};
 ghost use Rattle.plain_station.specs.State.{state_of};
 ghost use Rattle.station_core.specs.Keeping.{Acts, Breaks};
 ghost use Rattle.row_sinks.specs.Handed.{HandedOut};
-ghost use Rattle.station_core.specs.Readers.{waybill_of, irregular_rows, book_rows, pending_messages, trail_rows};
+ghost use Rattle.station_core.specs.Readers.{waybill_of, shed_rows, AreFlightRows, AreExpectedRows, irregular_rows, book_rows, pending_messages, trail_rows};
 ghost use Rattle.station_core.specs.Step.{opening};
+ghost use Rattle.station_core.specs.declared.rows.ExpectedRow.{ExpectedRow as AnyExpected};
+ghost use Rattle.station_core.specs.declared.rows.FlightRow.{FlightRow as AnyFlight};
 ghost use Rattle.station_core.specs.declared.input.Input.TheVariants.{Keyed, Wire};
 
 use crate::cargo::PlainCargo;
@@ -16,8 +18,8 @@ use awb_number::Awb;
 use desk_commands::{Command, command_text};
 use imp_fields::{Airport, Moment};
 use station_core::{
-    ActFault, Answer, BookRow, Input, IrregularRow, Keeper, Key, Message, Reply, Sink, TrailRow,
-    Waybill,
+    ActFault, Answer, BookRow, ExpectedRow, FlightRow, Input, IrregularRow, Keeper, Key, Message,
+    Reply, ShedRow, Sink, TrailRow, Waybill,
 };
 use std::alloc::Global;
 use telegrams::Telegram;
@@ -187,6 +189,46 @@ impl Keeper for PlainStation {
         ensures as_before { self.new ≡ self.old }
     {
         self.cargo.stock(sink)
+    }
+
+    fn shed<S: Sink<ShedRow>>(&mut self, sink: &mut S) -> Result<(), ActFault>
+        ensures rows { OnOk result
+            (HandedOut S.takes (shed_rows (state_of self.old).cargo) sink.old sink.new) }
+        ensures beginning { OnErr result ((n : ℕ)
+            × HandedOut S.takes (take n (shed_rows (state_of self.old).cargo)) sink.old sink.new) }
+        ensures memory { IfErr result (λ fault. fault ≡ ActFault.Memory) }
+        ensures none { OnErr result (sink.new ≡ sink.old) }
+        ensures as_before { self.new ≡ self.old }
+    {
+        self.cargo.shed(sink)
+    }
+
+    fn flights<S: Sink<FlightRow>>(&mut self, sink: &mut S) -> Result<(), ActFault>
+        ensures rows { OnOk result ((rows : List AnyFlight)
+            × AreFlightRows (state_of self.old).cargo rows
+            × HandedOut S.takes rows sink.old sink.new) }
+        ensures beginning { OnErr result ((rows : List AnyFlight)
+            → AreFlightRows (state_of self.old).cargo rows → (n : ℕ)
+            × HandedOut S.takes (take n rows) sink.old sink.new) }
+        ensures memory { IfErr result (λ fault. fault ≡ ActFault.Memory) }
+        ensures none { OnErr result (sink.new ≡ sink.old) }
+        ensures as_before { self.new ≡ self.old }
+    {
+        self.cargo.flights(sink)
+    }
+
+    fn expected<S: Sink<ExpectedRow>>(&mut self, sink: &mut S) -> Result<(), ActFault>
+        ensures rows { OnOk result ((rows : List AnyExpected)
+            × AreExpectedRows (state_of self.old).cargo rows
+            × HandedOut S.takes rows sink.old sink.new) }
+        ensures beginning { OnErr result ((rows : List AnyExpected)
+            → AreExpectedRows (state_of self.old).cargo rows → (n : ℕ)
+            × HandedOut S.takes (take n rows) sink.old sink.new) }
+        ensures memory { IfErr result (λ fault. fault ≡ ActFault.Memory) }
+        ensures none { OnErr result (sink.new ≡ sink.old) }
+        ensures as_before { self.new ≡ self.old }
+    {
+        self.cargo.expected(sink)
     }
 
     fn irregular<S: Sink<IrregularRow>>(&mut self, sink: &mut S) -> Result<(), ActFault>

@@ -59,7 +59,7 @@ impl PlainCargo {
 
     /// The waybills that are built on a flight, ascending: of those that were ever built on it, the
     /// ones of which something is there yet.
-    fn numbers_on(&self, flight: &FlightDate) -> Result<Vec<Awb>, AllocError>
+    pub(crate) fn numbers_on(&self, flight: &FlightDate) -> Result<Vec<Awb>, AllocError>
         ensures { IfOk result (λ numbers. numbers.items ≡ waybills_on self.now.lists.book.items
             flight.now) }
     {
@@ -74,7 +74,7 @@ impl PlainCargo {
     }
 
     /// What is built of a waybill on a flight.
-    fn load_on(&self, awb: &Awb, flight: &FlightDate) -> Amount
+    pub(crate) fn load_on(&self, awb: &Awb, flight: &FlightDate) -> Amount
         ensures { result ≡ built self.now.lists.book.items awb.now flight.now }
     {
         held(self.lists.book.as_slice(), awb, &Place::Built(*flight))

@@ -9,6 +9,9 @@ use Rattle.agent_stock.specs.declared.runs.StockRun.{StockRun}
 use Rattle.station_core.specs.Given.{Given}
 use Rattle.station_core.specs.declared.answer.ActFault.{ActFault}
 use Rattle.station_core.specs.declared.rows.IrregularRow.{IrregularRow}
+use Rattle.station_core.specs.declared.rows.ShedRow.{ShedRow}
+use Rattle.station_core.specs.declared.rows.FlightRow.{FlightRow}
+use Rattle.station_core.specs.declared.rows.ExpectedRow.{ExpectedRow}
 use Rattle.station_core.specs.declared.rows.BookRow.{BookRow}
 use Rattle.station_core.specs.declared.rows.Message.{Message}
 use Rattle.station_core.specs.declared.rows.TrailRow.{TrailRow}
@@ -18,8 +21,9 @@ use Rattle.reports.specs.declared.fault.ReportCause.TheVariants as cause
 use Rattle.reports.specs.declared.fault.ReportFault.{ReportFault}
 use Rattle.station_core.specs.Ends.{NoneFailed, OneFailed}
 use Rattle.reports.specs.Ended.{StopsBy, StopsWriting}
-use Rattle.reports.specs.Layout.{right}
-use Rattle.reports.specs.Lines.{line, holder_text, amount_text, moment_text, places_text, flight_or_none, stock_line, irregular_line, book_line, message_lines, trail_line, end_line}
+use Rattle.station_core.specs.Texts.{flight_date_text}
+use Rattle.reports.specs.Layout.{right, left}
+use Rattle.reports.specs.Lines.{line, holder_text, amount_text, moment_text, places_text, flight_or_none, notified_or_none, open_or, stock_line, shed_line, flight_line, expected_line, irregular_line, book_line, message_lines, trail_line, end_line}
 use Rattle.reports.specs.Progress.{Progress, IsWhy, Waits, HasGone, HasStuck, Takes, Ends}
 use Rattle.reports.proofs.Telling.{Took, SameName}
 
@@ -32,6 +36,22 @@ pub stock_some : (row : StockRun) → 0 < length (stock_line row)
 stock_some row =
     line_some (padded 3 (prefix_of row.first) ∷ padded 7 (serial_of row.first) ∷ padded 7 (serial_of row.first + row.count - 1)
     ∷ right 8 (decimal row.count) ∷ holder_text row.holder ∷ [])
+
+pub shed_some : (row : ShedRow) → 0 < length (shed_line row)
+shed_some row =
+    line_some (number_text row.awb ∷ (row.origin ++ row.destination) ∷ codes "free" ∷ amount_text row.free.pieces row.free.tenths
+    ∷ codes "built" ∷ amount_text row.built.pieces row.built.tenths ∷ notified_or_none row.notified ∷ [])
+
+pub flight_some : (row : FlightRow) → 0 < length (flight_line row)
+flight_some row =
+    line_some (left 18 (flight_date_text row.noted.flight) ∷ row.noted.outbound.unload ∷ right 4 (decimal row.waybills)
+    ∷ amount_text row.pieces row.tenths ∷ open_or row.noted.outbound.closed (codes "closed") ∷ [])
+
+pub expected_some : (row : ExpectedRow) → 0 < length (expected_line row)
+expected_some row =
+    line_some (left 18 (flight_date_text row.expectation.flight) ∷ number_text row.expectation.awb ∷ (row.origin ++ row.destination)
+    ∷ amount_text row.expectation.expected.pieces row.expectation.expected.tenths
+    ∷ open_or row.expectation.expected.checked (codes "checked") ∷ [])
 
 pub irregular_some : (row : IrregularRow) → 0 < length (irregular_line row)
 irregular_some row =

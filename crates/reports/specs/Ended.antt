@@ -1,6 +1,5 @@
 -- What a report that ended before its end leaves.
 use Rattle.std.specs.Prelude.{◌≡◌, ◌⊎◌, ℕ, ◌+◌, ◌<◌, Result, Ok, Err, List, ◌++◌, length}
-use Rattle.agent_stock.specs.Stock.{Holders}
 use Rattle.station_core.specs.Given.{Given}
 use Rattle.station_core.specs.Ends.{Sent, HasCause, NoneFailed, OneFailed}
 use Rattle.station_core.specs.Keeping.{IsReadersFault}
@@ -8,7 +7,6 @@ use Rattle.station_core.specs.declared.answer.ActFault.TheVariants as act
 use Rattle.reports.specs.declared.fault.ReportCause.{ReportCause}
 use Rattle.reports.specs.declared.fault.ReportCause.TheVariants as cause
 use Rattle.reports.specs.declared.fault.ReportFault.{ReportFault}
-use Rattle.reports.specs.Reports.{IsStockReport}
 
 -- the station has to be opened again, and nothing went out
 abbrev pub IsReopen : Result (Unit {0}) ReportFault → Type 0
@@ -46,12 +44,12 @@ IsBegun text e old new = Sent old new text e.sent × HasTold e.cause old new
 abbrev pub HaveGone : ℕ → Given → Given → Type 0
 HaveGone sent old new = (out : List ℕ) × (length out ≡ sent) × (new.bytes ≡ old.bytes ++ out)
 
--- the same of the report of a stock, behind what stands in front: of one list of its runs, or of
--- each
-abbrev pub IsBegunStock : Holders → List ℕ → ReportFault → Given → Given → Type 0
-IsBegunStock holders front e old new =
-    ((text : List ℕ) × IsStockReport holders text × IsBegun (front ++ text) e old new)
-    ⊎ ((text : List ℕ) → IsStockReport holders text → IsBegun (front ++ text) e old new)
+-- the same of a report that is known by what it is, behind what stands in front: of one text that is
+-- it, or of each
+abbrev pub IsBegunBy : (List ℕ → Type 0) → List ℕ → ReportFault → Given → Given → Type 0
+IsBegunBy Is front e old new =
+    ((text : List ℕ) × Is text × IsBegun (front ++ text) e old new)
+    ⊎ ((text : List ℕ) → Is text → IsBegun (front ++ text) e old new)
 
 -- A report ended: its text went out, or a beginning of it. A fault is no refusal, nor Reopen of a
 -- station that is open.
@@ -59,13 +57,13 @@ abbrev pub HasEnded : Type 0 → List ℕ → Given → Given → Result (Unit {
 HasEnded open_station text old new (Ok x) = new.bytes ≡ old.bytes ++ text
 HasEnded open_station text old new (Err e) = IsBegun text e old new × (open_station → IsCause e.cause)
 
--- the same of the report of a stock, behind what stands in front
-abbrev pub HasEndedStock : Type 0 → Holders → List ℕ → Given → Given → Result (Unit {0}) ReportFault
-    → Type 0
-HasEndedStock open_station holders front old new (Ok x) = (text : List ℕ) × IsStockReport holders text × (new.bytes ≡ old.bytes ++ (front ++ text))
-HasEndedStock open_station holders front old new (Err e) = IsBegunStock holders front e old new × HaveGone e.sent old new × HasTold e.cause old new × (open_station → IsCause e.cause)
+-- the same of a report that is known by what it is, behind what stands in front
+abbrev pub HasEndedBy : Type 0 → (List ℕ → Type 0) → List ℕ → Given → Given
+    → Result (Unit {0}) ReportFault → Type 0
+HasEndedBy open_station Is front old new (Ok x) = (text : List ℕ) × Is text × (new.bytes ≡ old.bytes ++ (front ++ text))
+HasEndedBy open_station Is front old new (Err e) = IsBegunBy Is front e old new × HaveGone e.sent old new × HasTold e.cause old new × (open_station → IsCause e.cause)
 
--- the same of each text that is the report of a stock: there is one at most
-pub record HasEndedEach (open_station : Type 0) (holders : Holders) (front : List ℕ) (old new : Given) (result : Result (Unit {0}) ReportFault) : Type 0 where
-  pub text : (text : List ℕ) → IsStockReport holders text
+-- the same of each text that is the report: there is one at most
+pub record HasEndedEach (open_station : Type 0) (Is : List ℕ → Type 0) (front : List ℕ) (old new : Given) (result : Result (Unit {0}) ReportFault) : Type 0 where
+  pub text : (text : List ℕ) → Is text
       → HasEnded open_station (front ++ text) old new result

@@ -1,9 +1,10 @@
-//! A law of the definitions.
+//! Laws of the definitions: each report has one text.
 ghost use Rattle.std.specs.Prelude.{◌≡◌, ℕ, List};
 ghost use Rattle.agent_stock.specs.Stock.{Holders};
 ghost use Rattle.agent_stock.specs.Runs.{AreStockRuns};
 ghost use Rattle.agent_stock.specs.declared.runs.StockRun.{StockRun};
-ghost use Rattle.reports.specs.Reports.{IsStockReport};
+ghost use Rattle.reports.specs.Reports.{IsStockReport, IsFlightReport, IsExpectedReport};
+ghost use Rattle.shipment_machine.specs.Cargo.{Cargo};
 
 /// A stock has one list of maximal runs, and its report has one text.
 pub fn stock_report_law()
@@ -11,4 +12,16 @@ pub fn stock_report_law()
         → AreStockRuns holders others → rows ≡ others }
     ensures text { (holders : Holders) (text other : List ℕ) → IsStockReport holders text
         → IsStockReport holders other → text ≡ other }
+{}
+
+/// A cargo has one list of noted flights, and its report has one text.
+pub fn flight_report_law()
+    ensures { (s : Cargo) (text other : List ℕ) → IsFlightReport s text
+        → IsFlightReport s other → text ≡ other }
+{}
+
+/// A cargo has one list of what flights are to bring, and its report has one text.
+pub fn expected_report_law()
+    ensures { (s : Cargo) (text other : List ℕ) → IsExpectedReport s text
+        → IsExpectedReport s other → text ≡ other }
 {}

@@ -13,6 +13,7 @@ pub mod Confirming
 pub mod Moving
 pub mod Telling
 pub mod Handing
+pub mod Noted
 pub mod Reading
 pub mod Written
 mod Examples

@@ -8,6 +8,7 @@ use Rattle.imp_fields.specs.Airport.{is_airport}
 use Rattle.imp_fields.specs.Flight.{Designator, is_carrier, flight_of, flight_text}
 use Rattle.shipment_machine.specs.declared.flight.FlightDate.{FlightDate}
 use Rattle.shipment_machine.specs.declared.moves.Outbound.{Outbound}
+use Rattle.station_core.specs.declared.rows.NotedFlight.{NotedFlight}
 use Rattle.row_schema.specs.Tables.{Flight, FlightKey, flight_cmp}
 use Rattle.row_codec.specs.Numbers.{natural, is_day, flag, is_set, is_flag}
 
@@ -40,6 +41,10 @@ outbound_by row = record { unload = row.unload; closed = is_set row.closed }
 
 abbrev pub outbound_row : Outbound → Flight
 outbound_row o = record { unload = o.unload; closed = flag o.closed }
+
+-- the flight that a row is of, and what it notes of it
+abbrev pub noted_by : FlightKey × Flight → Option NotedFlight
+noted_by row = option_map (λ f. record { flight = f; outbound = outbound_by row.1 }) (flight_date_of row.0.0 row.0.1)
 
 abbrev pub flights_in : FinMap flight_cmp Flight → FlightDate → Option Outbound
 flights_in rows f = if is_designator f.flight then option_map outbound_by (get rows (flight_key f)) else None

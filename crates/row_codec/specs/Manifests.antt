@@ -8,9 +8,10 @@ use Rattle.imp_fields.specs.Flight.{flight_text}
 use Rattle.shipment_machine.specs.declared.flight.FlightDate.{FlightDate}
 use Rattle.shipment_machine.specs.declared.moves.Part.{Part}
 use Rattle.shipment_machine.specs.declared.moves.Expected as cargo
+use Rattle.station_core.specs.declared.rows.Expectation.{Expectation}
 use Rattle.row_schema.specs.Tables.{Expected, ExpectedKey, expected_cmp, PartKey, part_cmp}
 use Rattle.row_codec.specs.Numbers.{natural, is_within, is_number, is_day, flag, is_set, is_flag}
-use Rattle.row_codec.specs.Flights.{is_designator, is_flight_text}
+use Rattle.row_codec.specs.Flights.{flight_date_of, is_designator, is_flight_text}
 
 abbrev pub expected_key : FlightDate → ℕ → ExpectedKey
 expected_key f w = (flight_text f.flight, (pos f.day, pos w))
@@ -21,6 +22,11 @@ expected_by row = record { pieces = natural row.pieces; tenths = natural row.ten
 
 abbrev pub expected_row : cargo.Expected → Expected
 expected_row e = record { pieces = pos e.pieces; tenths = pos e.tenths; checked = flag e.checked }
+
+-- the flight and the waybill that a row is of, and what it says is expected
+abbrev pub expectation_by : ExpectedKey × Expected → Option Expectation
+expectation_by row =
+    option_map (λ f. record { flight = f; awb = natural row.0.1.1; expected = expected_by row.1 }) (flight_date_of row.0.0 row.0.1.0)
 
 abbrev pub expected_in : FinMap expected_cmp Expected → FlightDate → ℕ → Option cargo.Expected
 expected_in rows f w = if is_designator f.flight then option_map expected_by (get rows (expected_key f w)) else None

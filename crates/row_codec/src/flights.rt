@@ -1,14 +1,15 @@
-ghost use Rattle.std.specs.Prelude.{◌≡◌, pos, IsTrue, IfSome, IfOk, string_bytes};
+ghost use Rattle.std.specs.Prelude.{◌≡◌, pos, IsTrue, IfSome, IfOk, Some, string_bytes};
 ghost use Rattle.imp_fields.specs.Flight.{flight_text};
-ghost use Rattle.cargo_rows.specs.Meant.{flight_meant};
+ghost use Rattle.cargo_rows.specs.Meant.{flight_meant, noted_flight_meant};
 ghost use Rattle.row_codec.specs.Numbers.{natural, is_number, is_day};
-ghost use Rattle.row_codec.specs.Flights.{is_designator, is_flight_text, flight_key, outbound_by, outbound_row, is_flight_row};
+ghost use Rattle.row_codec.specs.Flights.{is_designator, is_flight_text, flight_date_of, flight_key, noted_by, outbound_by, outbound_row, is_flight_row};
 
 use crate::texts::text;
 use awb_number::Awb;
 use imp_fields::{Airport, Flight, LocalDay};
 use shipment_machine::{FlightDate, Outbound};
-use station_rows::{FlightRow, StoreFault};
+use station_core::NotedFlight;
+use station_rows::{FlightRow, NotedFlightRow, StoreFault};
 use std::alloc::Global;
 
 /// A waybill number as a column has it: prefix and serial in one.
@@ -47,13 +48,40 @@ pub fn flight_text(alloc: Global, flight: &Flight) -> Result<String, StoreFault>
     text(alloc, &buffer[..len])
 }
 
+/// The flight of a text and a day. `None`: one of them is out of range.
+pub(crate) fn flight_date_by(text: &str, day: i64) -> Option<FlightDate>
+    ensures { IfSome result (λ flight. Some flight ≡ flight_date_of text.now day) }
+{
+    let flight = Flight::read(text.as_bytes())?;
+    let day = LocalDay::new(u32::try_from(day).ok()?)?;
+    Some(FlightDate { flight, day })
+}
+
+/// What the columns of a row note of a flight.
+fn outbound_of(unload: &str, closed: i64) -> Option<Outbound>
+    ensures { IfSome result (λ outbound. outbound
+        ≡ outbound_by (record { unload = unload.now; closed = closed })) }
+{
+    Some(Outbound {
+        unload: Airport::read(unload.as_bytes())?,
+        closed: closed == 1,
+    })
+}
+
 /// What a row notes of a flight. `None`: a column is out of range.
 pub fn outbound_by(row: &FlightRow) -> Option<Outbound>
     ensures { IfSome result (λ outbound. outbound ≡ outbound_by (flight_meant row.now)) }
 {
-    Some(Outbound {
-        unload: Airport::read(row.unload.as_bytes())?,
-        closed: row.closed == 1,
+    outbound_of(&row.unload, row.closed)
+}
+
+/// The flight that a row is of, and what it notes of it. `None`: a column is out of range.
+pub fn noted_by(row: &NotedFlightRow) -> Option<NotedFlight>
+    ensures { IfSome result (λ noted. Some noted ≡ noted_by (noted_flight_meant row.now)) }
+{
+    Some(NotedFlight {
+        flight: flight_date_by(&row.flight, row.day)?,
+        outbound: outbound_of(&row.unload, row.closed)?,
     })
 }
 

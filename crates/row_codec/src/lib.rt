@@ -13,9 +13,11 @@ mod station;
 mod texts;
 mod waybills;
 
-pub use flights::{awb_key, day_number, flight_text, outbound_by, outbound_range, outbound_row};
+pub use flights::{
+    awb_key, day_number, flight_text, noted_by, outbound_by, outbound_range, outbound_row,
+};
 pub use logs::{line_by, message_by, message_row, trail_row};
-pub use manifests::{expected_by, expected_range, expected_row, part_range};
+pub use manifests::{expectation_by, expected_by, expected_range, expected_row, part_range};
 pub use moves::{book_row_by, move_by, move_row, place_code};
 pub use replies::{count_of, kept_by};
 pub use station::airport_by;

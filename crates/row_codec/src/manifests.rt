@@ -1,25 +1,46 @@
-ghost use Rattle.std.specs.Prelude.{◌≡◌, ℕ, List, IsTrue, IfSome};
+ghost use Rattle.std.specs.Prelude.{◌≡◌, ℕ, List, IsTrue, IfSome, Some};
 ghost use Rattle.std.specs.Str.{is_utf8};
-ghost use Rattle.cargo_rows.specs.Meant.{expected_meant};
+ghost use Rattle.cargo_rows.specs.Meant.{expected_meant, listed_waybill_meant};
 ghost use Rattle.row_codec.specs.Flights.{is_designator};
-ghost use Rattle.row_codec.specs.Manifests.{expected_key, expected_by, expected_row, is_expected_row, part_key, is_part_row};
+ghost use Rattle.row_codec.specs.Manifests.{expectation_by, expected_key, expected_by, expected_row, is_expected_row, part_key, is_part_row};
 
-use crate::flights::{awb_key, day_number, flight_range};
+use crate::flights::{awb_by, awb_key, day_number, flight_date_by, flight_range};
 use awb_number::Awb;
 use imp_fields::{BookTenths, Pieces};
 use shipment_machine::{Expected, FlightDate, Part};
-use station_rows::ExpectedRow;
+use station_core::Expectation;
+use station_rows::{ExpectedRow, ListedWaybillRow};
+
+/// What the columns of a row say is expected.
+fn expected_of(pieces: i64, tenths: i64, checked: i64) -> Option<Expected>
+    ensures { IfSome result (λ expected. expected
+        ≡ expected_by (record { pieces = pieces; tenths = tenths; checked = checked })) }
+{
+    let pieces = u32::try_from(pieces).ok()?;
+    let tenths = u32::try_from(tenths).ok()?;
+    Some(Expected {
+        pieces: Pieces::new(pieces)?,
+        tenths: BookTenths::new(tenths)?,
+        checked: checked == 1,
+    })
+}
 
 /// What a row says is expected. `None`: a column is out of range.
 pub fn expected_by(row: &ExpectedRow) -> Option<Expected>
     ensures { IfSome result (λ expected. expected ≡ expected_by (expected_meant row.now)) }
 {
-    let pieces = u32::try_from(row.pieces).ok()?;
-    let tenths = u32::try_from(row.tenths).ok()?;
-    Some(Expected {
-        pieces: Pieces::new(pieces)?,
-        tenths: BookTenths::new(tenths)?,
-        checked: row.checked == 1,
+    expected_of(row.pieces, row.tenths, row.checked)
+}
+
+/// The flight and the waybill that a row is of, and what it says is expected. `None`: a column is
+/// out of range.
+pub fn expectation_by(row: &ListedWaybillRow) -> Option<Expectation>
+    ensures { IfSome result (λ one. Some one ≡ expectation_by (listed_waybill_meant row.now)) }
+{
+    Some(Expectation {
+        flight: flight_date_by(&row.flight, row.day)?,
+        awb: awb_by(row.awb)?,
+        expected: expected_of(row.pieces, row.tenths, row.checked)?,
     })
 }
 

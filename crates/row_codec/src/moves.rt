@@ -8,9 +8,9 @@ ghost use Rattle.row_codec.specs.Flights.{flight_date_of};
 ghost use Rattle.row_codec.specs.Moves.{place_code, place_of, move_by, flight_column, day_column, move_row, is_move_row, are_flight_columns};
 ghost use Rattle.row_codec.specs.Numbers.{natural, is_day};
 
-use crate::flights::{awb_by, awb_key, day_number, flight_range, flight_text};
+use crate::flights::{awb_by, awb_key, day_number, flight_date_by, flight_range, flight_text};
 use crate::replies::count_of;
-use imp_fields::{BookTenths, Flight, LocalDay, Moment, Pieces};
+use imp_fields::{BookTenths, Moment, Pieces};
 use shipment_machine::{FlightDate, Move, Place};
 use station_core::BookRow;
 use station_rows::{MoveRow, StoreFault};
@@ -30,9 +30,7 @@ fn flight_by(text: &str, day: i64) -> Option<Option<FlightDate>>
     if text.is_empty() {
         return Some(None);
     }
-    let flight = Flight::read(text.as_bytes())?;
-    let day = LocalDay::new(u32::try_from(day).ok()?)?;
-    Some(Some(FlightDate { flight, day }))
+    Some(Some(flight_date_by(text, day)?))
 }
 
 /// The place of a code, where a built one is on this flight.

@@ -10,3 +10,4 @@ pub mod Stores
 pub mod Entries
 pub mod FlightRows
 pub mod Loads
+pub mod EachWaybill

@@ -127,7 +127,7 @@ fn drawn(rows: &[CountRow], place: &Place) -> Result<Amount, StoreFault>
 }
 
 /// The balances, by the rows of a waybill.
-fn balances_by(rows: &[CountRow]) -> Result<Balances, StoreFault>
+pub(crate) fn balances_by(rows: &[CountRow]) -> Result<Balances, StoreFault>
     ensures { (counts : FinMap count_cmp Count) (book : List Move) (w : ℕ)
         → map count_meant rows.now ≡ filter (counts_for (pos w)) (entries counts)
         → AreCounts counts book

@@ -13,6 +13,19 @@ pub(crate) fn number_of(awb: &Awb) -> i64
     awb.key() as i64
 }
 
+/// The waybill of a number in a column.
+pub(crate) fn awb_of(number: i64) -> Result<Awb, StoreFault>
+    ensures { IfOk result (λ awb. number ≡ pos awb) }
+{
+    let Ok(key) = u64::try_from(number) else {
+        return Err(StoreFault);
+    };
+    match Awb::of_key(key) {
+        Some(awb) => Ok(awb),
+        None => Err(StoreFault),
+    }
+}
+
 /// A whole number as its column has it.
 pub(crate) fn whole(number: u32) -> i64
     ensures { result ≡ pos number }

@@ -4,11 +4,13 @@
 mod building;
 mod counting;
 mod fields;
+mod listing;
 mod loading;
 mod posting;
 mod tally;
 
 pub use building::load;
 pub use counting::balances;
+pub use listing::all_balances;
 pub use loading::{aboard, waybills_on};
 pub use posting::post_move;

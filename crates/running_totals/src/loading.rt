@@ -7,9 +7,8 @@ ghost use Rattle.station_rows.specs.Clauses.{ShowsStill, WasOpen};
 ghost use Rattle.row_codec.specs.Counts.{AreBuilds};
 ghost use Rattle.running_totals.specs.Loaded.{load_said, row_said, is_loaded};
 
-use crate::fields::{whole, written};
+use crate::fields::{awb_of, whole, written};
 use crate::tally::build_tally;
-use awb_number::Awb;
 use shipment_machine::{FlightDate, Move};
 use state_store::Load;
 use station_rows::{BuildRow, StoreFault, TableStore};
@@ -22,24 +21,11 @@ fn is_loaded(row: &BuildRow) -> bool
     0 < row.pieces
 }
 
-/// The waybill of a row.
-fn awb_in(row: &BuildRow) -> Result<Awb, StoreFault>
-    ensures { IfOk result (λ awb. row.now.awb ≡ pos awb) }
-{
-    let Ok(key) = u64::try_from(row.awb) else {
-        return Err(StoreFault);
-    };
-    match Awb::of_key(key) {
-        Some(awb) => Ok(awb),
-        None => Err(StoreFault),
-    }
-}
-
 /// The load of a row.
 fn load_in(row: &BuildRow) -> Result<Load, StoreFault>
     ensures { IfOk result (λ load. load_said load ≡ row_said (build_meant row.now)) }
 {
-    let awb = awb_in(row)?;
+    let awb = awb_of(row.awb)?;
     let amount = build_tally(row).amount()?;
     Ok(Load { awb, amount })
 }

@@ -1,2 +1,4 @@
+mod Balances
 mod Meant
+mod Stored
 pub mod Walks

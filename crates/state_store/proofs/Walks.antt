@@ -1,6 +1,6 @@
 -- One call after another, and rows that are walked.
 use Rattle.std.proofs.Common.{◌≡◌, ℕ, ◌+◌, ◌<◌, List, [], ◌∷◌, ◌++◌, length, take, map, refl, sym, ap, ◌∙◌, get_or}
-use Rattle.std.specs.Prelude.{Option}
+use Rattle.std.specs.Prelude.{Option, Result, Ok, Err, IfOk}
 use Rattle.std.proofs.lemmas.List.{map_more}
 use Rattle.station_core.specs.Step.{State}
 use Rattle.state_store.specs.Store.{Survives}
@@ -21,3 +21,8 @@ mapped f xs ys zs i x lt read before after =
 pub map_twice : {X Y Z : Type 0} (g : Y → Z) (f : X → Y) (xs : List X) → map (λ x. g (f x)) xs ≡ map g (map f xs)
 map_twice g f [] = refl
 map_twice g f (x ∷ xs) = ap (λ l. g (f x) ∷ l) (map_twice g f xs)
+
+-- what is said of a value is said in other words
+pub told_so : {X E : Type 0} (P Q : X → Type 0) (r : Result X E) → ((x : X) → P x → Q x) → IfOk r P → IfOk r Q
+told_so P Q (Ok x) so h = so x h
+told_so P Q (Err e) so h = tt

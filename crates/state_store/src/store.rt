@@ -4,7 +4,7 @@ use imp_fields::Airport;
 use shipment_machine::{
     Amount, Balances, Change, Declared, Expected, FlightDate, Move, Outbound, Part,
 };
-use station_core::{BookRow, Key, Message, Sink, TrailRow};
+use station_core::{BookRow, Expectation, Key, Message, NotedFlight, Sink, TrailRow};
 use std::alloc::{AllocError, AllocFailed};
 
 /// A call of the store failed: the store itself, or memory ran out once it had been asked.
@@ -39,6 +39,13 @@ pub struct Load {
     pub amount: Amount,
 }
 
+/// What the moves of a waybill add up to.
+#[derive(Clone, Copy, Debug, PartialEq, Eq)]
+pub struct WaybillBalances {
+    pub awb: Awb,
+    pub balances: Balances,
+}
+
 /// How many moves, lines of the trail and messages there are. Each is numbered from 1.
 #[derive(Clone, Copy, Debug, PartialEq, Eq)]
 pub struct Sizes {
@@ -57,16 +64,16 @@ pub trait StateStore {
     ghost use Rattle.std.specs.Option.{option_map};
     ghost use Rattle.agent_stock.specs.Runs.{AreStockRuns};
     ghost use Rattle.agent_stock.specs.Stock.{order_refusal};
-    ghost use Rattle.shipment_machine.specs.Book.{balances_of, built, has_moves as is_moved, waybills_of, waybills_on};
+    ghost use Rattle.shipment_machine.specs.Book.{balances_of, built, has_moves as is_moved, waybills_on};
     ghost use Rattle.shipment_machine.specs.Cargo.{written};
-    ghost use Rattle.station_core.specs.Readers.{book_rows, pending_messages, trail_rows};
+    ghost use Rattle.station_core.specs.Readers.{AreNoted, AreExpectations, book_rows, pending_messages, trail_rows};
     ghost use Rattle.station_core.specs.Step.{State, has_room};
     ghost use Rattle.station_core.specs.declared.rows.BookRow.{BookRow as AnyBookRow};
     ghost use Rattle.station_core.specs.declared.rows.Message.{Message as AnyMessage};
     ghost use Rattle.station_core.specs.declared.rows.TrailRow.{TrailRow as AnyTrailRow};
     ghost use Rattle.row_sinks.specs.Handed.{HandedOut, Hands};
     ghost use Rattle.state_store.specs.Store.{Seen, at_rest, inside, Survives, MayLeave, OnRefused, RefusesBy};
-    ghost use Rattle.state_store.specs.Told.{IsRequest, kept_of, sizes_of, loads_on, on_cargo, with_moves, with_messages, with_key, with_text, with_order};
+    ghost use Rattle.state_store.specs.Told.{IsRequest, AreAllBalances, kept_of, sizes_of, loads_on, on_cargo, with_moves, with_messages, with_key, with_text, with_order};
 
     /// It shows this, as long as the disk returned what was written.
     ghost shows: { Self → Seen → Type 0 };
@@ -154,6 +161,7 @@ pub trait StateStore {
         ensures value { (x : Seen) → shows self.old x → is_sound self.new
             → IfOk result (λ loads. loads.items ≡ loads_on x.now.cargo.book flight.now) }
         ensures same { (x : Seen) → shows self.old x → OnOk result (shows self.new x) }
+        ensures rests { (s : State) → shows self.old (at_rest s) → shows self.new (at_rest s) }
         ensures survives { Survives is_clean is_sound may_find self.old self.new };
 
     /// How many waybills have something built on a flight: a departure reads each load, by
@@ -251,10 +259,25 @@ pub trait StateStore {
         ensures rests { (s : State) → shows self.old (at_rest s) → shows self.new (at_rest s) }
         ensures survives { Survives is_clean is_sound may_find self.old self.new };
 
-    /// The waybills that have a move, ascending.
-    fn moved(&mut self) -> Result<Vec<Awb>, StoreFault>
+    /// The balances of all waybills, ascending. A waybill that isn't listed has nothing anywhere but
+    /// on flights.
+    fn all_balances(&mut self) -> Result<Vec<WaybillBalances>, StoreFault>
         ensures value { (s : State) → shows self.old (at_rest s) → is_sound self.new
-            → IfOk result (λ numbers. numbers.items ≡ waybills_of s.cargo.book) }
+            → IfOk result (λ rows. AreAllBalances s.cargo.book rows.items) }
+        ensures rests { (s : State) → shows self.old (at_rest s) → shows self.new (at_rest s) }
+        ensures survives { Survives is_clean is_sound may_find self.old self.new };
+
+    /// The flights that are noted, by their written form and then by the day.
+    fn noted(&mut self) -> Result<Vec<NotedFlight>, StoreFault>
+        ensures value { (s : State) → shows self.old (at_rest s) → is_sound self.new
+            → IfOk result (λ rows. AreNoted s.cargo.flights rows.items) }
+        ensures rests { (s : State) → shows self.old (at_rest s) → shows self.new (at_rest s) }
+        ensures survives { Survives is_clean is_sound may_find self.old self.new };
+
+    /// All that flights are to bring, by flight as `noted` has them and then by waybill.
+    fn expectations(&mut self) -> Result<Vec<Expectation>, StoreFault>
+        ensures value { (s : State) → shows self.old (at_rest s) → is_sound self.new
+            → IfOk result (λ rows. AreExpectations s.cargo.expected rows.items) }
         ensures rests { (s : State) → shows self.old (at_rest s) → shows self.new (at_rest s) }
         ensures survives { Survives is_clean is_sound may_find self.old self.new };
 

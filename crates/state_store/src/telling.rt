@@ -1,18 +1,23 @@
 //! The readers of the state of a store: nothing is changed.
-ghost use Rattle.std.specs.Prelude.{◌≡◌, ℕ, ◌+◌, ◌++◌, ◌∷◌, [], if◌then◌else◌, OnOk, IfOk};
-ghost use Rattle.std.specs.List.{flat_map};
+ghost use Rattle.std.specs.Prelude.{◌≡◌, ◌≤◌, ℕ, ◌+◌, ◌-◌, ◌++◌, length, map, OnOk, IfOk};
+ghost use Rattle.std.specs.List.{flat_map, sum_by};
+ghost use Rattle.shipment_machine.specs.Amount.{less};
 ghost use Rattle.shipment_machine.specs.Book.{balances_of, store};
 ghost use Rattle.shipment_machine.specs.Cargo.{Cargo as AnyCargo};
 ghost use Rattle.shipment_machine.specs.Lawful.{IsLawful};
-ghost use Rattle.station_core.specs.Readers.{told_of, waybill_of, is_irregular, irregular_row, irregular_rows};
+ghost use Rattle.shipment_machine.specs.Views.{declaration};
+ghost use Rattle.station_core.specs.Readers.{told_of, waybill_of, irregular_rows, shed_rows, flight_row, AreFlightRows, expected_row, AreExpectedRows};
 ghost use Rattle.station_core.specs.Step.{State};
 ghost use Rattle.state_store.specs.Store.{at_rest, Survives};
+ghost use Rattle.state_store.specs.Told.{stored_of, irregular_by, irregulars_by, shed_by, sheds_by};
 
-use crate::store::{StateStore, StoreFault};
+use crate::store::{Load, StateStore, StoreFault, WaybillBalances};
 use awb_number::Awb;
 use shipment_machine::laws::conservation_law;
 use shipment_machine::{Amount, Balances, Declared};
-use station_core::{IrregularRow, Waybill};
+use station_core::{
+    Expectation, ExpectedRow, FlightRow, IrregularRow, NotedFlight, ShedRow, Waybill,
+};
 use std::alloc::Global;
 
 /// What is left of what came in from two sides once it went four ways.
@@ -24,7 +29,9 @@ fn left(
     missing: u32,
     transferred: u32,
 ) -> Result<u32, StoreFault>
-    ensures { (n : ℕ) → taken + found ≡ n + departed + delivered + missing + transferred
+    ensures rest { IfOk result (λ rest. rest
+        ≡ taken + found - (departed + delivered + missing + transferred)) }
+    ensures same { (n : ℕ) → taken + found ≡ n + departed + delivered + missing + transferred
         → IfOk result (λ rest. rest ≡ n) }
 {
     let came = u64::from(taken) + u64::from(found);
@@ -44,7 +51,8 @@ fn left(
 /// What of a waybill is in the store: what was taken over or found, and hasn't departed, wasn't
 /// delivered or transferred and isn't missing.
 fn stored(balances: &Balances) -> Result<Amount, StoreFault>
-    ensures { (s : AnyCargo) (w : ℕ) → IsLawful s → balances.now ≡ balances_of s.book w
+    ensures left { IfOk result (λ amount. amount ≡ stored_of balances.now) }
+    ensures lawful { (s : AnyCargo) (w : ℕ) → IsLawful s → balances.now ≡ balances_of s.book w
         → IfOk result (λ amount. amount ≡ store s.book w) }
 {
     conservation_law();
@@ -113,42 +121,53 @@ pub fn waybill_in<S: StateStore>(store: &mut S, number: &Awb) -> Result<Option<W
     }
 }
 
-/// A waybill with its pieces missing and found.
-fn irregular_row<S: StateStore>(store: &mut S, number: &Awb) -> Result<IrregularRow, StoreFault>
+/// What is declared of a waybill that is known.
+fn declaration<S: StateStore>(store: &mut S, number: &Awb) -> Result<Declared, StoreFault>
     ensures value { (s : State) → S.shows store.old (at_rest s) → S.is_sound store.new
-        → IfOk result (λ row. row ≡ irregular_row s.cargo number.now) }
+        → IfOk result (λ declared. declared ≡ declaration s.cargo number.now) }
     ensures rests { (s : State) → S.shows store.old (at_rest s) → S.shows store.new (at_rest s) }
     ensures survives { Survives S.is_clean S.is_sound S.may_find store.old store.new }
 {
-    let balances = store.balances(number)?;
     match store.declared(number)? {
         None => Err(StoreFault),
-        Some(declared) => Ok(IrregularRow {
-            awb: *number,
-            origin: declared.origin,
-            destination: declared.destination,
-            missing: balances.missing,
-            found: balances.found,
-        }),
+        Some(declared) => Ok(declared),
     }
+}
+
+/// A waybill with its pieces missing and found.
+fn irregular_row<S: StateStore>(
+    store: &mut S,
+    waybill: &WaybillBalances,
+) -> Result<IrregularRow, StoreFault>
+    ensures value { (s : State) → S.shows store.old (at_rest s) → S.is_sound store.new
+        → IfOk result (λ row. row ≡ irregular_by s.cargo waybill.now) }
+    ensures rests { (s : State) → S.shows store.old (at_rest s) → S.shows store.new (at_rest s) }
+    ensures survives { Survives S.is_clean S.is_sound S.may_find store.old store.new }
+{
+    let declared = declaration(store, &waybill.awb)?;
+    Ok(IrregularRow {
+        awb: waybill.awb,
+        origin: declared.origin,
+        destination: declared.destination,
+        missing: waybill.balances.missing,
+        found: waybill.balances.found,
+    })
 }
 
 /// Puts a waybill behind the others, if pieces are missing or were found.
 fn put_irregular<S: StateStore>(
     store: &mut S,
     rows: &mut Vec<IrregularRow>,
-    number: &Awb,
+    waybill: &WaybillBalances,
 ) -> Result<(), StoreFault>
     ensures value { (s : State) → S.shows store.old (at_rest s) → S.is_sound store.new
         → OnOk result (rows.new.items
-        ≡ rows.old.items ++
-        (if is_irregular s.cargo number.now then irregular_row s.cargo number.now ∷ [] else [])) }
+        ≡ rows.old.items ++ irregulars_by s.cargo waybill.now) }
     ensures rests { (s : State) → S.shows store.old (at_rest s) → S.shows store.new (at_rest s) }
     ensures survives { Survives S.is_clean S.is_sound S.may_find store.old store.new }
 {
-    let row = irregular_row(store, number)?;
-    if row.missing.pieces > 0 || row.found.pieces > 0 {
-        rows.push(row)?;
+    if waybill.balances.missing.pieces > 0 || waybill.balances.found.pieces > 0 {
+        rows.push(irregular_row(store, waybill)?)?;
     }
     Ok(())
 }
@@ -157,24 +176,23 @@ fn put_irregular<S: StateStore>(
 fn irregular_among<S: StateStore>(
     alloc: Global,
     store: &mut S,
-    numbers: &[Awb],
+    waybills: &[WaybillBalances],
 ) -> Result<Vec<IrregularRow>, StoreFault>
     ensures value { (s : State) → S.shows store.old (at_rest s) → S.is_sound store.new
-        → IfOk result (λ rows. rows.items ≡ flat_map
-        (λ w. if is_irregular s.cargo w then irregular_row s.cargo w ∷ [] else []) numbers.now) }
+        → IfOk result (λ rows. rows.items ≡ flat_map (irregulars_by s.cargo) waybills.now) }
     ensures rests { (s : State) → S.shows store.old (at_rest s) → S.shows store.new (at_rest s) }
     ensures survives { Survives S.is_clean S.is_sound S.may_find store.old store.new }
 {
     let mut rows = Vec::new(alloc);
-    for number in numbers {
-        put_irregular(store, &mut rows, number)?;
+    for waybill in waybills {
+        put_irregular(store, &mut rows, waybill)?;
     }
     Ok(rows)
 }
 
-/// The waybills of which pieces are missing or were found, ascending: two reads for each waybill
-/// that has a move. A fault says that a call of the store failed, that memory ran out, or that a
-/// waybill with a move isn't declared.
+/// The waybills of which pieces are missing or were found, ascending: all balances in one read, and
+/// one read more for each waybill that is listed. A fault says that a call of the store failed, that
+/// memory ran out, or that such a waybill isn't declared.
 pub fn irregular_rows<S: StateStore>(
     alloc: Global,
     store: &mut S,
@@ -184,6 +202,219 @@ pub fn irregular_rows<S: StateStore>(
     ensures rests { (s : State) → S.shows store.old (at_rest s) → S.shows store.new (at_rest s) }
     ensures survives { Survives S.is_clean S.is_sound S.may_find store.old store.new }
 {
-    let numbers = store.moved()?;
-    irregular_among(alloc, store, &numbers)
+    let waybills = store.all_balances()?;
+    irregular_among(alloc, store, &waybills)
+}
+
+/// What is left of an amount.
+fn less(whole: &Amount, part: &Amount) -> Amount
+    ensures { result ≡ less whole.now part.now }
+{
+    Amount {
+        pieces: whole.pieces.saturating_sub(part.pieces),
+        tenths: whole.tenths.saturating_sub(part.tenths),
+    }
+}
+
+/// A waybill with this in store.
+fn shed_row<S: StateStore>(
+    store: &mut S,
+    waybill: &WaybillBalances,
+    stored: &Amount,
+) -> Result<ShedRow, StoreFault>
+    ensures value { (s : State) → S.shows store.old (at_rest s) → S.is_sound store.new
+        → stored.now ≡ stored_of waybill.now.balances
+        → IfOk result (λ row. row ≡ shed_by s.cargo waybill.now) }
+    ensures rests { (s : State) → S.shows store.old (at_rest s) → S.shows store.new (at_rest s) }
+    ensures survives { Survives S.is_clean S.is_sound S.may_find store.old store.new }
+{
+    let declared = declaration(store, &waybill.awb)?;
+    let free = waybill.balances.free;
+    Ok(ShedRow {
+        awb: waybill.awb,
+        origin: declared.origin,
+        destination: declared.destination,
+        free,
+        built: less(stored, &free),
+        notified: declared.notified,
+    })
+}
+
+/// Puts a waybill behind the others, if it has pieces in store.
+fn put_shed<S: StateStore>(
+    store: &mut S,
+    rows: &mut Vec<ShedRow>,
+    waybill: &WaybillBalances,
+) -> Result<(), StoreFault>
+    ensures value { (s : State) → S.shows store.old (at_rest s) → S.is_sound store.new
+        → OnOk result (rows.new.items ≡ rows.old.items ++ sheds_by s.cargo waybill.now) }
+    ensures rests { (s : State) → S.shows store.old (at_rest s) → S.shows store.new (at_rest s) }
+    ensures survives { Survives S.is_clean S.is_sound S.may_find store.old store.new }
+{
+    let stored = stored(&waybill.balances)?;
+    if stored.pieces > 0 {
+        rows.push(shed_row(store, waybill, &stored)?)?;
+    }
+    Ok(())
+}
+
+/// Those of some waybills that have pieces in store.
+fn shed_among<S: StateStore>(
+    alloc: Global,
+    store: &mut S,
+    waybills: &[WaybillBalances],
+) -> Result<Vec<ShedRow>, StoreFault>
+    ensures value { (s : State) → S.shows store.old (at_rest s) → S.is_sound store.new
+        → IfOk result (λ rows. rows.items ≡ flat_map (sheds_by s.cargo) waybills.now) }
+    ensures rests { (s : State) → S.shows store.old (at_rest s) → S.shows store.new (at_rest s) }
+    ensures survives { Survives S.is_clean S.is_sound S.may_find store.old store.new }
+{
+    let mut rows = Vec::new(alloc);
+    for waybill in waybills {
+        put_shed(store, &mut rows, waybill)?;
+    }
+    Ok(rows)
+}
+
+/// The waybills with pieces in store, ascending: all balances in one read, and one read more for each
+/// waybill that is listed. A fault says that a call of the store failed, that memory ran out, or that
+/// what it returned is no lawful state's.
+pub fn shed_rows<S: StateStore>(alloc: Global, store: &mut S) -> Result<Vec<ShedRow>, StoreFault>
+    ensures value { (s : State) → S.shows store.old (at_rest s) → IsLawful s.cargo
+        → S.is_sound store.new → IfOk result (λ rows. rows.items ≡ shed_rows s.cargo) }
+    ensures rests { (s : State) → S.shows store.old (at_rest s) → S.shows store.new (at_rest s) }
+    ensures survives { Survives S.is_clean S.is_sound S.may_find store.old store.new }
+{
+    conservation_law();
+    let waybills = store.all_balances()?;
+    shed_among(alloc, store, &waybills)
+}
+
+/// The pieces of loads.
+fn pieces_in(loads: &[Load]) -> u64
+    requires few { length loads.now ≤ 65_535 }
+    ensures { result ≡ sum_by (λ load. load.amount.pieces) loads.now }
+{
+    let mut sum = 0;
+    for load in loads {
+        sum += u64::from(load.amount.pieces);
+    }
+    sum
+}
+
+/// The weight of loads.
+fn tenths_in(loads: &[Load]) -> u64
+    requires few { length loads.now ≤ 65_535 }
+    ensures { result ≡ sum_by (λ load. load.amount.tenths) loads.now }
+{
+    let mut sum = 0;
+    for load in loads {
+        sum += u64::from(load.amount.tenths);
+    }
+    sum
+}
+
+/// A noted flight, and what is built on it.
+fn flight_row<S: StateStore>(store: &mut S, noted: &NotedFlight) -> Result<FlightRow, StoreFault>
+    ensures value { (s : State) → S.shows store.old (at_rest s) → S.is_sound store.new
+        → IfOk result (λ row. row ≡ flight_row s.cargo noted.now) }
+    ensures rests { (s : State) → S.shows store.old (at_rest s) → S.shows store.new (at_rest s) }
+    ensures survives { Survives S.is_clean S.is_sound S.may_find store.old store.new }
+{
+    let loads = store.aboard(&noted.flight)?;
+    let Ok(waybills) = u16::try_from(loads.len()) else {
+        return Err(StoreFault);
+    };
+    Ok(FlightRow {
+        noted: *noted,
+        waybills,
+        pieces: pieces_in(&loads),
+        tenths: tenths_in(&loads),
+    })
+}
+
+/// Some noted flights, and what is built on each.
+fn flights_among<S: StateStore>(
+    alloc: Global,
+    store: &mut S,
+    flights: &[NotedFlight],
+) -> Result<Vec<FlightRow>, StoreFault>
+    ensures value { (s : State) → S.shows store.old (at_rest s) → S.is_sound store.new
+        → IfOk result (λ rows. rows.items ≡ map (flight_row s.cargo) flights.now) }
+    ensures rests { (s : State) → S.shows store.old (at_rest s) → S.shows store.new (at_rest s) }
+    ensures survives { Survives S.is_clean S.is_sound S.may_find store.old store.new }
+{
+    let mut rows = Vec::new(alloc);
+    for noted in flights {
+        rows.push(flight_row(store, noted)?)?;
+    }
+    Ok(rows)
+}
+
+/// The flights that are noted, with what is built on each: a read for all, and one for each flight. A
+/// fault says that a call of the store failed, that memory ran out, or that more waybills are built
+/// on a flight than a lawful state has.
+pub fn flight_rows<S: StateStore>(
+    alloc: Global,
+    store: &mut S,
+) -> Result<Vec<FlightRow>, StoreFault>
+    ensures value { (s : State) → S.shows store.old (at_rest s) → S.is_sound store.new
+        → IfOk result (λ rows. AreFlightRows s.cargo rows.items) }
+    ensures rests { (s : State) → S.shows store.old (at_rest s) → S.shows store.new (at_rest s) }
+    ensures survives { Survives S.is_clean S.is_sound S.may_find store.old store.new }
+{
+    let all = store.noted()?;
+    flights_among(alloc, store, &all)
+}
+
+/// What a flight is to bring of a waybill, with the waybill's route.
+fn expected_row<S: StateStore>(
+    store: &mut S,
+    expectation: &Expectation,
+) -> Result<ExpectedRow, StoreFault>
+    ensures value { (s : State) → S.shows store.old (at_rest s) → S.is_sound store.new
+        → IfOk result (λ row. row ≡ expected_row s.cargo expectation.now) }
+    ensures rests { (s : State) → S.shows store.old (at_rest s) → S.shows store.new (at_rest s) }
+    ensures survives { Survives S.is_clean S.is_sound S.may_find store.old store.new }
+{
+    let declared = declaration(store, &expectation.awb)?;
+    Ok(ExpectedRow {
+        expectation: *expectation,
+        origin: declared.origin,
+        destination: declared.destination,
+    })
+}
+
+/// Some of what flights are to bring, with the waybills' routes.
+fn expected_among<S: StateStore>(
+    alloc: Global,
+    store: &mut S,
+    expectations: &[Expectation],
+) -> Result<Vec<ExpectedRow>, StoreFault>
+    ensures value { (s : State) → S.shows store.old (at_rest s) → S.is_sound store.new
+        → IfOk result (λ rows. rows.items ≡ map (expected_row s.cargo) expectations.now) }
+    ensures rests { (s : State) → S.shows store.old (at_rest s) → S.shows store.new (at_rest s) }
+    ensures survives { Survives S.is_clean S.is_sound S.may_find store.old store.new }
+{
+    let mut rows = Vec::new(alloc);
+    for expectation in expectations {
+        rows.push(expected_row(store, expectation)?)?;
+    }
+    Ok(rows)
+}
+
+/// What flights are to bring, by flight and then by waybill: a read for all, and one for each line. A
+/// fault says that a call of the store failed, that memory ran out, or that an expected waybill isn't
+/// declared.
+pub fn expected_rows<S: StateStore>(
+    alloc: Global,
+    store: &mut S,
+) -> Result<Vec<ExpectedRow>, StoreFault>
+    ensures value { (s : State) → S.shows store.old (at_rest s) → S.is_sound store.new
+        → IfOk result (λ rows. AreExpectedRows s.cargo rows.items) }
+    ensures rests { (s : State) → S.shows store.old (at_rest s) → S.shows store.new (at_rest s) }
+    ensures survives { Survives S.is_clean S.is_sound S.may_find store.old store.new }
+{
+    let all = store.expectations()?;
+    expected_among(alloc, store, &all)
 }

@@ -148,6 +148,9 @@ departing = desk (codes "d") (Depart (lh_on 400))
 abbrev pub received : State
 received = after (opening fra) (booking ∷ receiving ∷ [])
 
+abbrev pub loaded : State
+loaded = after received (manifesting ∷ [])
+
 abbrev pub left : State
 left = after received (manifesting ∷ departing ∷ [])
 

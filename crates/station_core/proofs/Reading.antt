@@ -1,5 +1,5 @@
 -- What the readers hand out in the worked rows, computed.
-use Rattle.std.proofs.Common.{◌≡◌, ℕ, Option, Some, None, List, [], ◌∷◌, length, refl}
+use Rattle.std.proofs.Common.{◌≡◌, ℕ, false, Option, Some, None, List, [], ◌∷◌, length, refl}
 use Rattle.std.specs.Prelude.{codes, map}
 use Rattle.std.specs.Fmt.{digits}
 use Rattle.jiff_core.specs.Calendar.{days_of_years, days_of_months, day_count, days_from_civil}
@@ -11,14 +11,28 @@ use Rattle.station_core.specs.declared.rows.Message.{Message}
 use Rattle.station_core.specs.declared.rows.Waybill.{Waybill}
 use Rattle.desk_commands.specs.Day.{day_line}
 use Rattle.station_core.specs.Step.{opening}
-use Rattle.station_core.specs.Readers.{irregular_rows, book_rows, pending_messages, waybill_of}
-use Rattle.station_core.proofs.Examples.{fra, jfk, received, left, after, announced, counted, desk, at_time}
+use Rattle.station_core.specs.Readers.{shed_rows, irregular_rows, book_rows, pending_messages, waybill_of}
+use Rattle.station_core.proofs.Examples.{fra, jfk, received, loaded, left, after, announced, counted, desk, at_time}
 
 -- three pieces are missing
 example_irregular : irregular_rows (after announced (counted 7 (codes "c") ∷ [])).cargo
     ≡ record { awb = 201234567; origin = fra; destination = jfk; missing = amount 3 300; found = amount 0 0 } ∷ []
 unfolding digits day_line days_of_years days_of_months day_count days_from_civil
 example_irregular = refl
+
+-- four of ten pieces are built, and then they have left
+example_shed : shed_rows loaded.cargo ≡ record { awb = 201234567; origin = fra; destination = jfk; free = amount 6 600; built = amount 4 400; notified = false } ∷ []
+unfolding digits day_line
+example_shed = refl
+
+example_shed_left : shed_rows left.cargo ≡ record { awb = 201234567; origin = fra; destination = jfk; free = amount 6 600; built = amount 0 0; notified = false } ∷ []
+unfolding digits day_line
+example_shed_left = refl
+
+-- what is announced isn't in store
+example_shed_announced : shed_rows announced.cargo ≡ []
+unfolding digits day_line days_of_years days_of_months day_count days_from_civil
+example_shed_announced = refl
 
 -- the first line of the movement book
 example_book : book_rows received.cargo ≡ record { number = 1; movement = record { awb = 201234567; from = Hand; to = Free; pieces = 10; tenths = 1000; flight = None; at = at_time 10 30 } } ∷ []

@@ -1,13 +1,28 @@
 -- What the readers of a station hand out of its cargo.
-use Rattle.std.specs.Prelude.{ℕ, ◌+◌, Bool, ◌||◌, nat_lt, if◌then◌else◌, Option, List, [], ◌∷◌, map, drop}
-use Rattle.std.specs.List.{flat_map}
+use Rattle.std.specs.Prelude.{◌≡◌, ℕ, ◌+◌, Bool, ◌||◌, ◌&&◌, ◌==◌, nat_lt, if◌then◌else◌, IsTrue, Option, List, [], ◌∷◌, length, map, drop}
+use Rattle.std.specs.List.{find, flat_map, sum_by}
+use Rattle.std.specs.FinMap.{is_sorted}
+use Rattle.std.specs.Ordering.{nat_cmp, ordering_then}
+use Rattle.std.specs.Cmp.Lexicographic.{slice_cmp}
+use Rattle.std.specs.declared.cmp.Ordering.{Ordering}
 use Rattle.std.specs.Option.{option_map}
+use Rattle.imp_fields.specs.Flight.{flight_text}
+use Rattle.shipment_machine.specs.Amount.{less}
 use Rattle.shipment_machine.specs.declared.moves.Declared.{Declared}
+use Rattle.shipment_machine.specs.declared.flight.FlightDate.{FlightDate}
+use Rattle.shipment_machine.specs.declared.moves.Expected.{Expected}
 use Rattle.shipment_machine.specs.declared.moves.Move.{Move}
-use Rattle.shipment_machine.specs.Book.{taken, found, store, departed, delivered, missing, transferred, waybills_of}
+use Rattle.shipment_machine.specs.declared.moves.Outbound.{Outbound}
+use Rattle.shipment_machine.specs.Flights.{same_flight_date}
+use Rattle.shipment_machine.specs.Book.{taken, found, free, store, departed, delivered, missing, transferred, waybills_of, waybills_on, built}
 use Rattle.shipment_machine.specs.Cargo.{Cargo}
 use Rattle.shipment_machine.specs.Views.{declaration}
 use Rattle.station_core.specs.declared.rows.IrregularRow.{IrregularRow}
+use Rattle.station_core.specs.declared.rows.ShedRow.{ShedRow}
+use Rattle.station_core.specs.declared.rows.NotedFlight.{NotedFlight}
+use Rattle.station_core.specs.declared.rows.FlightRow.{FlightRow}
+use Rattle.station_core.specs.declared.rows.Expectation.{Expectation}
+use Rattle.station_core.specs.declared.rows.ExpectedRow.{ExpectedRow}
 use Rattle.station_core.specs.declared.rows.BookRow.{BookRow}
 use Rattle.station_core.specs.declared.rows.Message.{Message}
 use Rattle.station_core.specs.declared.rows.TrailRow.{TrailRow}
@@ -45,6 +60,65 @@ irregular_row s w = record {
 
 abbrev pub irregular_rows : Cargo → List IrregularRow
 irregular_rows s = flat_map (λ w. if is_irregular s w then irregular_row s w ∷ [] else []) (waybills_of s.book)
+
+-- the waybills with pieces in store, ascending: what is free, and what is built on flights, which is
+-- the rest of what is in store
+abbrev pub is_in_shed : Cargo → ℕ → Bool
+is_in_shed s w = nat_lt 0 (store s.book w).pieces
+
+abbrev pub shed_row : Cargo → ℕ → ShedRow
+shed_row s w = record {
+  awb = w;
+  origin = (declaration s w).origin;
+  destination = (declaration s w).destination;
+  free = free s.book w;
+  built = less (store s.book w) (free s.book w);
+  notified = (declaration s w).notified;
+}
+
+abbrev pub shed_rows : Cargo → List ShedRow
+shed_rows s = flat_map (λ w. if is_in_shed s w then shed_row s w ∷ [] else []) (waybills_of s.book)
+
+-- Flights are listed by their written form, and then by the day.
+abbrev pub by_flight : FlightDate → FlightDate → Ordering
+by_flight a b = ordering_then (slice_cmp nat_cmp (flight_text a.flight) (flight_text b.flight)) (nat_cmp a.day b.day)
+
+-- The flights that are noted, each once: a look-up finds the first row of a flight.
+pub record AreNoted (flights : FlightDate → Option Outbound) (rows : List NotedFlight) : Type 0 where
+  pub rising : IsTrue (is_sorted by_flight (map (λ row. (row.flight, row.outbound)) rows))
+  pub same : (f : FlightDate) → flights f ≡ option_map (λ row. row.outbound) (find (λ row. same_flight_date f row.flight) rows)
+
+-- what is built on a noted flight
+abbrev pub flight_row : Cargo → NotedFlight → FlightRow
+flight_row s noted = record {
+  noted = noted;
+  waybills = length (waybills_on s.book noted.flight);
+  pieces = sum_by (λ w. (built s.book w noted.flight).pieces) (waybills_on s.book noted.flight);
+  tenths = sum_by (λ w. (built s.book w noted.flight).tenths) (waybills_on s.book noted.flight);
+}
+
+abbrev pub AreFlightRows : Cargo → List FlightRow → Type 0
+AreFlightRows s rows = (noted : List NotedFlight) × AreNoted s.flights noted × (rows ≡ map (flight_row s) noted)
+
+-- What flights are to bring is listed by flight and then by waybill.
+abbrev pub by_expectation : FlightDate × ℕ → FlightDate × ℕ → Ordering
+by_expectation a b = ordering_then (by_flight a.0 b.0) (nat_cmp a.1 b.1)
+
+-- All that flights are to bring, each flight's waybill once.
+pub record AreExpectations (expected : FlightDate → ℕ → Option Expected) (rows : List Expectation) : Type 0 where
+  pub rising : IsTrue (is_sorted by_expectation (map (λ row. ((row.flight, row.awb), row.expected)) rows))
+  pub same : (f : FlightDate) (w : ℕ) → expected f w
+      ≡ option_map (λ row. row.expected) (find (λ row. same_flight_date f row.flight && (w == row.awb)) rows)
+
+abbrev pub expected_row : Cargo → Expectation → ExpectedRow
+expected_row s row = record {
+  expectation = row;
+  origin = (declaration s row.awb).origin;
+  destination = (declaration s row.awb).destination;
+}
+
+abbrev pub AreExpectedRows : Cargo → List ExpectedRow → Type 0
+AreExpectedRows s rows = (all : List Expectation) × AreExpectations s.expected all × (rows ≡ map (expected_row s) all)
 
 -- rows with their numbers, from the first one's number on
 abbrev pub numbered : {X Row : Type 0} → (ℕ → X → Row) → ℕ → List X → List Row

@@ -2,7 +2,9 @@ ghost use Rattle.std.specs.Prelude.{◌≡◌, ℕ, Bool, true, false, List, Opt
 
 use crate::answer::{ActFault, Reply};
 use crate::input::Input;
-use crate::rows::{BookRow, IrregularRow, Message, TrailRow, Waybill};
+use crate::rows::{
+    BookRow, ExpectedRow, FlightRow, IrregularRow, Message, ShedRow, TrailRow, Waybill,
+};
 use agent_stock::{Holder, StockRun};
 use awb_number::Awb;
 use imp_fields::Moment;
@@ -16,7 +18,7 @@ pub trait Keeper {
     ghost use Rattle.agent_stock.specs.Runs.{AreStockRuns};
     ghost use Rattle.station_core.specs.Step.{State, IsLawfulState};
     ghost use Rattle.station_core.specs.Keeping.{Breaks, Acts, Leaves, IsReadersFault, OnlyReads, HandsOut};
-    ghost use Rattle.station_core.specs.Readers.{waybill_of, irregular_rows, book_rows, pending_messages, trail_rows};
+    ghost use Rattle.station_core.specs.Readers.{waybill_of, shed_rows, AreFlightRows, AreExpectedRows, irregular_rows, book_rows, pending_messages, trail_rows};
 
     /// It keeps this state: what it returns is by it.
     ghost keeps: { Self → State → Type 0 };
@@ -68,6 +70,22 @@ pub trait Keeper {
     fn stock<S: Sink<StockRun>>(&mut self, sink: &mut S) -> Result<(), ActFault>
         ensures { HandsOut keeps is_sound is_broken may_find self.old self.new result
             S.takes (λ s rows. AreStockRuns s.holders rows) sink.old sink.new };
+
+    /// The waybills with pieces in store, ascending.
+    fn shed<S: Sink<ShedRow>>(&mut self, sink: &mut S) -> Result<(), ActFault>
+        ensures { HandsOut keeps is_sound is_broken may_find self.old self.new result
+            S.takes (λ s rows. rows ≡ shed_rows s) sink.old sink.new };
+
+    /// The flights that are noted, with what is built on each, by their written form and then by
+    /// the day.
+    fn flights<S: Sink<FlightRow>>(&mut self, sink: &mut S) -> Result<(), ActFault>
+        ensures { HandsOut keeps is_sound is_broken may_find self.old self.new result
+            S.takes (λ s rows. AreFlightRows s rows) sink.old sink.new };
+
+    /// What flights are to bring, by flight as `flights` has them and then by waybill.
+    fn expected<S: Sink<ExpectedRow>>(&mut self, sink: &mut S) -> Result<(), ActFault>
+        ensures { HandsOut keeps is_sound is_broken may_find self.old self.new result
+            S.takes (λ s rows. AreExpectedRows s rows) sink.old sink.new };
 
     /// The waybills of which pieces are missing or were found, ascending.
     fn irregular<S: Sink<IrregularRow>>(&mut self, sink: &mut S) -> Result<(), ActFault>

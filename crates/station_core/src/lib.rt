@@ -25,7 +25,10 @@ pub use key::Key;
 pub use ranges::input_range_law;
 pub use repeat::repeated_key;
 pub use row_sinks::{Sink, hand_out};
-pub use rows::{BookRow, IrregularRow, Message, RowText, TrailRow, Waybill};
+pub use rows::{
+    BookRow, Expectation, ExpectedRow, FlightRow, IrregularRow, Message, NotedFlight, RowText,
+    ShedRow, TrailRow, Waybill,
+};
 pub use shipment::shipment_of;
 pub use stock::{count_of_order, refusal_of_order};
 pub use texts::{detail_text, refusal_text, reply_text};

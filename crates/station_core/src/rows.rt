@@ -3,7 +3,7 @@ ghost use Rattle.std.specs.Prelude.{◌≡◌};
 
 use awb_number::Awb;
 use imp_fields::Airport;
-use shipment_machine::{Amount, Declared, Move};
+use shipment_machine::{Amount, Declared, Expected, FlightDate, Move, Outbound};
 use std::marker::Model;
 
 /// A text that is handed out.
@@ -61,6 +61,55 @@ pub struct IrregularRow {
     pub destination: Airport,
     pub missing: Amount,
     pub found: Amount,
+}
+
+/// A waybill with pieces in store.
+#[derive(Clone, Copy, Debug, PartialEq, Eq)]
+pub struct ShedRow {
+    pub awb: Awb,
+    pub origin: Airport,
+    pub destination: Airport,
+    /// What may be built, delivered or transferred.
+    pub free: Amount,
+    /// What is built for flights that haven't departed.
+    pub built: Amount,
+    /// Whether the consignee was notified.
+    pub notified: bool,
+}
+
+/// A flight that is noted: something was built on it.
+#[derive(Clone, Copy, Debug, PartialEq, Eq)]
+pub struct NotedFlight {
+    pub flight: FlightDate,
+    pub outbound: Outbound,
+}
+
+/// A noted flight, and what is built on it.
+#[derive(Clone, Copy, Debug, PartialEq, Eq)]
+pub struct FlightRow {
+    pub noted: NotedFlight,
+    /// How many waybills have pieces built on it.
+    pub waybills: u16,
+    /// Their pieces that are built on it.
+    pub pieces: u64,
+    /// The weight of these, in tenths of a kilogram.
+    pub tenths: u64,
+}
+
+/// What a flight is to bring of a waybill.
+#[derive(Clone, Copy, Debug, PartialEq, Eq)]
+pub struct Expectation {
+    pub flight: FlightDate,
+    pub awb: Awb,
+    pub expected: Expected,
+}
+
+/// What a flight is to bring of a waybill, with the waybill's route.
+#[derive(Clone, Copy, Debug, PartialEq, Eq)]
+pub struct ExpectedRow {
+    pub expectation: Expectation,
+    pub origin: Airport,
+    pub destination: Airport,
 }
 
 /// A line of the movement book.

@@ -1,7 +1,7 @@
 ghost use Rattle.std.specs.Prelude.{◌≡◌, true, false, Err, Option, IfOk, IfErr};
 ghost use Rattle.agent_stock.specs.Runs.{AreStockRuns};
 ghost use Rattle.station_core.specs.Keeping.{Acts, Breaks, IsReadersFault, Leaves, OnlyReads};
-ghost use Rattle.station_core.specs.Readers.{irregular_rows};
+ghost use Rattle.station_core.specs.Readers.{AreExpectedRows, AreFlightRows, irregular_rows, shed_rows};
 ghost use Rattle.station_core.specs.Step.{State, IsLawfulState};
 ghost use Rattle.station_engine.specs.Found.{Finds};
 ghost use Rattle.state_store.specs.Store.{at_rest};
@@ -11,10 +11,10 @@ use crate::replying::request_of;
 use agent_stock::{Holder, StockRun};
 use awb_number::Awb;
 use imp_fields::Moment;
-use state_store::{StateStore, irregular_rows, waybill_in};
+use state_store::{StateStore, expected_rows, flight_rows, irregular_rows, shed_rows, waybill_in};
 use station_core::{
-    ActFault, Answer, BookRow, Input, IrregularRow, Keeper, Message, Reply, Sink, TrailRow,
-    Waybill, hand_out,
+    ActFault, Answer, BookRow, ExpectedRow, FlightRow, Input, IrregularRow, Keeper, Message, Reply,
+    ShedRow, Sink, TrailRow, Waybill, hand_out,
 };
 use std::alloc::Global;
 
@@ -133,6 +133,75 @@ impl<S: StateStore> StoredStation<S> {
         }
     }
 
+    /// The waybills with pieces in store, ascending.
+    #[tactic(auto, using(crate::proofs::Reading::reads_only))]
+    fn shed_rows(&mut self) -> Result<Vec<ShedRow>, ActFault>
+        ensures reopen { self.old.broken ≡ true → (result ≡ Err ActFault.Reopen)
+            × (self.new ≡ self.old) }
+        ensures fault { self.old.broken ≡ false → IfErr result IsReadersFault }
+        ensures reads { OnlyReads ⟦<StoredStation<S> as Keeper>⟧.keeps
+            ⟦<StoredStation<S> as Keeper>⟧.is_sound
+            ⟦<StoredStation<S> as Keeper>⟧.is_broken ⟦<StoredStation<S> as Keeper>⟧.may_find
+            self.old self.new }
+        ensures rows { (s : State) → ⟦<StoredStation<S> as Keeper>⟧.keeps self.old s
+            → ⟦<StoredStation<S> as Keeper>⟧.is_sound self.new
+            → IfOk result (λ rows. rows.items ≡ shed_rows s.cargo) }
+    {
+        if self.broken {
+            return Err(ActFault::Reopen);
+        }
+        match shed_rows(self.alloc, &mut self.store) {
+            Err(_) => Err(ActFault::Store),
+            Ok(rows) => Ok(rows),
+        }
+    }
+
+    /// The flights that are noted, with what is built on each.
+    #[tactic(auto, using(crate::proofs::Reading::reads_only))]
+    fn flight_rows(&mut self) -> Result<Vec<FlightRow>, ActFault>
+        ensures reopen { self.old.broken ≡ true → (result ≡ Err ActFault.Reopen)
+            × (self.new ≡ self.old) }
+        ensures fault { self.old.broken ≡ false → IfErr result IsReadersFault }
+        ensures reads { OnlyReads ⟦<StoredStation<S> as Keeper>⟧.keeps
+            ⟦<StoredStation<S> as Keeper>⟧.is_sound
+            ⟦<StoredStation<S> as Keeper>⟧.is_broken ⟦<StoredStation<S> as Keeper>⟧.may_find
+            self.old self.new }
+        ensures rows { (s : State) → ⟦<StoredStation<S> as Keeper>⟧.keeps self.old s
+            → ⟦<StoredStation<S> as Keeper>⟧.is_sound self.new
+            → IfOk result (λ rows. AreFlightRows s.cargo rows.items) }
+    {
+        if self.broken {
+            return Err(ActFault::Reopen);
+        }
+        match flight_rows(self.alloc, &mut self.store) {
+            Err(_) => Err(ActFault::Store),
+            Ok(rows) => Ok(rows),
+        }
+    }
+
+    /// What flights are to bring, by flight and then by waybill.
+    #[tactic(auto, using(crate::proofs::Reading::reads_only))]
+    fn expected_rows(&mut self) -> Result<Vec<ExpectedRow>, ActFault>
+        ensures reopen { self.old.broken ≡ true → (result ≡ Err ActFault.Reopen)
+            × (self.new ≡ self.old) }
+        ensures fault { self.old.broken ≡ false → IfErr result IsReadersFault }
+        ensures reads { OnlyReads ⟦<StoredStation<S> as Keeper>⟧.keeps
+            ⟦<StoredStation<S> as Keeper>⟧.is_sound
+            ⟦<StoredStation<S> as Keeper>⟧.is_broken ⟦<StoredStation<S> as Keeper>⟧.may_find
+            self.old self.new }
+        ensures rows { (s : State) → ⟦<StoredStation<S> as Keeper>⟧.keeps self.old s
+            → ⟦<StoredStation<S> as Keeper>⟧.is_sound self.new
+            → IfOk result (λ rows. AreExpectedRows s.cargo rows.items) }
+    {
+        if self.broken {
+            return Err(ActFault::Reopen);
+        }
+        match expected_rows(self.alloc, &mut self.store) {
+            Err(_) => Err(ActFault::Store),
+            Ok(rows) => Ok(rows),
+        }
+    }
+
     /// The waybills of which pieces are missing or were found, ascending.
     #[tactic(auto, using(crate::proofs::Reading::reads_only))]
     fn irregular_rows(&mut self) -> Result<Vec<IrregularRow>, ActFault>
@@ -198,6 +267,24 @@ impl<S: StateStore> Keeper for StoredStation<S> {
 
     fn stock<K: Sink<StockRun>>(&mut self, sink: &mut K) -> Result<(), ActFault> {
         let rows = self.runs()?;
+        hand_out(sink, rows);
+        Ok(())
+    }
+
+    fn shed<K: Sink<ShedRow>>(&mut self, sink: &mut K) -> Result<(), ActFault> {
+        let rows = self.shed_rows()?;
+        hand_out(sink, rows);
+        Ok(())
+    }
+
+    fn flights<K: Sink<FlightRow>>(&mut self, sink: &mut K) -> Result<(), ActFault> {
+        let rows = self.flight_rows()?;
+        hand_out(sink, rows);
+        Ok(())
+    }
+
+    fn expected<K: Sink<ExpectedRow>>(&mut self, sink: &mut K) -> Result<(), ActFault> {
+        let rows = self.expected_rows()?;
         hand_out(sink, rows);
         Ok(())
     }

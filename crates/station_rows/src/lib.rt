@@ -10,7 +10,10 @@ mod station;
 mod stock;
 mod store;
 
-pub use cargo_rows::{BuildRow, CountRow, ExpectedRow, FlightRow, MoveRow, WaybillRow};
+pub use cargo_rows::{
+    BuildRow, CountRow, ExpectedRow, FlightRow, ListedWaybillRow, MoveRow, NotedFlightRow,
+    WaybillRow,
+};
 pub use memory::{files_are_sound, memory_is_sound};
 pub use row_schema::open_memory;
 pub use rows::{CreateFault, Rows, crash_leaves_station};

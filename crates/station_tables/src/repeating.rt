@@ -6,7 +6,6 @@ ghost use Rattle.row_schema.specs.Own.{IsOwn, LiesInOrder};
 ghost use Rattle.row_schema.specs.Connection.{connection_view};
 ghost use Rattle.station_core.specs.Keeping.{Answers, MayLeave, IsMemoryOrStore};
 ghost use Rattle.station_core.specs.Step.{State, IsLawfulState};
-ghost use Rattle.station_rows.specs.Own.{are_declared};
 ghost use Rattle.station_tables.specs.Attached.{connection_in, IsBreakdown, IsStateIn, IsTypedState, Refuses};
 ghost use Rattle.station_tables.specs.Found.{Finds};
 ghost use Rattle.station_tables.specs.Repeated.{HasAnswered, HasRepeated, IsBeforeIn, IsBeforeOrAfter, IsBeforeOrAfterIn};

@@ -18,7 +18,8 @@ use awb_number::Awb;
 use imp_fields::Moment;
 use sqlite::{Alter, Connection};
 use station_core::{
-    ActFault, BookRow, Input, IrregularRow, Keeper, Message, Reply, Sink, TrailRow, Waybill,
+    ActFault, BookRow, ExpectedRow, FlightRow, Input, IrregularRow, Keeper, Message, Reply,
+    ShedRow, Sink, TrailRow, Waybill,
 };
 use station_engine::StoredStation;
 use station_rows::Rows;
@@ -133,6 +134,18 @@ impl<S: Alter> Keeper for Station<S> {
 
     fn stock<K: Sink<StockRun>>(&mut self, sink: &mut K) -> Result<(), ActFault> {
         self.stored.stock(sink)
+    }
+
+    fn shed<K: Sink<ShedRow>>(&mut self, sink: &mut K) -> Result<(), ActFault> {
+        self.stored.shed(sink)
+    }
+
+    fn flights<K: Sink<FlightRow>>(&mut self, sink: &mut K) -> Result<(), ActFault> {
+        self.stored.flights(sink)
+    }
+
+    fn expected<K: Sink<ExpectedRow>>(&mut self, sink: &mut K) -> Result<(), ActFault> {
+        self.stored.expected(sink)
     }
 
     fn irregular<K: Sink<IrregularRow>>(&mut self, sink: &mut K) -> Result<(), ActFault> {

@@ -1,7 +1,7 @@
 -- What was read of a row is what the state has that is shown.
 use Rattle.std.proofs.Common.{◌≡◌, ℕ, ℤ, pos, Bool, true, List, length, Option, Some, None, option_map, is_some, map, filter, sym, ap, subst, ◌∙◌}
 use Rattle.std.specs.Prelude.{nat_lt}
-use Rattle.std.specs.FinMap.{get}
+use Rattle.std.specs.FinMap.{entries, get}
 use Rattle.std.proofs.lemmas.List.{length-map}
 use Rattle.sqlite_trees.proofs.ListLemmas.{map-map}
 use Rattle.sqlite_keyed.specs.Keyed.{get_by}
@@ -12,7 +12,7 @@ use Rattle.agent_stock.specs.declared.runs.StockRun.{StockRun}
 use Rattle.agent_stock.specs.declared.stock.Holder.{Holder}
 use Rattle.stock_tables.specs.Stocked.{Stocked}
 use Rattle.row_codec.specs.Stock.{holders_in}
-use Rattle.shipment_machine.specs.Book.{has_moves, balances_of, built, waybills_of, waybills_on}
+use Rattle.shipment_machine.specs.Book.{has_moves, balances_of, built, waybills_on}
 use Rattle.shipment_machine.specs.declared.amount.Amount.{Amount}
 use Rattle.shipment_machine.specs.declared.moves.Balances.{Balances}
 use Rattle.row_codec.specs.Counts.{AreCounts, AreBuilds}
@@ -20,32 +20,38 @@ use Rattle.state_store.specs.declared.store.Load.{Load}
 use Rattle.shipment_machine.specs.declared.flight.FlightDate.{FlightDate}
 use Rattle.shipment_machine.specs.declared.moves.Move.{Move}
 use Rattle.shipment_machine.specs.declared.moves.Part.{Part}
-use Rattle.station_core.specs.Readers.{book_row, message, trail_row, book_rows, pending_messages, trail_rows}
+use Rattle.station_core.specs.Readers.{AreExpectations, AreNoted, book_row, message, trail_row, book_rows, pending_messages, trail_rows}
+use Rattle.station_core.specs.declared.rows.Expectation.{Expectation}
+use Rattle.station_core.specs.declared.rows.NotedFlight.{NotedFlight}
 use Rattle.row_schema.specs.Store as row
 use Rattle.row_schema.specs.Store.{View, IsShowing, IsUnchanged}
 use Rattle.row_schema.specs.Tables.{waybill_id}
 use Rattle.cargo_rows.specs.declared.waybills.WaybillRow.{WaybillRow}
 use Rattle.cargo_rows.specs.declared.flights.FlightRow.{FlightRow}
+use Rattle.cargo_rows.specs.declared.flights.NotedFlightRow.{NotedFlightRow}
 use Rattle.cargo_rows.specs.declared.expected.ExpectedRow.{ExpectedRow}
+use Rattle.cargo_rows.specs.declared.expected.ListedWaybillRow.{ListedWaybillRow}
 use Rattle.cargo_rows.specs.declared.moves.MoveRow.{MoveRow}
-use Rattle.cargo_rows.specs.Meant.{waybill_meant, flight_meant, expected_meant, move_meant, is_of}
+use Rattle.cargo_rows.specs.Meant.{waybill_meant, flight_meant, noted_flight_meant, expected_meant, listed_waybill_meant, move_meant, is_of}
 use Rattle.text_rows.specs.declared.kept.KeptRow.{KeptRow}
 use Rattle.text_rows.specs.declared.outbox.MessageRow.{MessageRow}
 use Rattle.text_rows.specs.declared.trail.TrailRow.{TrailRow}
 use Rattle.text_rows.specs.Meant.{kept_meant, message_meant, trail_meant, is_after}
 use Rattle.row_codec.specs.Numbers.{natural}
 use Rattle.row_codec.specs.Waybills.{declared_by}
-use Rattle.row_codec.specs.Flights.{is_designator, outbound_by}
-use Rattle.row_codec.specs.Manifests.{expected_by}
+use Rattle.row_codec.specs.Flights.{is_designator, noted_by, outbound_by}
+use Rattle.row_codec.specs.Manifests.{expectation_by, expected_by}
 use Rattle.row_codec.specs.Moves.{move_by, book_in}
 use Rattle.row_codec.specs.Logs.{line_by}
 use Rattle.row_codec.specs.Replies.{kept_by}
 use Rattle.row_codec.proofs.Reading.{declared_read, outbound_read, expected_read, part_read, kept_key_read, kept_text_read}
 use Rattle.row_codec.proofs.Telling.{holders_told, book_told}
+use Rattle.row_codec.proofs.Noted.{expectations_told, noted_told}
 use Rattle.state_store.specs.Store.{Seen}
-use Rattle.state_store.specs.Told.{kept_of, loads_on}
+use Rattle.state_store.specs.Told.{AreAllBalances, kept_of, loads_on}
 use Rattle.state_store.specs.declared.store.KeptReply.{KeptReply}
 use Rattle.state_store.specs.declared.store.Sizes.{Sizes}
+use Rattle.state_store.specs.declared.store.WaybillBalances.{WaybillBalances}
 use Rattle.table_state.specs.Shown.{Shows}
 use Rattle.table_state.proofs.Lifting.{seen_in, told, told_before}
 use Rattle.table_state.proofs.HasMoves.{any_move}
@@ -108,10 +114,17 @@ module _ (old new : View) (here : List ℕ) (sizes : Sizes) (confirmed : ℕ) (x
         by ∙ ap (nat_lt 0) (sym (length-map rows move_meant)) ∙ ap (λ ms. nat_lt 0 (length ms)) (r.0 ∙ ap (λ a. filter (is_of a) old.now.moves) is)
         ∙ sym (any_move old.now.moves w r.1.0.moves) ∙ ap (λ book. has_moves book w) (book_told old.now x.now r.1)
 
-    pub moved_are : (rows : List MoveRow) → (IsShowing old (seen_in old) → new.IsSound → map move_meant rows ≡ old.now.moves) → waybills_of (map (λ m. move_by (move_meant m)) rows) ≡ waybills_of x.now.cargo.book
-    moved_are rows tells =
-        let r = told old new here sizes confirmed (λ t. map move_meant rows ≡ t.moves) x was survives tells up sound in
-        ap waybills_of (sym (map-map move_by move_meant rows) ∙ ap (map move_by) r.0 ∙ book_told old.now x.now r.1)
+    pub noted_are : (rows : List NotedFlightRow) (all : List NotedFlight) → map Some all ≡ map (λ (row : NotedFlightRow). noted_by (noted_flight_meant row)) rows
+        → (IsShowing old (seen_in old) → new.IsSound → map noted_flight_meant rows ≡ entries old.now.flights) → AreNoted x.now.cargo.flights all
+    noted_are rows all by tells =
+        let r = told old new here sizes confirmed (λ t. map noted_flight_meant rows ≡ entries t.flights) x was survives tells up sound in
+        noted_told old.now x.now r.1 all (by ∙ sym (map-map noted_by noted_flight_meant rows) ∙ ap (map noted_by) r.0)
+
+    pub expectations_are : (rows : List ListedWaybillRow) (all : List Expectation) → map Some all ≡ map (λ (row : ListedWaybillRow). expectation_by (listed_waybill_meant row)) rows
+        → (IsShowing old (seen_in old) → new.IsSound → map listed_waybill_meant rows ≡ entries old.now.expected) → AreExpectations x.now.cargo.expected all
+    expectations_are rows all by tells =
+        let r = told old new here sizes confirmed (λ t. map listed_waybill_meant rows ≡ entries t.expected) x was survives tells up sound in
+        expectations_told old.now x.now r.1 all (by ∙ sym (map-map expectation_by listed_waybill_meant rows) ∙ ap (map expectation_by) r.0)
 
     -- running counts
 
@@ -119,6 +132,11 @@ module _ (old new : View) (here : List ℕ) (sizes : Sizes) (confirmed : ℕ) (x
     balances_are w balances tells =
         let r = told old new here sizes confirmed (λ t. (book : List Move) → AreCounts t.counts book → balances ≡ balances_of book w) x was survives tells up sound in
         r.0 (book_in old.now.moves) r.1.0.counts ∙ ap (λ book. balances_of book w) (book_told old.now x.now r.1)
+
+    pub all_balances_are : (rows : List WaybillBalances) → (IsShowing old (seen_in old) → new.IsSound → (book : List Move) → AreCounts old.now.counts book → AreAllBalances book rows) → AreAllBalances x.now.cargo.book rows
+    all_balances_are rows tells =
+        let r = told old new here sizes confirmed (λ t. (book : List Move) → AreCounts t.counts book → AreAllBalances book rows) x was survives tells up sound in
+        subst (λ book. AreAllBalances book rows) (book_told old.now x.now r.1) (r.0 (book_in old.now.moves) r.1.0.counts)
 
     pub load_is : (w : ℕ) (f : FlightDate) (load : Amount) → (IsShowing old (seen_in old) → new.IsSound → (book : List Move) → AreBuilds old.now.builds book → load ≡ built book w f) → load ≡ built x.now.cargo.book w f
     load_is w f load tells =

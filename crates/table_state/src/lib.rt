@@ -3,7 +3,7 @@
 
 mod changing;
 mod handing;
-mod moved;
+mod noted;
 mod opening;
 mod recording;
 mod state;

@@ -8,7 +8,7 @@ ghost use Rattle.table_state.specs.Laws.{finds_what_it_shows, all_numbered};
 ghost use Rattle.table_state.specs.Shown.{Shows, Finds, HasThese, Knows};
 
 use crate::handing::{Telling, ended};
-use crate::moved::waybills_moved;
+use crate::noted::{flights_noted, waybills_expected};
 use crate::recording::record_move;
 use agent_stock::{Holder, Order, StockFault, StockRun};
 use awb_number::Awb;
@@ -20,8 +20,8 @@ use row_codec::{
 use shipment_machine::{
     Amount, Balances, Change, Declared, Expected, FlightDate, Move, Outbound, Part,
 };
-use state_store::{KeptReply, Load, Sizes, StateStore, StoreFault};
-use station_core::{BookRow, Key, Message, Sink, TrailRow};
+use state_store::{KeptReply, Load, Sizes, StateStore, StoreFault, WaybillBalances};
+use station_core::{BookRow, Expectation, Key, Message, NotedFlight, Sink, TrailRow};
 use station_rows::TableStore;
 use std::alloc::Global;
 
@@ -364,12 +364,31 @@ impl<S: TableStore> StateStore for TableState<S> {
     }
 
     #[tactic(auto, using(crate::proofs::Lifting::rests_on, crate::proofs::Lifting::survives_so))]
-    fn moved(&mut self) -> Result<Vec<Awb>, StoreFault> {
-        match self.store.all_moves() {
+    fn all_balances(&mut self) -> Result<Vec<WaybillBalances>, StoreFault> {
+        match running_totals::all_balances(self.alloc, &mut self.store) {
             Err(_) => Err(StoreFault),
-            Ok(rows) => match waybills_moved(self.alloc, &rows) {
+            Ok(rows) => Ok(rows),
+        }
+    }
+
+    #[tactic(auto, using(crate::proofs::Lifting::rests_on, crate::proofs::Lifting::survives_so))]
+    fn noted(&mut self) -> Result<Vec<NotedFlight>, StoreFault> {
+        match self.store.all_flights() {
+            Err(_) => Err(StoreFault),
+            Ok(rows) => match flights_noted(self.alloc, &rows) {
                 Err(_) => Err(StoreFault),
-                Ok(numbers) => Ok(numbers),
+                Ok(flights) => Ok(flights),
+            },
+        }
+    }
+
+    #[tactic(auto, using(crate::proofs::Lifting::rests_on, crate::proofs::Lifting::survives_so))]
+    fn expectations(&mut self) -> Result<Vec<Expectation>, StoreFault> {
+        match self.store.all_expected() {
+            Err(_) => Err(StoreFault),
+            Ok(rows) => match waybills_expected(self.alloc, &rows) {
+                Err(_) => Err(StoreFault),
+                Ok(waybills) => Ok(waybills),
             },
         }
     }

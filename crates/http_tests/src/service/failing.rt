@@ -4,7 +4,8 @@ use awb_number::Awb;
 use imp_fields::Moment;
 use plain_station::PlainStation;
 use station_core::{
-    ActFault, BookRow, Input, IrregularRow, Keeper, Message, Reply, Sink, TrailRow, Waybill,
+    ActFault, BookRow, ExpectedRow, FlightRow, Input, IrregularRow, Keeper, Message, Reply,
+    ShedRow, Sink, TrailRow, Waybill,
 };
 
 /// A station in memory that answers so many inputs. At the next one it answers as where a store
@@ -73,6 +74,27 @@ impl Keeper for Failing {
             return Err(ActFault::Reopen);
         }
         self.station.stock(sink)
+    }
+
+    fn shed<S: Sink<ShedRow>>(&mut self, sink: &mut S) -> Result<(), ActFault> {
+        if self.is_broken {
+            return Err(ActFault::Reopen);
+        }
+        self.station.shed(sink)
+    }
+
+    fn flights<S: Sink<FlightRow>>(&mut self, sink: &mut S) -> Result<(), ActFault> {
+        if self.is_broken {
+            return Err(ActFault::Reopen);
+        }
+        self.station.flights(sink)
+    }
+
+    fn expected<S: Sink<ExpectedRow>>(&mut self, sink: &mut S) -> Result<(), ActFault> {
+        if self.is_broken {
+            return Err(ActFault::Reopen);
+        }
+        self.station.expected(sink)
     }
 
     fn irregular<S: Sink<IrregularRow>>(&mut self, sink: &mut S) -> Result<(), ActFault> {

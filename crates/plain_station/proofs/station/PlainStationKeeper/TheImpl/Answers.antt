@@ -1,5 +1,5 @@
 use Rattle.agent_stock.specs.Runs.{AreStockRuns}
-use Rattle.station_core.specs.Readers.{book_rows, irregular_rows, pending_messages, trail_rows}
+use Rattle.station_core.specs.Readers.{AreExpectedRows, AreFlightRows, book_rows, irregular_rows, pending_messages, shed_rows, trail_rows}
 use Rattle.plain_station.specs.State.{state_of}
 use Rattle.plain_station.proofs.Handed.{hands_out, hands_out_these}
 use Rattle.plain_station.proofs.station.PlainStationKeeper.TheImpl.Goals as goal
@@ -7,6 +7,16 @@ use Rattle.plain_station.proofs.station.PlainStationKeeper.TheImpl.Goals as goal
 pub book-tells : goal.book-tells
 book-tells g c =
     hands_out_these g.S.Sink.takes book_rows state_of c.args.self.now c.new.self.now c.result c.args.sink.now c.new.sink.now
+    c.ensures.rows c.ensures.beginning c.ensures.memory c.ensures.none c.ensures.as_before
+
+pub expected-tells : goal.expected-tells
+expected-tells g c =
+    hands_out g.S.Sink.takes AreExpectedRows state_of c.args.self.now c.new.self.now c.result c.args.sink.now c.new.sink.now
+    c.ensures.rows c.ensures.beginning c.ensures.memory c.ensures.none c.ensures.as_before
+
+pub flights-tells : goal.flights-tells
+flights-tells g c =
+    hands_out g.S.Sink.takes AreFlightRows state_of c.args.self.now c.new.self.now c.result c.args.sink.now c.new.sink.now
     c.ensures.rows c.ensures.beginning c.ensures.memory c.ensures.none c.ensures.as_before
 
 pub irregular-tells : goal.irregular-tells
@@ -17,6 +27,11 @@ irregular-tells g c =
 pub pending-tells : goal.pending-tells
 pending-tells g c =
     hands_out_these g.S.Sink.takes pending_messages state_of c.args.self.now c.new.self.now c.result c.args.sink.now c.new.sink.now
+    c.ensures.rows c.ensures.beginning c.ensures.memory c.ensures.none c.ensures.as_before
+
+pub shed-tells : goal.shed-tells
+shed-tells g c =
+    hands_out_these g.S.Sink.takes shed_rows state_of c.args.self.now c.new.self.now c.result c.args.sink.now c.new.sink.now
     c.ensures.rows c.ensures.beginning c.ensures.memory c.ensures.none c.ensures.as_before
 
 pub trail-tells : goal.trail-tells

@@ -1,0 +1,157 @@
+-- The flights that are noted and what flights are to bring, listed in order.
+use Rattle.std.proofs.Common.{◌≡◌, ℕ, zero, suc, ◌<◌, Bool, true, false, ◌&&◌, ◌||◌, ◌==◌, length, arith, List, [], ◌∷◌, ◌++◌, map, insert, option_map, is_some, find, get_or, IsSome, IfSome, Option, Some, None, Err, Ordering, Less, Equal, Greater, All, nat_cmp, is_eq, refl, sym, ap, ◌∙◌, subst, true≢false}
+use Rattle.std.specs.List.{list_any}
+use Rattle.std.specs.List.Sorted.{IsBinarySearchResult}
+use Rattle.std.specs.FinMap.{nat_cmp-IsAntisymmetric, slice_cmp-IsAntisymmetric}
+use Rattle.std.specs.Ordering.{ordering_then}
+use Rattle.std.specs.Cmp.{IsTotalOrder, on_total, then_total, nat_cmp_total}
+use Rattle.std.specs.Cmp.Lexicographic.{slice_cmp, nat_list_cmp_total}
+use Rattle.std.proofs.lemmas.Bool.{and_parts, and_from, eqb-true, eq-eqb}
+use Rattle.imp_fields.specs.Flight.{IsDesignator, flight_text}
+use Rattle.imp_fields.proofs.SameFlight.{one_by_text}
+use Rattle.shipment_machine.specs.declared.flight.FlightDate.{FlightDate}
+use Rattle.shipment_machine.specs.declared.moves.Expected.{Expected}
+use Rattle.shipment_machine.specs.declared.moves.Outbound.{Outbound}
+use Rattle.shipment_machine.specs.Flights.{same_flight_date}
+use Rattle.shipment_machine.specs.Cargo.{Cargo}
+use Rattle.shipment_machine.specs.Lawful.{IsLawful, IsLawfulAmount}
+use Rattle.shipment_machine.proofs.FlightKeys.{same-is, same-refl, same-sym}
+use Rattle.station_core.specs.declared.rows.NotedFlight.{NotedFlight}
+use Rattle.station_core.specs.declared.rows.Expectation.{Expectation}
+use Rattle.station_core.specs.Readers.{by_flight, AreNoted, by_expectation, AreExpectations}
+use Rattle.plain_station.specs.Lists.{flights_in, expected_in}
+use Rattle.plain_station.specs.declared.rows.FlightRow.{FlightRow}
+use Rattle.plain_station.specs.declared.rows.ExpectedRow.{ExpectedRow}
+use Rattle.plain_station.proofs.Placed.{any_found, searched, rises_with, found_with, found_still}
+
+-- ---- the orders
+
+flights_total : IsTotalOrder by_flight
+flights_total = then_total (on_total (λ (f : FlightDate). flight_text f.flight) nat_list_cmp_total) (on_total (λ (f : FlightDate). f.day) nat_cmp_total)
+
+expectations_total : IsTotalOrder by_expectation
+expectations_total = then_total (on_total (λ (k : FlightDate × ℕ). k.0) flights_total) (on_total (λ (k : FlightDate × ℕ). k.1) nat_cmp_total)
+
+both_equal : (a b : Ordering) → ordering_then a b ≡ Equal → (a ≡ Equal) × (b ≡ Equal)
+both_equal Less b h = absurd (true≢false (sym (ap is_eq h)))
+both_equal Equal b h = (refl, h)
+both_equal Greater b h = absurd (true≢false (sym (ap is_eq h)))
+
+-- flights that tie are one flight
+pub tie_same : (a b : FlightDate) → IsDesignator a.flight → IsDesignator b.flight → by_flight a b ≡ Equal → same_flight_date a b ≡ true
+tie_same a b one other h =
+    let parts = both_equal _ _ h in
+    let flights : a.flight ≡ b.flight = one_by_text a.flight b.flight one other (slice_cmp-IsAntisymmetric nat_cmp-IsAntisymmetric _ _ parts.0) in
+    let days : a.day ≡ b.day = nat_cmp-IsAntisymmetric a.day b.day parts.1 in
+    let is : a ≡ b = λ i. record { flight = flights i; day = days i } in
+    ap (same_flight_date a) (sym is) ∙ same-refl a
+
+pub tie_expected : (a b : FlightDate) (v w : ℕ) → (by_flight a b ≡ Equal → same_flight_date a b ≡ true) → by_expectation (a, v) (b, w) ≡ Equal → (same_flight_date a b && (v == w)) ≡ true
+tie_expected a b v w same h =
+    let parts = both_equal _ _ h in
+    and_from _ _ (same parts.0) (eq-eqb v w (nat_cmp-IsAntisymmetric v w parts.1))
+
+pub same_back : (a b : FlightDate) (v w : ℕ) → (same_flight_date a b && (v == w)) ≡ true → (same_flight_date b a && (w == v)) ≡ true
+same_back a b v w h =
+    let both = and_parts _ _ h in
+    and_from _ _ (same-sym a b both.0) (eq-eqb w v (sym (eqb-true v w both.1)))
+
+-- ---- a row that ties with a new one is among them
+
+or_true : (b : Bool) → (b || true) ≡ true
+or_true true = refl
+or_true false = refl
+
+pub any_at : {X : Type 0} (p : X → Bool) (xs : List X) (i : ℕ) (x d : X) → i < length xs → x ≡ get_or xs i d → p x ≡ true → list_any p xs ≡ true
+any_at p [] i x d low read h = absurd (omega arith)
+any_at p (y ∷ xs) zero x d low read h = ap (λ b. b || list_any p xs) (sym (ap p read) ∙ h)
+any_at p (y ∷ xs) (suc i) x d low read h = ap (λ b. p y || b) (any_at p xs i x d (omega arith) read h) ∙ or_true (p y)
+
+-- ---- flights
+
+pub none_noted : AreNoted (flights_in []) []
+none_noted = record { rising = refl; same = λ f. refl }
+
+abbrev noted : FlightRow → NotedFlight
+noted row = record { flight = row.flight; outbound = row.outbound }
+
+only_flight : (f : FlightDate) (a b : NotedFlight) → same_flight_date f a.flight ≡ true → same_flight_date f b.flight ≡ true → b.flight ≡ a.flight
+only_flight f a b g h = sym (same-is f b.flight h) ∙ same-is f a.flight g
+
+pub flight_put : (seen : List FlightRow) (row : FlightRow) (at : ℕ) (rows : List NotedFlight) → AreNoted (flights_in seen) rows
+    → IsBinarySearchResult (λ (r : NotedFlight). by_flight r.flight row.flight) rows (Err at) → AreNoted (flights_in (seen ++ row ∷ [])) (insert rows at (noted row))
+flight_put seen row at rows are place =
+    let key : NotedFlight → FlightDate = λ r. r.flight in
+    let value : NotedFlight → Outbound = λ r. r.outbound in
+    let split = searched by_flight flights_total key value (noted row) at rows are.rising place in
+    record {
+      rising = rises_with by_flight flights_total key value (noted row) at rows split are.rising;
+      same = λ f. found_with by_flight flights_total key value (λ r. same_flight_date f r.flight) (noted row) (only_flight f (noted row)) seen (λ r. r.outbound) (λ r. same_flight_date f r.flight) row refl refl rows (are.same f) at split;
+    }
+
+pub flight_there : (seen : List FlightRow) (row : FlightRow) (rows : List NotedFlight) → AreNoted (flights_in seen) rows
+    → list_any (λ (r : NotedFlight). same_flight_date row.flight r.flight) rows ≡ true → AreNoted (flights_in (seen ++ row ∷ [])) rows
+flight_there seen row rows are listed =
+    let key : NotedFlight → FlightDate = λ r. r.flight in
+    let value : NotedFlight → Outbound = λ r. r.outbound in
+    record {
+      rising = are.rising;
+      same = λ f. found_still by_flight flights_total key value (λ r. same_flight_date f r.flight) (noted row) (only_flight f (noted row)) seen (λ r. r.outbound) (λ r. same_flight_date f r.flight) row refl refl rows (are.same f)
+          (λ h. ap (λ k. list_any (λ (r : NotedFlight). same_flight_date k r.flight) rows) (same-is f row.flight h) ∙ listed);
+    }
+
+-- ---- what flights are to bring
+
+pub none_expected : AreExpectations (expected_in []) []
+none_expected = record { rising = refl; same = λ f w. refl }
+
+abbrev expectation : ExpectedRow → Expectation
+expectation row = record { flight = row.flight; awb = row.awb; expected = row.expected }
+
+abbrev is_of : FlightDate → ℕ → Expectation → Bool
+is_of f w r = same_flight_date f r.flight && (w == r.awb)
+
+abbrev key_of : Expectation → FlightDate × ℕ
+key_of r = (r.flight, r.awb)
+
+is_key : (f : FlightDate) (w : ℕ) (r : Expectation) → is_of f w r ≡ true → (f, w) ≡ key_of r
+is_key f w r h =
+    let both = and_parts _ _ h in
+    let flights = same-is f r.flight both.0 in
+    let numbers = eqb-true w r.awb both.1 in
+    λ i. (flights i, numbers i)
+
+only_key : (f : FlightDate) (w : ℕ) (a b : Expectation) → is_of f w a ≡ true → is_of f w b ≡ true → key_of b ≡ key_of a
+only_key f w a b g h = sym (is_key f w b h) ∙ is_key f w a g
+
+pub expected_put : (seen : List ExpectedRow) (row : ExpectedRow) (at : ℕ) (rows : List Expectation) → AreExpectations (expected_in seen) rows
+    → IsBinarySearchResult (λ (r : Expectation). by_expectation (r.flight, r.awb) (row.flight, row.awb)) rows (Err at) → AreExpectations (expected_in (seen ++ row ∷ [])) (insert rows at (expectation row))
+expected_put seen row at rows are place =
+    let value : Expectation → Expected = λ r. r.expected in
+    let split = searched by_expectation expectations_total key_of value (expectation row) at rows are.rising place in
+    record {
+      rising = rises_with by_expectation expectations_total key_of value (expectation row) at rows split are.rising;
+      same = λ f w. found_with by_expectation expectations_total key_of value (is_of f w) (expectation row) (only_key f w (expectation row)) seen (λ r. r.expected) (λ r. same_flight_date f r.flight && (w == r.awb)) row refl refl rows (are.same f w) at split;
+    }
+
+pub expected_there : (seen : List ExpectedRow) (row : ExpectedRow) (rows : List Expectation) → AreExpectations (expected_in seen) rows
+    → list_any (λ (r : Expectation). same_flight_date row.flight r.flight && (row.awb == r.awb)) rows ≡ true → AreExpectations (expected_in (seen ++ row ∷ [])) rows
+expected_there seen row rows are listed =
+    let value : Expectation → Expected = λ r. r.expected in
+    record {
+      rising = are.rising;
+      same = λ f w. found_still by_expectation expectations_total key_of value (is_of f w) (expectation row) (only_key f w (expectation row)) seen (λ r. r.expected) (λ r. same_flight_date f r.flight && (w == r.awb)) row refl refl rows (are.same f w)
+          (λ h. ap (λ (k : FlightDate × ℕ). list_any (is_of k.0 k.1) rows) (is_key f w (expectation row) h) ∙ listed);
+    }
+
+declared_there : (D : Type 0) (o : Option Expected) (row : Option Expectation) → o ≡ option_map (λ r. r.expected) row → is_some row ≡ true → IfSome o (λ e. IsLawfulAmount e.pieces e.tenths × D) → D
+declared_there D o None e there law = absurd (true≢false (sym there))
+declared_there D o (Some r) e there law = (subst (λ (x : Option Expected). IfSome x (λ e. IsLawfulAmount e.pieces e.tenths × D)) e law).1
+
+-- what is expected is of a declared waybill
+pub known_expected : (s : Cargo) → IsLawful s → (rows : List Expectation) → AreExpectations s.expected rows → All (λ (r : Expectation). IsSome (s.declared r.awb)) rows
+known_expected s law rows are = λ k d low.
+    let r : Expectation = get_or rows k d in
+    let itself = and_from _ _ (same-refl r.flight) (eq-eqb r.awb r.awb refl) in
+    declared_there (IsSome (s.declared r.awb)) (s.expected r.flight r.awb) (find (is_of r.flight r.awb) rows) (are.same r.flight r.awb)
+    (any_found (is_of r.flight r.awb) rows ∙ any_at (is_of r.flight r.awb) rows k r d low refl itself) (law.expectations r.flight r.awb)

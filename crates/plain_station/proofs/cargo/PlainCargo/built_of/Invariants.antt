@@ -1,0 +1,9 @@
+use Rattle.std.proofs.Common.{◌≡◌, ◌≤◌, ◌*◌, take, sum_by}
+use Rattle.shipment_machine.specs.Book.{built}
+use Rattle.plain_station.proofs.cargo.PlainCargo.built_of.Given as goal
+
+abbrev pub invariant-loop-number : goal.invariant-loop-number
+invariant-loop-number l =
+    (l.pieces ≡ sum_by (λ w. (built l.self.lists.book.items w l.flight).pieces) (take l.number-index l.numbers))
+    × (l.tenths ≡ sum_by (λ w. (built l.self.lists.book.items w l.flight).tenths) (take l.number-index l.numbers))
+    × (l.pieces ≤ 4294967295 * l.number-index) × (l.tenths ≤ 4294967295 * l.number-index)

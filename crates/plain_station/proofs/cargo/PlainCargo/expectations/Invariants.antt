@@ -1,0 +1,7 @@
+use Rattle.std.proofs.Common.{take}
+use Rattle.station_core.specs.Readers.{AreExpectations}
+use Rattle.plain_station.specs.Lists.{expected_in}
+use Rattle.plain_station.proofs.cargo.PlainCargo.expectations.Given as goal
+
+abbrev pub invariant-loop-row : goal.invariant-loop-row
+invariant-loop-row l = AreExpectations (expected_in (take l.row-index l.row-items)) l.all.items

@@ -1,0 +1,14 @@
+use Rattle.std.proofs.Common.{sym, ap}
+use Rattle.std.specs.Option.{unwrap_or}
+use Rattle.shipment_machine.specs.declared.moves.Declared.{Declared}
+use Rattle.shipment_machine.specs.Views.{undeclared}
+use Rattle.plain_station.proofs.cargo.PlainCargo.expected_row.Goals as goal
+
+pub returns : goal.returns
+returns c =
+    let known = ap (λ o. unwrap_or o undeclared) (sym c.declaration_of-declared.ensures) in
+    λ i. record {
+      expectation = c.args.expectation.now;
+      origin = ap (λ (d : Declared). d.origin) known i;
+      destination = ap (λ (d : Declared). d.destination) known i;
+    }

@@ -1,0 +1,7 @@
+use Rattle.std.proofs.Common.{◌≡◌, take, map}
+use Rattle.station_core.specs.Readers.{expected_row}
+use Rattle.plain_station.specs.Lists.{cargo_of}
+use Rattle.plain_station.proofs.cargo.PlainCargo.expected_rows.Given as goal
+
+abbrev pub invariant-loop-expectation : goal.invariant-loop-expectation
+invariant-loop-expectation l = l.rows.items ≡ map (expected_row (cargo_of l.self.lists)) (take l.expectation-index l.expectation-items)

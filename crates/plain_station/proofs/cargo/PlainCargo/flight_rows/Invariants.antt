@@ -1,0 +1,7 @@
+use Rattle.std.proofs.Common.{◌≡◌, take, map}
+use Rattle.station_core.specs.Readers.{flight_row}
+use Rattle.plain_station.specs.Lists.{cargo_of}
+use Rattle.plain_station.proofs.cargo.PlainCargo.flight_rows.Given as goal
+
+abbrev pub invariant-loop-noted : goal.invariant-loop-noted
+invariant-loop-noted l = l.rows.items ≡ map (flight_row (cargo_of l.self.lists)) (take l.noted-index l.noted-items)

@@ -1,0 +1,21 @@
+use Rattle.std.proofs.Common.{◌∙◌, sym, ap}
+use Rattle.std.specs.Option.{unwrap_or}
+use Rattle.shipment_machine.specs.Amount.{less}
+use Rattle.shipment_machine.specs.Book.{store}
+use Rattle.shipment_machine.specs.declared.moves.Balances.{Balances}
+use Rattle.shipment_machine.specs.declared.moves.Declared.{Declared}
+use Rattle.shipment_machine.specs.Views.{undeclared}
+use Rattle.plain_station.proofs.cargo.PlainCargo.shed_row.Goals as goal
+
+pub returns : goal.returns
+returns c =
+    let free = ap (λ (b : Balances). b.free) c.balances.ensures in
+    let known = ap (λ o. unwrap_or o undeclared) (sym c.declaration_of-declared.ensures) in
+    λ i. record {
+      awb = c.args.number.now;
+      origin = ap (λ (d : Declared). d.origin) known i;
+      destination = ap (λ (d : Declared). d.destination) known i;
+      free = free i;
+      built = (c.built_anywhere.ensures ∙ ap (less (store c.args.self.now.lists.book.items c.args.number.now)) free) i;
+      notified = ap (λ (d : Declared). d.notified) known i;
+    }

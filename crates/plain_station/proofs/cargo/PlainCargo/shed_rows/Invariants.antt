@@ -1,0 +1,9 @@
+use Rattle.std.proofs.Common.{◌≡◌, [], ◌∷◌, take}
+use Rattle.std.specs.Bool.{if◌then◌else◌}
+use Rattle.std.specs.List.{flat_map}
+use Rattle.station_core.specs.Readers.{is_in_shed, shed_row}
+use Rattle.plain_station.specs.Lists.{cargo_of}
+use Rattle.plain_station.proofs.cargo.PlainCargo.shed_rows.Given as goal
+
+abbrev pub invariant-loop-number : goal.invariant-loop-number
+invariant-loop-number l = l.rows.items ≡ flat_map (λ w. if is_in_shed (cargo_of l.self.lists) w then shed_row (cargo_of l.self.lists) w ∷ [] else []) (take l.number-index l.number-items)

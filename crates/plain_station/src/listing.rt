@@ -1,0 +1,148 @@
+//! The readers of the flights and of what they are to bring.
+ghost use Rattle.std.specs.Prelude.{◌≡◌, ◌≤◌, length, sum_by, List, ℕ, take, IsSome, IfOk, OnOk, OnErr, IfErr};
+ghost use Rattle.row_sinks.specs.Handed.{HandedOut};
+ghost use Rattle.shipment_machine.specs.Book.{built};
+ghost use Rattle.station_core.specs.Readers.{AreNoted, flight_row, AreFlightRows, AreExpectations, expected_row, AreExpectedRows};
+ghost use Rattle.station_core.specs.declared.rows.ExpectedRow.{ExpectedRow as AnyExpected};
+ghost use Rattle.station_core.specs.declared.rows.FlightRow.{FlightRow as AnyFlight};
+ghost use Rattle.plain_station.specs.Lists.{cargo_of};
+
+use crate::cargo::PlainCargo;
+use crate::order::{put_expected, put_flight};
+use awb_number::Awb;
+use shipment_machine::FlightDate;
+use station_core::{ActFault, Expectation, ExpectedRow, FlightRow, NotedFlight, Sink, hand_out};
+use std::alloc::AllocError;
+
+impl PlainCargo {
+    /// The flights that are noted, in their order.
+    fn noted(&self) -> Result<Vec<NotedFlight>, AllocError>
+        ensures { IfOk result (λ noted. AreNoted (cargo_of self.now.lists).flights noted.items) }
+    {
+        let mut noted = Vec::new(self.lists.alloc);
+        for row in &self.lists.flights {
+            put_flight(&mut noted, row)?;
+        }
+        Ok(noted)
+    }
+
+    /// What is built of some waybills on a flight: pieces, and tenths.
+    fn built_of(&self, numbers: &[Awb], flight: &FlightDate) -> (u64, u64)
+        requires { length numbers.now ≤ 500 }
+        ensures pieces { result.0 ≡ sum_by
+            (λ w. (built self.now.lists.book.items w flight.now).pieces) numbers.now }
+        ensures tenths { result.1 ≡ sum_by
+            (λ w. (built self.now.lists.book.items w flight.now).tenths) numbers.now }
+    {
+        let mut pieces = 0;
+        let mut tenths = 0;
+        for number in numbers {
+            let load = self.load_on(number, flight);
+            pieces += u64::from(load.pieces);
+            tenths += u64::from(load.tenths);
+        }
+        (pieces, tenths)
+    }
+
+    /// A flight with what is built on it.
+    fn flight_row(&self, noted: &NotedFlight) -> Result<FlightRow, AllocError>
+        ensures { IfOk result (λ row. row ≡ flight_row (cargo_of self.now.lists) noted.now) }
+    {
+        let numbers = self.numbers_on(&noted.flight)?;
+        let aboard = numbers.as_slice();
+        let (pieces, tenths) = self.built_of(aboard, &noted.flight);
+        Ok(FlightRow {
+            noted: *noted,
+            waybills: aboard.len() as u16,
+            pieces,
+            tenths,
+        })
+    }
+
+    /// The flights with what is built on them, in their order.
+    fn flight_rows(&self) -> Result<Vec<FlightRow>, AllocError>
+        ensures { IfOk result (λ rows. AreFlightRows (cargo_of self.now.lists) rows.items) }
+    {
+        let mut rows = Vec::new(self.lists.alloc);
+        for noted in &self.noted()? {
+            rows.push(self.flight_row(noted)?)?;
+        }
+        Ok(rows)
+    }
+
+    /// Hands out the flights that are noted, with what is built on each, by their written form and
+    /// then by the day, until the sink takes no more. Out of memory, it hands out none.
+    pub(crate) fn flights<S: Sink<FlightRow>>(&self, sink: &mut S) -> Result<(), ActFault>
+        ensures rows { OnOk result ((rows : List AnyFlight)
+            × AreFlightRows (cargo_of self.now.lists) rows
+            × HandedOut S.takes rows sink.old sink.new) }
+        ensures beginning { OnErr result ((rows : List AnyFlight)
+            → AreFlightRows (cargo_of self.now.lists) rows → (n : ℕ)
+            × HandedOut S.takes (take n rows) sink.old sink.new) }
+        ensures memory { IfErr result (λ fault. fault ≡ ActFault.Memory) }
+        ensures none { OnErr result (sink.new ≡ sink.old) }
+    {
+        let Ok(flights) = self.flight_rows() else {
+            return Err(ActFault::Memory);
+        };
+        hand_out(sink, flights);
+        Ok(())
+    }
+}
+
+impl PlainCargo {
+    /// What flights are to bring, in its order.
+    fn expectations(&self) -> Result<Vec<Expectation>, AllocError>
+        ensures { IfOk result (λ all. AreExpectations (cargo_of self.now.lists).expected
+            all.items) }
+    {
+        let mut all = Vec::new(self.lists.alloc);
+        for row in &self.lists.expected {
+            put_expected(&mut all, row)?;
+        }
+        Ok(all)
+    }
+
+    /// What a flight is to bring of a waybill, with the waybill's route.
+    fn expected_row(&self, expectation: &Expectation) -> ExpectedRow
+        requires declared { IsSome ((cargo_of self.now.lists).declared expectation.now.awb) }
+        ensures { result ≡ expected_row (cargo_of self.now.lists) expectation.now }
+    {
+        let declared = self.lists.declaration_of(&expectation.awb);
+        ExpectedRow {
+            expectation: *expectation,
+            origin: declared.origin,
+            destination: declared.destination,
+        }
+    }
+
+    /// What flights are to bring with the waybills' routes, in its order.
+    fn expected_rows(&self) -> Result<Vec<ExpectedRow>, AllocError>
+        ensures { IfOk result (λ rows. AreExpectedRows (cargo_of self.now.lists) rows.items) }
+    {
+        let mut rows = Vec::new(self.lists.alloc);
+        for expectation in &self.expectations()? {
+            rows.push(self.expected_row(expectation))?;
+        }
+        Ok(rows)
+    }
+
+    /// Hands out what flights are to bring, by flight and then by waybill, until the sink takes no
+    /// more. Out of memory, it hands out nothing.
+    pub(crate) fn expected<S: Sink<ExpectedRow>>(&self, sink: &mut S) -> Result<(), ActFault>
+        ensures rows { OnOk result ((rows : List AnyExpected)
+            × AreExpectedRows (cargo_of self.now.lists) rows
+            × HandedOut S.takes rows sink.old sink.new) }
+        ensures beginning { OnErr result ((rows : List AnyExpected)
+            → AreExpectedRows (cargo_of self.now.lists) rows → (n : ℕ)
+            × HandedOut S.takes (take n rows) sink.old sink.new) }
+        ensures memory { IfErr result (λ fault. fault ≡ ActFault.Memory) }
+        ensures none { OnErr result (sink.new ≡ sink.old) }
+    {
+        let Ok(expected) = self.expected_rows() else {
+            return Err(ActFault::Memory);
+        };
+        hand_out(sink, expected);
+        Ok(())
+    }
+}

@@ -1,0 +1,291 @@
+-- What is noted of flights and what they are to bring, as readers are given them: in the order of their rows' keys.
+use Rattle.std.proofs.Common.{◌≡◌, ℕ, ◌==◌, ◌<◌, ◌≤◌, length, ℤ, pos, negsuc, Bool, true, false, cond, ◌&&◌, Option, Some, None, option_map, List, [], ◌∷◌, map, take, drop, is_lt, int_cmp, int_le, refl, sym, ap, ap₂, subst, ◌∙◌, true≢false, arith, Ordering, Less, Equal, Greater, T}
+use Rattle.std.specs.Prelude.{◌^◌, IfSome, IsTrue, nat_le, take_while}
+use Rattle.std.specs.List.{AllByRecursion, find, list_all}
+use Rattle.std.specs.Str.{bytes_eq}
+use Rattle.std.specs.Ordering.{eq_by_cmp, nat_cmp, ordering_then}
+use Rattle.std.specs.Cmp.Lexicographic.{slice_cmp}
+use Rattle.std.specs.FinMap.{FinMap, entries, entries_sorted, get, get-entries, is_sorted}
+use Rattle.std.specs.FinMap as tree
+use Rattle.std.specs.FinMap.Entries.{below_all}
+use Rattle.std.proofs.lemmas.Bool.{and_parts, le-leb, leb-true}
+use Rattle.std.proofs.lemmas.Int.{ints}
+use Rattle.std.proofs.Math.Nat.{pow-le-pow_right}
+use Rattle.awb_number.specs.Digits.{decimal_value, is_digit, is_letter}
+use Rattle.awb_number.proofs.Padded.{decimal_value_bound}
+use Rattle.imp_fields.specs.Amount.{count_of}
+use Rattle.imp_fields.specs.Characters.{drop_while}
+use Rattle.imp_fields.specs.Flight.{Designator, IsDesignator, flight_of, flight_text, is_carrier, suffix_of}
+use Rattle.imp_fields.specs.Steps.{◌>>=◌, where_true}
+use Rattle.imp_fields.proofs.SameFlight.{bytes_eq-true}
+use Rattle.shipment_machine.specs.Flights.{same_flight_date}
+use Rattle.shipment_machine.specs.declared.flight.FlightDate.{FlightDate}
+use Rattle.shipment_machine.specs.declared.moves.Expected as cargo
+use Rattle.shipment_machine.specs.declared.moves.Outbound.{Outbound}
+use Rattle.station_core.specs.Readers.{AreExpectations, AreNoted, by_expectation, by_flight}
+use Rattle.station_core.specs.Step.{State}
+use Rattle.station_core.specs.declared.rows.Expectation.{Expectation}
+use Rattle.station_core.specs.declared.rows.NotedFlight.{NotedFlight}
+use Rattle.sqlite_typed.specs.Tests.{bytes_cmp}
+use Rattle.row_schema.specs.Tables.{Expected, ExpectedKey, Flight, FlightKey, Tables, expected_cmp, flight_cmp}
+use Rattle.row_codec.specs.Flights.{flight_date_of, flight_key, flights_in, is_designator, is_flight_row, is_flight_text, is_written, noted_by, outbound_by}
+use Rattle.row_codec.specs.Manifests.{expectation_by, expected_by, expected_in, expected_key, is_expected_row}
+use Rattle.row_codec.specs.Meaning.{Means}
+use Rattle.row_codec.specs.Numbers.{is_day, is_number, is_within, natural}
+use Rattle.row_codec.proofs.FlightKeys.{designator_test, same_designator, same_expected, same_expected_designator, same_expected_key, same_key}
+use Rattle.row_codec.proofs.MapLaws.{each_passes}
+
+-- ---- what is read as a designator is one
+
+bind_is : {A B : Type 0} (o : Option A) (next : A → Option B) (b : B) → (o >>= next) ≡ Some b → (a : A) × ((o ≡ Some a) × (next a ≡ Some b))
+bind_is None next b h = absurd (cc)
+bind_is (Some a) next b h = (a, (refl, h))
+
+where_is : {A : Type 0} (t : Bool) (x y : A) → where_true t x ≡ Some y → (t ≡ true) × (x ≡ y)
+where_is true x y h = (refl, cc)
+where_is false x y h = absurd (cc)
+
+letter : (rest : List ℕ) (suffix : Option ℕ) → suffix_of rest ≡ Some suffix → IfSome suffix (λ b. IsTrue (is_letter b))
+letter [] None h = tt
+letter [] (Some b) h = absurd (cc)
+letter (b ∷ []) suffix h = let is = where_is (is_letter b) (Some b) suffix h in subst (λ s. IfSome s (λ c. IsTrue (is_letter c))) is.1 is.0
+letter (b ∷ c ∷ rest) suffix h = absurd (cc)
+
+count_fits : (digits : List ℕ) (n : ℕ) → count_of digits ≡ Some n → (nat_le 1 n ≡ true) × (nat_le n 9999 ≡ true)
+count_fits digits n h =
+    let is = where_is _ (decimal_value digits) n h in
+    let low = and_parts _ _ is.0 in
+    let all = and_parts _ _ low.0 in
+    let most = and_parts _ _ all.0 in
+    let within = decimal_value_bound digits all.1 in
+    (ap (nat_le 1) (sym is.1) ∙ low.1, ap (λ k. nat_le k 9999) (sym is.1) ∙ small (length digits) (decimal_value digits) most.1 within)
+  where
+    small : (k v : ℕ) → nat_le k 4 ≡ true → v < 10 ^ k → nat_le v 9999 ≡ true
+    small k v h less = let most : 10 ^ k ≤ 10_000 = pow-le-pow_right (omega arith) (leb-true k 4 h) in le-leb v 9999 (omega (arith, most, less))
+
+pub is_read : (text : List ℕ) (f : Designator) → flight_of text ≡ Some f → is_designator f ≡ true
+is_read text f h =
+    let carrier = bind_is (where_true (is_carrier (take 2 text)) (take 2 text)) _ f h in
+    let number = bind_is (count_of (take_while is_digit (drop 2 text))) _ f carrier.1.1 in
+    let suffix = bind_is (suffix_of (drop_while is_digit (drop 2 text))) _ f number.1.1 in
+    let made : record { carrier = carrier.0; number = number.0; suffix = suffix.0 } ≡ f = cc in
+    let of_two = where_is (is_carrier (take 2 text)) (take 2 text) carrier.0 carrier.1.0 in
+    let fits = count_fits (take_while is_digit (drop 2 text)) number.0 number.1.0 in
+    subst (λ d. is_designator d ≡ true) made
+    (designator_test (record { carrier = carrier.0; number = number.0; suffix = suffix.0 })
+    (ap is_carrier (sym of_two.1) ∙ of_two.0, leb-true 1 number.0 fits.0, leb-true number.0 9999 fits.1, letter (drop_while is_digit (drop 2 text)) suffix.0 suffix.1.0))
+
+-- ---- rows that are entries
+
+module _ {K V D N W : Type 0} (R : K → K → Ordering) (S : D → D → Ordering) (key : D → K) (at : N → D) (value : N → W) (by : V → W) (same : D → D → Bool) (may : D → Bool) where
+  -- a row is of an entry
+  pub record IsOf (e : K × V) (row : N) : Type 0 where
+    pub key_is : e.0 ≡ key (at row)
+    pub value_is : value row ≡ by e.1
+    pub may_be : may (at row) ≡ true
+
+  abbrev pub AreOf : List (K × V) → List N → Type 0
+  AreOf [] [] = Unit {0}
+  AreOf (e ∷ es) (row ∷ rows) = IsOf e row × AreOf es rows
+  AreOf _ _ = ⊥
+
+  abbrev pub pairs : List N → List (D × W)
+  pairs rows = map (λ row. (at row, value row)) rows
+
+  module _ (tied : (a b : D) → may a ≡ true → may b ≡ true → eq_by_cmp R (key a) (key b) ≡ same a b) where
+    pub found : (d : D) → may d ≡ true → (es : List (K × V)) (rows : List N) → AreOf es rows → option_map by (tree.find R (key d) es) ≡ option_map value (find (λ row. same d (at row)) rows)
+    found d is [] [] h = refl
+    found d is [] (row ∷ rows) h = absurd h
+    found d is (e ∷ es) [] h = absurd h
+    found d is (e ∷ es) (row ∷ rows) h =
+        ap (λ b. option_map by (cond b (Some e.1) (tree.find R (key d) es))) (ap (eq_by_cmp R (key d)) h.0.key_is ∙ tied d (at row) is h.0.may_be)
+        ∙ go (same d (at row)) (found d is es rows h.1)
+      where
+        go : (b : Bool) → option_map by (tree.find R (key d) es) ≡ option_map value (find (λ row. same d (at row)) rows)
+            → option_map by (cond b (Some e.1) (tree.find R (key d) es)) ≡ option_map value (cond b (Some row) (find (λ row. same d (at row)) rows))
+        go true more = ap Some (sym h.0.value_is)
+        go false more = more
+
+  module _ (one : (a b : D) → may b ≡ true → same a b ≡ true → may a ≡ true) where
+    pub not_found : (d : D) → may d ≡ false → (es : List (K × V)) (rows : List N) → AreOf es rows → None ≡ option_map value (find (λ row. same d (at row)) rows)
+    not_found d fails [] [] h = refl
+    not_found d fails [] (row ∷ rows) h = absurd h
+    not_found d fails (e ∷ es) [] h = absurd h
+    not_found d fails (e ∷ es) (row ∷ rows) h = go (same d (at row)) refl (not_found d fails es rows h.1)
+      where
+        go : (b : Bool) → same d (at row) ≡ b → None ≡ option_map value (find (λ row. same d (at row)) rows) → None ≡ option_map value (cond b (Some row) (find (λ row. same d (at row)) rows))
+        go true is more = absurd (true≢false (sym (one d (at row) h.0.may_be is) ∙ fails))
+        go false is more = more
+
+  module _ (orders : (a b : D) → R (key a) (key b) ≡ S a b) where
+    below : (e : K × V) (row : N) → IsOf e row → (es : List (K × V)) (rows : List N) → AreOf es rows → below_all R e.0 es ≡ below_all S (at row) (pairs rows)
+    below e row is [] [] h = refl
+    below e row is [] (other ∷ rows) h = absurd h
+    below e row is (d ∷ es) [] h = absurd h
+    below e row is (d ∷ es) (other ∷ rows) h = ap₂ (λ a b. is_lt a && b) (ap₂ R is.key_is h.0.key_is ∙ orders (at row) (at other)) (below e row is es rows h.1)
+
+    pub sorted : (es : List (K × V)) (rows : List N) → AreOf es rows → is_sorted R es ≡ is_sorted S (pairs rows)
+    sorted [] [] h = refl
+    sorted [] (row ∷ rows) h = absurd h
+    sorted (e ∷ es) [] h = absurd h
+    sorted (e ∷ es) (row ∷ rows) h = ap₂ (λ a b. a && b) (below e row h.0 es rows h.1) (sorted es rows h.1)
+
+is_so : (b : Bool) → T b → b ≡ true
+is_so true h = refl
+is_so false h = absurd h
+
+day_again : (low high : ℕ) (z : ℤ) → is_within low high z ≡ true → z ≡ pos (natural z)
+day_again low high (pos n) h = refl
+day_again low high (negsuc n) h = absurd (let no : ⊥ = grind (arith, ints) in no)
+
+number_order : (a b : ℕ) → int_cmp (pos a) (pos b) ≡ nat_cmp a b
+number_order a b = grind (arith, ints)
+
+head_row : {X : Type 0} (x y : X) (xs ys : List X) → ◌≡◌ {A = List X} (x ∷ xs) (y ∷ ys) → x ≡ y
+head_row x y xs ys e = cc
+
+tail_rows : {X : Type 0} (x y : X) (xs ys : List X) → ◌≡◌ {A = List X} (x ∷ xs) (y ∷ ys) → xs ≡ ys
+tail_rows x y xs ys e = cc
+
+-- ---- flights
+
+by_flight_order : (a b : FlightDate) → flight_cmp (flight_key a) (flight_key b) ≡ by_flight a b
+by_flight_order a b = ap (ordering_then (slice_cmp nat_cmp (flight_text a.flight) (flight_text b.flight))) (number_order a.day b.day)
+
+-- the key of a flight that is read from a row within range
+flight_of_row : (text : List ℕ) (day : ℤ) (f : FlightDate) → Some f ≡ flight_date_of text day → is_flight_text text ≡ true → day ≡ pos (natural day)
+    → (text ≡ flight_text f.flight) × (day ≡ pos f.day) × (is_designator f.flight ≡ true)
+flight_of_row text day f is written number = go (flight_of text) refl is written
+  where
+    go : (o : Option Designator) → flight_of text ≡ o → Some f ≡ option_map (λ d. record { flight = d; day = natural day }) o → is_written text o ≡ true
+        → (text ≡ flight_text f.flight) × (day ≡ pos f.day) × (is_designator f.flight ≡ true)
+    go None read is written = absurd (cc)
+    go (Some d) read is written =
+        let same : f ≡ record { flight = d; day = natural day } = cc in
+        let named : f.flight ≡ d = ap (λ (x : FlightDate). x.flight) same in (
+          sym (bytes_eq-true (flight_text d) text written) ∙ ap flight_text (sym named),
+          number ∙ ap (λ (x : FlightDate). pos x.day) (sym same),
+          ap is_designator named ∙ is_read text d read,
+        )
+
+abbrev IsNoted : FlightKey × Flight → NotedFlight → Type 0
+IsNoted = IsOf flight_cmp by_flight flight_key (λ (row : NotedFlight). row.flight) (λ (row : NotedFlight). row.outbound) outbound_by same_flight_date (λ (f : FlightDate). is_designator f.flight)
+
+abbrev AreNotedOf : List (FlightKey × Flight) → List NotedFlight → Type 0
+AreNotedOf = AreOf flight_cmp by_flight flight_key (λ (row : NotedFlight). row.flight) (λ (row : NotedFlight). row.outbound) outbound_by same_flight_date (λ (f : FlightDate). is_designator f.flight)
+
+is_noted : (e : FlightKey × Flight) (row : NotedFlight) → Some row ≡ noted_by e → is_flight_row e ≡ true → IsNoted e row
+is_noted e row is fits = go (flight_date_of e.0.0 e.0.1) refl is
+  where
+    go : (o : Option FlightDate) → flight_date_of e.0.0 e.0.1 ≡ o → Some row ≡ option_map (λ f. record { flight = f; outbound = outbound_by e.1 }) o → IsNoted e row
+    go None read is = absurd (cc)
+    go (Some f) read is =
+        let same : row ≡ record { flight = f; outbound = outbound_by e.1 } = cc in
+        let three = and_parts _ _ (and_parts _ _ fits).0 in
+        let two = and_parts _ _ three.0 in
+        let key = flight_of_row e.0.0 e.0.1 f (sym read) two.0 (day_again _ _ e.0.1 two.1) in
+        let at : row.flight ≡ f = ap (λ (x : NotedFlight). x.flight) same in
+        record {
+          key_is = (λ i. (key.0 i, key.1 i)) ∙ ap flight_key (sym at);
+          value_is = ap (λ (x : NotedFlight). x.outbound) same;
+          may_be = ap (λ (x : FlightDate). is_designator x.flight) at ∙ key.2;
+        }
+
+each_noted : (es : List (FlightKey × Flight)) (rows : List NotedFlight) → map Some rows ≡ map noted_by es → AllByRecursion (λ e. is_flight_row e ≡ true) es → AreNotedOf es rows
+each_noted [] [] is fits = tt
+each_noted [] (row ∷ rows) is fits = absurd (cc)
+each_noted (e ∷ es) [] is fits = absurd (cc)
+each_noted (e ∷ es) (row ∷ rows) is fits = (is_noted e row (head_row _ _ _ _ is) fits.0, each_noted es rows (tail_rows _ _ _ _ is) fits.1)
+
+noted_found : (flights : FinMap flight_cmp Flight) (rows : List NotedFlight) → AreNotedOf (entries flights) rows → (f : FlightDate)
+    → flights_in flights f ≡ option_map (λ (row : NotedFlight). row.outbound) (find (λ (row : NotedFlight). same_flight_date f row.flight) rows)
+noted_found flights rows are f = go (is_designator f.flight) refl
+  where
+    go : (b : Bool) → is_designator f.flight ≡ b → cond b (option_map outbound_by (get flights (flight_key f))) None ≡ option_map (λ (row : NotedFlight). row.outbound) (find (λ (row : NotedFlight). same_flight_date f row.flight) rows)
+    go true is = ap (option_map outbound_by) (get-entries flights (flight_key f))
+        ∙ found flight_cmp by_flight flight_key (λ (row : NotedFlight). row.flight) (λ (row : NotedFlight). row.outbound) outbound_by same_flight_date (λ (x : FlightDate). is_designator x.flight) same_key f is (entries flights) rows are
+    go false fails = not_found flight_cmp by_flight flight_key (λ (row : NotedFlight). row.flight) (λ (row : NotedFlight). row.outbound) outbound_by same_flight_date (λ (x : FlightDate). is_designator x.flight) same_designator f fails (entries flights) rows are
+
+noted_in_rows : (flights : FinMap flight_cmp Flight) (rows : List NotedFlight) → list_all is_flight_row (entries flights) ≡ true → map Some rows ≡ map noted_by (entries flights) → AreNoted (flights_in flights) rows
+noted_in_rows flights rows fits is =
+    let are = each_noted (entries flights) rows is (each_passes is_flight_row (entries flights) fits) in
+    record {
+      rising = sym (sorted flight_cmp by_flight flight_key (λ (row : NotedFlight). row.flight) (λ (row : NotedFlight). row.outbound) outbound_by same_flight_date (λ (x : FlightDate). is_designator x.flight) by_flight_order (entries flights) rows are)
+          ∙ is_so _ (entries_sorted flights);
+      same = noted_found flights rows are;
+    }
+
+-- ---- what flights are to bring
+
+abbrev at_waybill : Expectation → FlightDate × ℕ
+at_waybill row = (row.flight, row.awb)
+
+abbrev key_of : FlightDate × ℕ → ExpectedKey
+key_of d = expected_key d.0 d.1
+
+then_then : (a b c : Ordering) → ordering_then a (ordering_then b c) ≡ ordering_then (ordering_then a b) c
+then_then Less b c = refl
+then_then Equal b c = refl
+then_then Greater b c = refl
+
+by_expectation_order : (a b : FlightDate × ℕ) → expected_cmp (key_of a) (key_of b) ≡ by_expectation a b
+by_expectation_order a b =
+    let text = slice_cmp nat_cmp (flight_text a.0.flight) (flight_text b.0.flight) in
+    ap₂ (λ day awb. ordering_then text (ordering_then day awb)) (number_order a.0.day b.0.day) (number_order a.1 b.1) ∙ then_then text (nat_cmp a.0.day b.0.day) (nat_cmp a.1 b.1)
+
+abbrev IsExpected : ExpectedKey × Expected → Expectation → Type 0
+IsExpected = IsOf expected_cmp by_expectation key_of at_waybill (λ (row : Expectation). row.expected) expected_by same_expected (λ (d : FlightDate × ℕ). is_designator d.0.flight)
+
+abbrev AreExpectedOf : List (ExpectedKey × Expected) → List Expectation → Type 0
+AreExpectedOf = AreOf expected_cmp by_expectation key_of at_waybill (λ (row : Expectation). row.expected) expected_by same_expected (λ (d : FlightDate × ℕ). is_designator d.0.flight)
+
+is_expectation : (e : ExpectedKey × Expected) (row : Expectation) → Some row ≡ expectation_by e → is_expected_row e ≡ true → IsExpected e row
+is_expectation e row is fits = go (flight_date_of e.0.0 e.0.1.0) refl is
+  where
+    go : (o : Option FlightDate) → flight_date_of e.0.0 e.0.1.0 ≡ o → Some row ≡ option_map (λ f. record { flight = f; awb = natural e.0.1.1; expected = expected_by e.1 }) o → IsExpected e row
+    go None read is = absurd (cc)
+    go (Some f) read is =
+        let same : row ≡ record { flight = f; awb = natural e.0.1.1; expected = expected_by e.1 } = cc in
+        let three = and_parts _ _ (and_parts _ _ (and_parts _ _ (and_parts _ _ fits).0).0).0 in
+        let two = and_parts _ _ three.0 in
+        let key = flight_of_row e.0.0 e.0.1.0 f (sym read) two.0 (day_again _ _ e.0.1.0 two.1) in
+        let at : at_waybill row ≡ (f, natural e.0.1.1) = ap at_waybill same in
+        let number = day_again _ _ e.0.1.1 three.1 in
+        record {
+          key_is = (λ i. (key.0 i, (key.1 i, number i))) ∙ ap key_of (sym at);
+          value_is = ap (λ (x : Expectation). x.expected) same;
+          may_be = ap (λ (d : FlightDate × ℕ). is_designator d.0.flight) at ∙ key.2;
+        }
+
+each_expected : (es : List (ExpectedKey × Expected)) (rows : List Expectation) → map Some rows ≡ map expectation_by es → AllByRecursion (λ e. is_expected_row e ≡ true) es → AreExpectedOf es rows
+each_expected [] [] is fits = tt
+each_expected [] (row ∷ rows) is fits = absurd (cc)
+each_expected (e ∷ es) [] is fits = absurd (cc)
+each_expected (e ∷ es) (row ∷ rows) is fits = (is_expectation e row (head_row _ _ _ _ is) fits.0, each_expected es rows (tail_rows _ _ _ _ is) fits.1)
+
+expected_found : (expected : FinMap expected_cmp Expected) (rows : List Expectation) → AreExpectedOf (entries expected) rows → (d : FlightDate × ℕ)
+    → expected_in expected d.0 d.1 ≡ option_map (λ (row : Expectation). row.expected) (find (λ (row : Expectation). same_expected d (at_waybill row)) rows)
+expected_found expected rows are d = go (is_designator d.0.flight) refl
+  where
+    go : (b : Bool) → is_designator d.0.flight ≡ b → cond b (option_map expected_by (get expected (key_of d))) None ≡ option_map (λ (row : Expectation). row.expected) (find (λ (row : Expectation). same_expected d (at_waybill row)) rows)
+    go true is = ap (option_map expected_by) (get-entries expected (key_of d))
+        ∙ found expected_cmp by_expectation key_of at_waybill (λ (row : Expectation). row.expected) expected_by same_expected (λ (x : FlightDate × ℕ). is_designator x.0.flight) same_expected_key d is (entries expected) rows are
+    go false fails = not_found expected_cmp by_expectation key_of at_waybill (λ (row : Expectation). row.expected) expected_by same_expected (λ (x : FlightDate × ℕ). is_designator x.0.flight) same_expected_designator d fails (entries expected) rows are
+
+expectations_in_rows : (expected : FinMap expected_cmp Expected) (rows : List Expectation) → list_all is_expected_row (entries expected) ≡ true → map Some rows ≡ map expectation_by (entries expected) → AreExpectations (expected_in expected) rows
+expectations_in_rows expected rows fits is =
+    let are = each_expected (entries expected) rows is (each_passes is_expected_row (entries expected) fits) in
+    record {
+      rising = sym (sorted expected_cmp by_expectation key_of at_waybill (λ (row : Expectation). row.expected) expected_by same_expected (λ (x : FlightDate × ℕ). is_designator x.0.flight) by_expectation_order (entries expected) rows are)
+          ∙ is_so _ (entries_sorted expected);
+      same = λ f w. expected_found expected rows are (f, w);
+    }
+
+-- ---- of tables that mean a state
+
+module _ (t : Tables) (s : State) (means : Means t (Some s)) where
+  pub noted_told : (rows : List NotedFlight) → map Some rows ≡ map noted_by (entries t.flights) → AreNoted s.cargo.flights rows
+  noted_told rows is = subst (λ (x : State). AreNoted x.cargo.flights rows) means.1 (noted_in_rows t.flights rows means.0.flights is)
+
+  pub expectations_told : (rows : List Expectation) → map Some rows ≡ map expectation_by (entries t.expected) → AreExpectations s.cargo.expected rows
+  expectations_told rows is = subst (λ (x : State). AreExpectations x.cargo.expected rows) means.1 (expectations_in_rows t.expected rows means.0.expected is)

@@ -1,0 +1,8 @@
+use Rattle.std.proofs.Common.{◌≡◌, ◌≤◌, ◌*◌, take}
+use Rattle.std.specs.List.{sum_by}
+use Rattle.state_store.specs.declared.store.Load.{Load}
+use Rattle.state_store.proofs.telling.tenths_in.Given as goal
+
+abbrev pub invariant-loop-load : goal.invariant-loop-load
+invariant-loop-load l =
+    (l.sum ≡ sum_by (λ (load : Load). load.amount.tenths) (take l.load-index l.loads)) × (l.sum ≤ 4_294_967_295 * l.load-index)

@@ -1,0 +1,7 @@
+use Rattle.std.proofs.Common.{◌≡◌, Some, take, map}
+use Rattle.cargo_rows.specs.Meant.{noted_flight_meant}
+use Rattle.row_codec.specs.Flights.{noted_by}
+use Rattle.table_state.proofs.noted.flights_noted.Given as goal
+
+abbrev pub invariant-loop-row : goal.invariant-loop-row
+invariant-loop-row l = map Some l.all.items ≡ map (λ row. noted_by (noted_flight_meant row)) (take l.row-index l.rows)

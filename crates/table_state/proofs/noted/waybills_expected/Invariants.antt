@@ -1,0 +1,7 @@
+use Rattle.std.proofs.Common.{◌≡◌, Some, take, map}
+use Rattle.cargo_rows.specs.Meant.{listed_waybill_meant}
+use Rattle.row_codec.specs.Manifests.{expectation_by}
+use Rattle.table_state.proofs.noted.waybills_expected.Given as goal
+
+abbrev pub invariant-loop-row : goal.invariant-loop-row
+invariant-loop-row l = map Some l.all.items ≡ map (λ row. expectation_by (listed_waybill_meant row)) (take l.row-index l.rows)

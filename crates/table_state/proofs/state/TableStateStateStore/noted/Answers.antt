@@ -1,0 +1,13 @@
+use Rattle.std.proofs.Common.{ap, map, ◌∙◌}
+use Rattle.cargo_rows.specs.declared.flights.NotedFlightRow.{NotedFlightRow}
+use Rattle.cargo_rows.specs.Meant.{noted_flight_meant}
+use Rattle.row_codec.specs.Flights.{noted_by}
+use Rattle.state_store.specs.Store.{at_rest}
+use Rattle.table_state.proofs.Lifting.{seen_in}
+use Rattle.table_state.proofs.Values.{noted_are}
+use Rattle.table_state.proofs.state.TableStateStateStore.noted.Goals as goal
+
+pub returns-clause-value : goal.returns-clause-value
+returns-clause-value g c = λ s shown sound.
+    noted_are _ _ _ _ _ (at_rest s) shown c.in-Ok.ensures.survives c.in-Ok.ensures.open sound c.in-Ok.rows.items _
+    (c.in-Ok-flights_noted.ensures ∙ ap (map (λ (row : NotedFlightRow). noted_by (noted_flight_meant row))) c.deref.ensures.value) (c.in-Ok.ensures.read (seen_in (g.S.TableStore.view c.args.self.now.store)))

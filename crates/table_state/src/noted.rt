@@ -1,0 +1,47 @@
+//! What is noted of flights and what they are to bring, by rows.
+ghost use Rattle.std.specs.Prelude.{◌≡◌, map, Some, IfOk};
+ghost use Rattle.cargo_rows.specs.Meant.{listed_waybill_meant, noted_flight_meant};
+ghost use Rattle.row_codec.specs.Flights.{noted_by};
+ghost use Rattle.row_codec.specs.Manifests.{expectation_by};
+
+use cargo_rows::{ListedWaybillRow, NotedFlightRow};
+use row_codec::{expectation_by, noted_by};
+use state_store::StoreFault;
+use station_core::{Expectation, NotedFlight};
+use std::alloc::Global;
+
+/// The flights that rows are of, and what they note of them.
+pub(crate) fn flights_noted(
+    alloc: Global,
+    rows: &[NotedFlightRow],
+) -> Result<Vec<NotedFlight>, StoreFault>
+    ensures { IfOk result (λ all. map Some all.items
+        ≡ map (λ row. noted_by (noted_flight_meant row)) rows.now) }
+{
+    let mut all = Vec::new(alloc);
+    for row in rows {
+        let Some(noted) = noted_by(row) else {
+            return Err(StoreFault);
+        };
+        all.push(noted)?;
+    }
+    Ok(all)
+}
+
+/// The flights and waybills that rows are of, and what they say is expected.
+pub(crate) fn waybills_expected(
+    alloc: Global,
+    rows: &[ListedWaybillRow],
+) -> Result<Vec<Expectation>, StoreFault>
+    ensures { IfOk result (λ all. map Some all.items
+        ≡ map (λ row. expectation_by (listed_waybill_meant row)) rows.now) }
+{
+    let mut all = Vec::new(alloc);
+    for row in rows {
+        let Some(expectation) = expectation_by(row) else {
+            return Err(StoreFault);
+        };
+        all.push(expectation)?;
+    }
+    Ok(all)
+}
