@@ -1,5 +1,4 @@
 //! A line over a connection.
-ghost use Rattle.std.specs.Prelude.{◌≡◌};
 ghost use Rattle.cli_run.specs.Place.{is_migration};
 ghost use Rattle.cli_call.specs.Ran.{HasCalled, HasCalledStation, HasEndedCall, HasReleased, HasRunLine};
 

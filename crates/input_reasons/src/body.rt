@@ -1,5 +1,5 @@
 //! Why a body says no command of its verb.
-ghost use Rattle.std.specs.Prelude.{◌≡◌, IfOk, codes, string_bytes};
+ghost use Rattle.std.specs.Prelude.{IfOk, codes, string_bytes};
 ghost use Rattle.input_reasons.specs.Reason.{IsReason};
 
 use crate::field::{Field, fields, fields_words, may_lack_flight};

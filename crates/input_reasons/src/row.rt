@@ -1,5 +1,5 @@
 //! Why a row of a stock list is bad.
-ghost use Rattle.std.specs.Prelude.{◌≡◌, IfOk, codes, string_bytes};
+ghost use Rattle.std.specs.Prelude.{IfOk, codes, string_bytes};
 ghost use Rattle.input_reasons.specs.Reason.{IsReason};
 
 use crate::shown::{cut, digits_words, quoted, reason_line};

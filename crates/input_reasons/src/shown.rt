@@ -1,5 +1,5 @@
 //! Texts of the input as a reason repeats them.
-ghost use Rattle.std.specs.Prelude.{◌≡◌, ◌≤◌, ◌<◌, OnOk, IfOk, IsTrue, string_bytes};
+ghost use Rattle.std.specs.Prelude.{◌≤◌, ◌<◌, OnOk, IfOk, IsTrue, string_bytes};
 ghost use Rattle.std.specs.List.{list_all};
 ghost use Rattle.imp_fields.specs.Characters.{is_printable};
 ghost use Rattle.input_reasons.specs.Reason.{IsReason};

@@ -1,5 +1,5 @@
 //! Writing a reason.
-ghost use Rattle.std.specs.Prelude.{◌≡◌, ℕ, List, IfOk, string_bytes};
+ghost use Rattle.std.specs.Prelude.{ℕ, List, IfOk, string_bytes};
 ghost use Rattle.input_reasons.specs.Reason.{HasReason, IsReason};
 
 use station_core::{ByteOut, send};
