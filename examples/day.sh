@@ -92,6 +92,6 @@ call_with confirm.json $desk act confirm c1
 call $desk outbox < /dev/null
 
 echo "== The reports."
-for name in stock irregularities movements trail; do
+for name in stock shed flights expected irregularities movements trail; do
     call $desk report "$name" < /dev/null
 done

@@ -113,7 +113,7 @@ ask GET /v1/stock/020-12345686
 ask GET /v1/stock/057-12345675
 ask GET /v1/outbox
 act confirm c1 confirm.json
-for name in stock irregularities movements trail; do
+for name in stock shed flights expected irregularities movements trail; do
     ask GET "/v1/reports/$name"
 done
 

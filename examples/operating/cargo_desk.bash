@@ -20,7 +20,7 @@ _cargo_desk() {
                 --station | --zone) ;;
                 *) COMPREPLY=($(compgen -W "$_cargo_desk_options $_cargo_desk_commands" -- "$cur")) ;;
             esac ;;
-        report) COMPREPLY=($(compgen -W 'stock irregularities movements trail' -- "$cur")) ;;
+        report) COMPREPLY=($(compgen -W 'stock shed flights expected irregularities movements trail' -- "$cur")) ;;
         act) [ $((COMP_CWORD - i)) -ne 1 ] || COMPREPLY=($(compgen -W "$_cargo_desk_verbs" -- "$cur")) ;;
         help) COMPREPLY=($(compgen -W "$_cargo_desk_commands" -- "$cur")) ;;
         take) COMPREPLY=($(compgen -f -- "$cur")) ;;
