@@ -3,14 +3,11 @@ ghost use Rattle.agent_stock.specs.Stock.{is_run, passes};
 ghost use Rattle.agent_stock.specs.Count.{IsRunCount};
 
 use crate::agent_code::AgentCode;
-use awb_number::Awb;
+use awb_number::{Awb, SERIALS};
 use std::marker::Model;
 
 /// The most numbers that one order is for.
 const LARGEST_RUN: u32 = 1_000_000;
-
-/// The number of serials that a prefix has.
-const SERIALS: u32 = 10_000_000;
 
 /// Who holds a waybill number that is in stock.
 #[derive(Clone, Copy, Debug, PartialEq, Eq)]

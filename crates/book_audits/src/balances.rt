@@ -13,7 +13,14 @@ ghost use Rattle.book_audits.specs.Balances.{AreBalances, overdrawn, drawn_by, i
 
 use crate::sums::{BookSums, BuildPlace, CountPlace};
 use crate::tally::Tally;
+use imp_fields::{MOST_PIECES, MOST_TENTHS};
+use shipment_machine::MOST_WAYBILLS;
 use table_load::FlightEntry;
+
+/// The most pieces of a waybill, and the most tenths of a kilogram.
+const PIECES: u64 = MOST_PIECES as u64;
+
+const TENTHS: u64 = MOST_TENTHS as u64;
 
 /// Pieces and tenths of a kilogram that came from a place outside.
 #[derive(Clone, Copy)]
@@ -80,8 +87,8 @@ fn is_within(sums: &BookSums, place: &CountPlace) -> bool
             place: 1,
         },
     );
-    are_at_most(hand.pieces, surplus.pieces, 9_999)
-        && are_at_most(hand.tenths, surplus.tenths, 999_999)
+    are_at_most(hand.pieces, surplus.pieces, PIECES)
+        && are_at_most(hand.tenths, surplus.tenths, TENTHS)
 }
 
 /// Whether a piece at least is left, and a tenth a piece.
@@ -158,7 +165,7 @@ fn is_room_kept(sums: &BookSums) -> bool
             1
         };
         flight = place.flight;
-        if waybills > 500 {
+        if waybills > MOST_WAYBILLS {
             return false;
         }
     }

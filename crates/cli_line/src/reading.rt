@@ -8,7 +8,7 @@ use std::alloc::Global;
 use stock_list::RunFault;
 
 /// The most bytes of a telegram and of a body.
-pub(crate) const LONGEST: usize = 65_536;
+pub(crate) const LONGEST: usize = imp_fields::MOST_BYTES;
 
 /// The most bytes of one read.
 const CHUNK: usize = 4096;

@@ -4,6 +4,9 @@ ghost use Rattle.imp_fields.specs.Amount.{IsPieces, IsPartNumber, IsTenths, IsBo
 use crate::run;
 use std::marker::Model;
 
+/// The most pieces that a waybill may have.
+pub const MOST_PIECES: u32 = 9_999;
+
 /// A count of pieces, 1 to 9999.
 #[derive(Clone, Copy, Debug, PartialEq, Eq, PartialOrd, Ord)]
 pub struct Pieces {
@@ -26,7 +29,7 @@ impl Pieces {
         ensures in_range { IsSome result ↔ IsPieces number }
         ensures value { IfSome result (λ p. p ≡ number) }
     {
-        if 1 <= number && number <= 9999 {
+        if 1 <= number && number <= MOST_PIECES {
             Some(Pieces { number })
         } else {
             None
@@ -132,6 +135,9 @@ impl Tenths {
     }
 }
 
+/// The most tenths of a kilogram that the books and a written message have room for.
+pub const MOST_TENTHS: u32 = 999_999;
+
 /// A weight of the books in tenths of a kilogram, 0 to 999,999: what a written message has room for.
 #[derive(Clone, Copy, Debug, PartialEq, Eq, PartialOrd, Ord)]
 pub struct BookTenths {
@@ -154,7 +160,7 @@ impl BookTenths {
         ensures in_range { IsSome result ↔ IsBookTenths number }
         ensures value { IfSome result (λ t. t ≡ number) }
     {
-        if number <= 999_999 {
+        if number <= MOST_TENTHS {
             Some(BookTenths { number })
         } else {
             None

@@ -23,7 +23,8 @@ mod waybill_summary;
 
 pub use airport::Airport;
 pub use amount::{
-    BookTenths, PartNumber, Pieces, Quantity, ShipmentCode, Tenths, WeightUnit, book_weight, share,
+    BookTenths, MOST_PIECES, MOST_TENTHS, PartNumber, Pieces, Quantity, ShipmentCode, Tenths,
+    WeightUnit, book_weight, share,
 };
 pub use calendar::{civil_date, day_in_year, resolve};
 pub use consignment::read_consignment;
@@ -36,7 +37,7 @@ pub use laws::{flight_law, quantity_law, resolve_law, share_law};
 pub use line::{Consignment, Lines, MessageKind};
 pub use local_day::LocalDay;
 pub use name::{Goods, Name};
-pub use normal::{is_head, normal_text};
+pub use normal::{MOST_BYTES, is_head, normal_text};
 pub use quantity::{put_quantity, read_quantity, weight_of};
 pub use token::Token;
 pub use waybill_summary::WaybillSummary;

@@ -14,8 +14,8 @@ use crate::run;
 use crate::token::Token;
 use std::alloc::{AllocError, Global};
 
-/// The most bytes that a text may have.
-const MOST_BYTES: usize = 65_536;
+/// The most bytes that a telegram, or the body of a command, may have.
+pub const MOST_BYTES: usize = 65_536;
 
 /// The most lines that a text may have.
 const MOST_LINES: usize = 1000;

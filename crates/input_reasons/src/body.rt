@@ -10,7 +10,7 @@ use serde_json::{Error, Value};
 use std::alloc::{AllocError, Global};
 
 /// The most bytes of a body.
-const LONGEST: usize = 65_536;
+const LONGEST: usize = imp_fields::MOST_BYTES;
 
 /// What is said of a text that is no JSON.
 fn json_words(alloc: Global, error: &Error) -> Result<String, AllocError> {

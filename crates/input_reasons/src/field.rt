@@ -8,8 +8,9 @@ use Field::{
     Prefix, Serial, Tenths, Unload, Upto,
 };
 use agent_stock::AgentCode;
+use awb_number::SERIALS;
 use desk_commands::{Verb, read_command_text};
-use imp_fields::Airport;
+use imp_fields::{Airport, MOST_PIECES};
 use shipment_machine::Airline as AirlineCode;
 use std::alloc::{AllocError, Global};
 
@@ -126,11 +127,11 @@ impl Field {
     /// The least and the greatest number that it may be, where it is a number.
     pub(crate) fn range(self) -> Option<(u64, u64)> {
         match self {
-            Count => Some((0, 9_999_999)),
-            Pieces => Some((1, 9999)),
+            Count => Some((0, u64::from(SERIALS) - 1)),
+            Pieces => Some((1, u64::from(MOST_PIECES))),
             Tenths => Some((0, 99_999_990)),
-            Counted => Some((0, 9999)),
-            Upto => Some((0, 4_294_967_295)),
+            Counted => Some((0, u64::from(MOST_PIECES))),
+            Upto => Some((0, u64::from(u32::MAX))),
             _ => None,
         }
     }

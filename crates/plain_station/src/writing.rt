@@ -15,8 +15,8 @@ use crate::lists::CargoLists;
 use crate::rows::{DeclaredRow, ExpectedRow, FlightRow, PartRow, TrailRow};
 use agent_stock::{Holder, PlainRows, Run, StockRows};
 use awb_number::Awb;
-use shipment_machine::{Change, Detail, Move, Notice, Plan, Refusal};
-use station_core::ActFault;
+use shipment_machine::{Change, Move, Notice, Plan};
+use station_core::{ActFault, NO_NUMBERS_LEFT};
 use std::alloc::{AllocError, Global};
 use telegrams::notice_text;
 
@@ -213,10 +213,7 @@ impl CargoLists {
             return Err(ActFault::Memory);
         };
         if !self.has_room_for(&next, &plan.moves, &messages) {
-            return Err(ActFault::Refused(Refusal {
-                number: 402,
-                detail: Detail::Nothing,
-            }));
+            return Err(ActFault::Refused(NO_NUMBERS_LEFT));
         }
         match self.take_over(next, &plan.moves, messages) {
             Ok(()) => Ok(plan.count),

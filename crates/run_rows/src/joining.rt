@@ -9,7 +9,7 @@ use agent_stock::{Holder, Run, StockRun};
 use awb_number::Awb;
 
 /// The number of serials that a prefix has.
-pub(crate) const SERIALS: u64 = 10_000_000;
+pub(crate) const SERIALS: u64 = awb_number::SERIALS as u64;
 
 /// The rows that are written in place of those that a run touches, in ascending order.
 #[derive(Clone, Copy, Debug, PartialEq, Eq)]

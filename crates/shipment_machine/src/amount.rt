@@ -2,7 +2,7 @@ ghost use Rattle.std.specs.Prelude.{◌≡◌, ℕ, ◌+◌, ◌-◌, ◌*◌, �
 ghost use Rattle.shipment_machine.specs.Amount.{part};
 ghost use Rattle.shipment_machine.specs.Amount.{IsHeld, fits};
 
-use imp_fields::share;
+use imp_fields::{MOST_PIECES, MOST_TENTHS, share};
 
 /// Pieces, with their weight in tenths of a kilogram. It is a sum, so it has no bound of its own.
 #[derive(Clone, Copy, Debug, PartialEq, Eq)]
@@ -29,5 +29,5 @@ pub(crate) fn part_of(whole: Amount, pieces: u32) -> Amount
 pub(crate) fn is_within(pieces: u64, tenths: u64) -> bool
     ensures { result ≡ fits (record { pieces = pieces; tenths = tenths }) }
 {
-    pieces <= 9999 && tenths <= 999_999
+    pieces <= u64::from(MOST_PIECES) && tenths <= u64::from(MOST_TENTHS)
 }

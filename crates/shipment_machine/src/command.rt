@@ -7,7 +7,7 @@ use crate::flight::FlightDate;
 use crate::trail::TrailLines;
 use crate::view::RowsKey;
 use awb_number::Awb;
-use imp_fields::{Airport, DayMonth, Flight, Goods, Name, PartNumber, Pieces, Tenths};
+use imp_fields::{Airport, DayMonth, Flight, Goods, MOST_PIECES, Name, PartNumber, Pieces, Tenths};
 use std::marker::Model;
 
 /// How many pieces were counted, 0 to 9999.
@@ -35,7 +35,7 @@ impl PieceCount {
         ensures in_range { IsSome result ↔ IsCount number }
         ensures value { IfSome result (λ c. c ≡ number) }
     {
-        if number <= 9999 {
+        if number <= MOST_PIECES {
             Some(PieceCount { number })
         } else {
             None

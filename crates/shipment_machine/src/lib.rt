@@ -29,7 +29,7 @@ pub use command::{
     CargoLine, CargoRef, DeskCommand, DeskRef, InboundLine, InboundLines, InboundPart,
     InboundStatus, PieceCount, ShipmentCommand,
 };
-pub use flight::FlightDate;
+pub use flight::{FlightDate, MOST_WAYBILLS};
 pub use moves::{Balances, Declared, Expected, Move, Outbound, Part, Place};
 pub use notice::{Event, ManifestLine, ManifestLines, Notice};
 pub use planning::plan;

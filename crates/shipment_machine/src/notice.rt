@@ -1,6 +1,6 @@
 ghost use Rattle.std.specs.Prelude.{◌≡◌, ◌≤◌, ◌↔◌, length, IsSome, IfSome};
 
-use crate::flight::FlightDate;
+use crate::flight::{FlightDate, MOST_WAYBILLS};
 use imp_fields::{Airport, BookTenths, Discrepancy, Goods, Moment, Name, Pieces, WaybillSummary};
 use std::marker::Model;
 
@@ -77,7 +77,7 @@ impl ManifestLines {
         ensures in_range { IsSome result ↔ (length lines.items ≤ 500) }
         ensures value { IfSome result (λ kept. kept ≡ lines.items) }
     {
-        if lines.len() <= 500 {
+        if lines.len() <= MOST_WAYBILLS {
             Some(ManifestLines { lines })
         } else {
             None

@@ -5,7 +5,7 @@ ghost use Rattle.shipment_machine.specs.Effect.{decided, manifesting, offloading
 ghost use Rattle.shipment_machine.specs.Agreement.{IsAnswer};
 
 use crate::amount::{Amount, part_of};
-use crate::flight::FlightDate;
+use crate::flight::{FlightDate, MOST_WAYBILLS};
 use crate::moves::{Declared, Outbound, Place};
 use crate::notice::Event;
 use crate::plan_parts::{
@@ -49,7 +49,7 @@ pub(crate) fn manifest<'a>(
     if free.pieces < pieces.number() {
         return Err(refuse_free(free));
     }
-    if beside.load.pieces == 0 && beside.waybills >= 500 {
+    if beside.load.pieces == 0 && usize::from(beside.waybills) >= MOST_WAYBILLS {
         return Err(refuse_flight(219, *flight));
     }
     let part = part_of(free, pieces.number());

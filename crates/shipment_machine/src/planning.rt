@@ -23,14 +23,14 @@ use crate::outbound::{manifest, offload};
 use crate::plan_parts::PlanContext;
 use crate::plans::{Plan, PlanFault};
 use crate::view::{FlightLoad, Rows, RowsKey, View};
-use imp_fields::{Airport, LocalDay, Moment, resolve};
+use imp_fields::{Airport, LocalDay, MOST_PIECES, MOST_TENTHS, Moment, resolve};
 use std::alloc::Global;
 
 /// Whether an amount is within the bounds, with at least a tenth a piece.
 fn is_held(amount: &Amount) -> bool
     ensures { IsTrue result ↔ IsHeld amount.now }
 {
-    amount.pieces <= 9999 && amount.tenths <= 999_999 && amount.pieces <= amount.tenths
+    amount.pieces <= MOST_PIECES && amount.tenths <= MOST_TENTHS && amount.pieces <= amount.tenths
 }
 
 fn is_expected_held(expected: &Option<Expected>) -> bool

@@ -1,7 +1,7 @@
 ghost use Rattle.std.specs.Prelude.{◌≡◌, ◌≤◌, ◌↔◌, length, IsSome, IfSome};
 
 use crate::amount::Amount;
-use crate::flight::FlightDate;
+use crate::flight::{FlightDate, MOST_WAYBILLS};
 use crate::moves::{Balances, Declared, Expected, Outbound};
 use agent_stock::Holder;
 use awb_number::Awb;
@@ -66,7 +66,7 @@ impl Loads {
         ensures in_range { IsSome result ↔ (length loads.items ≤ 500) }
         ensures value { IfSome result (λ kept. kept ≡ loads.items) }
     {
-        if loads.len() <= 500 {
+        if loads.len() <= MOST_WAYBILLS {
             Some(Loads { loads })
         } else {
             None

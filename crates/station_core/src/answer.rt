@@ -1,4 +1,10 @@
-use shipment_machine::Refusal;
+use shipment_machine::{Detail, Refusal};
+
+/// The numbers are used up: the moves, the trail or the messages would be more than 4,294,967,295.
+pub const NO_NUMBERS_LEFT: Refusal = Refusal {
+    number: 402,
+    detail: Detail::Nothing,
+};
 
 /// The reply to an accepted input.
 #[derive(Clone, Copy, Debug, PartialEq, Eq)]

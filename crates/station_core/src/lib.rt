@@ -17,7 +17,7 @@ mod tally;
 mod texts;
 
 pub use all::{act_all, answer_one};
-pub use answer::{ActFault, AllAnswers, Answer, Reply};
+pub use answer::{ActFault, AllAnswers, Answer, NO_NUMBERS_LEFT, Reply};
 pub use ends::{ByteIn, ByteOut, Counted, ReadFault, WriteFault, send};
 pub use input::Input;
 pub use keeper::Keeper;

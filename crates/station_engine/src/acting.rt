@@ -18,9 +18,11 @@ use crate::room::has_room;
 use agent_stock::{Order, StockFault};
 use desk_commands::Command;
 use imp_fields::Moment;
-use shipment_machine::{DeskRef, Detail, Notice, Plan, PlanFault, Refusal, ShipmentCommand, plan};
+use shipment_machine::{DeskRef, Notice, Plan, PlanFault, Refusal, ShipmentCommand, plan};
 use state_store::{StateStore, StoreFault, view};
-use station_core::{Answer, Input, Reply, count_of_order, refusal_of_order, shipment_of};
+use station_core::{
+    Answer, Input, NO_NUMBERS_LEFT, Reply, count_of_order, refusal_of_order, shipment_of,
+};
 use std::alloc::{AllocError, Global};
 use telegrams::notice_text;
 
@@ -93,10 +95,7 @@ fn do_plan<S: StateStore>(
 {
     let messages = texts_of(alloc, &plan.notices)?;
     if !has_room(&store.sizes(), plan, &messages) {
-        return Ok(Answer::Refused(Refusal {
-            number: 402,
-            detail: Detail::Nothing,
-        }));
+        return Ok(Answer::Refused(NO_NUMBERS_LEFT));
     }
     commit_plan(store, input, request, text, plan, &messages)?;
     Ok(Answer::Done(Reply { count: plan.count }))

@@ -5,12 +5,9 @@ ghost use Rattle.station_rows.specs.Meant.{stock_meant};
 ghost use Rattle.stock_runs.specs.Runs.{run_in, holder_number, code_of, entry_of, IsWritable};
 
 use agent_stock::{AgentCode, Holder, StockRun};
-use awb_number::Awb;
+use awb_number::{Awb, SERIALS};
 use station_rows::{StockRow, StoreFault};
 use std::alloc::Global;
-
-/// The number of serials that a prefix has.
-const SERIALS: u32 = 10_000_000;
 
 /// The holder in a row, if it names one.
 fn holder_of(row: &StockRow) -> Option<Holder>

@@ -13,7 +13,8 @@ ghost use Rattle.row_codec.specs.Waybills.{is_since};
 ghost use Rattle.row_codec.specs.Flights.{is_flight_text};
 
 use agent_stock::AgentCode;
-use imp_fields::{Airport, Flight, Goods};
+use awb_number::SERIALS;
+use imp_fields::{Airport, Flight, Goods, MOST_PIECES, MOST_TENTHS};
 
 /// Whether it is the key of a waybill's number.
 pub fn is_number(number: i64) -> bool
@@ -26,7 +27,7 @@ pub fn is_number(number: i64) -> bool
 pub(crate) fn is_count(number: i64) -> bool
     ensures { result ≡ is_count number }
 {
-    0 <= number && number <= 4_294_967_295
+    0 <= number && number <= i64::from(u32::MAX)
 }
 
 /// Whether it is a day from 2000-01-01 to 2099-12-31, in days since 1970-01-01.
@@ -54,14 +55,14 @@ pub(crate) fn is_flag(number: i64) -> bool
 pub fn is_pieces(number: i64) -> bool
     ensures { result ≡ is_within 1 9999 number }
 {
-    1 <= number && number <= 9999
+    1 <= number && number <= i64::from(MOST_PIECES)
 }
 
 /// Whether it is a weight in tenths of a kilogram that the book can have.
 pub fn is_tenths(number: i64) -> bool
     ensures { result ≡ is_within 0 999_999 number }
 {
-    0 <= number && number <= 999_999
+    0 <= number && number <= i64::from(MOST_TENTHS)
 }
 
 /// Whether it is the prefix of an airline: 0 to 999.
@@ -75,7 +76,7 @@ pub(crate) fn is_prefix(number: i64) -> bool
 pub(crate) fn is_serial(number: i64) -> bool
     ensures { result ≡ is_within 0 9_999_999 number }
 {
-    0 <= number && number <= 9_999_999
+    0 <= number && number < i64::from(SERIALS)
 }
 
 /// Whether it is the code of an airport.

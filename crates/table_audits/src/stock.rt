@@ -13,7 +13,11 @@ ghost use Rattle.table_audits.specs.Rows.{lowest, highest, AreDeclared, IsLawful
 
 use crate::lookups::is_declared;
 use crate::ranges::{is_agent, is_prefix, is_serial};
+use awb_number::SERIALS;
 use station_rows::{StockRow, WaybillRow};
+
+/// The number of serials that a prefix has.
+const SERIALS_OF_PREFIX: i64 = SERIALS as i64;
 
 /// Whether the row names a holder.
 fn has_holder(row: &StockRow) -> bool
@@ -41,7 +45,7 @@ fn is_in_range(row: &StockRow) -> bool
     if row.high < row.low {
         return false;
     }
-    if row.high > 9_999_999 {
+    if row.high >= SERIALS_OF_PREFIX {
         return false;
     }
     has_holder(row)
@@ -52,7 +56,7 @@ fn lowest_of(row: &StockRow) -> i64
     requires { IsTrue (is_stock_row (stock_meant row.now)) }
     ensures { result ≡ lowest (stock_meant row.now) }
 {
-    row.prefix * 10_000_000 + row.low
+    row.prefix * SERIALS_OF_PREFIX + row.low
 }
 
 /// The highest number of a row within range.
@@ -60,7 +64,7 @@ fn highest_of(row: &StockRow) -> i64
     requires { IsTrue (is_stock_row (stock_meant row.now)) }
     ensures { result ≡ highest (stock_meant row.now) }
 {
-    row.prefix * 10_000_000 + row.high
+    row.prefix * SERIALS_OF_PREFIX + row.high
 }
 
 /// Whether each number from the first to the last is declared. It asks up to the first that isn't.
