@@ -1,9 +1,11 @@
-ghost use Rattle.std.specs.Prelude.{◌≡◌, ◌↔◌, true, IsTrue, IsSome, IfSome};
+ghost use Rattle.std.specs.Prelude.{◌≡◌, ◌↔◌, true, IsTrue, IsSome, IfSome, Some};
 ghost use Rattle.agent_stock.specs.Stock.{is_run, passes};
 ghost use Rattle.agent_stock.specs.Count.{IsRunCount};
+ghost use Rattle.agent_stock.specs.Holder.{holder_text};
 
 use crate::agent_code::AgentCode;
 use awb_number::{Awb, SERIALS};
+use std::fmt;
 use std::marker::Model;
 
 /// The most numbers that one order is for.
@@ -33,6 +35,20 @@ impl Holder {
             (Holder::Used, Holder::Used) => true,
             (Holder::Void, Holder::Void) => true,
             _ => false,
+        }
+    }
+}
+
+/// As `DESK` or `AGENT ACME`.
+impl fmt::Display for Holder {
+    ghost output = { λ holder. Some (holder_text holder) };
+
+    fn fmt<W: fmt::Write>(&self, f: &mut fmt::Formatter<W>) -> fmt::Result {
+        match self {
+            Holder::Desk => f.write_str("DESK"),
+            Holder::Agent(code) => write!(f, "AGENT {code}"),
+            Holder::Used => f.write_str("USED"),
+            Holder::Void => f.write_str("VOID"),
         }
     }
 }

@@ -2,7 +2,7 @@
 use Rattle.std.proofs.Common.{◌≡◌, ◌∙◌, ◌<◌, ◌≤◌, Bool, true, false, ◌&&◌, ◌||◌, ◌==◌, cond, subst, arith, ℕ, List, [], ◌∷◌, ◌++◌, Option, Some, None, refl, sym, ap}
 use Rattle.std.specs.Option.{option_map}
 use Rattle.std.specs.Prelude.{pos}
-use Rattle.std.specs.Str.{IsAscii, bytes_eq}
+use Rattle.std.specs.Str.{bytes_eq}
 use Rattle.std.proofs.lemmas.Bool.{and_parts, and_from, le-leb, leb-true}
 use Rattle.jiff_core.specs.Calendar.{days_in_month, is_leap_year}
 use Rattle.awb_number.proofs.Padded.{digits-padded, decimal_value-padded}
@@ -12,22 +12,8 @@ use Rattle.imp_fields.proofs.DateOnLaws.{IsDateAfter, date_of_moment, date_names
 use Rattle.desk_commands.proofs.Steps.{some_is, passed, passes, go_on}
 use Rattle.awb_number.specs.Digits.{padded, decimal_value}
 use Rattle.imp_fields.specs.Steps.{◌>>=◌}
-use Rattle.imp_fields.specs.Date.{CalendarDay, IsCalendarDay, IsMomentDay, is_moment_day, day_in_year, day_text, year_of, date_on, days_after}
+use Rattle.imp_fields.specs.Date.{CalendarDay, IsCalendarDay, IsMomentDay, is_moment_day, day_in_year, year_of, date_on, days_after}
 use Rattle.desk_commands.specs.Day.{day_line, date_in, date_part, has_digits, is_calendar_day, named_day, if_written, year_part, day_of}
-use Rattle.desk_commands.proofs.Ascii.{IsAscii-day}
-
-pub line_is : (day : ℕ) → day_line day ≡ day_text day
-unfolding day_line
-line_is day = refl
-
-pub day_written : (day year : ℕ) (date : CalendarDay) → year ≡ year_of day → date ≡ date_on day
-    → padded 4 year ++ (45 ∷ []) ++ padded 2 date.month ++ (45 ∷ []) ++ padded 2 date.day ≡ day_line day
-unfolding day_line
-day_written day year date y d = λ i. padded 4 (y i) ++ (45 ∷ []) ++ padded 2 (d i).month ++ (45 ∷ []) ++ padded 2 (d i).day
-
-pub IsAscii-line : (day : ℕ) → IsAscii (day_line day)
-unfolding day_line
-IsAscii-line day = IsAscii-day day
 
 -- ---- the day of a text
 

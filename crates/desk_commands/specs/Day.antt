@@ -4,7 +4,8 @@ use Rattle.std.specs.List.{list_all}
 use Rattle.std.specs.Str.{bytes_eq}
 use Rattle.awb_number.specs.Digits.{is_digit, decimal_value}
 use Rattle.imp_fields.specs.Steps.{◌>>=◌, where_true}
-use Rattle.imp_fields.specs.Date.{CalendarDay, day_in_year, day_text, is_moment_day}
+use Rattle.imp_fields.specs.Date.{CalendarDay, day_in_year, is_moment_day}
+unfoldable pub use Rattle.imp_fields.specs.Date.{day_line}
 
 -- the digits of the year, the month and the day
 abbrev pub year_part : List ℕ → List ℕ
@@ -27,10 +28,6 @@ has_digits text =
 
 abbrev pub is_calendar_day : CalendarDay → Bool
 is_calendar_day d = nat_le 1 d.day && nat_le d.day 31 && nat_le 1 d.month && nat_le d.month 12
-
--- a day as it is written
-unfoldable pub day_line : ℕ → List ℕ
-day_line day = day_text day
 
 abbrev pub date_in : List ℕ → Option CalendarDay
 date_in text = where_true (has_digits text && is_calendar_day (date_part text)) (date_part text)

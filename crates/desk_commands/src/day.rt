@@ -1,47 +1,20 @@
 //! Days of commands, as `2026-01-12`.
 
-ghost use Rattle.std.specs.Prelude.{◌≡◌, ◌+◌, ◌%◌, ◌≤◌, ◌++◌, ◌∷◌, [], option_map, IfSome};
+ghost use Rattle.std.specs.Prelude.{◌≡◌, ◌≤◌, option_map, IfSome};
 ghost use Rattle.std.specs.Str.{IsAscii};
-ghost use Rattle.awb_number.specs.Digits.{padded, decimal_value};
+ghost use Rattle.awb_number.specs.Digits.{decimal_value};
 ghost use Rattle.imp_fields.specs.Steps.{where_true};
 ghost use Rattle.desk_commands.specs.Day.{is_calendar_day, day_line, date_in, year_part, if_written, day_of};
 
 use awb_number::decimal;
-use imp_fields::{DayMonth, LocalDay, civil_date, day_in_year};
-
-/// The last digit of a number.
-fn digit(n: u16) -> u8
-    ensures { result ≡ 48 + n % 10 }
-{
-    b'0' + (n % 10) as u8
-}
-
-/// A date as `2026-01-12`.
-fn date_text(year: u16, month: u8, day: u8) -> [u8; 10]
-    ensures { result ≡ padded 4 year ++ (45 ∷ []) ++ padded 2 month ++ (45 ∷ []) ++ padded 2 day }
-{
-    let (month, day) = (u16::from(month), u16::from(day));
-    [
-        digit(year / 1000),
-        digit(year / 100),
-        digit(year / 10),
-        digit(year),
-        b'-',
-        digit(month / 10),
-        digit(month),
-        b'-',
-        digit(day / 10),
-        digit(day),
-    ]
-}
+use imp_fields::{DayMonth, LocalDay, day_in_year};
 
 /// A day as `2026-01-12`, as texts of commands and of refusals have it.
 pub fn day_text(day: LocalDay) -> [u8; 10]
     ensures value { result ≡ day_line day }
     ensures ascii { IsAscii result }
 {
-    let date = civil_date(day.number());
-    date_text(date.year.unsigned_abs(), date.month, date.day)
+    day.write()
 }
 
 /// The day and the month, two digits each.

@@ -1,10 +1,11 @@
 -- The date of a day is that day's.
-use Rattle.std.proofs.Common.{◌≡◌, ℕ, zero, suc, ◌+◌, ◌-◌, ◌*◌, ◌<◌, ◌≤◌, Some, refl, sym, ap, ◌∙◌, subst, inl, inr, arith, ℤ, pos}
+use Rattle.std.proofs.Common.{◌≡◌, ℕ, zero, suc, ◌+◌, ◌-◌, ◌*◌, ◌<◌, ◌≤◌, List, [], ◌∷◌, ◌++◌, Some, refl, sym, ap, ◌∙◌, subst, inl, inr, arith, ℤ, pos}
 use Rattle.std.specs.Prelude.{unsigned_abs}
 use Rattle.std.proofs.lemmas.Bool.{cases_lt, cases_order, cond-true, cond-false, lt-ltb, le-ltb, le-leb}
 use Rattle.jiff_core.specs.Calendar.{IsCivilDate, days_in_year, days_in_month, days_of_months, day_count, days_from_civil}
 use Rattle.jiff_core.proofs.CalendarLemmas.{day_count-day, day_count-lt_month, day_count-next_month, days_of_months-zero, days_of_months_more, days_of_months_all, days_from_civil-day_count, days_in_year_bounds, day_count-epoch}
-use Rattle.imp_fields.specs.Date.{CalendarDay, IsMomentDay, new_year, year_after, year_of, days_after, date_after, date_on, day_in_year}
+use Rattle.awb_number.specs.Digits.{padded}
+use Rattle.imp_fields.specs.Date.{CalendarDay, IsMomentDay, day_line, new_year, year_after, year_of, days_after, date_after, date_on, day_in_year}
 use Rattle.imp_fields.proofs.DateLaws.{new_year_count, new_year_next, year_low, year_high, year_is, abs_of, count_at_least}
 use borrow.Author.Differences.{up, down}
 
@@ -147,3 +148,9 @@ date_is day y m d h civil e =
         omega (arith, moved, sum, new_year_count year late, new_year_count 1970 (omega arith), day_count-epoch) in
         let valid : IsCivilDate (pos year) f.month f.day = (civil.0, (h.low, h.high), (h.first, h.within)) in
         same_date year left m d f civil count valid h
+
+-- a day is written by its year and its date
+pub day_written : (day year : ℕ) (date : CalendarDay) → year ≡ year_of day → date ≡ date_on day
+    → padded 4 year ++ (45 ∷ []) ++ padded 2 date.month ++ (45 ∷ []) ++ padded 2 date.day ≡ day_line day
+unfolding day_line
+day_written day year date y d = λ i. padded 4 (y i) ++ (45 ∷ []) ++ padded 2 (d i).month ++ (45 ∷ []) ++ padded 2 (d i).day

@@ -22,4 +22,5 @@ pub mod WrittenLaws
 pub mod ConsignmentLaws
 pub mod SentLaws
 pub mod FieldLaws
+pub mod Ascii
 pub mod SameFlight

@@ -13,3 +13,4 @@ pub mod NormalText
 pub mod Scan
 pub mod Message
 pub mod Checks
+pub mod Fault

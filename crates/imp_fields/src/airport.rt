@@ -1,6 +1,8 @@
-ghost use Rattle.std.specs.Prelude.{◌≡◌, ℕ, List, length, IsTrue};
+ghost use Rattle.std.specs.Prelude.{◌≡◌, ℕ, List, length, IsTrue, Some};
 ghost use Rattle.imp_fields.specs.Airport.{is_airport, airport_of};
 
+use awb_number::ascii_text;
+use std::fmt;
 use std::marker::Model;
 
 /// An airport by its code of three letters, A to Z.
@@ -38,5 +40,14 @@ impl Airport {
         ensures letters { IsTrue (is_airport result) }
     {
         self.letters
+    }
+}
+
+/// As `FRA`.
+impl fmt::Display for Airport {
+    ghost output = { λ code. Some code };
+
+    fn fmt<W: fmt::Write>(&self, f: &mut fmt::Formatter<W>) -> fmt::Result {
+        f.write_str(ascii_text(&self.letters()))
     }
 }

@@ -1,7 +1,8 @@
-ghost use Rattle.std.specs.Prelude.{◌≡◌, ℕ, ◌+◌, ◌-◌, ◌*◌, ◌/◌, ◌<◌, ◌≤◌, ◌^◌, ◌↔◌, max, IsSome, IfSome};
+ghost use Rattle.std.specs.Prelude.{◌≡◌, ℕ, ◌+◌, ◌-◌, ◌*◌, ◌/◌, ◌<◌, ◌≤◌, ◌^◌, ◌↔◌, max, IsSome, IfSome, Some, decimal};
 ghost use Rattle.imp_fields.specs.Amount.{IsPieces, IsPartNumber, IsTenths, IsBookTenths, count_of, share_of};
 
 use crate::run;
+use std::fmt;
 use std::marker::Model;
 
 /// The most pieces that a waybill may have.
@@ -49,6 +50,15 @@ impl Pieces {
         ensures in_range { IsPieces result }
     {
         self.number
+    }
+}
+
+/// As `10`.
+impl fmt::Display for Pieces {
+    ghost output = { λ pieces. Some (decimal pieces) };
+
+    fn fmt<W: fmt::Write>(&self, f: &mut fmt::Formatter<W>) -> fmt::Result {
+        write!(f, "{}", self.number)
     }
 }
 

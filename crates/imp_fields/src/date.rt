@@ -81,7 +81,7 @@ fn month_name(month: u8) -> [u8; 3]
 }
 
 /// The last digit of a number.
-fn digit(n: u16) -> u8
+pub(crate) fn digit(n: u16) -> u8
     ensures { result ≡ 48 + n % 10 }
 {
     b'0' + (n % 10) as u8

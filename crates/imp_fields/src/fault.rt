@@ -1,6 +1,9 @@
 //! Faults of texts.
-ghost use Rattle.std.specs.Prelude.{◌≡◌};
+ghost use Rattle.std.specs.Prelude.{◌≡◌, Some};
+ghost use Rattle.imp_fields.specs.Fault.{why_word};
 ghost use Rattle.imp_fields.specs.NormalText.{fault_at};
+
+use std::fmt;
 
 /// Why a telegram cannot be read.
 #[derive(Clone, Copy, Debug, PartialEq, Eq)]
@@ -35,6 +38,31 @@ pub enum Why {
     Order,
     /// There was no memory: this says nothing of the text.
     Memory,
+}
+
+/// The word of a fault, as `ending`. Want of memory has none: it is no fault of a text.
+impl fmt::Display for Why {
+    ghost output = { λ why. Some (why_word why) };
+
+    fn fmt<W: fmt::Write>(&self, f: &mut fmt::Formatter<W>) -> fmt::Result {
+        f.write_str(match self {
+            Why::Size => "size",
+            Why::Lines => "lines",
+            Why::Byte => "byte",
+            Why::Long => "long",
+            Why::Kind => "kind",
+            Why::Ending => "ending",
+            Why::Head => "head",
+            Why::Consignment => "consignment",
+            Why::Number => "number",
+            Why::Quantity => "quantity",
+            Why::Weight => "weight",
+            Why::Date => "date",
+            Why::Flight => "flight",
+            Why::Order => "order",
+            Why::Memory => "",
+        })
+    }
 }
 
 /// The first fault of a text, and the line that has it, counted from 1; 0 stands for the whole text.

@@ -1,9 +1,11 @@
-ghost use Rattle.std.specs.Prelude.{◌≡◌, ◌+◌, ◌≤◌, ◌++◌, ℕ, List, Option, IsTrue, IfSome, length, take, nat_lt, if◌then◌else◌};
+ghost use Rattle.std.specs.Prelude.{◌≡◌, ◌+◌, ◌≤◌, ◌++◌, ℕ, List, Option, IsTrue, IfSome, Some, length, take, nat_lt, if◌then◌else◌};
 ghost use Rattle.awb_number.specs.Digits.{is_letter, padded};
 ghost use Rattle.imp_fields.specs.Flight.{Designator, IsDesignator, flight_of, flight_text, is_carrier, same_flight, same_letter, suffix_of};
 
 use crate::put::put;
 use crate::run;
+use awb_number::ascii_text;
+use std::fmt;
 use std::marker::Model;
 
 /// A flight by its designator: the carrier, the number and perhaps a letter behind it.
@@ -103,6 +105,17 @@ impl Flight {
             Some(letter) => put(out, at, letter),
             None => at,
         }
+    }
+}
+
+/// As it is written: `LH004`.
+impl fmt::Display for Flight {
+    ghost output = { λ flight. Some (flight_text flight) };
+
+    fn fmt<W: fmt::Write>(&self, f: &mut fmt::Formatter<W>) -> fmt::Result {
+        let mut bytes = [0; 7];
+        let len = self.write(&mut bytes);
+        f.write_str(ascii_text(&bytes[..len]))
     }
 }
 

@@ -1,6 +1,12 @@
-ghost use Rattle.std.specs.Prelude.{◌≡◌, ◌↔◌, ℕ, IsSome, IfSome};
-ghost use Rattle.imp_fields.specs.Date.{IsMomentDay};
+ghost use Rattle.std.specs.Prelude.{◌≡◌, ◌↔◌, ◌++◌, ◌∷◌, [], ℕ, IsSome, IfSome, Some};
+ghost use Rattle.std.specs.Str.{IsAscii};
+ghost use Rattle.awb_number.specs.Digits.{padded};
+ghost use Rattle.imp_fields.specs.Date.{IsMomentDay, day_line};
 
+use crate::calendar::civil_date;
+use crate::date::digit;
+use awb_number::ascii_text;
+use std::fmt;
 use std::marker::Model;
 
 /// A local day from 2000-01-01 to 2099-12-31, as a `Moment` has it, in days since 1970-01-01.
@@ -39,4 +45,41 @@ impl LocalDay {
     {
         self.number
     }
+
+    /// The day as `2026-01-12`.
+    pub fn write(self) -> [u8; 10]
+        ensures text { result ≡ day_line self }
+        ensures ascii { IsAscii result }
+    {
+        let date = civil_date(self.number());
+        date_text(date.year.unsigned_abs(), date.month, date.day)
+    }
+}
+
+/// As `2026-01-12`.
+impl fmt::Display for LocalDay {
+    ghost output = { λ day. Some (day_line day) };
+
+    fn fmt<W: fmt::Write>(&self, f: &mut fmt::Formatter<W>) -> fmt::Result {
+        f.write_str(ascii_text(&self.write()))
+    }
+}
+
+/// A date as `2026-01-12`.
+fn date_text(year: u16, month: u8, day: u8) -> [u8; 10]
+    ensures { result ≡ padded 4 year ++ (45 ∷ []) ++ padded 2 month ++ (45 ∷ []) ++ padded 2 day }
+{
+    let (month, day) = (u16::from(month), u16::from(day));
+    [
+        digit(year / 1000),
+        digit(year / 100),
+        digit(year / 10),
+        digit(year),
+        b'-',
+        digit(month / 10),
+        digit(month),
+        b'-',
+        digit(day / 10),
+        digit(day),
+    ]
 }

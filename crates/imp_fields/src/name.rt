@@ -1,4 +1,4 @@
-ghost use Rattle.std.specs.Prelude.{◌≡◌, ◌++◌, ◌-◌, ◌↔◌, ℕ, ◌≤◌, List, length, take, IsTrue, IsSome, IfSome};
+ghost use Rattle.std.specs.Prelude.{◌≡◌, ◌++◌, ◌-◌, ◌↔◌, ℕ, ◌≤◌, List, length, take, IsTrue, IsSome, IfSome, Some};
 ghost use Rattle.std.specs.List.{list_all};
 ghost use Rattle.std.specs.Prelude.{replicate};
 ghost use Rattle.imp_fields.specs.Characters.{is_printable};
@@ -6,6 +6,8 @@ ghost use Rattle.imp_fields.specs.Padding.{IsPadded, padding_bytes, padding_leng
 ghost use Rattle.imp_fields.specs.Name.{is_short_text, is_name, is_goods, kept_goods};
 
 use crate::run;
+use awb_number::ascii_text;
+use std::fmt;
 use std::marker::Model;
 
 /// A name of at most 35 bytes of printable ASCII, which doesn't end in a blank. It may be empty.
@@ -89,6 +91,15 @@ impl Name {
     }
 }
 
+/// As `ACME TOOLS`.
+impl fmt::Display for Name {
+    ghost output = { λ name. Some name };
+
+    fn fmt<W: fmt::Write>(&self, f: &mut fmt::Formatter<W>) -> fmt::Result {
+        f.write_str(ascii_text(self.as_bytes()))
+    }
+}
+
 impl Goods {
     /// The goods text that the text is.
     pub fn read(text: &[u8]) -> Option<Goods>
@@ -127,5 +138,14 @@ impl Goods {
         ensures valid { IsTrue (is_goods result.now) }
     {
         &self.bytes[..self.len]
+    }
+}
+
+/// As `MACHINE PARTS`.
+impl fmt::Display for Goods {
+    ghost output = { λ goods. Some goods };
+
+    fn fmt<W: fmt::Write>(&self, f: &mut fmt::Formatter<W>) -> fmt::Result {
+        f.write_str(ascii_text(self.as_bytes()))
     }
 }

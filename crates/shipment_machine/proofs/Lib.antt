@@ -28,3 +28,4 @@ pub mod KeepsRows
 pub mod KeepsAll
 pub mod FromView
 pub mod Opening
+mod AmountTexts

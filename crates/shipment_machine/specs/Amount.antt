@@ -1,6 +1,7 @@
 -- Amounts of cargo: pieces, with their weight in tenths of a kilogram.
-use Rattle.std.specs.Prelude.{ℕ, ◌+◌, ◌-◌, ◌≤◌, Bool, ◌&&◌, nat_le}
+use Rattle.std.specs.Prelude.{ℕ, ◌+◌, ◌-◌, ◌≤◌, Bool, ◌&&◌, ◌==◌, nat_le, if◌then◌else◌, decimal, List, ◌++◌, codes}
 use Rattle.imp_fields.specs.Amount.{share_of}
+use Rattle.imp_fields.specs.Quantity.{weight_text}
 use Rattle.shipment_machine.specs.declared.amount.Amount.{Amount}
 
 abbrev pub amount : ℕ → ℕ → Amount
@@ -44,3 +45,10 @@ pub record GoesWith (whole more : Amount) : Type 0 where
   pub held : IsHeld more
   pub pieces : whole.pieces + more.pieces ≤ 9999
   pub tenths : whole.tenths + more.tenths ≤ 999999
+
+-- an amount as 4 pieces, 40.0 kg
+abbrev pub pieces_word : ℕ → List ℕ
+pieces_word pieces = if pieces == 1 then codes "piece" else codes "pieces"
+
+abbrev pub amount_text : Amount → List ℕ
+amount_text a = decimal a.pieces ++ codes " " ++ pieces_word a.pieces ++ codes ", " ++ weight_text a.tenths ++ codes " kg"

@@ -12,3 +12,4 @@ pub mod Announced
 pub mod Agreement
 pub mod Laws
 pub mod Airline
+pub mod Texts

@@ -1,14 +1,32 @@
-ghost use Rattle.std.specs.Prelude.{◌≡◌, ℕ, ◌+◌, ◌-◌, ◌*◌, ◌/◌, ◌≤◌, ◌<◌};
-ghost use Rattle.shipment_machine.specs.Amount.{part};
-ghost use Rattle.shipment_machine.specs.Amount.{IsHeld, fits};
+ghost use Rattle.std.specs.Prelude.{◌≡◌, ℕ, ◌+◌, ◌-◌, ◌*◌, ◌/◌, ◌≤◌, ◌<◌, Some};
+ghost use Rattle.shipment_machine.specs.Amount.{IsHeld, amount_text, fits, part, pieces_word};
 
 use imp_fields::{MOST_PIECES, MOST_TENTHS, share};
+use std::fmt;
 
 /// Pieces, with their weight in tenths of a kilogram. It is a sum, so it has no bound of its own.
 #[derive(Clone, Copy, Debug, PartialEq, Eq)]
 pub struct Amount {
     pub pieces: u32,
     pub tenths: u32,
+}
+
+/// The word behind a count of pieces.
+fn pieces_word(pieces: u32) -> &'static str
+    ensures { result.now ≡ pieces_word pieces }
+{
+    if pieces == 1 { "piece" } else { "pieces" }
+}
+
+/// As `4 pieces, 40.0 kg`.
+impl fmt::Display for Amount {
+    ghost output = { λ amount. Some (amount_text amount) };
+
+    fn fmt<W: fmt::Write>(&self, f: &mut fmt::Formatter<W>) -> fmt::Result {
+        let word = pieces_word(self.pieces);
+        let (kilograms, tenths) = (self.tenths / 10, self.tenths % 10);
+        write!(f, "{} {word}, {kilograms}.{tenths} kg", self.pieces)
+    }
 }
 
 /// Some pieces of an amount, with their share of its weight.

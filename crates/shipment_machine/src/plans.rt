@@ -1,3 +1,6 @@
+ghost use Rattle.std.specs.Prelude.{Some};
+ghost use Rattle.shipment_machine.specs.Texts.{detail_text, refusal_text};
+
 use crate::flight::FlightDate;
 use crate::moves::{Declared, Expected, Move, Outbound, Part};
 use crate::notice::Notice;
@@ -5,6 +8,7 @@ use crate::trail::TrailLine;
 use awb_number::Awb;
 use imp_fields::Why;
 use std::alloc::{AllocError, AllocFailed};
+use std::fmt;
 
 /// What a refusal is about.
 #[derive(Clone, Copy, Debug, PartialEq, Eq)]
@@ -21,11 +25,44 @@ pub enum Detail {
     Messages { confirmed: u32, last: u32 },
 }
 
+/// As `020-12345723`, the free pieces, `LH400/2026-01-12`, `LH400/2026-01-12/FRA/1`, a line and a
+/// word as `4 ending`, the mark and the last message as `3 4`, or nothing.
+impl fmt::Display for Detail {
+    ghost output = { λ detail. Some (detail_text detail) };
+
+    fn fmt<W: fmt::Write>(&self, f: &mut fmt::Formatter<W>) -> fmt::Result {
+        match self {
+            Detail::Nothing => Ok(()),
+            Detail::Waybill(number) => write!(f, "{number}"),
+            Detail::Pieces(pieces) => write!(f, "{pieces}"),
+            Detail::Flight(flight) => write!(f, "{flight}"),
+            Detail::Part(part) => {
+                let number = part.number.number();
+                write!(f, "{}/{}/{number}", part.flight, part.airport)
+            }
+            Detail::Line { line, why } => write!(f, "{line} {why}"),
+            Detail::Messages { confirmed, last } => write!(f, "{confirmed} {last}"),
+        }
+    }
+}
+
 /// Why a command is refused: a number of the station's list, and what it is about.
 #[derive(Clone, Copy, Debug, PartialEq, Eq)]
 pub struct Refusal {
     pub number: u16,
     pub detail: Detail,
+}
+
+/// As `refused 102 020-12345723`, or without a detail as `refused 501`.
+impl fmt::Display for Refusal {
+    ghost output = { λ refusal. Some (refusal_text refusal) };
+
+    fn fmt<W: fmt::Write>(&self, f: &mut fmt::Formatter<W>) -> fmt::Result {
+        match &self.detail {
+            Detail::Nothing => write!(f, "refused {}", self.number),
+            detail => write!(f, "refused {} {detail}", self.number),
+        }
+    }
 }
 
 /// A row to write.

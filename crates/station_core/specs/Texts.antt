@@ -1,55 +1,8 @@
 -- Replies and refusals as texts.
-use Rattle.std.specs.Prelude.{ℕ, decimal, List, [], ◌∷◌, ◌++◌, codes}
-use Rattle.awb_number.specs.Number.{number_text}
-use Rattle.imp_fields.specs.Flight.{flight_text}
-use Rattle.imp_fields.specs.declared.fault.Why.{Why}
-use Rattle.imp_fields.specs.declared.fault.Why.TheVariants as why
-use Rattle.desk_commands.specs.Day.{day_line}
-use Rattle.shipment_machine.specs.declared.flight.FlightDate.{FlightDate}
-use Rattle.shipment_machine.specs.declared.plans.Detail.{Detail}
-use Rattle.shipment_machine.specs.declared.plans.Detail.TheVariants as detail
-use Rattle.shipment_machine.specs.declared.plans.Refusal.{Refusal}
+use Rattle.std.specs.Prelude.{ℕ, decimal, List, ◌++◌, codes}
+pub use Rattle.imp_fields.specs.Fault.{why_word}
+pub use Rattle.shipment_machine.specs.Texts.{flight_date_text, detail_text, refused_with, refusal_text}
 use Rattle.station_core.specs.declared.answer.Reply.{Reply}
-
--- the word of a fault; out of memory is no fault of a text and has none
-abbrev pub why_word : Why → List ℕ
-why_word why.Size = codes "size"
-why_word why.Lines = codes "lines"
-why_word why.Byte = codes "byte"
-why_word why.Long = codes "long"
-why_word why.Kind = codes "kind"
-why_word why.Ending = codes "ending"
-why_word why.Head = codes "head"
-why_word why.Consignment = codes "consignment"
-why_word why.Number = codes "number"
-why_word why.Quantity = codes "quantity"
-why_word why.Weight = codes "weight"
-why_word why.Date = codes "date"
-why_word why.Flight = codes "flight"
-why_word why.Order = codes "order"
-why_word why.Memory = []
-
--- a flight on a day, as LH400/2026-01-12
-abbrev pub flight_date_text : FlightDate → List ℕ
-flight_date_text f = flight_text f.flight ++ 47 ∷ day_line f.day
-
--- what a refusal is about
-abbrev pub detail_text : Detail → List ℕ
-detail_text detail.Nothing = []
-detail_text (detail.Waybill w) = number_text w
-detail_text (detail.Pieces pieces) = decimal pieces
-detail_text (detail.Flight flight) = flight_date_text flight
-detail_text (detail.Part part) = flight_date_text part.flight ++ 47 ∷ (part.airport ++ 47 ∷ decimal part.number)
-detail_text (detail.Line line word) = decimal line ++ 32 ∷ why_word word
-detail_text (detail.Messages confirmed last) = decimal confirmed ++ 32 ∷ decimal last
-
--- refused 102 020-12345723, or without a detail refused 501
-abbrev pub refused_with : ℕ → Detail → List ℕ
-refused_with number detail.Nothing = codes "refused " ++ decimal number
-refused_with number other = codes "refused " ++ decimal number ++ 32 ∷ detail_text other
-
-abbrev pub refusal_text : Refusal → List ℕ
-refusal_text refusal = refused_with refusal.number refusal.detail
 
 -- ok 10
 abbrev pub reply_text : Reply → List ℕ

@@ -1,14 +1,14 @@
 use Rattle.std.proofs.Common.{◌∙◌, ap, sym, subst}
 use Rattle.std.specs.Str.{IsAscii}
 use Rattle.jiff_core.proofs.DateLemmas.{civil}
+use Rattle.imp_fields.specs.Date.{day_line}
+use Rattle.imp_fields.proofs.Ascii.{IsAscii-line}
 use Rattle.imp_fields.proofs.DateLaws.{year_is, year_kept}
-use Rattle.imp_fields.proofs.DateOnLaws.{date_is}
-use Rattle.desk_commands.specs.Day.{day_line}
-use Rattle.desk_commands.proofs.Days.{day_written, IsAscii-line}
-use Rattle.desk_commands.proofs.day.day_text.Goals as goal
+use Rattle.imp_fields.proofs.DateOnLaws.{date_is, day_written}
+use Rattle.imp_fields.proofs.local_day.LocalDay.write.Goals as goal
 
-pub returns-clause-value : goal.returns-clause-value
-returns-clause-value c =
+pub returns-clause-text : goal.returns-clause-text
+returns-clause-text c =
     let d = c.civil_date-date.result in
     let day = c.number.result in
     let year = c.unsigned_abs.ensures.value ∙ year_kept day d.year (year_is day d.year d.month d.day c.number.ensures.in_range (civil d) c.civil_date-date.ensures) in
@@ -16,4 +16,4 @@ returns-clause-value c =
     c.date_text.ensures ∙ day_written day c.unsigned_abs.result (record { day = d.day; month = d.month }) year date ∙ ap day_line c.number.ensures.value
 
 pub returns-clause-ascii : goal.returns-clause-ascii
-returns-clause-ascii c = subst IsAscii (sym (returns-clause-value c)) (IsAscii-line c.args.day)
+returns-clause-ascii c = subst IsAscii (sym (returns-clause-text c)) (IsAscii-line c.args.self)

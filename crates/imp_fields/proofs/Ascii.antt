@@ -1,0 +1,52 @@
+-- Fields as they are written are ASCII.
+use Rattle.std.proofs.Common.{◌≡◌, ◌<◌, ℕ, true, List, [], ◌∷◌, ◌++◌, arith}
+use Rattle.std.proofs.lemmas.Bool.{and_parts}
+use Rattle.std.proofs.lemmas.Bool.Decides.{nat_tests}
+use Rattle.std.specs.Str.{IsAscii}
+use Rattle.std.proofs.lemmas.Str.{IsAscii-append}
+use Rattle.std.proofs.lemmas.Str.Ascii.{IsAscii-push}
+use Rattle.awb_number.specs.Ascii.{IsAscii-tested, IsAscii-padded, ascii-letter_or_digit}
+use Rattle.awb_number.specs.Digits.{is_letter, is_letter_or_digit, padded}
+use Rattle.imp_fields.specs.Airport.{is_airport}
+use Rattle.imp_fields.specs.Characters.{is_printable}
+use Rattle.imp_fields.specs.Date.{day_text, day_line, year_of, date_on}
+use Rattle.imp_fields.specs.Flight.{Designator, IsDesignator, flight_text, is_carrier}
+use Rattle.imp_fields.specs.Name.{is_name, is_goods}
+use Rattle.imp_fields.proofs.FieldLaws.{flight_code}
+
+ascii-letter : (b : ℕ) → is_letter b ≡ true → b < 128
+ascii-letter b h = grind (arith, nat_tests)
+
+ascii-printable : (b : ℕ) → is_printable b ≡ true → b < 128
+ascii-printable b h = grind (arith, nat_tests)
+
+pub IsAscii-airport : (code : List ℕ) → is_airport code ≡ true → IsAscii code
+IsAscii-airport code h = IsAscii-tested is_letter ascii-letter code (and_parts _ _ h).1
+
+pub IsAscii-carrier : (code : List ℕ) → is_carrier code ≡ true → IsAscii code
+IsAscii-carrier code h = IsAscii-tested is_letter_or_digit ascii-letter_or_digit code (and_parts _ _ (and_parts _ _ h).0).1
+
+pub IsAscii-name : (text : List ℕ) → is_name text ≡ true → IsAscii text
+IsAscii-name text h = IsAscii-tested is_printable ascii-printable text (and_parts _ _ (and_parts _ _ h).0).1
+
+pub IsAscii-goods : (text : List ℕ) → is_goods text ≡ true → IsAscii text
+IsAscii-goods text h = IsAscii-tested is_printable ascii-printable text (and_parts _ _ (and_parts _ _ h).0).1
+
+pub IsAscii-flight : (f : Designator) → IsDesignator f → IsAscii (flight_text f)
+IsAscii-flight f h = IsAscii-tested is_letter_or_digit ascii-letter_or_digit (flight_text f) (flight_code f h).bytes
+
+dashed : (text : List ℕ) → IsAscii text → IsAscii (text ++ (45 ∷ []))
+dashed text h = IsAscii-push text 45 h (omega arith)
+
+dated : (year month day : List ℕ) → IsAscii year → IsAscii month → IsAscii day → IsAscii (year ++ (45 ∷ []) ++ month ++ (45 ∷ []) ++ day)
+dated year month day y m d =
+    IsAscii-append (year ++ (45 ∷ []) ++ month ++ (45 ∷ [])) day (dashed (year ++ (45 ∷ []) ++ month) (IsAscii-append (year ++ (45 ∷ [])) month (dashed year y) m)) d
+
+pub IsAscii-day : (day : ℕ) → IsAscii (day_text day)
+IsAscii-day day =
+    dated (padded 4 (year_of day)) (padded 2 (date_on day).month) (padded 2 (date_on day).day)
+    (IsAscii-padded 4 (year_of day)) (IsAscii-padded 2 (date_on day).month) (IsAscii-padded 2 (date_on day).day)
+
+pub IsAscii-line : (day : ℕ) → IsAscii (day_line day)
+unfolding day_line
+IsAscii-line day = IsAscii-day day
