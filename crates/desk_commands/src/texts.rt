@@ -6,7 +6,6 @@ ghost use Rattle.desk_commands.specs.declared.command.Command.{Command as AnyCom
 ghost use Rattle.desk_commands.specs.declared.field_value.FieldValue.TheVariants as FieldValue;
 
 use crate::command::Command;
-use crate::day::day_text;
 use agent_stock::{AgentCode, Order, Run};
 use awb_number::{Awb, ascii_text};
 use imp_fields::{Airport, Goods, Name, Pieces, Tenths};
@@ -99,28 +98,11 @@ fn desk_text(alloc: Global, command: &DeskCommand) -> Result<String, AllocError>
     }
 }
 
-fn name_str(name: &Name) -> &str
-    ensures { result.now ≡ name.now }
-{
-    ascii_text(name.as_bytes())
-}
-
-fn goods_str(goods: &Goods) -> &str
-    ensures { result.now ≡ goods.now }
-{
-    ascii_text(goods.as_bytes())
-}
-
 /// A flight in its written form and its day, one a line.
 fn flight_lines(alloc: Global, flight: &FlightDate) -> Result<String, AllocError>
     ensures { Writes result (fields_text (flight_field flight.now ∷ day_field flight.now ∷ [])) }
 {
-    let mut bytes = [0; 7];
-    let len = flight.flight.write(&mut bytes);
-    let name = ascii_text(&bytes[..len]);
-    let day = day_text(flight.day);
-    let day = ascii_text(&day);
-    format!(in alloc; "{name}\n{day}")
+    format!(in alloc; "{}\n{}", flight.flight, flight.day)
 }
 
 /// The same, or two empty lines where no flight is named.
@@ -185,10 +167,7 @@ fn book_text(
     ensures { Writes result (desk_text
         (DeskCommand.Book awb.now origin.now destination.now pieces tenths goods.now)) }
 {
-    let (origin, destination) = (origin.letters(), destination.letters());
-    let (origin, destination) = (ascii_text(&origin), ascii_text(&destination));
-    let (pieces, tenths) = (pieces.number(), tenths.number());
-    let goods = goods_str(goods);
+    let tenths = tenths.number();
     format!(in alloc; "book\n{awb}\n{origin}\n{destination}\n{pieces}\n{tenths}\n{goods}")
 }
 
@@ -201,8 +180,7 @@ fn receive_text(
 ) -> Result<String, AllocError>
     ensures { Writes result (desk_text (DeskCommand.Receive awb.now pieces tenths name.now)) }
 {
-    let (pieces, tenths) = (pieces.number(), tenths.number());
-    let name = name_str(name);
+    let tenths = tenths.number();
     format!(in alloc; "receive\n{awb}\n{pieces}\n{tenths}\n{name}")
 }
 
@@ -217,9 +195,6 @@ fn manifest_text(
         (DeskCommand.Manifest awb.now flight.now unload.now pieces)) }
 {
     let flight = flight_lines(alloc, flight)?;
-    let unload = unload.letters();
-    let unload = ascii_text(&unload);
-    let pieces = pieces.number();
     format!(in alloc; "manifest\n{awb}\n{flight}\n{unload}\n{pieces}")
 }
 
@@ -232,7 +207,6 @@ fn offload_text(
     ensures { Writes result (desk_text (DeskCommand.Offload awb.now flight.now pieces)) }
 {
     let flight = flight_lines(alloc, flight)?;
-    let pieces = pieces.number();
     format!(in alloc; "offload\n{awb}\n{flight}\n{pieces}")
 }
 
@@ -259,15 +233,12 @@ fn check_in_text(
 fn notify_text(alloc: Global, awb: &Awb, name: &Name) -> Result<String, AllocError>
     ensures { Writes result (desk_text (DeskCommand.Notify awb.now name.now)) }
 {
-    let name = name_str(name);
     format!(in alloc; "notify\n{awb}\n{name}")
 }
 
 fn deliver_text(alloc: Global, awb: &Awb, pieces: Pieces, name: &Name) -> Result<String, AllocError>
     ensures { Writes result (desk_text (DeskCommand.Deliver awb.now pieces name.now)) }
 {
-    let pieces = pieces.number();
-    let name = name_str(name);
     format!(in alloc; "deliver\n{awb}\n{pieces}\n{name}")
 }
 
@@ -279,7 +250,6 @@ fn transfer_text(
 ) -> Result<String, AllocError>
     ensures { Writes result (desk_text (DeskCommand.Transfer awb.now pieces airline.now)) }
 {
-    let pieces = pieces.number();
     let airline = airline.designator();
     let airline = ascii_text(&airline);
     format!(in alloc; "transfer\n{awb}\n{pieces}\n{airline}")
@@ -293,7 +263,6 @@ fn missing_text(
 ) -> Result<String, AllocError>
     ensures { Writes result (desk_text (DeskCommand.Missing awb.now pieces flight.now)) }
 {
-    let pieces = pieces.number();
     let flight = lines_if_any(alloc, flight)?;
     format!(in alloc; "missing\n{awb}\n{pieces}\n{flight}")
 }
@@ -307,7 +276,7 @@ fn found_text(
 ) -> Result<String, AllocError>
     ensures { Writes result (desk_text (DeskCommand.Found awb.now pieces tenths flight.now)) }
 {
-    let (pieces, tenths) = (pieces.number(), tenths.number());
+    let tenths = tenths.number();
     let flight = lines_if_any(alloc, flight)?;
     format!(in alloc; "found\n{awb}\n{pieces}\n{tenths}\n{flight}")
 }

@@ -1,5 +1,5 @@
 //! The fields of messages: amounts, airports, flights, names, dates and days.
-use crate::said::{next_number, next_small_number, number_or_none, say, shown, words};
+use crate::said::{next_number, next_small_number, printed_or_none, say, shown, words};
 use imp_fields::{
     Airport, BookTenths, DayMonth, DayTime, Flight, Goods, LocalDay, Moment, Name, PartNumber,
     Pieces, Tenths, book_weight, resolve, share,
@@ -9,8 +9,8 @@ use std::alloc::Global;
 /// What comes of what is asked.
 pub fn answer(alloc: Global, asked: &str, text: &[u8]) -> Option<String> {
     match asked {
-        "airport" => airport(alloc, text),
-        "flight" => flight(alloc, text),
+        "airport" => printed_or_none(alloc, Airport::read(text)),
+        "flight" => printed_or_none(alloc, Flight::read(text)),
         "is-one-flight" => is_one_flight(alloc, text),
         "name" => name(alloc, text),
         "goods" => goods(alloc, text),
@@ -30,18 +30,18 @@ fn amount(alloc: Global, asked: &str, text: &[u8]) -> Option<String> {
     let mut words = words(text)?;
     let number = next_number(&mut words)?;
     let kept = match asked {
-        "pieces" => Pieces::new(number).map(|kept| kept.number()),
+        "pieces" => return printed_or_none(alloc, Pieces::new(number)),
         "part" => PartNumber::new(number).map(|kept| kept.number()),
         "tenths" => Tenths::new(number).map(|kept| kept.number()),
         "book-tenths" => BookTenths::new(number).map(|kept| kept.number()),
-        "day" => LocalDay::new(number).map(|kept| kept.number()),
+        "day" => return printed_or_none(alloc, LocalDay::new(number)),
         "moment" => {
             let minute = next_small_number(&mut words)?;
             return moment(alloc, Moment::new(number, minute));
         }
         _ => return None,
     };
-    number_or_none(alloc, kept)
+    printed_or_none(alloc, kept)
 }
 
 fn moment(alloc: Global, moment: Option<Moment>) -> Option<String> {
@@ -70,23 +70,6 @@ fn booked(alloc: Global, text: &[u8]) -> Option<String> {
     format!(in alloc; "{}", book_weight(pieces, tenths)).ok()
 }
 
-fn airport(alloc: Global, text: &[u8]) -> Option<String> {
-    match Airport::read(text) {
-        Some(airport) => say(alloc, shown(&airport.letters())),
-        None => say(alloc, "none"),
-    }
-}
-
-/// How a flight is written.
-fn flight(alloc: Global, text: &[u8]) -> Option<String> {
-    let Some(flight) = Flight::read(text) else {
-        return say(alloc, "none");
-    };
-    let mut out = [0; 7];
-    let end = flight.write(&mut out);
-    say(alloc, shown(&out[..end]))
-}
-
 /// Whether two texts are one flight.
 fn is_one_flight(alloc: Global, text: &[u8]) -> Option<String> {
     let mut words = words(text)?;
@@ -97,14 +80,14 @@ fn is_one_flight(alloc: Global, text: &[u8]) -> Option<String> {
 
 fn name(alloc: Global, text: &[u8]) -> Option<String> {
     match Name::read(text) {
-        Some(name) => format!(in alloc; "[{}]", shown(name.as_bytes())).ok(),
+        Some(name) => format!(in alloc; "[{name}]").ok(),
         None => say(alloc, "none"),
     }
 }
 
 fn goods(alloc: Global, text: &[u8]) -> Option<String> {
     match Goods::read(text) {
-        Some(goods) => format!(in alloc; "[{}]", shown(goods.as_bytes())).ok(),
+        Some(goods) => format!(in alloc; "[{goods}]").ok(),
         None => say(alloc, "none"),
     }
 }
@@ -119,7 +102,7 @@ fn date(alloc: Global, text: &[u8]) -> Option<String> {
 
 /// The minute of a date with a time.
 fn date_time(alloc: Global, text: &[u8]) -> Option<String> {
-    number_or_none(alloc, DayTime::read(text).map(|at| u32::from(at.minute)))
+    printed_or_none(alloc, DayTime::read(text).map(|at| u32::from(at.minute)))
 }
 
 /// The date of a day, which is given by its number.
@@ -145,5 +128,5 @@ fn meant(alloc: Global, text: &[u8]) -> Option<String> {
     if receipt < 10957 || receipt > 47481 {
         return None;
     }
-    number_or_none(alloc, resolve(date, receipt))
+    printed_or_none(alloc, resolve(date, receipt))
 }

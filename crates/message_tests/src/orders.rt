@@ -74,17 +74,8 @@ fn ordered(alloc: Global, done: Result<(), StockFault<AllocError>>) -> Option<St
 fn holder(alloc: Global, stock: &mut PlainRows, words: &mut SplitWhitespace<'_>) -> Option<String> {
     let number = Awb::read(words.next()?.as_bytes().first_chunk()?).ok()?;
     match stock.holder(&number).ok()? {
-        Some(holder) => holder_said(alloc, &holder),
+        Some(holder) => format!(in alloc; "{holder}").ok(),
         None => say(alloc, "nobody"),
-    }
-}
-
-fn holder_said(alloc: Global, holder: &Holder) -> Option<String> {
-    match holder {
-        Holder::Desk => say(alloc, "the desk"),
-        Holder::Agent(code) => say(alloc, code.as_str()),
-        Holder::Used => say(alloc, "used"),
-        Holder::Void => say(alloc, "void"),
     }
 }
 
@@ -92,8 +83,7 @@ fn holder_said(alloc: Global, holder: &Holder) -> Option<String> {
 fn runs_said(alloc: Global, runs: &[StockRun]) -> Option<String> {
     let mut said = format!(in alloc; "{}", runs.len()).ok()?;
     for run in runs {
-        let holder = holder_said(alloc, &run.holder)?;
-        let run = format!(in alloc; "; {} {} {holder}", run.first, run.count).ok()?;
+        let run = format!(in alloc; "; {} {} {}", run.first, run.count, run.holder).ok()?;
         said.push_str(run.as_str()).ok()?;
     }
     Some(said)

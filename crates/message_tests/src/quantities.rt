@@ -1,14 +1,16 @@
 //! Weights and quantities.
-use crate::said::{next_number, number_or_none, quantity_said, say, shown, words};
+use crate::said::{next_number, printed_or_none, quantity_said, say, shown, words};
 use imp_fields::{BookTenths, Pieces, ShipmentCode, put_quantity, read_quantity, weight_of};
+use shipment_machine::Amount;
 use std::alloc::Global;
 
 /// What comes of what is asked.
 pub fn answer(alloc: Global, asked: &str, text: &[u8]) -> Option<String> {
     match asked {
-        "weight" => number_or_none(alloc, weight_of(text).map(|tenths| tenths.number())),
+        "weight" => printed_or_none(alloc, weight_of(text).map(|tenths| tenths.number())),
         "read" => read(alloc, text),
         "write" => write(alloc, text),
+        "amount" => amount(alloc, text),
         _ => None,
     }
 }
@@ -45,4 +47,12 @@ fn write(alloc: Global, text: &[u8]) -> Option<String> {
     let mut out = [0; 18];
     let end = put_quantity(&mut out, code, pieces, tenths, total);
     say(alloc, shown(&out[..end]))
+}
+
+/// How an amount is printed: its pieces and its tenths.
+fn amount(alloc: Global, text: &[u8]) -> Option<String> {
+    let mut words = words(text)?;
+    let pieces = next_number(&mut words)?;
+    let tenths = next_number(&mut words)?;
+    format!(in alloc; "{}", Amount { pieces, tenths }).ok()
 }

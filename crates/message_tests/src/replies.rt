@@ -120,8 +120,7 @@ fn counted(alloc: Global, order: &Order) -> Option<String> {
 
 /// A refusal's number, and what it is about.
 fn refusal_said(alloc: Global, refusal: &Refusal) -> Option<String> {
-    let (number, detail) = (refusal.number, detail_text(alloc, &refusal.detail).ok()?);
-    format!(in alloc; "{number} [{detail}]").ok()
+    format!(in alloc; "{} [{}]", refusal.number, refusal.detail).ok()
 }
 
 /// The text of a key, as bytes and as a text.

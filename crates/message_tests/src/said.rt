@@ -1,6 +1,7 @@
 //! What answers are made of.
 use imp_fields::{Quantity, TextFault, Token};
 use std::alloc::Global;
+use std::fmt;
 use std::str::SplitWhitespace;
 
 /// A text as an answer.
@@ -13,10 +14,10 @@ pub fn yes_or_no(alloc: Global, is_so: bool) -> Option<String> {
     say(alloc, if is_so { "yes" } else { "no" })
 }
 
-/// A number as an answer, or `none`.
-pub fn number_or_none(alloc: Global, number: Option<u32>) -> Option<String> {
-    match number {
-        Some(number) => format!(in alloc; "{number}").ok(),
+/// What is printed of a value, or `none`.
+pub fn printed_or_none<T: fmt::Display + Drop>(alloc: Global, value: Option<T>) -> Option<String> {
+    match value {
+        Some(value) => format!(in alloc; "{value}").ok(),
         None => say(alloc, "none"),
     }
 }

@@ -1,12 +1,14 @@
 -- The worked rows of the cargo commands, computed.
 use Rattle.std.proofs.Common.{◌≡◌, ℕ, ◌+◌, ◌*◌, Option, Some, None, Result, Ok, Err, List, [], ◌∷◌, ◌++◌, refl}
+use Rattle.std.specs.Fmt.{digits}
 use Rattle.std.specs.Prelude.{codes, map}
-use Rattle.shipment_machine.specs.Amount.{amount}
+use Rattle.shipment_machine.specs.Amount.{amount, amount_text}
+use Rattle.shipment_machine.specs.Texts.{refused_with}
 use Rattle.shipment_machine.specs.declared.amount.Amount.{Amount}
 use Rattle.jiff_core.specs.Calendar.{days_of_years, days_of_months, day_count, days_from_civil}
 use Rattle.imp_fields.specs.Flight.{Designator}
 use Rattle.shipment_machine.specs.declared.flight.FlightDate.{FlightDate}
-use Rattle.imp_fields.specs.Date.{LocalMinute}
+use Rattle.imp_fields.specs.Date.{LocalMinute, day_line}
 use Rattle.imp_fields.specs.declared.fault.Why.TheVariants as why
 use Rattle.shipment_machine.specs.declared.moves.Place.{Place}
 use Rattle.shipment_machine.specs.declared.moves.Place.TheVariants.{Hand, Surplus, Free, Built, Delivered, Missing, Transferred}
@@ -383,3 +385,29 @@ example_found_many = refl
 
 example_found_untold : events received (order.Desk (desk.Found w1 9989 1 None)) noon ≡ []
 example_found_untold = refl
+
+-- Amounts and refusals as texts.
+
+example_four_pieces : amount_text (amount 4 400) ≡ codes "4 pieces, 40.0 kg"
+unfolding digits
+example_four_pieces = refl
+
+example_one_piece : amount_text (amount 1 105) ≡ codes "1 piece, 10.5 kg"
+unfolding digits
+example_one_piece = refl
+
+example_refused_number : refused_with 102 (detail.Waybill 201234572) ≡ codes "refused 102 020-12345723"
+unfolding digits
+example_refused_number = refl
+
+example_refused_flight : refused_with 208 (detail.Flight (lh_on 400)) ≡ codes "refused 208 LH400/2026-01-12"
+unfolding digits day_line
+example_refused_flight = refl
+
+example_refused_line : refused_with 301 (detail.Line 4 why.Ending) ≡ codes "refused 301 4 ending"
+unfolding digits
+example_refused_line = refl
+
+example_refused : refused_with 501 detail.Nothing ≡ codes "refused 501"
+unfolding digits
+example_refused = refl

@@ -8,4 +8,4 @@ use Rattle.desk_commands.proofs.texts.manifest_text.Goals as goal
 pub returns : goal.returns
 returns c =
     let f = c.args.flight.now in
-    told string_bytes c.format.result _ _ (rw (c.in_ok-flight.ensures, c.ascii_text-unload.ensures, c.letters-unload.ensures.value, c.number-pieces.ensures.value) (behind_flight (codes "manifest") (number_text c.args.awb.now) (flight_text f.flight) (day_line f.day) (c.args.unload.now ++ 10 ∷ decimal c.args.pieces))) c.format.ensures.ok
+    told string_bytes c.format.result _ _ (rw (c.in_ok-flight.ensures) (behind_flight (codes "manifest") (number_text c.args.awb.now) (flight_text f.flight) (day_line f.day) (c.args.unload.now ++ 10 ∷ decimal c.args.pieces))) c.format.ensures.ok

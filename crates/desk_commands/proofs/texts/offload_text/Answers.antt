@@ -8,4 +8,4 @@ use Rattle.desk_commands.proofs.texts.offload_text.Goals as goal
 pub returns : goal.returns
 returns c =
     let f = c.args.flight.now in
-    told string_bytes c.format.result _ _ (rw (c.in_ok-flight.ensures, c.number-pieces.ensures.value) (behind_flight (codes "offload") (number_text c.args.awb.now) (flight_text f.flight) (day_line f.day) (decimal c.args.pieces))) c.format.ensures.ok
+    told string_bytes c.format.result _ _ (rw (c.in_ok-flight.ensures) (behind_flight (codes "offload") (number_text c.args.awb.now) (flight_text f.flight) (day_line f.day) (decimal c.args.pieces))) c.format.ensures.ok

@@ -7,9 +7,8 @@ use Rattle.reports.proofs.rows.flight_line.Goals as goal
 
 pub returns : goal.returns
 returns c =
-    let unload = c.ascii_text-unload.ensures ∙ c.letters-unload.ensures.value in
     let waybills = c.in_ok-waybills.ensures ∙ (λ i. right 4 (decimal (c.from.ensures i))) in
     told string_bytes c.format.result _ _
-    (five (string_bytes c.in_ok-flight.flight) c.ascii_text-unload.result.now (string_bytes c.in_ok-waybills.waybills) (string_bytes c.in_ok-amount.amount) c.open_or-state.result.now
-    ∙ (λ i. line (c.in_ok-flight.ensures i ∷ unload i ∷ waybills i ∷ c.in_ok-amount.ensures i ∷ c.open_or-state.ensures i ∷ [])))
+    (five (string_bytes c.in_ok-flight.flight) c.args.row.now.noted.outbound.unload (string_bytes c.in_ok-waybills.waybills) (string_bytes c.in_ok-amount.amount) c.open_or-state.result.now
+    ∙ (λ i. line (c.in_ok-flight.ensures i ∷ c.args.row.now.noted.outbound.unload ∷ waybills i ∷ c.in_ok-amount.ensures i ∷ c.open_or-state.ensures i ∷ [])))
     c.format.ensures.ok
