@@ -1,18 +1,18 @@
--- SELECT .. ORDER BY the key downwards LIMIT 1, over one table whose key is made of columns.
-use Rattle.std.proofs.Common.{◌≡◌, ℕ, ℤ, pos, List, [], ◌∷◌, ◌++◌, map, filter, take, reverse, Bool, true, Option, None, Some, append_assoc, append-nil, refl, sym, ap, subst, ◌∙◌, Ordering, Less, IsPermutation}
+-- SELECT .. ORDER BY the key downwards LIMIT n, over one table whose key is made of columns.
+use Rattle.std.proofs.Common.{◌≡◌, ℕ, zero, suc, ◌-◌, ℤ, pos, length, drop, arith, List, [], ◌∷◌, ◌++◌, map, filter, take, reverse, Bool, true, Option, None, Some, append_assoc, append-nil, refl, sym, ap, subst, ◌∙◌, Ordering, Less, IsPermutation}
 use Rattle.std.specs.Prelude.{option_to_list}
 use Rattle.std.specs.List.{AllByRecursion, list_all, last_or}
 use Rattle.std.specs.Cmp.{IsTotalOrder}
 use Rattle.std.specs.FinMap.{FinMap, entries}
-use Rattle.std.proofs.lemmas.List.{reverse-append, take-map}
+use Rattle.std.proofs.lemmas.List.{map-append, reverse-append, length-reverse, length-drop, take-append-drop, take_all, take_at, take-map}
 use Rattle.std.proofs.lemmas.List.Sorted.{IsPermutation-map, IsPermutation-trans, IsPermutation-sym, IsPermutation-reverse}
 use Rattle.sqlite.specs.declared.types.Value.TheVariants.{Null, Int}
 use Rattle.sqlite.specs.Order.{Row}
 use Rattle.sqlite.specs.Tree.{Trees, IsAscending}
 use Rattle.sqlite.specs.Schema.{Schema}
 use Rattle.sqlite.specs.Program.{overlay}
-use Rattle.sqlite.specs.Query.{Query, Output, output, output_cmp}
-use Rattle.sqlite.specs.Term.{Term, lit, eval_all, holds}
+use Rattle.sqlite.specs.Query.{Query, Output, output, output_cmp, as_count, limited}
+use Rattle.sqlite.specs.Term.{Term, eval, eval_all, holds}
 use Rattle.sqlite.specs.Effect.{Answers}
 use Rattle.sqlite_value.specs.declared.keys.Key.{Key}
 use Rattle.sqlite_sql.proofs.QueryLemmas.{output_cmp_total}
@@ -39,9 +39,26 @@ last_then o (x ∷ xs) =
 pub first_turned : {X : Type 0} (xs : List X) → take 1 (reverse xs) ≡ option_to_list (last_or None xs)
 first_turned xs = ap (take 1) (sym (append-nil (reverse xs))) ∙ last_then None xs
 
--- the first row alone, in the order of ORDER BY
-abbrev pub last_of : ℕ → List Term → List Term → List (Term × Key) → Query
-last_of t filter project order = record (one_table t filter project order) { limit = lit (Int (pos 1)) }
+-- the first n of a list turned are its last n, turned
+pub firsts_turned : {X : Type 0} (n : ℕ) (xs : List X) → take n (reverse xs) ≡ reverse (drop (length xs - n) xs)
+firsts_turned {X} n xs = go (length xs - n) refl
+  where
+    go : (k : ℕ) → length xs - n ≡ k → take n (reverse xs) ≡ reverse (drop k xs)
+    go zero e = take_all n (reverse xs) (omega (arith, e, length-reverse xs))
+    go (suc k) e =
+        ap (λ l. take n (reverse l)) (sym (take-append-drop (suc k) xs)) ∙ ap (take n) (reverse-append (take (suc k) xs) (drop (suc k) xs))
+        ∙ take_at (reverse (drop (suc k) xs)) (reverse (take (suc k) xs)) n (omega (arith, e, length-reverse (drop (suc k) xs), length-drop (suc k) xs))
+
+-- a list turned, as rows, and turned again
+pub turned_back : {X Y : Type 0} (f : X → Y) (xs : List X) → reverse (map f (reverse xs)) ≡ map f xs
+turned_back f [] = refl
+turned_back f (x ∷ xs) =
+    ap (λ l. reverse (map f l)) (reverse-append (x ∷ []) xs) ∙ ap reverse (map-append f (reverse xs) (x ∷ [])) ∙ reverse-append (map f (reverse xs)) (f x ∷ [])
+    ∙ ap (λ l. f x ∷ l) (turned_back f xs)
+
+-- the first rows alone, in the order of ORDER BY
+abbrev pub last_of : Term → ℕ → List Term → List Term → List (Term × Key) → Query
+last_of limit t filter project order = record (one_table t filter project order) { limit = limit }
 
 all_reverse : {X : Type 0} (P : X → Type 0) (xs : List X) → AllByRecursion P xs → AllByRecursion P (reverse xs)
 all_reverse P [] h = tt
@@ -60,12 +77,12 @@ falls R (x ∷ xs) h =
 module _ {K V : Type 0} (R : K → K → Ordering) (total : IsTotalOrder R) (to_row : K × V → Row) (schema : Schema) (db : Trees) (t : ℕ) (m : FinMap R V) (was : IsMap R to_row (db t) m) (params : Row) (filters project : List Term)
     (p : K × V → Bool) (tests : (n : ℤ) (e : K × V) → list_all (holds (params ∷ (Int n ∷ to_row e) ∷ [])) filters ≡ p e)
     (show : K × V → Row) (shows : (n : ℤ) (e : K × V) → eval_all project (params ∷ (Int n ∷ to_row e) ∷ []) ≡ show e) where
-  pub last_shown : (order : List (Term × Key)) → ((n : ℤ) (e : K × V) → output (last_of t filters project order) (params ∷ (Int n ∷ to_row e) ∷ []) ≡ output (last_of t filters project order) (params ∷ (Int (pos 0) ∷ to_row e) ∷ []))
+  pub last_shown : (limit : Term) (n : ℕ) → as_count (eval limit (params ∷ [])) ≡ Some n → (order : List (Term × Key)) → ((n : ℤ) (e : K × V) → output (last_of limit t filters project order) (params ∷ (Int n ∷ to_row e) ∷ []) ≡ output (last_of limit t filters project order) (params ∷ (Int (pos 0) ∷ to_row e) ∷ []))
       → ((a b : K × V) → p a ≡ true → p b ≡ true
-      → output_cmp (last_of t filters project order) (output (last_of t filters project order) (params ∷ (Int (pos 0) ∷ to_row a) ∷ [])) (output (last_of t filters project order) (params ∷ (Int (pos 0) ∷ to_row b) ∷ [])) ≡ R b.0 a.0)
-      → (rows : List Row) → Answers (record { schema = schema; trees = db }) (record { lets = []; body = last_of t filters project order }) params rows → rows ≡ map show (option_to_list (last_or None (filter p (entries m))))
-  last_shown order unseen agrees rows h =
-      let q = last_of t filters project order in
+      → output_cmp (last_of limit t filters project order) (output (last_of limit t filters project order) (params ∷ (Int (pos 0) ∷ to_row a) ∷ [])) (output (last_of limit t filters project order) (params ∷ (Int (pos 0) ∷ to_row b) ∷ [])) ≡ R b.0 a.0)
+      → (rows : List Row) → Answers (record { schema = schema; trees = db }) (record { lets = []; body = last_of limit t filters project order }) params rows → rows ≡ map show (take n (reverse (filter p (entries m))))
+  last_shown limit n counts order unseen agrees rows h =
+      let q = last_of limit t filters project order in
       let out = λ (e : K × V). output q (params ∷ (Int (pos 0) ∷ to_row e) ∷ []) in
       let source = last_table (overlay db []) t (numbered to_row) number was.raw (no_overlay db t ∙ was.rows) was.keyed (at_end (overlay db [])) in
       let a = h.answer Null in
@@ -83,6 +100,6 @@ module _ {K V : Type 0} (R : K → K → Ordering) (total : IsTotalOrder R) (to_
       ascending-map (λ x y. output_cmp q x y ≡ Less) out _ (falls (λ a b. output_cmp q (out a) (out b) ≡ Less) all
       (ascending_where (λ e. p e ≡ true) (λ a b. R a.0 b.0 ≡ Less) (λ a b. output_cmp q (out b) (out a) ≡ Less) (λ a b pa pb less. agrees b a pb pa ∙ less)
       all (all_passed p (entries m)) (ascending-filter _ p (entries m) (entries_rise R total m)))) in
-      a.shown ∙ ap (λ (l : List Output). take 1 (map (λ (o : Output). o.1) l)) (sorted_unique (output_cmp q) (output_cmp_total q) _ a.ordered rises same a.sorted)
-      ∙ ap (take 1) (map-map (λ (o : Output). o.1) out (reverse all) ∙ map_same _ show (shows (pos 0)) (reverse all)) ∙ take-map show 1 (reverse all)
-      ∙ ap (map show) (first_turned all)
+      a.shown ∙ ap (λ (c : Option ℕ). limited c (map (λ (o : Output). o.1) a.ordered)) counts
+      ∙ ap (λ (l : List Output). take n (map (λ (o : Output). o.1) l)) (sorted_unique (output_cmp q) (output_cmp_total q) _ a.ordered rises same a.sorted)
+      ∙ ap (take n) (map-map (λ (o : Output). o.1) out (reverse all) ∙ map_same _ show (shows (pos 0)) (reverse all)) ∙ take-map show n (reverse all)

@@ -1,0 +1,19 @@
+use Rattle.std.proofs.Common.{w64}
+use Rattle.std.proofs.lemmas.Int.{to_z-of_z}
+use Rattle.sqlite.specs.Held.{state}
+use Rattle.row_schema.specs.Schema.{station_schema}
+use Rattle.row_laws.proofs.Inside.{reads}
+use Rattle.row_schema.proofs.Statements.{query_survives}
+use Rattle.station_rows.proofs.Texts.{last_rows_text, last_rows_is}
+use Rattle.station_rows.proofs.StockLemmas.{lists_last_rows}
+use Rattle.station_rows.proofs.stock.shown_last_rows.Goals as goal
+
+pub returns-clause-read : goal.returns-clause-read
+returns-clause-read g c clean was =
+    reads last_rows_text _ (state g.S.Store c.args.conn.now) (state g.S.Store c.query_all.new.self) station_schema was.schema last_rows_is.1 _
+    (λ rows. lists_last_rows (state g.S.Store c.args.conn.now) (state g.S.Store c.query_all.new.self) c.args.prefix c.args.low c.args.count rows was) _
+    (rw (c.params-to_sql.ensures, c.params-to_sql-2.ensures, c.params-to_sql-3.ensures, to_z-of_z w64 c.args.prefix c.ranges.prefix, to_z-of_z w64 c.args.low c.ranges.low) at (c.query_all.ensures.ok clean))
+    (rw (c.params-to_sql.ensures, c.params-to_sql-2.ensures, c.params-to_sql-3.ensures, to_z-of_z w64 c.args.prefix c.ranges.prefix, to_z-of_z w64 c.args.low c.ranges.low) at (c.query_all.ensures.err clean))
+
+pub returns-clause-survives : goal.returns-clause-survives
+returns-clause-survives g c = query_survives last_rows_text _ _ _ last_rows_is.1 c.query_all.ensures.survives
