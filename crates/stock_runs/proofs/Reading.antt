@@ -1,12 +1,14 @@
 -- The rows that a run touches, and the holder of a number, by the last row below a number.
-use Rattle.std.proofs.Common.{◌≡◌, ℕ, ℤ, pos, negsuc, ◌+ℤ◌, ◌+◌, ◌*◌, ◌/◌, ◌%◌, ◌≤◌, ◌<◌, ◌⊎◌, inl, inr, Bool, true, false, cond, Option, Some, None, List, [], ◌∷◌, ◌++◌, map, filter, option_map, refl, sym, ap, ◌∙◌, arith}
-use Rattle.std.specs.Prelude.{◌&&◌, int_le, nat_eq, nat_le, nat_lt}
+use Rattle.std.proofs.Common.{◌≡◌, ℕ, ℤ, pos, negsuc, ◌+ℤ◌, ◌+◌, ◌*◌, ◌/◌, ◌%◌, ◌≤◌, ◌<◌, ◌⊎◌, inl, inr, Bool, true, false, cond, Option, Some, None, List, [], ◌∷◌, ◌++◌, ◌-◌, length, take, drop, map, filter, option_map, refl, sym, ap, subst, ◌∙◌, arith}
+use Rattle.std.specs.Prelude.{◌&&◌, ◌||◌, int_le, nat_eq, nat_le, nat_lt}
 use Rattle.std.specs.List.{AllByRecursion, last_or, list_all}
 use Rattle.std.specs.Option.{option_and_then}
 use Rattle.std.specs.Ordering.{int_eq}
 use Rattle.std.proofs.lemmas.Int.{ints}
 use Rattle.std.proofs.lemmas.Bool.{and_parts, leb-true, ltb-true, eqb-true}
 use Rattle.std.proofs.lemmas.Bool.Decides.{nat_tests}
+use Rattle.std.proofs.lemmas.List.{length-drop, length-map, drop-map, take-append-drop}
+use Rattle.std.proofs.lemmas.List.Elements.{filter-append, filter_agree}
 use Rattle.awb_number.specs.Number.{prefix_of, serial_of}
 use Rattle.agent_stock.specs.Stock.{is_among}
 use Rattle.agent_stock.specs.declared.stock.Run.{Run}
@@ -15,8 +17,9 @@ use Rattle.row_schema.specs.Tables.{Stock, StockKey}
 use Rattle.row_codec.specs.Numbers.{natural}
 use Rattle.row_codec.specs.Stock.{is_stock_row}
 use Rattle.run_rows.specs.Rows.{holders_by, end_of, IsRunRow, StandFrom, touches, rows_near}
-use Rattle.station_rows.specs.Meant.{is_between, is_up_to, last_up_to}
-use Rattle.stock_runs.specs.Reads.{is_below, last_below, is_from, reaching, holder_at}
+use Rattle.run_rows.proofs.Standing.{last_end, ends_up, stand_split, stand_lower}
+use Rattle.station_rows.specs.Meant.{is_between, is_up_to, last_up_to, last_rows_up_to}
+use Rattle.stock_runs.specs.Reads.{is_below, last_below, is_from, reaches, reaching, last_to_end, begins_before, are_enough, holder_at}
 use Rattle.stock_runs.specs.Runs.{run_in}
 use Rattle.stock_runs.proofs.Meant.{low_fits, natural_is, row_fits}
 
@@ -54,8 +57,8 @@ module _ (run : Run) where
   abbrev from : List StockRun → List StockRun
   from rows = filter (is_from run) rows
 
-  reaches : (p q f e c g : ℕ) → (nat_eq p q && nat_lt f g) ≡ true → (nat_eq p q && (nat_le f (g + c) && nat_le g e)) ≡ nat_le g e
-  reaches p q f e c g h = grind (arith, nat_tests)
+  reached : (p q f e c g : ℕ) → (nat_eq p q && nat_lt f g) ≡ true → (nat_eq p q && (nat_le f (g + c) && nat_le g e)) ≡ nat_le g e
+  reached p q f e c g h = grind (arith, nat_tests)
 
   not_from : (p q f c g : ℕ) → (nat_eq p q && nat_lt f g) ≡ true → (nat_eq p q && (nat_le g f && nat_le f (g + c))) ≡ false
   not_from p q f c g h = grind (arith, nat_tests)
@@ -77,11 +80,11 @@ module _ (run : Run) where
 
       below : is_below prefix run.first r ≡ true → Behind prefix run.first (end_of r) rows → cond (touches run r) (r ∷ rows_near run rows) (rows_near run rows) ≡ reaching run (last_or (Some r) (filter (is_below prefix run.first) rows)) ++ from rows
       below e (inl none) =
-          ap (λ t. cond t (r ∷ rows_near run rows) (rows_near run rows)) (reaches (prefix_of r.first) prefix r.first (end_of r) run.count run.first e)
+          ap (λ t. cond t (r ∷ rows_near run rows) (rows_near run rows)) (reached (prefix_of r.first) prefix r.first (end_of r) run.count run.first e)
           ∙ ends (nat_le run.first (end_of r)) (more ∙ ap (λ l. reaching run (last_or None l) ++ from rows) none)
           ∙ sym (ap (λ l. reaching run (last_or (Some r) l) ++ from rows) none)
       below e (inr some) =
-          ap (λ t. cond t (r ∷ rows_near run rows) (rows_near run rows)) (reaches (prefix_of r.first) prefix r.first (end_of r) run.count run.first e ∙ too_low run.first (end_of r) some.0)
+          ap (λ t. cond t (r ∷ rows_near run rows) (rows_near run rows)) (reached (prefix_of r.first) prefix r.first (end_of r) run.count run.first e ∙ too_low run.first (end_of r) some.0)
           ∙ more ∙ sym (ap (λ o. reaching run o ++ from rows) (some.1 (Some r)))
 
       -- it is not below the run
@@ -108,6 +111,79 @@ module _ (run : Run) where
   pub near_read : (low : ℕ) (rows : List StockRun) → StandFrom low rows → rows_near run rows ≡ reaching run (last rows) ++ from rows
   near_read low [] stand = refl
   near_read low (r ∷ rows) stand = near_more r rows stand.1 (near_read (end_of r) rows stand.1)
+
+-- ---- the last rows up to the end of a run
+
+both_tests : (p q : StockRun → Bool) (rows : List StockRun) → filter (λ r. q r && p r) rows ≡ filter p (filter q rows)
+both_tests p q [] = refl
+both_tests p q (r ∷ rows) = go (q r) (both_tests p q rows)
+  where
+    go : (t : Bool) → filter (λ x. q x && p x) rows ≡ filter p (filter q rows)
+        → cond (t && p r) (r ∷ filter (λ x. q x && p x) rows) (filter (λ x. q x && p x) rows) ≡ filter p (cond t (r ∷ filter q rows) (filter q rows))
+    go true more = ap (λ l. cond (p r) (r ∷ l) l) more
+    go false more = more
+
+some_stand : (p : StockRun → Bool) (low : ℕ) (rows : List StockRun) → StandFrom low rows → StandFrom low (filter p rows)
+some_stand p low [] stand = tt
+some_stand p low (r ∷ rows) stand = go (p r) (some_stand p (end_of r) rows stand.1)
+  where
+    go : (t : Bool) → StandFrom (end_of r) (filter p rows) → StandFrom low (cond t (r ∷ filter p rows) (filter p rows))
+    go true more = (stand.0, more)
+    go false more = stand_lower (end_of r) low (filter p rows) (omega (arith, stand.0)) more
+
+touch_parts : (p q f c g e : ℕ) → (nat_eq p q && (nat_le f (g + c) && nat_le g e)) ≡ ((nat_eq p q && nat_lt f (g + c + 1)) && nat_le g e)
+touch_parts p q f c g e = grind (arith, nat_tests)
+
+either : (a b : Bool) → (a || b) ≡ true → (a ≡ true) ⊎ (b ≡ true)
+either true b is = inl refl
+either false b is = inr is
+
+module _ (run : Run) where
+  abbrev up_to : StockRun → Bool
+  up_to = is_below (prefix_of run.first) (run.first + run.count + 1)
+
+  near_among : (rows : List StockRun) → rows_near run rows ≡ filter (reaches run) (filter up_to rows)
+  near_among rows =
+      filter_agree (touches run) (λ r. up_to r && reaches run r) (λ r. touch_parts (prefix_of r.first) (prefix_of run.first) r.first run.count run.first (end_of r)) rows
+      ∙ both_tests (reaches run) up_to rows
+
+  none_reach : (low : ℕ) (rows : List StockRun) → StandFrom low rows → last_end low rows < run.first → filter (reaches run) rows ≡ []
+  none_reach low [] stand lt = refl
+  none_reach low (r ∷ rows) stand lt =
+      let up = ends_up (end_of r) rows stand.1 in
+      ap (λ t. cond t (r ∷ filter (reaches run) rows) (filter (reaches run) rows)) (too_low run run.first (end_of r) (omega (arith, up, lt)))
+      ∙ none_reach (end_of r) rows stand.1 lt
+
+  -- what is left out before the last rows doesn't reach the run
+  left_out : (n : ℕ) (all : List StockRun) → StandFrom 0 all → are_enough n run (drop (length all - n) all) ≡ true → filter (reaches run) (take (length all - n) all) ≡ []
+  left_out n all stand enough = go (either (nat_lt (length (drop k all)) n) (begins_before run (drop k all)) enough)
+    where
+      k : ℕ
+      k = length all - n
+
+      before : (last : List StockRun) → StandFrom 0 (take k all ++ last) → begins_before run last ≡ true → last_end 0 (take k all) < run.first
+      before [] parts is = absurd (cc)
+      before (r ∷ rows) parts is =
+          let up = (stand_split 0 (take k all) (r ∷ rows) parts).1.0 in
+          let lt = ltb-true r.first run.first is in
+          omega (arith, up, lt)
+
+      go : (nat_lt (length (drop k all)) n ≡ true) ⊎ (begins_before run (drop k all) ≡ true) → filter (reaches run) (take k all) ≡ []
+      go (inl few) =
+          let lt = ltb-true (length (drop k all)) n few in
+          let none : k ≡ 0 = omega (arith, lt, length-drop k all) in
+          ap (λ i. filter (reaches run) (take i all)) none
+      go (inr first) =
+          let parts = subst (StandFrom 0) (sym (take-append-drop k all)) stand in
+          none_reach 0 (take k all) (stand_split 0 (take k all) (drop k all) parts).0 (before (drop k all) parts first)
+
+  pub last_have : (n : ℕ) (rows : List StockRun) → StandFrom 0 rows → are_enough n run (last_to_end n run rows) ≡ true → filter (reaches run) (last_to_end n run rows) ≡ rows_near run rows
+  last_have n rows stand enough =
+      let all = filter up_to rows in
+      let k = length all - n in
+      sym
+      (near_among rows ∙ ap (filter (reaches run)) (sym (take-append-drop k all)) ∙ filter-append (reaches run) (take k all) (drop k all)
+      ∙ ap (λ l. l ++ filter (reaches run) (drop k all)) (left_out n all (some_stand up_to 0 rows stand) enough))
 
 -- ---- the holder of a number
 
@@ -276,6 +352,22 @@ module _ (es : List (StockKey × Stock)) (lawful : list_all is_stock_row es ≡ 
   pub before_read : (run : Run) (z : ℤ) → z +ℤ pos 1 ≡ pos (serial_of run.first)
       → option_map run_in (last_up_to (pos (prefix_of run.first)) z es) ≡ last_below (prefix_of run.first) run.first (map run_in es)
   before_read run z is = last_read (prefix_of run.first) (serial_of run.first) run.first z (less_one (serial_of run.first) z is) (number_parts run.first)
+
+  end_parts : (n c : ℕ) → n / 10_000_000 * 10_000_000 + (n % 10_000_000 + c + 1) ≡ n + c + 1
+  end_parts n c = omega arith
+
+  -- the last rows that begin in a run, right behind it or before it
+  pub last_rows_read : (run : Run) (n : ℕ)
+      → map run_in (last_rows_up_to (pos (prefix_of run.first)) (pos (serial_of run.first + run.count)) n es) ≡ last_to_end n run (map run_in es)
+  last_rows_read run n =
+      let up = is_up_to (pos (prefix_of run.first)) (pos (serial_of run.first + run.count)) in
+      let all = filter up es in
+      sym (drop-map run_in (length all - n) all) ∙ ap (λ l. drop (l - n) (map run_in all)) (sym (length-map all run_in))
+      ∙ ap (λ l. drop (length l - n) l)
+      (filtered up (is_below (prefix_of run.first) (run.first + run.count + 1))
+      (λ e fit. up_to_is e fit (prefix_of run.first) (serial_of run.first + run.count + 1) (run.first + run.count + 1) (pos (serial_of run.first + run.count))
+      (at_most (serial_of run.first + run.count)) (end_parts run.first run.count))
+      es lawful)
 
   -- the last row that begins with a number or before it
   pub until_read : (q : ℕ) → option_map run_in (last_up_to (pos (prefix_of q)) (pos (serial_of q)) es) ≡ last_below (prefix_of q) (q + 1) (map run_in es)

@@ -1,5 +1,5 @@
 -- What the reads of the stock's rows say of its numbers.
-use Rattle.std.proofs.Common.{◌≡◌, ℕ, ℤ, pos, ◌+◌, ◌+ℤ◌, List, ◌++◌, Option, Some, None, map, filter, option_map, refl, sym, ap, ap₂, ◌∙◌}
+use Rattle.std.proofs.Common.{◌≡◌, ℕ, ℤ, pos, ◌+◌, ◌+ℤ◌, List, ◌++◌, true, Option, Some, None, map, filter, option_map, refl, sym, ap, ap₂, ◌∙◌}
 use Rattle.std.specs.Option.{option_and_then}
 use Rattle.std.specs.FinMap.{FinMap, entries}
 use Rattle.awb_number.specs.Number.{prefix_of, serial_of}
@@ -8,11 +8,11 @@ use Rattle.row_schema.specs.Tables.{Stock, stock_cmp}
 use Rattle.row_codec.specs.Stock.{holders_in, AreStockRows}
 use Rattle.run_rows.specs.Rows.{rows_near}
 use Rattle.station_rows.specs.declared.stock.StockRow.{StockRow}
-use Rattle.station_rows.specs.Meant.{stock_meant, is_between, last_up_to}
-use Rattle.stock_runs.specs.Reads.{holder_at, reaching}
+use Rattle.station_rows.specs.Meant.{stock_meant, is_between, last_up_to, last_rows_up_to}
+use Rattle.stock_runs.specs.Reads.{holder_at, reaches, reaching, last_to_end, are_enough}
 use Rattle.stock_runs.specs.Runs.{run_in}
 use Rattle.stock_runs.proofs.Meant.{same_holders, are_in_order}
-use Rattle.stock_runs.proofs.Reading.{near_read, holder_read, between_read, before_read, until_read}
+use Rattle.stock_runs.proofs.Reading.{near_read, last_have, holder_read, between_read, before_read, last_rows_read, until_read}
 
 module _ (stock : FinMap stock_cmp Stock) (stocked : AreStockRows stock) where
   -- the holder of a number, by the last row that begins with it or before it
@@ -40,3 +40,12 @@ module _ (stock : FinMap stock_cmp Stock) (stocked : AreStockRows stock) where
       (ap (option_map run_in) is ∙ before_read (entries stock) stocked.rows run z low)
       (ap (map run_in) are ∙ between_read (entries stock) stocked.rows run)
       ∙ sym (near_read run 0 (map run_in (entries stock)) runs.stand)
+
+  -- the rows that a run touches, by the last rows up to its end
+  pub near_is_last : (run : Run) (n : ℕ) (rows : List StockRow) → map stock_meant rows ≡ last_rows_up_to (pos (prefix_of run.first)) (pos (serial_of run.first + run.count)) n (entries stock)
+      → are_enough n run (map run_in (map stock_meant rows)) ≡ true → filter (reaches run) (map run_in (map stock_meant rows)) ≡ rows_near run (map run_in (entries stock))
+  near_is_last run n rows are enough =
+      let runs = are_in_order stock stocked.rows stocked.apart in
+      let read : map run_in (map stock_meant rows) ≡ last_to_end n run (map run_in (entries stock)) = ap (map run_in) are ∙ last_rows_read (entries stock) stocked.rows run n in
+      ap (filter (reaches run)) read
+      ∙ last_have run n (map run_in (entries stock)) runs.stand (sym (ap (are_enough n run) read) ∙ enough)

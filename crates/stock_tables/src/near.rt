@@ -1,11 +1,11 @@
 //! The rows that a run touches.
-ghost use Rattle.std.specs.Prelude.{◌≡◌, ◌++◌, map, option_map, IfSome, IfOk};
+ghost use Rattle.std.specs.Prelude.{◌≡◌, ◌++◌, map, filter, option_map, IfSome, IfOk};
 ghost use Rattle.std.specs.FinMap.{entries};
 ghost use Rattle.row_schema.specs.Store.{Survives};
 ghost use Rattle.run_rows.specs.Rows.{rows_near, end_of};
 ghost use Rattle.station_rows.specs.Clauses.{TellsOf, ShowsStill, WasOpen};
 ghost use Rattle.station_rows.specs.Meant.{stock_meant};
-ghost use Rattle.stock_runs.specs.Reads.{reaching};
+ghost use Rattle.stock_runs.specs.Reads.{reaches, reaching, are_enough};
 ghost use Rattle.stock_runs.specs.Runs.{run_in};
 ghost use Rattle.stock_tables.specs.Stocked.{Stocked, IsCut, EndsBehind, BeginsAhead};
 
@@ -14,6 +14,10 @@ use agent_stock::{Holder, Run, StockRun};
 use station_rows::{StockRow, StoreFault, TableStore};
 use std::alloc::Global;
 use std::slice;
+
+/// How many rows an order reads at once: a single number touches three at most, its own and those
+/// beside it.
+const ROWS_AT_ONCE: u32 = 3;
 
 /// Rows as runs, behind others. `None`: a row is out of range, or memory runs out.
 pub(crate) fn with_rows(
@@ -54,9 +58,63 @@ fn reaching_run(
     Ok(near)
 }
 
-/// The rows that a run touches, in ascending order, by two statements.
+/// The rows that end right before a run, or later. `None`: memory runs out.
+fn reaching_rows(alloc: Global, run: &Run, rows: &[StockRun]) -> Option<Vec<StockRun>>
+    ensures { IfSome result (λ near. near.items ≡ filter (reaches run.now) rows.now) }
+{
+    let mut near = Vec::new(alloc);
+    for row in rows {
+        if run.first.key() <= end_key(row) {
+            near.push(*row).ok()?;
+        }
+    }
+    Some(near)
+}
+
+/// Whether no row before these, the last up to the end of a run, can touch the run: they are all,
+/// or the first of them begins before it.
+fn are_all_near(run: &Run, rows: &[StockRun]) -> bool
+    ensures { result ≡ are_enough 3 run.now rows.now }
+{
+    match rows.first() {
+        Some(row) if ROWS_AT_ONCE as usize <= rows.len() => row.first.key() < run.first.key(),
+        _ => true,
+    }
+}
+
+/// The rows that a run touches, in ascending order, by one statement. `None`: there may be more.
 #[tactic(auto, using(crate::proofs::Showing::still_shows))]
-pub(crate) fn near_of<S: TableStore>(
+fn near_at_once<S: TableStore>(
+    alloc: Global,
+    store: &mut S,
+    run: &Run,
+) -> Result<Option<Vec<StockRun>>, StoreFault>
+    ensures rows { TellsOf (S.view store.old) (S.view store.new) result
+        (λ tables found. Stocked tables
+        → IfSome found (λ near. near.items ≡ rows_near run.now (map run_in
+        (entries tables.stock)))) }
+    ensures same { ShowsStill (S.view store.old) (S.view store.new) result }
+    ensures open { WasOpen (S.view store.old) (S.view store.new) result }
+    ensures survives { Survives (S.view store.old) (S.view store.new) }
+{
+    let end = i64::from(run.first.serial()) + i64::from(run.count.number());
+    let rows = store.last_stock_up_to(i64::from(run.first.prefix()), end, ROWS_AT_ONCE)?;
+    let Some(rows) = with_rows(alloc, &[], &rows) else {
+        return Err(StoreFault);
+    };
+    if !are_all_near(run, &rows) {
+        return Ok(None);
+    }
+    match reaching_rows(alloc, run, &rows) {
+        Some(near) => Ok(Some(near)),
+        None => Err(StoreFault),
+    }
+}
+
+/// The rows that a run touches, in ascending order, by two statements: the last row that begins
+/// before it, and all that begin in it or right behind it.
+#[tactic(auto, using(crate::proofs::Showing::still_shows))]
+fn near_by_two<S: TableStore>(
     alloc: Global,
     store: &mut S,
     run: &Run,
@@ -76,6 +134,26 @@ pub(crate) fn near_of<S: TableStore>(
     match with_rows(alloc, &ahead, &rows) {
         Some(near) => Ok(near),
         None => Err(StoreFault),
+    }
+}
+
+/// The rows that a run touches, in ascending order: by one statement, unless they may be more than
+/// that reads.
+pub(crate) fn near_of<S: TableStore>(
+    alloc: Global,
+    store: &mut S,
+    run: &Run,
+) -> Result<Vec<StockRun>, StoreFault>
+    ensures rows { TellsOf (S.view store.old) (S.view store.new) result
+        (λ tables near. Stocked tables
+        → near.items ≡ rows_near run.now (map run_in (entries tables.stock))) }
+    ensures same { ShowsStill (S.view store.old) (S.view store.new) result }
+    ensures open { WasOpen (S.view store.old) (S.view store.new) result }
+    ensures survives { Survives (S.view store.old) (S.view store.new) }
+{
+    match near_at_once(alloc, store, run)? {
+        Some(near) => Ok(near),
+        None => near_by_two(alloc, store, run),
     }
 }
 

@@ -1,0 +1,6 @@
+use Rattle.std.proofs.Common.{◌≡◌, filter, take}
+use Rattle.stock_runs.specs.Reads.{reaches}
+use Rattle.stock_tables.proofs.near.reaching_rows.Given as goal
+
+abbrev pub invariant-loop-row : goal.invariant-loop-row
+invariant-loop-row l = l.near.items ≡ filter (reaches l.run) (take l.row-index l.rows)
