@@ -136,11 +136,7 @@ impl PlainCargo {
     fn built_anywhere(&self, number: &Awb, free: &Amount) -> Amount
         ensures { result ≡ less (store self.now.lists.book.items number.now) free.now }
     {
-        let store = stored(self.lists.book.as_slice(), number);
-        Amount {
-            pieces: store.pieces.saturating_sub(free.pieces),
-            tenths: store.tenths.saturating_sub(free.tenths),
-        }
+        stored(self.lists.book.as_slice(), number).less(*free)
     }
 
     /// A waybill with what is free of it and what is built.

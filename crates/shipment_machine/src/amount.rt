@@ -1,5 +1,5 @@
 ghost use Rattle.std.specs.Prelude.{◌≡◌, ℕ, ◌+◌, ◌-◌, ◌*◌, ◌/◌, ◌≤◌, ◌<◌, Some};
-ghost use Rattle.shipment_machine.specs.Amount.{IsHeld, amount_text, fits, part, pieces_word};
+ghost use Rattle.shipment_machine.specs.Amount.{IsHeld, amount_text, fits, less, part, pieces_word};
 
 use imp_fields::{MOST_PIECES, MOST_TENTHS, share};
 use std::fmt;
@@ -26,6 +26,18 @@ impl fmt::Display for Amount {
         let word = pieces_word(self.pieces);
         let (kilograms, tenths) = (self.tenths / 10, self.tenths % 10);
         write!(f, "{} {word}, {kilograms}.{tenths} kg", self.pieces)
+    }
+}
+
+impl Amount {
+    /// What is left without a part of it, and nothing where the part is more.
+    pub fn less(self, part: Amount) -> Amount
+        ensures { result ≡ less self part }
+    {
+        Amount {
+            pieces: self.pieces.saturating_sub(part.pieces),
+            tenths: self.tenths.saturating_sub(part.tenths),
+        }
     }
 }
 

@@ -1,7 +1,6 @@
 //! The readers of the state of a store: nothing is changed.
 ghost use Rattle.std.specs.Prelude.{◌≡◌, ◌≤◌, ℕ, ◌+◌, ◌-◌, ◌++◌, length, map, OnOk, IfOk};
 ghost use Rattle.std.specs.List.{flat_map, sum_by};
-ghost use Rattle.shipment_machine.specs.Amount.{less};
 ghost use Rattle.shipment_machine.specs.Book.{balances_of, store};
 ghost use Rattle.shipment_machine.specs.Cargo.{Cargo as AnyCargo};
 ghost use Rattle.shipment_machine.specs.Lawful.{IsLawful};
@@ -206,16 +205,6 @@ pub fn irregular_rows<S: StateStore>(
     irregular_among(alloc, store, &waybills)
 }
 
-/// What is left of an amount.
-fn less(whole: &Amount, part: &Amount) -> Amount
-    ensures { result ≡ less whole.now part.now }
-{
-    Amount {
-        pieces: whole.pieces.saturating_sub(part.pieces),
-        tenths: whole.tenths.saturating_sub(part.tenths),
-    }
-}
-
 /// A waybill with this in store.
 fn shed_row<S: StateStore>(
     store: &mut S,
@@ -235,7 +224,7 @@ fn shed_row<S: StateStore>(
         origin: declared.origin,
         destination: declared.destination,
         free,
-        built: less(stored, &free),
+        built: stored.less(free),
         notified: declared.notified,
     })
 }
