@@ -184,7 +184,7 @@ as_many (e ∷ es) = go (int_lt (pos 0) e.1.pieces) (as_many es)
     go true more = ap suc more
     go false more = more
 
-positive : (x y : ℕ) → int_lt (pos 0) (pos x -ℤ pos y) ≡ nat_lt 0 (x - y)
+pub positive : (x y : ℕ) → int_lt (pos 0) (pos x -ℤ pos y) ≡ nat_lt 0 (x - y)
 positive x y = grind (arith, ints, nat_tests)
 
 not_nothing : (r : Running) → int_lt (pos 0) r.pieces ≡ true → is_nothing r ≡ false

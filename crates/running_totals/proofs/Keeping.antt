@@ -1,7 +1,7 @@
 -- What a store keeps when an amount was posted.
-use Rattle.std.proofs.Common.{◌≡◌, ℕ, ℤ, pos, true, false, List, [], ◌∷◌, ◌++◌, refl, sym, ap, subst, ◌∙◌, int_cmp, is_eq, Ordering, Less, Equal, Greater}
+use Rattle.std.proofs.Common.{◌≡◌, ℕ, ℤ, pos, ◌==◌, Bool, true, false, ◌&&◌, cond, Option, Some, None, option_map, List, [], ◌∷◌, ◌++◌, refl, sym, ap, subst, ◌∙◌, int_cmp, is_eq, Ordering, Less, Equal, Greater}
 use Rattle.std.specs.Ordering.{eq_by_cmp}
-use Rattle.std.specs.FinMap.{int_cmp-IsAntisymmetric}
+use Rattle.std.specs.FinMap.{get, int_cmp-IsAntisymmetric}
 use Rattle.std.specs.Cmp.{IsTotalOrder, int_cmp_total}
 use Rattle.sqlite_keyed.proofs.SortLemmas.{pair_cmp}
 use Rattle.sqlite_typed.specs.Tests.{bytes_cmp}
@@ -13,12 +13,13 @@ use Rattle.shipment_machine.specs.declared.moves.Place.TheVariants.{Built}
 use Rattle.row_laws.proofs.Keys.{pair_total, pair_same, texts_total, texts_same}
 use Rattle.row_schema.specs.Store.{View, inside, IsShowing}
 use Rattle.row_schema.specs.Tables.{Tables, CountKey, count_cmp, BuildKey, build_cmp}
-use Rattle.row_codec.specs.Counts.{Running, running, running_in, running_on, count_row, build_row, AreCounts, AreBuilds}
+use Rattle.row_codec.specs.Counts.{Running, running, running_in, running_on, count_row, build_row, is_nothing, unless_nothing, AreCounts, AreBuilds}
 use Rattle.row_codec.specs.Moves.{place_code}
-use Rattle.running_totals.specs.Sums.{Sums, posting, come, gone, is_built, count_in, build_in}
-use Rattle.running_totals.specs.Stored.{posting_count, posting_build}
-use Rattle.running_totals.specs.Posted.{Keeps, Posted}
-use Rattle.running_totals.proofs.Storing.{posted_as}
+use Rattle.running_totals.specs.Sums.{Sums, plus, posting, come, gone, is_built, count_in, build_in}
+use Rattle.running_totals.specs.Stored.{pieces_found, posting_count, posting_build}
+use Rattle.running_totals.specs.Posted.{Keeps, Posted, WereThere}
+use Rattle.running_totals.proofs.Tests.{and_no}
+use Rattle.running_totals.proofs.Storing.{nothing_is, posted_as}
 use Rattle.running_totals.proofs.Codes as codes
 use Rattle.running_totals.proofs.Written as written
 use Rattle.running_totals.proofs.Moved.{counted_is, built_up_is, sums_then}
@@ -92,3 +93,31 @@ posted_book v before now book m away by is_away is_by k =
       are_counts = λ q. all.are_counts q ∙ sym (counted_is (book ++ m ∷ []) q);
       are_builds = λ q. all.are_builds q ∙ sym (built_up_is (book ++ m ∷ []) q);
     }
+
+-- the pieces that were found before
+
+pieces_there : {V : Type 0} (row : Running → V) (amount : V → Running) → ((r : Running) → amount (row r) ≡ r) → (s : Running) → pieces_found (option_map amount (option_map row (unless_nothing s))) ≡ s.pieces
+pieces_there row amount again s = go (is_nothing s) refl
+  where
+    go : (b : Bool) → is_nothing s ≡ b → pieces_found (option_map amount (option_map row (cond b None (Some s)))) ≡ s.pieces
+    go true e = sym (nothing_is s e).pieces
+    go false e = ap (λ (r : Running). r.pieces) (again s)
+
+pub counted_before : (v : View) (before now : Tables) (sums : Sums) (a : ℕ) (place : Place) (number code : ℤ) → is_built place ≡ false → number ≡ pos a → code ≡ pos (place_code place) → (k : Keeps v before now sums)
+    → pieces_found (option_map running_in (get k.counts (number, code))) ≡ (sums a place).pieces
+counted_before v before now sums a place number code plain is_number is_code k =
+    ap (λ (q : CountKey). pieces_found (option_map running_in (get k.counts q))) (λ i. (is_number i, is_code i))
+    ∙ ap (λ o. pieces_found (option_map running_in o)) (k.are_counts (pos a, pos (place_code place)) ∙ codes.at_key sums a place (sums a place) plain)
+    ∙ pieces_there count_row running_in (λ r. refl) (sums a place)
+
+pub built_before : (v : View) (before now : Tables) (sums : Sums) (a : ℕ) (f : FlightDate) (text : List ℕ) (day number : ℤ) → IsDesignator f.flight → text ≡ flight_text f.flight → day ≡ pos f.day → number ≡ pos a → (k : Keeps v before now sums)
+    → pieces_found (option_map running_on (get k.builds (text, (day, number)))) ≡ (sums a (Built f)).pieces
+built_before v before now sums a f text day number designator is_text is_day is_number k =
+    ap (λ (q : BuildKey). pieces_found (option_map running_on (get k.builds q))) (λ i. (is_text i, (is_day i, is_number i)))
+    ∙ ap (λ o. pieces_found (option_map running_on o)) (k.are_builds (flight_text f.flight, (pos f.day, pos a)) ∙ written.at_key sums a f (sums a (Built f)) designator)
+    ∙ pieces_there build_row running_on (λ r. refl) (sums a (Built f))
+
+-- what left another place changed nothing of it
+pub there_before : (book : List Move) (m : Move) (away : Running) (pieces : ℤ) → pieces ≡ (posting m.awb m.from away (running book) m.awb m.to).pieces → WereThere book m pieces
+there_before book m away pieces is other =
+    is ∙ ap (λ b. (cond b (plus (running book m.awb m.to) away) (running book m.awb m.to)).pieces) (ap (λ b. (m.awb == m.awb) && b) other ∙ and_no (m.awb == m.awb))

@@ -32,7 +32,7 @@ built_up_is book (text, (negsuc n, negsuc k)) = refl
 difference : (x y a b : ℕ) → pos (x + a) -ℤ pos (y + b) ≡ (pos x -ℤ pos y) +ℤ neg_ℤ (pos b) +ℤ pos a
 difference x y a b = omega (arith, ints)
 
-balance_then : (measure : Move → ℕ) (book : List Move) (m : Move) (w : ℕ) (there : Place → Bool)
+pub balance_then : (measure : Move → ℕ) (book : List Move) (m : Move) (w : ℕ) (there : Place → Bool)
     → balance measure (book ++ m ∷ []) w there ≡ balance measure book w there +ℤ neg_ℤ (pos (takes measure w there m)) +ℤ pos (brings measure w there m)
 balance_then measure book m w there =
     ap₂ (λ x y. pos x -ℤ pos y) (sum_by_push (brings measure w there) book m) (sum_by_push (takes measure w there) book m)
@@ -44,7 +44,7 @@ kept z = omega (arith, ints)
 less : (z : ℤ) (n : ℕ) → z +ℤ neg_ℤ (pos n) +ℤ pos 0 ≡ z +ℤ neg_ℤ (pos n)
 less z n = omega (arith, ints)
 
-more : (z : ℤ) (n : ℕ) → z +ℤ neg_ℤ (pos 0) +ℤ pos n ≡ z +ℤ pos n
+pub more : (z : ℤ) (n : ℕ) → z +ℤ neg_ℤ (pos 0) +ℤ pos n ≡ z +ℤ pos n
 more z n = omega (arith, ints)
 
 moved : (r : Running) (m : Move) (to from : Bool)

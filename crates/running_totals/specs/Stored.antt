@@ -1,5 +1,5 @@
 -- A row that is written, or removed where nothing is left.
-use Rattle.std.specs.Prelude.{Bool, if◌then◌else◌, is_some, Option, Some, None}
+use Rattle.std.specs.Prelude.{ℤ, pos, Bool, if◌then◌else◌, is_some, Option, Some, None}
 use Rattle.std.specs.declared.cmp.Ordering.{Ordering}
 use Rattle.std.specs.FinMap.{FinMap, get, insert, remove}
 use Rattle.row_laws.specs.Columns.{adjust}
@@ -21,6 +21,11 @@ stored m nothing there key v = if nothing then remove m key else (if there then 
 abbrev pub come_to : {V : Type 0} → (V → Running) → Option V → Running → Running
 come_to amount None by = by
 come_to amount (Some v) by = plus (amount v) by
+
+-- the pieces of what was found, and none where there is no row
+abbrev pub pieces_found : Option Running → ℤ
+pieces_found None = pos 0
+pieces_found (Some r) = r.pieces
 
 -- what a waybill has at a place, where it is known whether there is a row
 abbrev pub storing_count : Bool → CountKey × Count → Tables → Tables

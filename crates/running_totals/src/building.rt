@@ -5,10 +5,10 @@ ghost use Rattle.row_schema.specs.Store.{Seen, Rests, Survives, IsShowing};
 ghost use Rattle.cargo_rows.specs.Meant.{build_meant};
 ghost use Rattle.station_rows.specs.Clauses.{ShowsChange, ShowsStill, TellsOf, WasOpen};
 ghost use Rattle.row_codec.specs.Counts.{AreBuilds, build_row, running_on};
-ghost use Rattle.running_totals.specs.Stored.{meant, storing_build, posting_build};
+ghost use Rattle.running_totals.specs.Stored.{meant, pieces_found, storing_build, posting_build};
 
 use crate::fields::{number_of, whole, written};
-use crate::tally::{Tally, build_tally};
+use crate::tally::{Tally, build_tally, pieces_found};
 use awb_number::Awb;
 use shipment_machine::{Amount, FlightDate, Move};
 use station_rows::{BuildRow, StoreFault, TableStore};
@@ -83,7 +83,8 @@ fn put_build<S: TableStore>(
     }
 }
 
-/// Adds an amount to what a flight carries of a waybill.
+/// Adds an amount to what a flight carries of a waybill, and returns the pieces that it carried
+/// before.
 pub(crate) fn post_build<S: TableStore>(
     alloc: Global,
     store: &mut S,
@@ -91,15 +92,18 @@ pub(crate) fn post_build<S: TableStore>(
     day: i64,
     awb: i64,
     by: Tally,
-) -> Result<(), StoreFault>
+) -> Result<i64, StoreFault>
     ensures done { ShowsChange (S.view store.old) (S.view store.new) result
         (posting_build (flight.now, (day, awb)) (meant by)) }
+    ensures before { TellsOf (S.view store.old) (S.view store.new) result
+        (λ tables pieces. pieces ≡ pieces_found (option_map running_on
+        (get tables.builds (flight.now, (day, awb))))) }
     ensures survives { Survives (S.view store.old) (S.view store.new) }
 {
     let found = at_flight(store, flight, day, awb)?;
     let sum = by.onto(found)?;
     put_build(alloc, store, found.is_some(), flight, day, awb, sum)?;
-    Ok(())
+    Ok(pieces_found(found))
 }
 
 /// What of a waybill is built on a flight, inside a transaction or outside. A fault: the database

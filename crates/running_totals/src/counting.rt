@@ -6,13 +6,13 @@ ghost use Rattle.shipment_machine.specs.Book.{balances_of, drawn, held, same_pla
 ghost use Rattle.row_schema.specs.Store.{Seen, Rests, Survives, IsShowing};
 ghost use Rattle.row_schema.specs.Tables.{Count, count_cmp};
 ghost use Rattle.cargo_rows.specs.Meant.{count_meant, counts_for};
-ghost use Rattle.station_rows.specs.Clauses.{ShowsChange, ShowsStill, WasOpen};
+ghost use Rattle.station_rows.specs.Clauses.{ShowsChange, ShowsStill, TellsOf, WasOpen};
 ghost use Rattle.row_codec.specs.Counts.{AreCounts, count_row, running_in};
 ghost use Rattle.running_totals.specs.Sums.{is_built};
-ghost use Rattle.running_totals.specs.Stored.{meant, storing_count, posting_count};
+ghost use Rattle.running_totals.specs.Stored.{meant, pieces_found, storing_count, posting_count};
 
 use crate::fields::number_of;
-use crate::tally::{Tally, count_tally};
+use crate::tally::{Tally, count_tally, pieces_found};
 use awb_number::Awb;
 use row_codec::place_code;
 use shipment_machine::{Amount, Balances, Move, Place};
@@ -72,22 +72,25 @@ fn put_count<S: TableStore>(
     }
 }
 
-/// Adds an amount to what a waybill has at a place.
+/// Adds an amount to what a waybill has at a place, and returns the pieces that it had there before.
 pub(crate) fn post_count<S: TableStore>(
     store: &mut S,
     awb: i64,
     place: i64,
     by: Tally,
-) -> Result<(), StoreFault>
+) -> Result<i64, StoreFault>
     ensures done { ShowsChange (S.view store.old) (S.view store.new) result
         (posting_count (awb, place) (meant by)) }
+    ensures before { TellsOf (S.view store.old) (S.view store.new) result
+        (λ tables pieces. pieces ≡ pieces_found (option_map running_in
+        (get tables.counts (awb, place)))) }
     ensures survives { Survives (S.view store.old) (S.view store.new) }
 {
     let rows = store.counts_of(awb)?;
     let found = at_place(&rows, place);
     let sum = by.onto(found)?;
     put_count(store, found.is_some(), awb, place, sum)?;
-    Ok(())
+    Ok(pieces_found(found))
 }
 
 /// What is at a place of the station, by the rows of a waybill.

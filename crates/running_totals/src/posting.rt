@@ -1,10 +1,10 @@
-ghost use Rattle.std.specs.Prelude.{◌≡◌, ◌∷◌, [], ◌++◌, List, OnOk};
+ghost use Rattle.std.specs.Prelude.{◌≡◌, ◌∷◌, [], ◌++◌, List, IfOk, OnOk};
 ghost use Rattle.row_schema.specs.Store.{Survives, IsShowing, inside};
 ghost use Rattle.row_schema.specs.Tables.{Tables};
 ghost use Rattle.row_codec.specs.Counts.{AreCounts, AreBuilds};
 ghost use Rattle.running_totals.specs.Sums.{Sums, come, gone, posting};
 ghost use Rattle.running_totals.specs.Stored.{meant};
-ghost use Rattle.running_totals.specs.Posted.{Keeps, Posted};
+ghost use Rattle.running_totals.specs.Posted.{Keeps, Posted, WereThere};
 
 use crate::building::post_build;
 use crate::counting::post_count;
@@ -16,29 +16,32 @@ use shipment_machine::{Move, Place};
 use station_rows::{StoreFault, TableStore};
 use std::alloc::Global;
 
-/// Adds an amount to what a waybill has at a place.
+/// Adds an amount to what a waybill has at a place, and returns the pieces that it had there before.
 fn post<S: TableStore>(
     alloc: Global,
     store: &mut S,
     awb: &Awb,
     place: &Place,
     by: Tally,
-) -> Result<(), StoreFault>
+) -> Result<i64, StoreFault>
     ensures done { (before now : Tables) (sums : Sums) → Keeps (S.view store.old) before now sums
         → OnOk result (Keeps (S.view store.new) before now
         (posting awb.now place.now (meant by) sums)) }
+    ensures before { (before now : Tables) (sums : Sums) → Keeps (S.view store.old) before now sums
+        → (S.view store.new).IsSound
+        → IfOk result (λ pieces. pieces ≡ (sums awb.now place.now).pieces) }
     ensures survives { Survives (S.view store.old) (S.view store.new) }
 {
     let number = number_of(awb);
     if let Place::Built(flight) = place {
         let text = written(alloc, &flight.flight)?;
         let day = whole(flight.day.number());
-        post_build(alloc, store, text.as_str(), day, number, by)?;
-        Ok(())
+        let aboard = post_build(alloc, store, text.as_str(), day, number, by)?;
+        Ok(aboard)
     } else {
         let code = place_code(place);
-        post_count(store, number, code, by)?;
-        Ok(())
+        let there = post_count(store, number, code, by)?;
+        Ok(there)
     }
 }
 
@@ -63,21 +66,25 @@ fn gone(movement: &Move) -> Tally
 }
 
 /// Takes what a move moves from the place that it leaves and brings it to the place that it comes
-/// to, in a transaction. A place of a waybill where nothing is left has no row. A fault: no
-/// transaction is open, a database call failed, memory ran out, or a sum is out of range.
+/// to, in a transaction, and returns the pieces that the waybill had there before. A place of a
+/// waybill where nothing is left has no row. A fault: no transaction is open, a database call
+/// failed, memory ran out, or a sum is out of range.
 pub fn post_move<S: TableStore>(
     alloc: Global,
     store: &mut S,
     movement: &Move,
-) -> Result<(), StoreFault>
+) -> Result<i64, StoreFault>
     ensures done { (before now : Tables) → IsShowing (S.view store.old) (inside before now)
         → (book : List Move) → AreCounts now.counts book → AreBuilds now.builds book
         → OnOk result (Posted (S.view store.new) before now (book ++ movement.now ∷ [])) }
+    ensures before { (before now : Tables) → IsShowing (S.view store.old) (inside before now)
+        → (book : List Move) → AreCounts now.counts book → AreBuilds now.builds book
+        → (S.view store.new).IsSound → IfOk result (WereThere book movement.now) }
     ensures survives { Survives (S.view store.old) (S.view store.new) }
 {
     let gone = gone(movement);
     post(alloc, store, &movement.awb, &movement.from, gone)?;
     let come = come(movement);
-    post(alloc, store, &movement.awb, &movement.to, come)?;
-    Ok(())
+    let pieces = post(alloc, store, &movement.awb, &movement.to, come)?;
+    Ok(pieces)
 }

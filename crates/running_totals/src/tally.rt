@@ -1,8 +1,8 @@
-ghost use Rattle.std.specs.Prelude.{◌≡◌, ℤ, pos, ◌+ℤ◌, ◌-ℤ◌, IfOk};
+ghost use Rattle.std.specs.Prelude.{◌≡◌, ℤ, pos, ◌+ℤ◌, ◌-ℤ◌, option_map, IfOk};
 ghost use Rattle.cargo_rows.specs.Meant.{build_meant, count_meant};
 ghost use Rattle.row_codec.specs.Counts.{Running, is_nothing, running_in, running_on};
 ghost use Rattle.running_totals.specs.Sums.{plus};
-ghost use Rattle.running_totals.specs.Stored.{come_to, meant};
+ghost use Rattle.running_totals.specs.Stored.{come_to, meant, pieces_found};
 
 use shipment_machine::Amount;
 use station_rows::{BuildRow, CountRow, StoreFault};
@@ -31,6 +31,16 @@ pub(crate) fn build_tally(row: &BuildRow) -> Tally
     Tally {
         pieces: row.pieces,
         tenths: row.tenths,
+    }
+}
+
+/// The pieces that were found, and none where there is no row.
+pub(crate) fn pieces_found(found: Option<Tally>) -> i64
+    ensures { result ≡ pieces_found (option_map meant found) }
+{
+    match found {
+        Some(found) => found.pieces,
+        None => 0,
     }
 }
 

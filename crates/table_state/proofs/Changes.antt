@@ -40,14 +40,17 @@ use Rattle.row_codec.specs.Replies.{kept_row}
 use Rattle.row_codec.specs.Meaning.{meaning_of, IsReadable, Means}
 use Rattle.row_codec.proofs.Fits.{count_fits}
 use Rattle.row_codec.proofs.Readable.{readable_stock}
+use Rattle.row_codec.proofs.Telling.{book_told}
 use Rattle.row_codec.proofs.Written.{waybill_written, waybill_changed, flight_written, expected_written, part_written, key_kept, text_kept, line_written, message_written, mark_written, move_written}
 use Rattle.state_store.specs.Store.{at_rest, inside}
 use Rattle.state_store.specs.Told.{IsRequest, sizes_of, on_cargo, with_moves, with_messages, with_key, with_text, with_order}
 use Rattle.state_store.specs.declared.store.Sizes.{Sizes}
+use Rattle.running_totals.specs.Posted.{WereThere}
 use Rattle.stock_tables.specs.Stocked.{Stocked, restocked, using_up, Restocked}
 use Rattle.table_state.specs.Recorded.{Recorded}
 use Rattle.table_state.specs.Put.{put_over, putting_waybill}
-use Rattle.table_state.specs.Shown.{Knows, Tells, Shows}
+use Rattle.table_state.specs.declared.counted.Counted.{Counted}
+use Rattle.table_state.specs.Shown.{Knows, IsBoarded, Tells, Shows}
 use Rattle.table_state.proofs.Lifting.{writes_on, reached}
 
 put_means : (t : Tables) (s : State) (text : List ℕ) (w : ℕ) (d : Declared) (new : table.Waybill) → new ≡ waybill_row w d → is_waybill_row (waybill_row w d) ≡ true → Means t (Some s)
@@ -55,100 +58,100 @@ put_means : (t : Tables) (s : State) (text : List ℕ) (w : ℕ) (d : Declared) 
 put_means t s text w d new is fits means None has = waybill_written t s means text w d new is fits
 put_means t s text w d new is fits means (Some was) has = waybill_changed t s means text w d new was is fits has
 
-module _ (old new : View) (here : List ℕ) (sizes : Sizes) (confirmed : ℕ) (before s : State) (was : Shows old here sizes confirmed (inside before s)) (survives : row.Survives old new) where
+module _ (old new : View) (here : List ℕ) (counted : Counted) (confirmed : ℕ) (before s : State) (was : Shows old here counted confirmed (inside before s)) (survives : row.Survives old new) where
   same_rest : (after : State) → s.cargo.here ≡ after.cargo.here → sizes_of s.cargo ≡ sizes_of after.cargo → s.cargo.confirmed ≡ after.cargo.confirmed
-      → Knows here sizes confirmed (inside before s) → Knows here sizes confirmed (inside before after)
+      → Knows here counted.sizes confirmed (inside before s) → Knows here counted.sizes confirmed (inside before after)
   same_rest after place counts mark k = record { here_is = k.here_is ∙ place; sizes_are = k.sizes_are ∙ counts; confirmed_is = k.confirmed_is ∙ mark }
 
   pub declares_on : (text : List ℕ) (w : ℕ) (d : Declared) (row_is : table.Waybill) → row_is ≡ waybill_row w d → IsTrue (is_waybill_row (waybill_row w d))
       → (IsShowing old (row.inside old.committed old.now) → IsShowing new (row.inside old.committed (putting_waybill row_is old.now)))
-      → Shows new here sizes confirmed (inside before (on_cargo (written text (Declare w d)) s))
+      → Shows new here counted confirmed (inside before (on_cargo (written text (Declare w d)) s))
   declares_on text w d row_is is fits done =
-      writes_on old new here sizes confirmed (putting_waybill row_is) sizes confirmed before s (on_cargo (written text (Declare w d)) s) was survives done
+      writes_on old new here counted confirmed (putting_waybill row_is) counted confirmed before s (on_cargo (written text (Declare w d)) s) was survives done
       (λ _ means. put_means old.now s text w d row_is is fits means (get_by waybill_id old.now.waybills row_is.awb) (ap (λ (r : table.Waybill). get_by waybill_id old.now.waybills r.awb) (sym is)))
-      (same_rest (on_cargo (written text (Declare w d)) s) refl refl refl)
+      (same_rest (on_cargo (written text (Declare w d)) s) refl refl refl) (λ b. b)
 
   pub notes_flight_on : (text name : List ℕ) (day : ℤ) (f : FlightDate) (o : Outbound) (row_is : table.Flight) → name ≡ flight_text f.flight → day ≡ pos f.day → row_is ≡ outbound_row o
       → IsTrue (is_designator f.flight) → IsTrue (is_flight_row (flight_key f, outbound_row o))
       → (IsShowing old (row.inside old.committed old.now) → IsShowing new (row.inside old.committed (with_flight (name, day) row_is old.now)))
-      → Shows new here sizes confirmed (inside before (on_cargo (written text (NoteFlight f o)) s))
+      → Shows new here counted confirmed (inside before (on_cargo (written text (NoteFlight f o)) s))
   notes_flight_on text name day f o row_is is_name is_day is may fits done =
-      writes_on old new here sizes confirmed (with_flight (name, day) row_is) sizes confirmed before s (on_cargo (written text (NoteFlight f o)) s) was survives done
+      writes_on old new here counted confirmed (with_flight (name, day) row_is) counted confirmed before s (on_cargo (written text (NoteFlight f o)) s) was survives done
       (λ _ means. flight_written old.now s means text name day f o row_is is_name is_day is may fits)
-      (same_rest (on_cargo (written text (NoteFlight f o)) s) refl refl refl)
+      (same_rest (on_cargo (written text (NoteFlight f o)) s) refl refl refl) (λ b. b)
 
   pub expects_on : (text name : List ℕ) (day awb : ℤ) (f : FlightDate) (w : ℕ) (e : Expected) (row_is : table.Expected) → name ≡ flight_text f.flight → day ≡ pos f.day → awb ≡ pos w → row_is ≡ expected_row e
       → IsTrue (is_designator f.flight) → IsTrue (is_expected_row (expected_key f w, expected_row e))
       → (IsShowing old (row.inside old.committed old.now) → IsShowing new (row.inside old.committed (with_expected (name, (day, awb)) row_is old.now)))
-      → Shows new here sizes confirmed (inside before (on_cargo (written text (Expect f w e)) s))
+      → Shows new here counted confirmed (inside before (on_cargo (written text (Expect f w e)) s))
   expects_on text name day awb f w e row_is is_name is_day is_awb is may fits done =
-      writes_on old new here sizes confirmed (with_expected (name, (day, awb)) row_is) sizes confirmed before s (on_cargo (written text (Expect f w e)) s) was survives done
+      writes_on old new here counted confirmed (with_expected (name, (day, awb)) row_is) counted confirmed before s (on_cargo (written text (Expect f w e)) s) was survives done
       (λ _ means. expected_written old.now s means text name day awb f w e row_is is_name is_day is_awb is may fits)
-      (same_rest (on_cargo (written text (Expect f w e)) s) refl refl refl)
+      (same_rest (on_cargo (written text (Expect f w e)) s) refl refl refl) (λ b. b)
 
   pub notes_part_on : (text name airport body : List ℕ) (day number : ℤ) (p : Part) → name ≡ flight_text p.flight.flight → day ≡ pos p.flight.day → airport ≡ p.airport → number ≡ pos p.number → body ≡ text
       → IsTrue (is_designator p.flight.flight) → IsTrue (is_part_row (part_key p, text))
       → (IsShowing old (row.inside old.committed old.now) → IsShowing new (row.inside old.committed (with_part (name, (day, (airport, number))) body old.now)))
-      → Shows new here sizes confirmed (inside before (on_cargo (written text (NotePart p)) s))
+      → Shows new here counted confirmed (inside before (on_cargo (written text (NotePart p)) s))
   notes_part_on text name airport body day number p is_name is_day is_airport is_number is may fits done =
-      writes_on old new here sizes confirmed (with_part (name, (day, (airport, number))) body) sizes confirmed before s (on_cargo (written text (NotePart p)) s) was survives done
+      writes_on old new here counted confirmed (with_part (name, (day, (airport, number))) body) counted confirmed before s (on_cargo (written text (NotePart p)) s) was survives done
       (λ _ means. part_written old.now s means text name airport body day number p is_name is_day is_airport is_number is may fits)
-      (same_rest (on_cargo (written text (NotePart p)) s) refl refl refl)
+      (same_rest (on_cargo (written text (NotePart p)) s) refl refl refl) (λ b. b)
 
   -- a list that got one more
 
-  pub adds_line_on : (text : List ℕ) (n w : ℕ) (line : List ℕ) (row_is : table.TrailLine) → row_is ≡ line_row n w line → IsTrue (is_trail_row (line_row n w line)) → n ≡ sizes.lines + 1
+  pub adds_line_on : (text : List ℕ) (n w : ℕ) (line : List ℕ) (row_is : table.TrailLine) → row_is ≡ line_row n w line → IsTrue (is_trail_row (line_row n w line)) → n ≡ counted.sizes.lines + 1 → (later : Counted) → later.sizes ≡ record { moves = counted.sizes.moves; lines = n; messages = counted.sizes.messages } → later.boarded ≡ counted.boarded
       → (IsShowing old (row.inside old.committed old.now) → IsShowing new (row.inside old.committed (with_trail_line row_is old.now)))
-      → Shows new here (record { moves = sizes.moves; lines = n; messages = sizes.messages }) confirmed (inside before (on_cargo (written text (Trail w line)) s))
-  adds_line_on text n w line row_is is fits next done sound =
-      let counted : sizes.lines ≡ length s.cargo.trail = ap (λ (z : Sizes). z.lines) (was (survives.sound sound)).knows.sizes_are in
-      let one_more : n ≡ length s.cargo.trail + 1 = next ∙ ap (λ k. k + 1) counted in
-      writes_on old new here sizes confirmed (with_trail_line row_is) (record { moves = sizes.moves; lines = n; messages = sizes.messages }) confirmed before s (on_cargo (written text (Trail w line)) s) was survives done
+      → Shows new here later confirmed (inside before (on_cargo (written text (Trail w line)) s))
+  adds_line_on text n w line row_is is fits next later sizes_later same done sound =
+      let had : counted.sizes.lines ≡ length s.cargo.trail = ap (λ (z : Sizes). z.lines) (was (survives.sound sound)).knows.sizes_are in
+      let one_more : n ≡ length s.cargo.trail + 1 = next ∙ ap (λ k. k + 1) had in
+      writes_on old new here counted confirmed (with_trail_line row_is) later confirmed before s (on_cargo (written text (Trail w line)) s) was survives done
       (λ _ means. line_written old.now s means n w line text row_is is fits one_more)
       (λ k. record {
         here_is = k.here_is;
-        sizes_are = λ i. record { moves = (k.sizes_are i).moves; lines = (one_more ∙ sym (length-append s.cargo.trail ((w, line) ∷ []))) i; messages = (k.sizes_are i).messages };
+        sizes_are = sizes_later ∙ (λ i. record { moves = (k.sizes_are i).moves; lines = (one_more ∙ sym (length-append s.cargo.trail ((w, line) ∷ []))) i; messages = (k.sizes_are i).messages });
         confirmed_is = k.confirmed_is;
-      }) sound
+      }) (λ b. subst (λ o. IsBoarded o s.cargo.book) (sym same) b) sound
 
-  pub adds_message_on : (n : ℕ) (text : List ℕ) (row_is : table.Message) → row_is ≡ message_row n text → IsTrue (is_message_row (message_row n text)) → n ≡ sizes.messages + 1
+  pub adds_message_on : (n : ℕ) (text : List ℕ) (row_is : table.Message) → row_is ≡ message_row n text → IsTrue (is_message_row (message_row n text)) → n ≡ counted.sizes.messages + 1 → (later : Counted) → later.sizes ≡ record { moves = counted.sizes.moves; lines = counted.sizes.lines; messages = n } → later.boarded ≡ counted.boarded
       → (IsShowing old (row.inside old.committed old.now) → IsShowing new (row.inside old.committed (with_message row_is old.now)))
-      → Shows new here (record { moves = sizes.moves; lines = sizes.lines; messages = n }) confirmed (inside before (with_messages (text ∷ []) s))
-  adds_message_on n text row_is is fits next done sound =
-      let counted : sizes.messages ≡ length s.cargo.outbox = ap (λ (z : Sizes). z.messages) (was (survives.sound sound)).knows.sizes_are in
-      let one_more : n ≡ length s.cargo.outbox + 1 = next ∙ ap (λ k. k + 1) counted in
-      writes_on old new here sizes confirmed (with_message row_is) (record { moves = sizes.moves; lines = sizes.lines; messages = n }) confirmed before s (with_messages (text ∷ []) s) was survives done
+      → Shows new here later confirmed (inside before (with_messages (text ∷ []) s))
+  adds_message_on n text row_is is fits next later sizes_later same done sound =
+      let had : counted.sizes.messages ≡ length s.cargo.outbox = ap (λ (z : Sizes). z.messages) (was (survives.sound sound)).knows.sizes_are in
+      let one_more : n ≡ length s.cargo.outbox + 1 = next ∙ ap (λ k. k + 1) had in
+      writes_on old new here counted confirmed (with_message row_is) later confirmed before s (with_messages (text ∷ []) s) was survives done
       (λ _ means. message_written old.now s means n text row_is is fits one_more)
       (λ k. record {
         here_is = k.here_is;
-        sizes_are = λ i. record { moves = (k.sizes_are i).moves; lines = (k.sizes_are i).lines; messages = (one_more ∙ sym (length-append s.cargo.outbox (text ∷ []))) i };
+        sizes_are = sizes_later ∙ (λ i. record { moves = (k.sizes_are i).moves; lines = (k.sizes_are i).lines; messages = (one_more ∙ sym (length-append s.cargo.outbox (text ∷ []))) i });
         confirmed_is = k.confirmed_is;
-      }) sound
+      }) (λ b. subst (λ o. IsBoarded o s.cargo.book) (sym same) b) sound
 
   pub confirms_on : (text : List ℕ) (number : ℤ) (upto : ℕ) → number ≡ pos upto → IsTrue (is_count (pos upto))
       → (IsShowing old (row.inside old.committed old.now) → IsShowing new (row.inside old.committed (confirming number old.now)))
-      → Shows new here sizes upto (inside before (on_cargo (written text (Confirm upto)) s))
+      → Shows new here counted upto (inside before (on_cargo (written text (Confirm upto)) s))
   confirms_on text number upto is counts done =
-      writes_on old new here sizes confirmed (confirming number) sizes upto before s (on_cargo (written text (Confirm upto)) s) was survives done
+      writes_on old new here counted confirmed (confirming number) counted upto before s (on_cargo (written text (Confirm upto)) s) was survives done
       (λ _ means. mark_written old.now s means text number upto is counts)
-      (λ k. record { here_is = k.here_is; sizes_are = k.sizes_are; confirmed_is = refl })
+      (λ k. record { here_is = k.here_is; sizes_are = k.sizes_are; confirmed_is = refl }) (λ b. b)
 
   pub keeps_text_on : (body text : List ℕ) (number : ℤ) (count : ℕ) → body ≡ text → number ≡ pos count → IsTrue (is_utf8 text) → IsTrue (is_count (pos count))
       → (IsShowing old (row.inside old.committed old.now) → IsShowing new (row.inside old.committed (with_kept_text body number old.now)))
-      → Shows new here sizes confirmed (inside before (with_text text count s))
+      → Shows new here counted confirmed (inside before (with_text text count s))
   keeps_text_on body text number count is_body is_number is counts done =
-      writes_on old new here sizes confirmed (with_kept_text body number) sizes confirmed before s (with_text text count s) was survives done
+      writes_on old new here counted confirmed (with_kept_text body number) counted confirmed before s (with_text text count s) was survives done
       (λ _ means. text_kept old.now s means body text number count is_body is_number is counts)
-      (same_rest (with_text text count s) refl refl refl)
+      (same_rest (with_text text count s) refl refl refl) (λ b. b)
 
   pub keeps_key_on : (id key : List ℕ) (one : step.Kept) (row_is : table.Kept) → id ≡ key → row_is ≡ kept_row one → IsTrue (is_key key) → IsTrue (is_utf8 one.request) → IsTrue (is_count (pos one.count)) → IsRequest one.request
       → (new.IsSound → row.Writes old new (with_kept id row_is old.now))
-      → Shows new here sizes confirmed (inside before (with_key key one s))
+      → Shows new here counted confirmed (inside before (with_key key one s))
   keeps_key_on id key one row_is is_id is valid text counts asked done =
-      reached old new here sizes confirmed (λ _. with_kept id row_is old.now) sizes confirmed before s (with_key key one s) was survives
+      reached old new here counted confirmed (λ _. with_kept id row_is old.now) counted confirmed before s (with_key key one s) was survives
       (λ sound. let d = done sound in record { is_open = d.is_open; now_is = d.now_is; committed_is = d.committed_is; mode = d.mode })
       (λ _ means. key_kept old.now s means id key one row_is is_id is valid text counts asked)
-      (same_rest (with_key key one s) refl refl refl)
+      (same_rest (with_key key one s) refl refl refl) (λ b. b)
 
   -- the stock
 
@@ -159,17 +162,17 @@ module _ (old new : View) (here : List ℕ) (sizes : Sizes) (confirmed : ℕ) (b
   )
 
   pub uses_up_on : (text : List ℕ) (w : ℕ) → (IsShowing old (row.inside old.committed old.now) → Stocked old.now → new.IsSound → Restocked new old.committed old.now (using_up (holders_in old.now.stock) w))
-      → Shows new here sizes confirmed (inside before (on_cargo (written text (UseUp w)) s))
+      → Shows new here counted confirmed (inside before (on_cargo (written text (UseUp w)) s))
   uses_up_on text w done sound =
       let k = was (survives.sound sound) in
       let up = k.holds.inside refl in
       let m = k.holds.stands up in
       let d = done (λ _. record { is_open = up; now_is = refl; committed_is = refl; mode = m.mode }) m.now.0.stock sound in
       let held : holders_in d.stock ≡ using_up s.cargo.holders w = d.held ∙ ap (λ (x : State). using_up x.cargo.holders w) m.now.1 in
-      reached old new here sizes confirmed (λ _. restocked d.stock old.now) sizes confirmed before s (on_cargo (written text (UseUp w)) s) was survives
+      reached old new here counted confirmed (λ _. restocked d.stock old.now) counted confirmed before s (on_cargo (written text (UseUp w)) s) was survives
       (λ _. d.shown)
       (λ _ means. stock_means d.stock (using_up s.cargo.holders w) d.rows held means)
-      (same_rest (on_cargo (written text (UseUp w)) s) refl refl refl) sound
+      (same_rest (on_cargo (written text (UseUp w)) s) refl refl refl) (λ b. b) sound
 
 -- a move that was added
 module _ (t : Tables) (s : State) (m : Move) (book : List table.Move) (counts : FinMap count_cmp Count) (builds : FinMap build_cmp Build) (means : Means t (Some s)) where
@@ -204,40 +207,43 @@ module _ (t : Tables) (s : State) (m : Move) (book : List table.Move) (counts : 
     (λ i. record (meaning_of t) { cargo = record (meaning_of t).cargo { book = has.book i } }) ∙ ap (with_moves (m ∷ [])) means.1,
   )
 
-module _ (old new : View) (here : List ℕ) (sizes : Sizes) (confirmed : ℕ) (before s : State) (was : Shows old here sizes confirmed (inside before s)) (survives : row.Survives old new) where
-  pub moves_on : (n : ℕ) (m : Move) → n ≡ sizes.moves + 1
+module _ (old new : View) (here : List ℕ) (counted : Counted) (confirmed : ℕ) (before s : State) (was : Shows old here counted confirmed (inside before s)) (survives : row.Survives old new) where
+  pub moves_on : (n : ℕ) (m : Move) → n ≡ counted.sizes.moves + 1 → (later : Counted) → later.sizes ≡ record { moves = n; lines = counted.sizes.lines; messages = counted.sizes.messages }
+      → (were : ℤ) → ((book : List Move) → IsBoarded counted.boarded book → WereThere book m were → IsBoarded later.boarded (book ++ m ∷ []))
+      → (IsShowing old (row.inside old.committed old.now) → (book : List Move) → AreCounts old.now.counts book → AreBuilds old.now.builds book → new.IsSound → WereThere book m were)
       → (IsShowing old (row.inside old.committed old.now) → (book : List Move) → AreCounts old.now.counts book → AreBuilds old.now.builds book → Recorded new old.committed old.now n m (book ++ m ∷ []))
-      → Shows new here (record { moves = n; lines = sizes.lines; messages = sizes.messages }) confirmed (inside before (with_moves (m ∷ []) s))
-  moves_on n m next done sound =
+      → Shows new here later confirmed (inside before (with_moves (m ∷ []) s))
+  moves_on n m next later sizes_later were after there done sound =
       let k = was (survives.sound sound) in
       let up = k.holds.inside refl in
       let h = k.holds.stands up in
       let one_more : n ≡ length s.cargo.book + 1 = next ∙ ap (λ (z : Sizes). z.moves + 1) k.knows.sizes_are in
       let r = done (λ _. record { is_open = up; now_is = refl; committed_is = refl; mode = h.mode }) (book_in old.now.moves) h.now.0.counts h.now.0.builds in
       let has = move_written old.now s h.now n m r.row r.is one_more r.fits r.again in
-      reached old new here sizes confirmed (λ _. record (with_move r.row old.now) { counts = r.posted.counts; builds = r.posted.builds }) (record { moves = n; lines = sizes.lines; messages = sizes.messages }) confirmed
+      reached old new here counted confirmed (λ _. record (with_move r.row old.now) { counts = r.posted.counts; builds = r.posted.builds }) later confirmed
       before s (with_moves (m ∷ []) s) was survives
       (λ up_to. r.posted.shows up_to)
       (λ _ means. move_means old.now s m (with_move r.row old.now).moves r.posted.counts r.posted.builds means has r.posted.are_counts r.posted.are_builds)
       (λ known. record {
         here_is = known.here_is;
-        sizes_are = λ i. record { moves = (one_more ∙ sym (length-append s.cargo.book (m ∷ []))) i; lines = (known.sizes_are i).lines; messages = (known.sizes_are i).messages };
+        sizes_are = sizes_later ∙ (λ i. record { moves = (one_more ∙ sym (length-append s.cargo.book (m ∷ []))) i; lines = (known.sizes_are i).lines; messages = (known.sizes_are i).messages });
         confirmed_is = known.confirmed_is;
-      }) sound
+      })
+      (λ known. after s.cargo.book known (subst (λ book. WereThere book m were) (book_told old.now s h.now) (there (λ _. record { is_open = up; now_is = refl; committed_is = refl; mode = h.mode }) (book_in old.now.moves) h.now.0.counts h.now.0.builds sound))) sound
 
 -- a mark of 32 bits
 pub mark_fits : (upto : ℕ) → upto < 4_294_967_296 → is_count (pos upto) ≡ true
 mark_fits = count_fits
 
 -- an order that was carried out
-module _ (old new : View) (here : List ℕ) (sizes : Sizes) (confirmed : ℕ) (s : State) (was : Shows old here sizes confirmed (at_rest s)) (survives : row.Survives old new) (up : new.IsSound → old.is_open ≡ true) where
+module _ (old new : View) (here : List ℕ) (counted : Counted) (confirmed : ℕ) (s : State) (was : Shows old here counted confirmed (at_rest s)) (survives : row.Survives old new) (up : new.IsSound → old.is_open ≡ true) where
   pub at_rest_now : new.IsSound → IsShowing old (row.at_rest old.now)
   at_rest_now sound _ =
       let m = (was (survives.sound sound)).holds.stands (up sound) in
       record { is_open = up sound; now_is = refl; committed_is = sym (m.rest refl); mode = m.mode }
 
   pub orders_on : (order : Order) → (IsShowing old (row.at_rest old.now) → Stocked old.now → new.IsSound → Restocked new old.now old.now (after_order (holders_in old.now.stock) order))
-      → Shows new here sizes confirmed (inside s (with_order order s))
+      → Shows new here counted confirmed (inside s (with_order order s))
   orders_on order done sound =
       let k = was (survives.sound sound) in
       let m = k.holds.stands (up sound) in
@@ -259,18 +265,19 @@ module _ (old new : View) (here : List ℕ) (sizes : Sizes) (confirmed : ℕ) (s
           found = λ t left. k.holds.found t (survives.crash sound t left);
         };
         knows = record { here_is = k.knows.here_is; sizes_are = k.knows.sizes_are; confirmed_is = k.knows.confirmed_is };
+        boarded = k.boarded;
       }
 
 size_refused : (h : Holders) (order : Order) → is_run (run_of order) ≡ false → order_refusal h order ≡ Some (105, None)
 size_refused h order wrong = ap (λ b. if b then refused_by (lowest_failing h (run_of order) (test_of order)) (refusal_number order) else Some (105, None)) wrong
 
 -- an order that was answered
-module _ (old new : View) (here : List ℕ) (sizes : Sizes) (confirmed : ℕ) (s : State) (was : Shows old here sizes confirmed (at_rest s)) (survives : row.Survives old new) where
+module _ (old new : View) (here : List ℕ) (counted : Counted) (confirmed : ℕ) (s : State) (was : Shows old here counted confirmed (at_rest s)) (survives : row.Survives old new) where
   pub due_on : (order : Order) (due : Option (ℕ × Option ℕ)) → (new.IsSound → old.is_open ≡ true) → (IsShowing old (row.at_rest old.now) → Stocked old.now → new.IsSound → order_refusal (holders_in old.now.stock) order ≡ due)
       → new.IsSound → order_refusal s.cargo.holders order ≡ due
   due_on order due up tells sound =
       let m = (was (survives.sound sound)).holds.stands (up sound) in
-      ap (λ (x : State). order_refusal x.cargo.holders order) (sym m.now.1) ∙ tells (at_rest_now old new here sizes confirmed s was survives up sound) m.now.0.stock sound
+      ap (λ (x : State). order_refusal x.cargo.holders order) (sym m.now.1) ∙ tells (at_rest_now old new here counted confirmed s was survives up sound) m.now.0.stock sound
 
   pub refusal_on : (order : Order) (due : Option (ℕ × Option ℕ)) → (is_run (run_of order) ≡ true → new.IsSound → old.is_open ≡ true) → (is_run (run_of order) ≡ false → Some (105, None) ≡ due)
       → (IsShowing old (row.at_rest old.now) → Stocked old.now → new.IsSound → order_refusal (holders_in old.now.stock) order ≡ due) → new.IsSound → order_refusal s.cargo.holders order ≡ due
@@ -281,15 +288,15 @@ module _ (old new : View) (here : List ℕ) (sizes : Sizes) (confirmed : ℕ) (s
       go false e = size_refused s.cargo.holders order e ∙ size e
 
   pub stays_on : (order : Order) → (is_run (run_of order) ≡ true → new.IsSound → old.is_open ≡ true) → (is_run (run_of order) ≡ false → new ≡ old)
-      → (IsShowing old (row.at_rest old.now) → IsShowing new (row.at_rest old.now)) → Shows new here sizes confirmed (at_rest s)
+      → (IsShowing old (row.at_rest old.now) → IsShowing new (row.at_rest old.now)) → Shows new here counted confirmed (at_rest s)
   stays_on order up size same sound = go (is_run (run_of order)) refl
     where
-      go : (b : Bool) → is_run (run_of order) ≡ b → Tells new here sizes confirmed (at_rest s)
-      go false e = subst (λ v. Tells v here sizes confirmed (at_rest s)) (sym (size e)) (was (survives.sound sound))
+      go : (b : Bool) → is_run (run_of order) ≡ b → Tells new here counted confirmed (at_rest s)
+      go false e = subst (λ v. Tells v here counted confirmed (at_rest s)) (sym (size e)) (was (survives.sound sound))
       go true e =
           let k = was (survives.sound sound) in
           let m = k.holds.stands (up e sound) in
-          let d = same (at_rest_now old new here sizes confirmed s was survives (up e) sound) sound in
+          let d = same (at_rest_now old new here counted confirmed s was survives (up e) sound) sound in
           record {
             holds = record {
               inside = λ f. absurd (cc);
@@ -302,4 +309,5 @@ module _ (old new : View) (here : List ℕ) (sizes : Sizes) (confirmed : ℕ) (s
               found = λ t left. k.holds.found t (survives.crash sound t left);
             };
             knows = k.knows;
+            boarded = k.boarded;
           }

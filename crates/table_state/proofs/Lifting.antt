@@ -6,9 +6,9 @@ use Rattle.row_schema.specs.Store as row
 use Rattle.row_schema.specs.Store.{View, Displays, IsShowing, IsAtRest, MayCommit}
 use Rattle.row_codec.specs.Meaning.{Means}
 use Rattle.state_store.specs.Store.{Seen, at_rest, inside, Survives}
-use Rattle.state_store.specs.declared.store.Sizes.{Sizes}
+use Rattle.table_state.specs.declared.counted.Counted.{Counted}
 use Rattle.table_state.specs.Laws.{same_meaning}
-use Rattle.table_state.specs.Shown.{Stands, Knows, Shows, Finds, IfGivenBack}
+use Rattle.table_state.specs.Shown.{Stands, Knows, IsBoarded, Shows, Finds, IfGivenBack}
 
 -- what a view shows
 abbrev pub seen_in : View → row.Seen
@@ -23,9 +23,9 @@ pub finds_on : (old new : View) → row.Survives old new → new.IsSound → (fo
 finds_on old new survives sound found finds = record { tables = finds.tables; left = survives.crash sound finds.tables finds.left; means = finds.means }
 
 -- what an open store gives back when its transaction is undone
-pub given_back : (old new : View) (here : List ℕ) (sizes : Sizes) (confirmed : ℕ) (x : Seen) → Shows old here sizes confirmed x → (new.IsSound → old.IsSound)
+pub given_back : (old new : View) (here : List ℕ) (counted : Counted) (confirmed : ℕ) (x : Seen) → Shows old here counted confirmed x → (new.IsSound → old.IsSound)
     → (new.IsSound → new.is_open ≡ true → row.Shows old new old.committed old.committed false) → IfGivenBack new x.committed
-given_back old new here sizes confirmed x was down undone sound up =
+given_back old new here counted confirmed x was down undone sound up =
     let d = undone sound up in
     let stands = (was (down sound)).holds.stands d.was_open in
     (d.mode, subst (λ t. Means t (Some x.committed)) (sym d.now_is) stands.committed)
@@ -40,16 +40,26 @@ survives_so is_clean is_sound may_find old new v w survives clean_down clean_up 
   leaves = λ sound found finds. back found (finds_on v w survives (down sound) found (there found finds));
 }
 
-pub may_find_on : (old new : View) (here : List ℕ) (sizes : Sizes) (confirmed : ℕ) (before s : State)
-    → Shows old here sizes confirmed (inside before s) → MayCommit old new → new.IsSound → (found : Option State) → Finds new found → Finds old found ⊎ (found ≡ Some s)
-may_find_on old new here sizes confirmed before s was may sound found finds =
+pub may_find_on : (old new : View) (here : List ℕ) (counted : Counted) (confirmed : ℕ) (before s : State)
+    → Shows old here counted confirmed (inside before s) → MayCommit old new → new.IsSound → (found : Option State) → Finds new found → Finds old found ⊎ (found ≡ Some s)
+may_find_on old new here counted confirmed before s was may sound found finds =
     let h = (was (may.sound sound)).holds in
     ⊎_elim
     (λ left. inl (record { tables = finds.tables; left = left; means = finds.means }))
     (λ e. inr (same_meaning old.now s found (h.stands (h.inside refl)).now (subst (λ t. Means t found) e finds.means)))
     (may.crash sound finds.tables finds.left)
 
-module _ (old new : View) (here : List ℕ) (sizes : Sizes) (confirmed : ℕ) where
+-- another number that is kept
+pub keeps_number : (v : View) (here : List ℕ) (counted : Counted) (confirmed : ℕ) (x : Seen) → Shows v here counted confirmed x → (later : Counted) → later.sizes ≡ counted.sizes → (v.IsSound → IsBoarded later.boarded x.now.cargo.book) → Shows v here later confirmed x
+keeps_number v here counted confirmed x was later same number sound =
+    let k = was sound in
+    record {
+      holds = k.holds;
+      knows = record { here_is = k.knows.here_is; sizes_are = same ∙ k.knows.sizes_are; confirmed_is = k.knows.confirmed_is };
+      boarded = number sound;
+    }
+
+module _ (old new : View) (here : List ℕ) (counted : Counted) (confirmed : ℕ) where
   stands_on : (x : Seen) → Stands old x → new.now ≡ old.now → new.committed ≡ old.committed → new.in_transaction ≡ old.in_transaction → Stands new x
   stands_on x m now committed mode = record {
     mode = mode ∙ m.mode;
@@ -59,7 +69,7 @@ module _ (old new : View) (here : List ℕ) (sizes : Sizes) (confirmed : ℕ) wh
   }
 
   -- a read that was answered
-  pub reads_on : (x : Seen) → Shows old here sizes confirmed x → row.Survives old new → (IsShowing old (seen_in old) → IsShowing new (seen_in old)) → (new.IsSound → old.is_open ≡ true) → Shows new here sizes confirmed x
+  pub reads_on : (x : Seen) → Shows old here counted confirmed x → row.Survives old new → (IsShowing old (seen_in old) → IsShowing new (seen_in old)) → (new.IsSound → old.is_open ≡ true) → Shows new here counted confirmed x
   reads_on x was survives same up sound =
       let k = was (survives.sound sound) in
       let d : Displays new (seen_in old) = same (λ _. displays old (up sound)) sound in
@@ -70,10 +80,11 @@ module _ (old new : View) (here : List ℕ) (sizes : Sizes) (confirmed : ℕ) wh
           found = λ t left. k.holds.found t (survives.crash sound t left);
         };
         knows = k.knows;
+        boarded = k.boarded;
       }
 
   -- a read that was answered, and left all as it was
-  pub reads_unchanged : (x : Seen) → Shows old here sizes confirmed x → row.Survives old new → (new.IsSound → row.IsUnchanged old new) → Shows new here sizes confirmed x
+  pub reads_unchanged : (x : Seen) → Shows old here counted confirmed x → row.Survives old new → (new.IsSound → row.IsUnchanged old new) → Shows new here counted confirmed x
   reads_unchanged x was survives same sound =
       let k = was (survives.sound sound) in
       let d = same sound in
@@ -84,13 +95,14 @@ module _ (old new : View) (here : List ℕ) (sizes : Sizes) (confirmed : ℕ) wh
           found = λ t left. k.holds.found t (survives.crash sound t left);
         };
         knows = k.knows;
+        boarded = k.boarded;
       }
 
-  pub told_before : (x : Seen) → Shows old here sizes confirmed x → row.Survives old new → (new.IsSound → row.IsUnchanged old new) → new.IsSound → Means old.now (Some x.now)
+  pub told_before : (x : Seen) → Shows old here counted confirmed x → row.Survives old new → (new.IsSound → row.IsUnchanged old new) → new.IsSound → Means old.now (Some x.now)
   told_before x was survives same sound = ((was (survives.sound sound)).holds.stands (same sound).was_open).now
 
   -- a read between two transactions, whatever it answered
-  pub rests_on : (s : State) → Shows old here sizes confirmed (at_rest s) → row.Survives old new → (new.IsSound → row.Rests old new) → Shows new here sizes confirmed (at_rest s)
+  pub rests_on : (s : State) → Shows old here counted confirmed (at_rest s) → row.Survives old new → (new.IsSound → row.Rests old new) → Shows new here counted confirmed (at_rest s)
   rests_on s was survives rests sound =
       let k = was (survives.sound sound) in
       let r = rests sound in
@@ -104,9 +116,10 @@ module _ (old new : View) (here : List ℕ) (sizes : Sizes) (confirmed : ℕ) wh
           found = λ t left. k.holds.found t (survives.crash sound t left);
         };
         knows = k.knows;
+        boarded = k.boarded;
       }
 
-  pub begins : (s : State) → Shows old here sizes confirmed (at_rest s) → row.Survives old new → (new.IsSound → row.Shows old new old.now old.committed true) → Shows new here sizes confirmed (inside s s)
+  pub begins : (s : State) → Shows old here counted confirmed (at_rest s) → row.Survives old new → (new.IsSound → row.Shows old new old.now old.committed true) → Shows new here counted confirmed (inside s s)
   begins s was survives ok sound =
       let k = was (survives.sound sound) in
       let step = ok sound in
@@ -123,10 +136,11 @@ module _ (old new : View) (here : List ℕ) (sizes : Sizes) (confirmed : ℕ) wh
           found = λ t left. k.holds.found t (survives.crash sound t left);
         };
         knows = record { here_is = k.knows.here_is; sizes_are = k.knows.sizes_are; confirmed_is = k.knows.confirmed_is };
+        boarded = k.boarded;
       }
 
-  pub commits : (before s : State) → Shows old here sizes confirmed (inside before s) → (new.IsSound → old.IsSound) → (new.IsSound → row.Shows old new old.now old.now false)
-      → ((t : Tables) → new.is_open ≡ true → new.IsSound → new.may_leave t → t ≡ new.committed) → Shows new here sizes confirmed (at_rest s)
+  pub commits : (before s : State) → Shows old here counted confirmed (inside before s) → (new.IsSound → old.IsSound) → (new.IsSound → row.Shows old new old.now old.now false)
+      → ((t : Tables) → new.is_open ≡ true → new.IsSound → new.may_leave t → t ≡ new.committed) → Shows new here counted confirmed (at_rest s)
   commits before s was down ok settled sound =
       let k = was (down sound) in
       let step = ok sound in
@@ -144,15 +158,17 @@ module _ (old new : View) (here : List ℕ) (sizes : Sizes) (confirmed : ℕ) wh
           found = λ t left. subst (λ u. Means u (Some s)) (sym (settled t step.is_open sound left)) after;
         };
         knows = record { here_is = k.knows.here_is; sizes_are = k.knows.sizes_are; confirmed_is = k.knows.confirmed_is };
+        boarded = k.boarded;
       }
 
   -- in a transaction the tables became others
-  pub reached : (change : Tables → Tables) (sizes_then : Sizes) (confirmed_then : ℕ) (before s after : State) → Shows old here sizes confirmed (inside before s) → row.Survives old new
+  pub reached : (change : Tables → Tables) (later : Counted) (confirmed_then : ℕ) (before s after : State) → Shows old here counted confirmed (inside before s) → row.Survives old new
       → (new.IsSound → Displays new (row.inside old.committed (change old.now)))
       → (new.IsSound → Means old.now (Some s) → Means (change old.now) (Some after))
-      → (Knows here sizes confirmed (inside before s) → Knows here sizes_then confirmed_then (inside before after))
-      → Shows new here sizes_then confirmed_then (inside before after)
-  reached change sizes_then confirmed_then before s after was survives shown means knows sound =
+      → (Knows here counted.sizes confirmed (inside before s) → Knows here later.sizes confirmed_then (inside before after))
+      → (IsBoarded counted.boarded s.cargo.book → IsBoarded later.boarded after.cargo.book)
+      → Shows new here later confirmed_then (inside before after)
+  reached change later confirmed_then before s after was survives shown means knows boarded sound =
       let k = was (survives.sound sound) in
       let m = k.holds.stands (k.holds.inside refl) in
       let d = shown sound in
@@ -168,20 +184,22 @@ module _ (old new : View) (here : List ℕ) (sizes : Sizes) (confirmed : ℕ) wh
           found = λ t left. k.holds.found t (survives.crash sound t left);
         };
         knows = knows k.knows;
+        boarded = boarded k.boarded;
       }
 
   -- one change of the tables
-  pub writes_on : (change : Tables → Tables) (sizes_then : Sizes) (confirmed_then : ℕ) (before s after : State) → Shows old here sizes confirmed (inside before s) → row.Survives old new
+  pub writes_on : (change : Tables → Tables) (later : Counted) (confirmed_then : ℕ) (before s after : State) → Shows old here counted confirmed (inside before s) → row.Survives old new
       → (IsShowing old (row.inside old.committed old.now) → IsShowing new (row.inside old.committed (change old.now)))
       → (new.IsSound → Means old.now (Some s) → Means (change old.now) (Some after))
-      → (Knows here sizes confirmed (inside before s) → Knows here sizes_then confirmed_then (inside before after))
-      → Shows new here sizes_then confirmed_then (inside before after)
-  writes_on change sizes_then confirmed_then before s after was survives done =
-      reached change sizes_then confirmed_then before s after was survives (λ sound.
+      → (Knows here counted.sizes confirmed (inside before s) → Knows here later.sizes confirmed_then (inside before after))
+      → (IsBoarded counted.boarded s.cargo.book → IsBoarded later.boarded after.cargo.book)
+      → Shows new here later confirmed_then (inside before after)
+  writes_on change later confirmed_then before s after was survives done =
+      reached change later confirmed_then before s after was survives (λ sound.
       let k = was (survives.sound sound) in
       let up = k.holds.inside refl in
       done (λ _. record { is_open = up; now_is = refl; committed_is = refl; mode = (k.holds.stands up).mode }) sound)
 
   -- what a read of an open store returned
-  pub told : (P : Tables → Type 0) (x : Seen) → Shows old here sizes confirmed x → row.Survives old new → (IsShowing old (seen_in old) → new.IsSound → P old.now) → (new.IsSound → old.is_open ≡ true) → new.IsSound → P old.now × Means old.now (Some x.now)
+  pub told : (P : Tables → Type 0) (x : Seen) → Shows old here counted confirmed x → row.Survives old new → (IsShowing old (seen_in old) → new.IsSound → P old.now) → (new.IsSound → old.is_open ≡ true) → new.IsSound → P old.now × Means old.now (Some x.now)
   told P x was survives tells up sound = (tells (λ _. displays old (up sound)) sound, ((was (survives.sound sound)).holds.stands (up sound)).now)

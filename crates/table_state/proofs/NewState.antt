@@ -27,8 +27,8 @@ use Rattle.row_codec.specs.Replies.{kept_by}
 use Rattle.row_codec.specs.Meaning.{meaning_of, IsReadable, Means}
 use Rattle.state_store.specs.Store.{at_rest}
 use Rattle.table_state.specs.Laws.{same_meaning}
-use Rattle.state_store.specs.declared.store.Sizes.{Sizes}
-use Rattle.table_state.specs.Shown.{Knows, HasThese, Shows}
+use Rattle.table_state.specs.declared.counted.Counted.{Counted}
+use Rattle.table_state.specs.Shown.{Knows, IsBoarded, HasThese, Shows}
 
 none_of : {X : Type 0} (xs : List X) → length xs ≡ 0 → xs ≡ []
 none_of [] e = refl
@@ -111,9 +111,9 @@ pub opening_means : (here : List ℕ) → IsTrue (is_airport here) → Means (op
 opening_means here airport = (opening_readable here airport, meaning_opening here)
 
 -- a store whose tables mean a state
-pub shown : (v : View) (t : Tables) (s : State) (here : List ℕ) (sizes : Sizes) (confirmed : ℕ) → Means t (Some s) → Knows here sizes confirmed (at_rest s) → (v.IsSound → HasThese t v)
-    → ((u : Tables) → v.is_open ≡ true → v.IsSound → v.may_leave u → u ≡ v.committed) → Shows v here sizes confirmed (at_rest s)
-shown v t s here sizes confirmed means knows has settled sound =
+pub shown : (v : View) (t : Tables) (s : State) (here : List ℕ) (counted : Counted) (confirmed : ℕ) → Means t (Some s) → Knows here counted.sizes confirmed (at_rest s) → IsBoarded counted.boarded s.cargo.book → (v.IsSound → HasThese t v)
+    → ((u : Tables) → v.is_open ≡ true → v.IsSound → v.may_leave u → u ≡ v.committed) → Shows v here counted confirmed (at_rest s)
+shown v t s here counted confirmed means knows boarded has settled sound =
     let these = has sound in
     let committed : v.committed ≡ t = sym these.at_rest.same ∙ these.now_is in
     record {
@@ -128,6 +128,7 @@ shown v t s here sizes confirmed means knows has settled sound =
         found = λ u left. subst (λ x. Means x (Some s)) (sym (settled u these.is_open sound left ∙ committed)) means;
       };
       knows = knows;
+      boarded = boarded;
     }
 
 -- a store whose tables are those of a new station

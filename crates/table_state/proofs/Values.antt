@@ -50,112 +50,112 @@ use Rattle.row_codec.proofs.Noted.{expectations_told, noted_told}
 use Rattle.state_store.specs.Store.{Seen}
 use Rattle.state_store.specs.Told.{AreAllBalances, kept_of, loads_on}
 use Rattle.state_store.specs.declared.store.KeptReply.{KeptReply}
-use Rattle.state_store.specs.declared.store.Sizes.{Sizes}
 use Rattle.state_store.specs.declared.store.WaybillBalances.{WaybillBalances}
+use Rattle.table_state.specs.declared.counted.Counted.{Counted}
 use Rattle.table_state.specs.Shown.{Shows}
 use Rattle.table_state.proofs.Lifting.{seen_in, told, told_before}
 use Rattle.table_state.proofs.HasMoves.{any_move}
 
-module _ (old new : View) (here : List ℕ) (sizes : Sizes) (confirmed : ℕ) (x : Seen) (was : Shows old here sizes confirmed x) (survives : row.Survives old new) where
+module _ (old new : View) (here : List ℕ) (counted : Counted) (confirmed : ℕ) (x : Seen) (was : Shows old here counted confirmed x) (survives : row.Survives old new) where
   module _ (up : new.IsSound → old.is_open ≡ true) (sound : new.IsSound) where
     pub declared_is : (w : ℕ) (awb : ℤ) (found : Option WaybillRow) → awb ≡ pos w → (IsShowing old (seen_in old) → new.IsSound → option_map waybill_meant found ≡ get_by waybill_id old.now.waybills awb)
         → option_map (λ (r : WaybillRow). declared_by (waybill_meant r)) found ≡ x.now.cargo.declared w
     declared_is w awb found is tells =
-        let r = told old new here sizes confirmed (λ t. option_map waybill_meant found ≡ get_by waybill_id t.waybills awb) x was survives tells up sound in
+        let r = told old new here counted confirmed (λ t. option_map waybill_meant found ≡ get_by waybill_id t.waybills awb) x was survives tells up sound in
         declared_read old.now x.now r.1 w found (r.0 ∙ ap (get_by waybill_id old.now.waybills) is)
 
     pub outbound_is : (f : FlightDate) (name : List ℕ) (day : ℤ) (found : Option FlightRow) → name ≡ flight_text f.flight → day ≡ pos f.day → is_designator f.flight ≡ true
         → (IsShowing old (seen_in old) → new.IsSound → option_map flight_meant found ≡ get old.now.flights (name, day)) → option_map (λ (r : FlightRow). outbound_by (flight_meant r)) found ≡ x.now.cargo.flights f
     outbound_is f name day found is_name is_day may tells =
-        let r = told old new here sizes confirmed (λ t. option_map flight_meant found ≡ get t.flights (name, day)) x was survives tells up sound in
+        let r = told old new here counted confirmed (λ t. option_map flight_meant found ≡ get t.flights (name, day)) x was survives tells up sound in
         outbound_read old.now x.now r.1 f found may (r.0 ∙ (λ i. get old.now.flights (is_name i, is_day i)))
 
     pub expected_is : (f : FlightDate) (w : ℕ) (name : List ℕ) (day awb : ℤ) (found : Option ExpectedRow) → name ≡ flight_text f.flight → day ≡ pos f.day → awb ≡ pos w → is_designator f.flight ≡ true
         → (IsShowing old (seen_in old) → new.IsSound → option_map expected_meant found ≡ get old.now.expected (name, (day, awb))) → option_map (λ (r : ExpectedRow). expected_by (expected_meant r)) found ≡ x.now.cargo.expected f w
     expected_is f w name day awb found is_name is_day is_awb may tells =
-        let r = told old new here sizes confirmed (λ t. option_map expected_meant found ≡ get t.expected (name, (day, awb))) x was survives tells up sound in
+        let r = told old new here counted confirmed (λ t. option_map expected_meant found ≡ get t.expected (name, (day, awb))) x was survives tells up sound in
         expected_read old.now x.now r.1 f w found may (r.0 ∙ (λ i. get old.now.expected (is_name i, (is_day i, is_awb i))))
 
     pub kept_text_is : (text name : List ℕ) (found : Option ℤ) → name ≡ text → (IsShowing old (seen_in old) → new.IsSound → found ≡ get old.now.kept_texts name) → option_map natural found ≡ x.now.kept_texts text
     kept_text_is text name found is tells =
-        let r = told old new here sizes confirmed (λ t. found ≡ get t.kept_texts name) x was survives tells up sound in
+        let r = told old new here counted confirmed (λ t. found ≡ get t.kept_texts name) x was survives tells up sound in
         kept_text_read old.now x.now r.1 text found (r.0 ∙ ap (get old.now.kept_texts) is)
 
     pub part_is : {X : Type 0} (bytes : X → List ℕ) (p : Part) (name airport : List ℕ) (day number : ℤ) (found : Option X) (there : Bool) → name ≡ flight_text p.flight.flight → day ≡ pos p.flight.day → airport ≡ p.airport → number ≡ pos p.number → is_designator p.flight.flight ≡ true → there ≡ is_some found
         → (IsShowing old (seen_in old) → new.IsSound → option_map bytes found ≡ get old.now.parts (name, (day, (airport, number)))) → there ≡ is_some (x.now.cargo.parts p)
     part_is bytes p name airport day number found there is_name is_day is_airport is_number may by tells =
-        let r = told old new here sizes confirmed (λ t. option_map bytes found ≡ get t.parts (name, (day, (airport, number)))) x was survives tells up sound in
+        let r = told old new here counted confirmed (λ t. option_map bytes found ≡ get t.parts (name, (day, (airport, number)))) x was survives tells up sound in
         by ∙ part_read old.now x.now r.1 bytes p found may (r.0 ∙ (λ i. get old.now.parts (is_name i, (is_day i, (is_airport i, is_number i)))))
 
     pub none_kept_text : (text name : List ℕ) → name ≡ text → (IsShowing old (seen_in old) → new.IsSound → None ≡ get old.now.kept_texts name) → None ≡ x.now.kept_texts text
     none_kept_text text name is tells =
-        let r = told old new here sizes confirmed (λ t. ◌≡◌ {A = Option ℤ} None (get t.kept_texts name)) x was survives tells up sound in
+        let r = told old new here counted confirmed (λ t. ◌≡◌ {A = Option ℤ} None (get t.kept_texts name)) x was survives tells up sound in
         kept_text_read old.now x.now r.1 text None (r.0 ∙ ap (get old.now.kept_texts) is)
 
     pub some_kept_text : (text name : List ℕ) (number : ℤ) (count : ℕ) → name ≡ text → count ≡ natural number → (IsShowing old (seen_in old) → new.IsSound → Some number ≡ get old.now.kept_texts name) → Some count ≡ x.now.kept_texts text
     some_kept_text text name number count is by tells =
-        let r = told old new here sizes confirmed (λ t. Some number ≡ get t.kept_texts name) x was survives tells up sound in
+        let r = told old new here counted confirmed (λ t. Some number ≡ get t.kept_texts name) x was survives tells up sound in
         ap Some by ∙ kept_text_read old.now x.now r.1 text (Some number) (r.0 ∙ ap (get old.now.kept_texts) is)
 
     pub holder_is : (w : ℕ) (holder : Option Holder) → (IsShowing old (seen_in old) → new.IsSound → Stocked old.now → holder ≡ holders_in old.now.stock w) → holder ≡ x.now.cargo.holders w
     holder_is w holder tells =
-        let r = told old new here sizes confirmed (λ t. Stocked t → holder ≡ holders_in t.stock w) x was survives tells up sound in
+        let r = told old new here counted confirmed (λ t. Stocked t → holder ≡ holders_in t.stock w) x was survives tells up sound in
         r.0 r.1.0.stock ∙ ap (λ (h : Holders). h w) (holders_told old.now x.now r.1)
 
     pub runs_are : (runs : List StockRun) → (IsShowing old (seen_in old) → new.IsSound → Stocked old.now → AreStockRuns (holders_in old.now.stock) runs) → AreStockRuns x.now.cargo.holders runs
     runs_are runs tells =
-        let r = told old new here sizes confirmed (λ t. Stocked t → AreStockRuns (holders_in t.stock) runs) x was survives tells up sound in
+        let r = told old new here counted confirmed (λ t. Stocked t → AreStockRuns (holders_in t.stock) runs) x was survives tells up sound in
         subst (λ (h : Holders). AreStockRuns h runs) (holders_told old.now x.now r.1) (r.0 r.1.0.stock)
 
     pub moves_are : (rows : List MoveRow) (moved : Bool) (w : ℕ) (awb : ℤ) → awb ≡ pos w → moved ≡ nat_lt 0 (length rows)
         → (IsShowing old (seen_in old) → new.IsSound → map move_meant rows ≡ filter (is_of awb) old.now.moves) → moved ≡ has_moves x.now.cargo.book w
     moves_are rows moved w awb is by tells =
-        let r = told old new here sizes confirmed (λ t. map move_meant rows ≡ filter (is_of awb) t.moves) x was survives tells up sound in
+        let r = told old new here counted confirmed (λ t. map move_meant rows ≡ filter (is_of awb) t.moves) x was survives tells up sound in
         by ∙ ap (nat_lt 0) (sym (length-map rows move_meant)) ∙ ap (λ ms. nat_lt 0 (length ms)) (r.0 ∙ ap (λ a. filter (is_of a) old.now.moves) is)
         ∙ sym (any_move old.now.moves w r.1.0.moves) ∙ ap (λ book. has_moves book w) (book_told old.now x.now r.1)
 
     pub noted_are : (rows : List NotedFlightRow) (all : List NotedFlight) → map Some all ≡ map (λ (row : NotedFlightRow). noted_by (noted_flight_meant row)) rows
         → (IsShowing old (seen_in old) → new.IsSound → map noted_flight_meant rows ≡ entries old.now.flights) → AreNoted x.now.cargo.flights all
     noted_are rows all by tells =
-        let r = told old new here sizes confirmed (λ t. map noted_flight_meant rows ≡ entries t.flights) x was survives tells up sound in
+        let r = told old new here counted confirmed (λ t. map noted_flight_meant rows ≡ entries t.flights) x was survives tells up sound in
         noted_told old.now x.now r.1 all (by ∙ sym (map-map noted_by noted_flight_meant rows) ∙ ap (map noted_by) r.0)
 
     pub expectations_are : (rows : List ListedWaybillRow) (all : List Expectation) → map Some all ≡ map (λ (row : ListedWaybillRow). expectation_by (listed_waybill_meant row)) rows
         → (IsShowing old (seen_in old) → new.IsSound → map listed_waybill_meant rows ≡ entries old.now.expected) → AreExpectations x.now.cargo.expected all
     expectations_are rows all by tells =
-        let r = told old new here sizes confirmed (λ t. map listed_waybill_meant rows ≡ entries t.expected) x was survives tells up sound in
+        let r = told old new here counted confirmed (λ t. map listed_waybill_meant rows ≡ entries t.expected) x was survives tells up sound in
         expectations_told old.now x.now r.1 all (by ∙ sym (map-map expectation_by listed_waybill_meant rows) ∙ ap (map expectation_by) r.0)
 
     -- running counts
 
     pub balances_are : (w : ℕ) (balances : Balances) → (IsShowing old (seen_in old) → new.IsSound → (book : List Move) → AreCounts old.now.counts book → balances ≡ balances_of book w) → balances ≡ balances_of x.now.cargo.book w
     balances_are w balances tells =
-        let r = told old new here sizes confirmed (λ t. (book : List Move) → AreCounts t.counts book → balances ≡ balances_of book w) x was survives tells up sound in
+        let r = told old new here counted confirmed (λ t. (book : List Move) → AreCounts t.counts book → balances ≡ balances_of book w) x was survives tells up sound in
         r.0 (book_in old.now.moves) r.1.0.counts ∙ ap (λ book. balances_of book w) (book_told old.now x.now r.1)
 
     pub all_balances_are : (rows : List WaybillBalances) → (IsShowing old (seen_in old) → new.IsSound → (book : List Move) → AreCounts old.now.counts book → AreAllBalances book rows) → AreAllBalances x.now.cargo.book rows
     all_balances_are rows tells =
-        let r = told old new here sizes confirmed (λ t. (book : List Move) → AreCounts t.counts book → AreAllBalances book rows) x was survives tells up sound in
+        let r = told old new here counted confirmed (λ t. (book : List Move) → AreCounts t.counts book → AreAllBalances book rows) x was survives tells up sound in
         subst (λ book. AreAllBalances book rows) (book_told old.now x.now r.1) (r.0 (book_in old.now.moves) r.1.0.counts)
 
     pub load_is : (w : ℕ) (f : FlightDate) (load : Amount) → (IsShowing old (seen_in old) → new.IsSound → (book : List Move) → AreBuilds old.now.builds book → load ≡ built book w f) → load ≡ built x.now.cargo.book w f
     load_is w f load tells =
-        let r = told old new here sizes confirmed (λ t. (book : List Move) → AreBuilds t.builds book → load ≡ built book w f) x was survives tells up sound in
+        let r = told old new here counted confirmed (λ t. (book : List Move) → AreBuilds t.builds book → load ≡ built book w f) x was survives tells up sound in
         r.0 (book_in old.now.moves) r.1.0.builds ∙ ap (λ book. built book w f) (book_told old.now x.now r.1)
 
     pub loads_are : (f : FlightDate) (loads : List Load) → (IsShowing old (seen_in old) → new.IsSound → (book : List Move) → AreBuilds old.now.builds book → loads ≡ loads_on book f) → loads ≡ loads_on x.now.cargo.book f
     loads_are f loads tells =
-        let r = told old new here sizes confirmed (λ t. (book : List Move) → AreBuilds t.builds book → loads ≡ loads_on book f) x was survives tells up sound in
+        let r = told old new here counted confirmed (λ t. (book : List Move) → AreBuilds t.builds book → loads ≡ loads_on book f) x was survives tells up sound in
         r.0 (book_in old.now.moves) r.1.0.builds ∙ ap (λ book. loads_on book f) (book_told old.now x.now r.1)
 
     pub waybills_are : (f : FlightDate) (number : ℕ) → (IsShowing old (seen_in old) → new.IsSound → (book : List Move) → AreBuilds old.now.builds book → number ≡ length (waybills_on book f)) → number ≡ length (waybills_on x.now.cargo.book f)
     waybills_are f number tells =
-        let r = told old new here sizes confirmed (λ t. (book : List Move) → AreBuilds t.builds book → number ≡ length (waybills_on book f)) x was survives tells up sound in
+        let r = told old new here counted confirmed (λ t. (book : List Move) → AreBuilds t.builds book → number ≡ length (waybills_on book f)) x was survives tells up sound in
         r.0 (book_in old.now.moves) r.1.0.builds ∙ ap (λ book. length (waybills_on book f)) (book_told old.now x.now r.1)
 
   module _ (same : new.IsSound → IsUnchanged old new) (sound : new.IsSound) where
     pub none_kept : (key : List ℕ) → (new.IsSound → None ≡ get old.now.kept key) → None ≡ x.now.kept_keys key
-    none_kept key tells = kept_key_read old.now x.now (told_before old new here sizes confirmed x was survives same sound) key None (tells sound)
+    none_kept key tells = kept_key_read old.now x.now (told_before old new here counted confirmed x was survives same sound) key None (tells sound)
 
     pub some_kept : (key : List ℕ) (row_is : KeptRow) (reply : KeptReply) → kept_of reply ≡ kept_by (kept_meant row_is) → (new.IsSound → Some (kept_meant row_is) ≡ get old.now.kept key) → Some (kept_of reply) ≡ x.now.kept_keys key
-    some_kept key row_is reply by tells = ap Some by ∙ kept_key_read old.now x.now (told_before old new here sizes confirmed x was survives same sound) key (Some row_is) (tells sound)
+    some_kept key row_is reply by tells = ap Some by ∙ kept_key_read old.now x.now (told_before old new here counted confirmed x was survives same sound) key (Some row_is) (tells sound)

@@ -1,5 +1,7 @@
 -- What a store of tables shows of a state.
-use Rattle.std.specs.Prelude.{◌≡◌, ℕ, true, false, List, Option, Some}
+use Rattle.std.specs.Prelude.{◌≡◌, ℕ, ℤ, pos, ◌+ℤ◌, int_lt, Bool, true, false, not, ◌&&◌, List, length, Option, Some, IfSome}
+use Rattle.shipment_machine.specs.Book.{waybills_on}
+use Rattle.shipment_machine.specs.declared.moves.Move.{Move}
 use Rattle.station_core.specs.Step.{State}
 use Rattle.row_schema.specs.Tables.{Tables}
 use Rattle.row_schema.specs.Store.{View, IsAtRest}
@@ -7,6 +9,8 @@ use Rattle.row_codec.specs.Meaning.{Means}
 use Rattle.state_store.specs.Store.{Seen}
 use Rattle.state_store.specs.Told.{sizes_of}
 use Rattle.state_store.specs.declared.store.Sizes.{Sizes}
+use Rattle.table_state.specs.declared.counted.Boarded.{Boarded}
+use Rattle.table_state.specs.declared.counted.Counted.{Counted}
 
 -- the tables mean what is shown; between two transactions they are those of the last commit
 pub record Stands (v : View) (x : Seen) : Type 0 where
@@ -28,13 +32,22 @@ pub record Knows (here : List ℕ) (sizes : Sizes) (confirmed : ℕ) (x : Seen) 
   pub sizes_are : sizes ≡ sizes_of x.now.cargo
   pub confirmed_is : confirmed ≡ x.now.cargo.confirmed
 
-pub record Tells (v : View) (here : List ℕ) (sizes : Sizes) (confirmed : ℕ) (x : Seen) : Type 0 where
+-- where a number is kept, so many waybills of a book have something built on its flight
+abbrev pub IsBoarded : Option Boarded → List Move → Type 0
+IsBoarded boarded book = IfSome boarded (λ b. b.waybills ≡ length (waybills_on book b.flight))
+
+-- whether pieces that come to a place where there were so many are the first there
+abbrev pub joins : ℤ → ℕ → Bool
+joins were pieces = not (int_lt (pos 0) were) && int_lt (pos 0) (were +ℤ pos pieces)
+
+pub record Tells (v : View) (here : List ℕ) (counted : Counted) (confirmed : ℕ) (x : Seen) : Type 0 where
   pub holds : Holds v x
-  pub knows : Knows here sizes confirmed x
+  pub knows : Knows here counted.sizes confirmed x
+  pub boarded : IsBoarded counted.boarded x.now.cargo.book
 
 -- as long as the disk has returned what was written
-abbrev pub Shows : View → List ℕ → Sizes → ℕ → Seen → Type 0
-Shows v here sizes confirmed x = v.IsSound → Tells v here sizes confirmed x
+abbrev pub Shows : View → List ℕ → Counted → ℕ → Seen → Type 0
+Shows v here counted confirmed x = v.IsSound → Tells v here counted confirmed x
 
 -- some tables that a crash may leave mean this state, or none
 pub record Finds (v : View) (found : Option State) : Type 0 where

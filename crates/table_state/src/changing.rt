@@ -23,9 +23,9 @@ impl<S: TableStore> TableState<S> {
     /// What is declared of a waybill from now on.
     pub(crate) fn declare(&mut self, awb: &Awb, declared: &Declared) -> Result<(), StoreFault>
         ensures done { (before s : State)
-            → Shows (S.view self.old.store) self.old.here self.old.counted.sizes self.old.confirmed
+            → Shows (S.view self.old.store) self.old.here self.old.counted self.old.confirmed
             (inside before s)
-            → OnOk result (Shows (S.view self.new.store) self.new.here self.new.counted.sizes
+            → OnOk result (Shows (S.view self.new.store) self.new.here self.new.counted
             self.new.confirmed (inside before
             (on_cargo (written [] (Declare awb.now declared.now)) s))) }
         ensures survives { Survives (S.view self.old.store) (S.view self.new.store) }
@@ -42,9 +42,9 @@ impl<S: TableStore> TableState<S> {
     /// An agent's number is used up.
     pub(crate) fn use_up(&mut self, awb: &Awb) -> Result<(), StoreFault>
         ensures done { (before s : State)
-            → Shows (S.view self.old.store) self.old.here self.old.counted.sizes self.old.confirmed
+            → Shows (S.view self.old.store) self.old.here self.old.counted self.old.confirmed
             (inside before s)
-            → OnOk result (Shows (S.view self.new.store) self.new.here self.new.counted.sizes
+            → OnOk result (Shows (S.view self.new.store) self.new.here self.new.counted
             self.new.confirmed (inside before (on_cargo (written [] (UseUp awb.now)) s))) }
         ensures survives { Survives (S.view self.old.store) (S.view self.new.store) }
     {
@@ -61,9 +61,9 @@ impl<S: TableStore> TableState<S> {
         outbound: &Outbound,
     ) -> Result<(), StoreFault>
         ensures done { (before s : State)
-            → Shows (S.view self.old.store) self.old.here self.old.counted.sizes self.old.confirmed
+            → Shows (S.view self.old.store) self.old.here self.old.counted self.old.confirmed
             (inside before s)
-            → OnOk result (Shows (S.view self.new.store) self.new.here self.new.counted.sizes
+            → OnOk result (Shows (S.view self.new.store) self.new.here self.new.counted
             self.new.confirmed (inside before
             (on_cargo (written [] (NoteFlight flight.now outbound.now)) s))) }
         ensures survives { Survives (S.view self.old.store) (S.view self.new.store) }
@@ -89,9 +89,9 @@ impl<S: TableStore> TableState<S> {
         expected: &Expected,
     ) -> Result<(), StoreFault>
         ensures done { (before s : State)
-            → Shows (S.view self.old.store) self.old.here self.old.counted.sizes self.old.confirmed
+            → Shows (S.view self.old.store) self.old.here self.old.counted self.old.confirmed
             (inside before s)
-            → OnOk result (Shows (S.view self.new.store) self.new.here self.new.counted.sizes
+            → OnOk result (Shows (S.view self.new.store) self.new.here self.new.counted
             self.new.confirmed (inside before
             (on_cargo (written [] (Expect flight.now awb.now expected.now)) s))) }
         ensures survives { Survives (S.view self.old.store) (S.view self.new.store) }
@@ -116,9 +116,9 @@ impl<S: TableStore> TableState<S> {
     /// The telegram in work, which has this text, is this part.
     pub(crate) fn note_part(&mut self, part: &Part, telegram: &[u8]) -> Result<(), StoreFault>
         ensures done { (before s : State)
-            → Shows (S.view self.old.store) self.old.here self.old.counted.sizes self.old.confirmed
+            → Shows (S.view self.old.store) self.old.here self.old.counted self.old.confirmed
             (inside before s)
-            → OnOk result (Shows (S.view self.new.store) self.new.here self.new.counted.sizes
+            → OnOk result (Shows (S.view self.new.store) self.new.here self.new.counted
             self.new.confirmed (inside before
             (on_cargo (written telegram.now (NotePart part.now)) s))) }
         ensures survives { Survives (S.view self.old.store) (S.view self.new.store) }
@@ -143,9 +143,9 @@ impl<S: TableStore> TableState<S> {
     /// A line joins the trail of a waybill.
     pub(crate) fn add_line(&mut self, awb: &Awb, line: &TrailLine<'_>) -> Result<(), StoreFault>
         ensures done { (before s : State)
-            → Shows (S.view self.old.store) self.old.here self.old.counted.sizes self.old.confirmed
+            → Shows (S.view self.old.store) self.old.here self.old.counted self.old.confirmed
             (inside before s)
-            → OnOk result (Shows (S.view self.new.store) self.new.here self.new.counted.sizes
+            → OnOk result (Shows (S.view self.new.store) self.new.here self.new.counted
             self.new.confirmed (inside before (on_cargo (written [] (Trail awb.now line.now)) s))) }
         ensures survives { Survives (S.view self.old.store) (S.view self.new.store) }
     {
@@ -167,9 +167,9 @@ impl<S: TableStore> TableState<S> {
     /// The messages up to this one are confirmed.
     pub(crate) fn confirm(&mut self, upto: u32) -> Result<(), StoreFault>
         ensures done { (before s : State)
-            → Shows (S.view self.old.store) self.old.here self.old.counted.sizes self.old.confirmed
+            → Shows (S.view self.old.store) self.old.here self.old.counted self.old.confirmed
             (inside before s)
-            → OnOk result (Shows (S.view self.new.store) self.new.here self.new.counted.sizes
+            → OnOk result (Shows (S.view self.new.store) self.new.here self.new.counted
             self.new.confirmed (inside before (on_cargo (written [] (Confirm upto)) s))) }
         ensures survives { Survives (S.view self.old.store) (S.view self.new.store) }
     {

@@ -1,7 +1,9 @@
 //! The state of a station in its tables.
 #![tactic(auto)]
 
+mod boarding;
 mod changing;
+mod counted;
 mod handing;
 mod noted;
 mod opening;

@@ -1,9 +1,10 @@
 //! A move is written with what it changes of the running counts.
-ghost use Rattle.std.specs.Prelude.{List, ◌++◌, ◌∷◌, [], OnOk};
+ghost use Rattle.std.specs.Prelude.{List, ◌++◌, ◌∷◌, [], IfOk, OnOk};
 ghost use Rattle.shipment_machine.specs.declared.moves.Move as cargo;
 ghost use Rattle.row_schema.specs.Store.{IsShowing, Survives, inside};
 ghost use Rattle.row_schema.specs.Tables.{Tables};
 ghost use Rattle.row_codec.specs.Counts.{AreCounts, AreBuilds};
+ghost use Rattle.running_totals.specs.Posted.{WereThere};
 ghost use Rattle.table_state.specs.Recorded.{Recorded};
 
 use row_codec::move_row;
@@ -12,21 +13,25 @@ use shipment_machine::Move;
 use station_rows::{StoreFault, TableStore};
 use std::alloc::Global;
 
-/// Writes a move under its number, and what it changes of the running counts, in a transaction.
+/// Writes a move under its number, and what it changes of the running counts, in a transaction, and
+/// returns the pieces that its waybill had before where the move comes to.
 pub(crate) fn record_move<S: TableStore>(
     alloc: Global,
     store: &mut S,
     number: u32,
     movement: &Move,
-) -> Result<(), StoreFault>
+) -> Result<i64, StoreFault>
     ensures done { (before now : Tables) → IsShowing (S.view store.old) (inside before now)
         → (book : List cargo.Move) → AreCounts now.counts book → AreBuilds now.builds book
         → OnOk result (Recorded (S.view store.new) before now number movement.now
         (book ++ movement.now ∷ [])) }
+    ensures before { (before now : Tables) → IsShowing (S.view store.old) (inside before now)
+        → (book : List cargo.Move) → AreCounts now.counts book → AreBuilds now.builds book
+        → (S.view store.new).IsSound → IfOk result (WereThere book movement.now) }
     ensures survives { Survives (S.view store.old) (S.view store.new) }
 {
     let row = move_row(alloc, number, movement)?;
     store.insert_move(&row)?;
-    post_move(alloc, store, movement)?;
-    Ok(())
+    let pieces = post_move(alloc, store, movement)?;
+    Ok(pieces)
 }

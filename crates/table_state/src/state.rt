@@ -7,6 +7,8 @@ ghost use Rattle.state_store.specs.Store.{at_rest};
 ghost use Rattle.table_state.specs.Laws.{finds_what_it_shows, all_numbered};
 ghost use Rattle.table_state.specs.Shown.{Shows, Finds, HasThese, Knows};
 
+use crate::boarding::{after_move, number_on};
+use crate::counted::{Boarded, Counted};
 use crate::handing::{Telling, ended};
 use crate::noted::{flights_noted, waybills_expected};
 use crate::recording::record_move;
@@ -24,13 +26,6 @@ use state_store::{KeptReply, Load, Sizes, StateStore, StoreFault, WaybillBalance
 use station_core::{BookRow, Expectation, Key, Message, NotedFlight, Sink, TrailRow};
 use station_rows::TableStore;
 use std::alloc::Global;
-
-/// How many rows there are that are numbered. All of them have a number.
-#[derive(Clone, Copy, Debug, PartialEq, Eq)]
-pub(crate) struct Counted {
-    pub(crate) sizes: Sizes,
-    ghost fit: { (sizes.moves ≤ 4_294_967_295) × (sizes.lines ≤ 4_294_967_295) × (sizes.messages ≤ 4_294_967_295) },
-}
 
 /// The state of a station in the tables of a store.
 ///
@@ -66,7 +61,10 @@ impl<S: TableStore> TableState<S> {
             alloc,
             store,
             here,
-            counted: Counted { sizes },
+            counted: Counted {
+                sizes,
+                boarded: None,
+            },
             confirmed,
         }
     }
@@ -102,7 +100,7 @@ impl<S: TableStore> TableState<S> {
 }
 
 impl<S: TableStore> StateStore for TableState<S> {
-    ghost shows = { λ k x. Shows (S.view k.store) k.here k.counted.sizes k.confirmed x };
+    ghost shows = { λ k x. Shows (S.view k.store) k.here k.counted k.confirmed x };
 
     ghost is_clean = { λ k. (S.view k.store).IsClean };
 
@@ -207,9 +205,18 @@ impl<S: TableStore> StateStore for TableState<S> {
 
     #[tactic(auto, using(crate::proofs::Lifting::rests_on, crate::proofs::Lifting::survives_so))]
     fn waybills_on(&mut self, flight: &FlightDate) -> Result<usize, StoreFault> {
+        if let Some(number) = number_on(self.counted.boarded, flight) {
+            return Ok(number);
+        }
         match running_totals::waybills_on(self.alloc, &mut self.store, flight) {
             Err(_) => Err(StoreFault),
-            Ok(number) => Ok(number),
+            Ok(waybills) => {
+                self.counted.boarded = Some(Boarded {
+                    flight: *flight,
+                    waybills,
+                });
+                Ok(waybills)
+            }
         }
     }
 
@@ -282,8 +289,9 @@ impl<S: TableStore> StateStore for TableState<S> {
         };
         match record_move(self.alloc, &mut self.store, number, movement) {
             Err(_) => Err(StoreFault),
-            Ok(()) => {
+            Ok(were) => {
                 self.counted.sizes.moves = number;
+                self.counted.boarded = after_move(self.counted.boarded, movement, were);
                 Ok(())
             }
         }

@@ -1,7 +1,9 @@
-use Rattle.std.proofs.Common.{subst, w64, of_z, to_z, to_z-of_z}
+use Rattle.std.proofs.Common.{ap, subst, ◌∙◌, option_map, rules, FitsSigned, w64, of_z, to_z, to_z-of_z}
+use Rattle.std.specs.FinMap.{get}
 use Rattle.row_schema.specs.Store.{inside, IsShowing}
 use Rattle.row_schema.specs.Tables.{BuildKey}
-use Rattle.running_totals.specs.Stored.{meant, posting_build}
+use Rattle.row_codec.specs.Counts.{running_on}
+use Rattle.running_totals.specs.Stored.{meant, pieces_found, posting_build}
 use Rattle.running_totals.proofs.Stores.{build_posted, survives_on}
 use Rattle.running_totals.proofs.building.post_build.Goals as goal
 
@@ -20,3 +22,10 @@ pub returns-clause-survives : goal.returns-clause-survives
 returns-clause-survives g c =
     let view = g.S.TableStore.view in
     survives_on (view c.args.store.now) (view c.at_flight.new.store) (view c.put_build.new.store) c.at_flight.ensures.survives c.put_build.ensures.survives
+
+pub returns-clause-before : goal.returns-clause-before
+returns-clause-before g c seen shows sound =
+    let fits : FitsSigned w64 c.pieces_found.result = search rules in
+    to_z-of_z fits ∙ c.pieces_found.ensures
+    ∙ ap pieces_found (c.in_ok-found.ensures.read seen shows (c.put_build.ensures.survives.sound sound))
+    ∙ ap (λ (k : BuildKey). pieces_found (option_map running_on (get seen.now.builds k))) (λ i. (c.args.flight.now, (to_z-of_z c.ranges.day i, to_z-of_z c.ranges.awb i)))

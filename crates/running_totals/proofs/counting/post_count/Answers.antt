@@ -1,8 +1,10 @@
-use Rattle.std.proofs.Common.{map, ap, subst, ◌∙◌, w64, of_z, to_z, to_z-of_z}
+use Rattle.std.proofs.Common.{map, ap, subst, ◌∙◌, option_map, rules, FitsSigned, w64, of_z, to_z, to_z-of_z}
+use Rattle.std.specs.FinMap.{get}
 use Rattle.cargo_rows.specs.Meant.{count_meant}
 use Rattle.row_schema.specs.Store.{inside, IsShowing}
 use Rattle.row_schema.specs.Tables.{CountKey}
-use Rattle.running_totals.specs.Stored.{meant, posting_count}
+use Rattle.row_codec.specs.Counts.{running_in}
+use Rattle.running_totals.specs.Stored.{meant, pieces_found, posting_count}
 use Rattle.running_totals.proofs.Stores.{count_posted, survives_on}
 use Rattle.running_totals.proofs.counting.post_count.Goals as goal
 
@@ -22,3 +24,12 @@ pub returns-clause-survives : goal.returns-clause-survives
 returns-clause-survives g c =
     let view = g.S.TableStore.view in
     survives_on (view c.args.store.now) (view c.counts_of.new.self) (view c.put_count.new.store) c.counts_of.ensures.survives c.put_count.ensures.survives
+
+pub returns-clause-before : goal.returns-clause-before
+returns-clause-before g c seen shows sound =
+    let awb = to_z w64 (of_z w64 c.args.awb) in
+    let fits : FitsSigned w64 c.pieces_found.result = search rules in
+    let read = c.in_ok-rows.ensures.read seen shows (c.put_count.ensures.survives.sound sound) in
+    to_z-of_z fits ∙ c.pieces_found.ensures
+    ∙ ap pieces_found (c.at_place-found.ensures seen.now.counts awb (ap (map count_meant) c.deref.ensures.value ∙ read))
+    ∙ ap (λ (k : CountKey). pieces_found (option_map running_in (get seen.now.counts k))) (λ i. (to_z-of_z c.ranges.awb i, to_z-of_z c.ranges.place i))

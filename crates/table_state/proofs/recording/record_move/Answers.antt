@@ -1,3 +1,4 @@
+use Rattle.std.proofs.Common.{◌∙◌, rules, FitsSigned, w64, to_z-of_z}
 use Rattle.cargo_rows.specs.Meant.{move_meant, with_move}
 use Rattle.table_state.proofs.recording.record_move.Goals as goal
 
@@ -7,5 +8,10 @@ returns-clause-done g c = λ before now showing book counts builds. record {
   is = c.in_ok-row.ensures.value;
   fits = c.in_ok-row.ensures.lawful;
   again = c.in_ok-row.ensures.again;
-  posted = c.in_ok-post_move.ensures.done before (with_move (move_meant c.in_ok-row.row) now) (c.in_ok-insert_move.ensures.done before now showing) book counts builds;
+  posted = c.in_ok-pieces.ensures.done before (with_move (move_meant c.in_ok-row.row) now) (c.in_ok-insert_move.ensures.done before now showing) book counts builds;
 }
+
+pub returns-clause-before : goal.returns-clause-before
+returns-clause-before g c = λ before now showing book counts builds sound other.
+    let fits : FitsSigned w64 c.in_ok-pieces.pieces = search rules in
+    to_z-of_z fits ∙ c.in_ok-pieces.ensures.before before (with_move (move_meant c.in_ok-row.row) now) (c.in_ok-insert_move.ensures.done before now showing) book counts builds sound other
