@@ -175,6 +175,13 @@ desk_text command = text_of (desk_verb command) (desk_values command)
 abbrev pub command_text : Command → List ℕ
 command_text command = text_of (verb_of command) (values_of command)
 
+-- a function that writes an order's text, or that of a command on cargo, whose fields are in range
+abbrev pub WritesOrder : {E : Type 0} → Result (String Global) E → Order → Type 0
+WritesOrder result order = Writes result (order_text order) × IsOrder order
+
+abbrev pub WritesDesk : {E : Type 0} → Result (String Global) E → DeskCommand → Type 0
+WritesDesk result command = Writes result (desk_text command) × IsDeskCommand command
+
 -- ---- what the fields of a verb make
 
 -- the command of a verb and of what its fields hold, in their order

@@ -1,22 +1,21 @@
-//! Commands as values: the command that a verb and its fields make, and the ranges that every
-//! command keeps.
+//! Commands as values and as texts: for each verb the command that its fields make, and the text of
+//! that command.
 
-ghost use Rattle.std.specs.Prelude.{◌≡◌, ◌<◌, IfSome, IsTrue};
-ghost use Rattle.agent_stock.specs.Code.{is_agent_code};
-ghost use Rattle.awb_number.specs.Number.{IsNumber};
+ghost use Rattle.std.specs.Prelude.{◌≡◌, ◌∷◌, [], IfOk, IfSome, IsTrue, string_bytes};
+ghost use Rattle.awb_number.specs.Number.{IsNumber, number_text};
 ghost use Rattle.imp_fields.specs.Airport.{is_airport};
-ghost use Rattle.imp_fields.specs.Amount.{IsPieces, IsTenths};
-ghost use Rattle.imp_fields.specs.Flight.{is_carrier};
 ghost use Rattle.imp_fields.specs.Name.{is_name, is_goods};
-ghost use Rattle.shipment_machine.specs.Amount.{IsCount};
-ghost use Rattle.desk_commands.specs.Command.{command_of, IsRun, IsOrder, IsFlightDate, IsDeskCommand, IsCommand};
+ghost use Rattle.desk_commands.specs.Command.{command_of, command_text, order_text, desk_text, fields_text, prefix_text, serial_text, flight as flight_field, day as day_field, flight_if_any as flight_if_any_field, day_if_any, IsRun, IsFlightDate, IsOrder, IsDeskCommand, IsCommand, Writes, WritesOrder, WritesDesk};
+ghost use Rattle.desk_commands.specs.declared.command.Command.{Command as AnyCommand};
+ghost use Rattle.desk_commands.specs.declared.field_value.FieldValue.TheVariants as FieldValue;
 
 use crate::field_value::{FieldValue, flight_date, flight_if_any, run};
 use crate::verb::Verb;
 use agent_stock::{AgentCode, Order, Run};
-use awb_number::Awb;
+use awb_number::{Awb, ascii_text};
 use imp_fields::{Airport, Goods, Name, Pieces, Tenths};
 use shipment_machine::{Airline, DeskCommand, FlightDate, PieceCount};
+use std::alloc::{AllocError, Global};
 
 /// What a caller asks of a station.
 #[derive(Clone, Copy, Debug, PartialEq, Eq)]
@@ -51,12 +50,173 @@ pub(crate) fn command_of(verb: Verb, values: &[FieldValue<'_>; 6]) -> Option<Com
     }
 }
 
+/// A command as a text: its verb and its fields, one a line, numbers without leading zeros, flights
+/// in their written form, days as `2026-01-12`, and empty lines for a flight and a day that aren't
+/// named. Every command is in range, as its types keep it.
+pub fn command_text(alloc: Global, command: &Command) -> Result<String, AllocError>
+    ensures text { IfOk result (λ text. string_bytes text ≡ command_text command.now) }
+    ensures in_range { IsCommand command.now }
+{
+    match command {
+        Command::Stock(order) => order_text(alloc, order),
+        Command::Cargo(command) => desk_text(alloc, command),
+    }
+}
+
+/// Commands with one text are one command: a key is known by its command's text alone.
+pub fn command_text_law()
+    ensures { (c d : AnyCommand) → IsCommand c → IsCommand d → command_text c ≡ command_text d
+        → c ≡ d }
+{}
+
+fn order_text(alloc: Global, order: &Order) -> Result<String, AllocError>
+    ensures { WritesOrder result order.now }
+{
+    match order {
+        Order::TakeIn(run) => take_in_text(alloc, run),
+        Order::Issue(run, agent) => issue_text(alloc, run, agent),
+        Order::GiveBack(run, agent) => return_text(alloc, run, agent),
+        Order::Void(run) => void_text(alloc, run),
+    }
+}
+
+fn desk_text(alloc: Global, command: &DeskCommand) -> Result<String, AllocError>
+    ensures { WritesDesk result command.now }
+{
+    match command {
+        DeskCommand::Book {
+            awb,
+            origin,
+            destination,
+            pieces,
+            tenths,
+            goods,
+        } => book_text(alloc, awb, origin, destination, *pieces, *tenths, goods),
+        DeskCommand::Receive {
+            awb,
+            pieces,
+            tenths,
+            name,
+        } => receive_text(alloc, awb, *pieces, *tenths, name),
+        DeskCommand::Manifest {
+            awb,
+            flight,
+            unload,
+            pieces,
+        } => manifest_text(alloc, awb, flight, unload, *pieces),
+        DeskCommand::Offload {
+            awb,
+            flight,
+            pieces,
+        } => offload_text(alloc, awb, flight, *pieces),
+        DeskCommand::Depart { flight } => depart_text(alloc, flight),
+        DeskCommand::CheckIn {
+            awb,
+            flight,
+            counted,
+        } => check_in_text(alloc, awb, flight, *counted),
+        DeskCommand::Notify { awb, name } => notify_text(alloc, awb, name),
+        DeskCommand::Deliver { awb, pieces, name } => deliver_text(alloc, awb, *pieces, name),
+        DeskCommand::Transfer {
+            awb,
+            pieces,
+            airline,
+        } => transfer_text(alloc, awb, *pieces, airline),
+        DeskCommand::Missing {
+            awb,
+            pieces,
+            flight,
+        } => missing_text(alloc, awb, *pieces, flight),
+        DeskCommand::Found {
+            awb,
+            pieces,
+            tenths,
+            flight,
+        } => found_text(alloc, awb, *pieces, *tenths, flight),
+        DeskCommand::Confirm { upto } => confirm_text(alloc, *upto),
+    }
+}
+
+/// A waybill number as its text has it.
+fn number_bytes(awb: &Awb) -> [u8; 12]
+    ensures text { result ≡ number_text awb.now }
+    ensures in_range { IsNumber awb.now }
+{
+    awb.write()
+}
+
+fn airport_bytes(airport: &Airport) -> [u8; 3]
+    ensures text { result ≡ airport.now }
+    ensures in_range { IsTrue (is_airport airport.now) }
+{
+    airport.letters()
+}
+
+fn name_text(name: &Name) -> &str
+    ensures text { result.now ≡ name.now }
+    ensures in_range { IsTrue (is_name name.now) }
+{
+    ascii_text(name.as_bytes())
+}
+
+fn goods_text(goods: &Goods) -> &str
+    ensures text { result.now ≡ goods.now }
+    ensures in_range { IsTrue (is_goods goods.now) }
+{
+    ascii_text(goods.as_bytes())
+}
+
+/// The first number of a run and how many there are, one a line.
+fn run_lines(alloc: Global, run: &Run) -> Result<String, AllocError>
+    ensures text { Writes result (fields_text
+        (prefix_text run.now ∷ serial_text run.now ∷ FieldValue.Number run.now.count ∷ [])) }
+    ensures in_range { IsRun run.now }
+{
+    let number = run.first.write();
+    let prefix = ascii_text(&number[..3]);
+    let serial = ascii_text(&number[4..11]);
+    let count = run.count.number();
+    format!(in alloc; "{prefix}\n{serial}\n{count}")
+}
+
+/// A flight in its written form and its day, one a line.
+fn flight_lines(alloc: Global, flight: &FlightDate) -> Result<String, AllocError>
+    ensures text { Writes result (fields_text
+        (flight_field flight.now ∷ day_field flight.now ∷ [])) }
+    ensures in_range { IsFlightDate flight.now }
+{
+    let mut designator = [0; 7];
+    let length = flight.flight.write(&mut designator);
+    let designator = ascii_text(&designator[..length]);
+    let _day = flight.day.number();
+    format!(in alloc; "{designator}\n{}", flight.day)
+}
+
+/// The same, or two empty lines where no flight is named.
+fn lines_if_any(alloc: Global, flight: &Option<FlightDate>) -> Result<String, AllocError>
+    ensures text { Writes result (fields_text
+        (flight_if_any_field flight.now ∷ day_if_any flight.now ∷ [])) }
+    ensures in_range { IfSome flight.now IsFlightDate }
+{
+    match flight {
+        Some(flight) => flight_lines(alloc, flight),
+        None => format!(in alloc; "\n"),
+    }
+}
+
 fn take_in(values: &[FieldValue<'_>; 6]) -> Option<Command>
     ensures { result ≡ command_of Verb.TakeIn values.now }
 {
     let [prefix, serial, count, ..] = values;
     let run = run(prefix, serial, count)?;
     Some(Command::Stock(Order::TakeIn(run)))
+}
+
+fn take_in_text(alloc: Global, run: &Run) -> Result<String, AllocError>
+    ensures { WritesOrder result (Order.TakeIn run.now) }
+{
+    let run = run_lines(alloc, run)?;
+    format!(in alloc; "take-in\n{run}")
 }
 
 fn issue(values: &[FieldValue<'_>; 6]) -> Option<Command>
@@ -67,6 +227,14 @@ fn issue(values: &[FieldValue<'_>; 6]) -> Option<Command>
     Some(Command::Stock(Order::Issue(run, agent.agent()?)))
 }
 
+fn issue_text(alloc: Global, run: &Run, agent: &AgentCode) -> Result<String, AllocError>
+    ensures { WritesOrder result (Order.Issue run.now agent.now) }
+{
+    let agent = agent.as_str();
+    let run = run_lines(alloc, run)?;
+    format!(in alloc; "issue\n{run}\n{agent}")
+}
+
 fn give_back(values: &[FieldValue<'_>; 6]) -> Option<Command>
     ensures { result ≡ command_of Verb.Return values.now }
 {
@@ -75,12 +243,27 @@ fn give_back(values: &[FieldValue<'_>; 6]) -> Option<Command>
     Some(Command::Stock(Order::GiveBack(run, agent.agent()?)))
 }
 
+fn return_text(alloc: Global, run: &Run, agent: &AgentCode) -> Result<String, AllocError>
+    ensures { WritesOrder result (Order.GiveBack run.now agent.now) }
+{
+    let agent = agent.as_str();
+    let run = run_lines(alloc, run)?;
+    format!(in alloc; "return\n{run}\n{agent}")
+}
+
 fn void(values: &[FieldValue<'_>; 6]) -> Option<Command>
     ensures { result ≡ command_of Verb.Void values.now }
 {
     let [prefix, serial, count, ..] = values;
     let run = run(prefix, serial, count)?;
     Some(Command::Stock(Order::Void(run)))
+}
+
+fn void_text(alloc: Global, run: &Run) -> Result<String, AllocError>
+    ensures { WritesOrder result (Order.Void run.now) }
+{
+    let run = run_lines(alloc, run)?;
+    format!(in alloc; "void\n{run}")
 }
 
 fn book(values: &[FieldValue<'_>; 6]) -> Option<Command>
@@ -97,6 +280,30 @@ fn book(values: &[FieldValue<'_>; 6]) -> Option<Command>
     }))
 }
 
+fn book_text(
+    alloc: Global,
+    awb: &Awb,
+    origin: &Airport,
+    destination: &Airport,
+    pieces: Pieces,
+    tenths: Tenths,
+    goods: &Goods,
+) -> Result<String, AllocError>
+    ensures { WritesDesk result
+        (DeskCommand.Book awb.now origin.now destination.now pieces tenths goods.now) }
+{
+    let number = number_bytes(awb);
+    let awb = ascii_text(&number);
+    let origin = airport_bytes(origin);
+    let origin = ascii_text(&origin);
+    let destination = airport_bytes(destination);
+    let destination = ascii_text(&destination);
+    let pieces = pieces.number();
+    let goods = goods_text(goods);
+    let tenths = tenths.number();
+    format!(in alloc; "book\n{awb}\n{origin}\n{destination}\n{pieces}\n{tenths}\n{goods}")
+}
+
 fn receive(values: &[FieldValue<'_>; 6]) -> Option<Command>
     ensures { result ≡ command_of Verb.Receive values.now }
 {
@@ -107,6 +314,23 @@ fn receive(values: &[FieldValue<'_>; 6]) -> Option<Command>
         tenths: tenths.tenths()?,
         name: name.name()?,
     }))
+}
+
+fn receive_text(
+    alloc: Global,
+    awb: &Awb,
+    pieces: Pieces,
+    tenths: Tenths,
+    name: &Name,
+) -> Result<String, AllocError>
+    ensures { WritesDesk result (DeskCommand.Receive awb.now pieces tenths name.now) }
+{
+    let number = number_bytes(awb);
+    let awb = ascii_text(&number);
+    let pieces = pieces.number();
+    let name = name_text(name);
+    let tenths = tenths.number();
+    format!(in alloc; "receive\n{awb}\n{pieces}\n{tenths}\n{name}")
 }
 
 fn manifest(values: &[FieldValue<'_>; 6]) -> Option<Command>
@@ -121,6 +345,24 @@ fn manifest(values: &[FieldValue<'_>; 6]) -> Option<Command>
     }))
 }
 
+fn manifest_text(
+    alloc: Global,
+    awb: &Awb,
+    flight: &FlightDate,
+    unload: &Airport,
+    pieces: Pieces,
+) -> Result<String, AllocError>
+    ensures { WritesDesk result (DeskCommand.Manifest awb.now flight.now unload.now pieces) }
+{
+    let number = number_bytes(awb);
+    let awb = ascii_text(&number);
+    let unload = airport_bytes(unload);
+    let unload = ascii_text(&unload);
+    let pieces = pieces.number();
+    let flight = flight_lines(alloc, flight)?;
+    format!(in alloc; "manifest\n{awb}\n{flight}\n{unload}\n{pieces}")
+}
+
 fn offload(values: &[FieldValue<'_>; 6]) -> Option<Command>
     ensures { result ≡ command_of Verb.Offload values.now }
 {
@@ -132,12 +374,34 @@ fn offload(values: &[FieldValue<'_>; 6]) -> Option<Command>
     }))
 }
 
+fn offload_text(
+    alloc: Global,
+    awb: &Awb,
+    flight: &FlightDate,
+    pieces: Pieces,
+) -> Result<String, AllocError>
+    ensures { WritesDesk result (DeskCommand.Offload awb.now flight.now pieces) }
+{
+    let number = number_bytes(awb);
+    let awb = ascii_text(&number);
+    let pieces = pieces.number();
+    let flight = flight_lines(alloc, flight)?;
+    format!(in alloc; "offload\n{awb}\n{flight}\n{pieces}")
+}
+
 fn depart(values: &[FieldValue<'_>; 6]) -> Option<Command>
     ensures { result ≡ command_of Verb.Depart values.now }
 {
     let [flight, day, ..] = values;
     let flight = flight_date(flight, day)?;
     Some(Command::Cargo(DeskCommand::Depart { flight }))
+}
+
+fn depart_text(alloc: Global, flight: &FlightDate) -> Result<String, AllocError>
+    ensures { WritesDesk result (DeskCommand.Depart flight.now) }
+{
+    let flight = flight_lines(alloc, flight)?;
+    format!(in alloc; "depart\n{flight}")
 }
 
 fn check_in(values: &[FieldValue<'_>; 6]) -> Option<Command>
@@ -151,6 +415,21 @@ fn check_in(values: &[FieldValue<'_>; 6]) -> Option<Command>
     }))
 }
 
+fn check_in_text(
+    alloc: Global,
+    awb: &Awb,
+    flight: &FlightDate,
+    counted: PieceCount,
+) -> Result<String, AllocError>
+    ensures { WritesDesk result (DeskCommand.CheckIn awb.now flight.now counted) }
+{
+    let number = number_bytes(awb);
+    let awb = ascii_text(&number);
+    let counted = counted.number();
+    let flight = flight_lines(alloc, flight)?;
+    format!(in alloc; "check-in\n{awb}\n{flight}\n{counted}")
+}
+
 fn notify(values: &[FieldValue<'_>; 6]) -> Option<Command>
     ensures { result ≡ command_of Verb.Notify values.now }
 {
@@ -159,6 +438,15 @@ fn notify(values: &[FieldValue<'_>; 6]) -> Option<Command>
         awb: awb.awb()?,
         name: name.name()?,
     }))
+}
+
+fn notify_text(alloc: Global, awb: &Awb, name: &Name) -> Result<String, AllocError>
+    ensures { WritesDesk result (DeskCommand.Notify awb.now name.now) }
+{
+    let number = number_bytes(awb);
+    let awb = ascii_text(&number);
+    let name = name_text(name);
+    format!(in alloc; "notify\n{awb}\n{name}")
 }
 
 fn deliver(values: &[FieldValue<'_>; 6]) -> Option<Command>
@@ -172,6 +460,16 @@ fn deliver(values: &[FieldValue<'_>; 6]) -> Option<Command>
     }))
 }
 
+fn deliver_text(alloc: Global, awb: &Awb, pieces: Pieces, name: &Name) -> Result<String, AllocError>
+    ensures { WritesDesk result (DeskCommand.Deliver awb.now pieces name.now) }
+{
+    let number = number_bytes(awb);
+    let awb = ascii_text(&number);
+    let pieces = pieces.number();
+    let name = name_text(name);
+    format!(in alloc; "deliver\n{awb}\n{pieces}\n{name}")
+}
+
 fn transfer(values: &[FieldValue<'_>; 6]) -> Option<Command>
     ensures { result ≡ command_of Verb.Transfer values.now }
 {
@@ -183,6 +481,22 @@ fn transfer(values: &[FieldValue<'_>; 6]) -> Option<Command>
     }))
 }
 
+fn transfer_text(
+    alloc: Global,
+    awb: &Awb,
+    pieces: Pieces,
+    airline: &Airline,
+) -> Result<String, AllocError>
+    ensures { WritesDesk result (DeskCommand.Transfer awb.now pieces airline.now) }
+{
+    let number = number_bytes(awb);
+    let awb = ascii_text(&number);
+    let pieces = pieces.number();
+    let airline = airline.designator();
+    let airline = ascii_text(&airline);
+    format!(in alloc; "transfer\n{awb}\n{pieces}\n{airline}")
+}
+
 fn missing(values: &[FieldValue<'_>; 6]) -> Option<Command>
     ensures { result ≡ command_of Verb.Missing values.now }
 {
@@ -192,6 +506,21 @@ fn missing(values: &[FieldValue<'_>; 6]) -> Option<Command>
         pieces: pieces.pieces()?,
         flight: flight_if_any(flight, day)?,
     }))
+}
+
+fn missing_text(
+    alloc: Global,
+    awb: &Awb,
+    pieces: Pieces,
+    flight: &Option<FlightDate>,
+) -> Result<String, AllocError>
+    ensures { WritesDesk result (DeskCommand.Missing awb.now pieces flight.now) }
+{
+    let number = number_bytes(awb);
+    let awb = ascii_text(&number);
+    let pieces = pieces.number();
+    let flight = lines_if_any(alloc, flight)?;
+    format!(in alloc; "missing\n{awb}\n{pieces}\n{flight}")
 }
 
 fn found(values: &[FieldValue<'_>; 6]) -> Option<Command>
@@ -206,6 +535,23 @@ fn found(values: &[FieldValue<'_>; 6]) -> Option<Command>
     }))
 }
 
+fn found_text(
+    alloc: Global,
+    awb: &Awb,
+    pieces: Pieces,
+    tenths: Tenths,
+    flight: &Option<FlightDate>,
+) -> Result<String, AllocError>
+    ensures { WritesDesk result (DeskCommand.Found awb.now pieces tenths flight.now) }
+{
+    let number = number_bytes(awb);
+    let awb = ascii_text(&number);
+    let pieces = pieces.number();
+    let tenths = tenths.number();
+    let flight = lines_if_any(alloc, flight)?;
+    format!(in alloc; "found\n{awb}\n{pieces}\n{tenths}\n{flight}")
+}
+
 fn confirm(values: &[FieldValue<'_>; 6]) -> Option<Command>
     ensures { result ≡ command_of Verb.Confirm values.now }
 {
@@ -214,214 +560,8 @@ fn confirm(values: &[FieldValue<'_>; 6]) -> Option<Command>
     Some(Command::Cargo(DeskCommand::Confirm { upto }))
 }
 
-fn run_range(run: &Run)
-    ensures { IsRun run.now }
+fn confirm_text(alloc: Global, upto: u32) -> Result<String, AllocError>
+    ensures { WritesDesk result (DeskCommand.Confirm upto) }
 {
-    let _first = run.first.key();
-    let _count = run.count.number();
-}
-
-fn agent_range(agent: &AgentCode)
-    ensures { IsTrue (is_agent_code agent.now) }
-{
-    let _code = agent.as_bytes();
-}
-
-fn order_range(order: &Order)
-    ensures { IsOrder order.now }
-{
-    match order {
-        Order::TakeIn(run) => run_range(run),
-        Order::Issue(run, agent) => {
-            run_range(run);
-            agent_range(agent);
-        }
-        Order::GiveBack(run, agent) => {
-            run_range(run);
-            agent_range(agent);
-        }
-        Order::Void(run) => run_range(run),
-    }
-}
-
-fn waybill_range(awb: &Awb)
-    ensures { IsNumber awb.now }
-{
-    let _number = awb.key();
-}
-
-fn flight_range(flight: &FlightDate)
-    ensures { IsFlightDate flight.now }
-{
-    let _text = flight.flight.write(&mut [0; 7]);
-    let _day = flight.day.number();
-}
-
-fn flight_if_any_range(flight: &Option<FlightDate>)
-    ensures { IfSome flight.now IsFlightDate }
-{
-    match flight {
-        Some(flight) => flight_range(flight),
-        None => {}
-    }
-}
-
-fn amount_range(pieces: Pieces, tenths: Tenths)
-    ensures pieces { IsPieces pieces }
-    ensures tenths { IsTenths tenths }
-{
-    let _pieces = pieces.number();
-    let _tenths = tenths.number();
-}
-
-fn pieces_range(pieces: Pieces)
-    ensures { IsPieces pieces }
-{
-    let _pieces = pieces.number();
-}
-
-fn count_range(counted: PieceCount)
-    ensures { IsCount counted }
-{
-    let _counted = counted.number();
-}
-
-fn name_range(name: &Name)
-    ensures { IsTrue (is_name name.now) }
-{
-    let _name = name.as_bytes();
-}
-
-fn goods_range(goods: &Goods)
-    ensures { IsTrue (is_goods goods.now) }
-{
-    let _goods = goods.as_bytes();
-}
-
-fn airport_range(airport: &Airport)
-    ensures { IsTrue (is_airport airport.now) }
-{
-    let _letters = airport.letters();
-}
-
-fn airline_range(airline: &Airline)
-    ensures { IsTrue (is_carrier airline.now) }
-{
-    let _designator = airline.designator();
-}
-
-fn number_range(number: u32)
-    ensures { number < 4_294_967_296 }
-{
-    let _number = number;
-}
-
-fn desk_range(command: &DeskCommand)
-    ensures { IsDeskCommand command.now }
-{
-    match command {
-        DeskCommand::Book {
-            awb,
-            origin,
-            destination,
-            pieces,
-            tenths,
-            goods,
-        } => {
-            waybill_range(awb);
-            airport_range(origin);
-            airport_range(destination);
-            amount_range(*pieces, *tenths);
-            goods_range(goods);
-        }
-        DeskCommand::Receive {
-            awb,
-            pieces,
-            tenths,
-            name,
-        } => {
-            waybill_range(awb);
-            amount_range(*pieces, *tenths);
-            name_range(name);
-        }
-        DeskCommand::Manifest {
-            awb,
-            flight,
-            unload,
-            pieces,
-        } => {
-            waybill_range(awb);
-            flight_range(flight);
-            airport_range(unload);
-            pieces_range(*pieces);
-        }
-        DeskCommand::Offload {
-            awb,
-            flight,
-            pieces,
-        } => {
-            waybill_range(awb);
-            flight_range(flight);
-            pieces_range(*pieces);
-        }
-        DeskCommand::Depart { flight } => flight_range(flight),
-        DeskCommand::CheckIn {
-            awb,
-            flight,
-            counted,
-        } => {
-            waybill_range(awb);
-            flight_range(flight);
-            count_range(*counted);
-        }
-        DeskCommand::Notify { awb, name } => {
-            waybill_range(awb);
-            name_range(name);
-        }
-        DeskCommand::Deliver { awb, pieces, name } => {
-            waybill_range(awb);
-            pieces_range(*pieces);
-            name_range(name);
-        }
-        DeskCommand::Transfer {
-            awb,
-            pieces,
-            airline,
-        } => {
-            waybill_range(awb);
-            pieces_range(*pieces);
-            airline_range(airline);
-        }
-        DeskCommand::Missing {
-            awb,
-            pieces,
-            flight,
-        } => {
-            waybill_range(awb);
-            pieces_range(*pieces);
-            flight_if_any_range(flight);
-        }
-        DeskCommand::Found {
-            awb,
-            pieces,
-            tenths,
-            flight,
-        } => {
-            waybill_range(awb);
-            amount_range(*pieces, *tenths);
-            flight_if_any_range(flight);
-        }
-        DeskCommand::Confirm { upto } => number_range(*upto),
-    }
-}
-
-/// Every command is in range, as its types keep it: so
-/// [`command_text_law`](crate::command_text_law) holds of any two commands.
-pub fn command_range_law(command: &Command)
-    ensures { IsCommand command.now }
-{
-    match command {
-        Command::Stock(order) => order_range(order),
-        Command::Cargo(command) => desk_range(command),
-    }
+    format!(in alloc; "confirm\n{upto}")
 }

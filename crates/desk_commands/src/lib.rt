@@ -8,12 +8,10 @@ mod field_value;
 mod lines;
 mod reading;
 mod text;
-mod texts;
 mod verb;
 
 pub use body::{BadBody, read_command};
-pub use command::{Command, command_range_law};
+pub use command::{Command, command_text, command_text_law};
 pub use day::day_text;
 pub use reading::read_command_text;
-pub use texts::{command_text, command_text_law};
 pub use verb::Verb;

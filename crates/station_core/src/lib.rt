@@ -22,7 +22,7 @@ pub use ends::{ByteIn, ByteOut, Counted, ReadFault, WriteFault, send};
 pub use input::Input;
 pub use keeper::Keeper;
 pub use key::Key;
-pub use ranges::input_range_law;
+pub use ranges::content_range_law;
 pub use repeat::repeated_key;
 pub use row_sinks::{Sink, hand_out};
 pub use rows::{

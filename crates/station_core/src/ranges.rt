@@ -1,4 +1,4 @@
-//! Every input is in range, as its types keep it.
+//! What a telegram says is in range, as its types keep it.
 
 ghost use Rattle.std.specs.Prelude.{◌≤◌, IsTrue, IfSome};
 ghost use Rattle.std.specs.List.{AllByRecursion, list_all};
@@ -8,11 +8,9 @@ ghost use Rattle.imp_fields.specs.Amount.{IsPieces};
 ghost use Rattle.imp_fields.specs.Characters.{is_line};
 ghost use Rattle.imp_fields.specs.Date.{IsCalendarDay};
 ghost use Rattle.imp_fields.specs.Flight.{IsDesignator};
-ghost use Rattle.station_core.specs.Ranges.{IsCargoLine, IsInboundLine, IsContent, IsInput};
+ghost use Rattle.station_core.specs.Ranges.{IsCargoLine, IsInboundLine, IsContent};
 
-use crate::input::Input;
 use awb_number::Awb;
-use desk_commands::command_range_law;
 use imp_fields::{Airport, Pieces};
 use shipment_machine::{CargoLine, InboundLine};
 use telegrams::{Content, PartContent, StatusContent};
@@ -89,26 +87,15 @@ fn status_range(status: &StatusContent<'_>)
     let _lines = status.lines.as_slice();
 }
 
-fn content_range(content: &Content<'_>)
+/// What a telegram says is in range, as its types keep it. So is a key, by
+/// [`Key::as_bytes`](crate::Key::as_bytes), and a command, by [`command_text`](desk_commands::command_text):
+/// [`step_law`](crate::step_law) and [`run_law`](crate::run_law) hold of whatever a station is handed.
+pub fn content_range_law(content: &Content<'_>)
     ensures { IsContent content.now }
 {
     match content {
         Content::Fwb(line) => cargo_range(line),
         Content::Ffm(part) => part_range(part),
         Content::Fsu(status) => status_range(status),
-    }
-}
-
-/// Every input is in range, as its types keep it: so [`step_law`](crate::step_law) and
-/// [`run_law`](crate::run_law) hold of whatever a station is handed.
-pub fn input_range_law(input: &Input<'_>)
-    ensures { IsInput input.now }
-{
-    match input {
-        Input::Keyed(key, command) => {
-            let _key = key.as_bytes();
-            command_range_law(command);
-        }
-        Input::Wire(telegram) => content_range(telegram.content()),
     }
 }

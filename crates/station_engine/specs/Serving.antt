@@ -1,7 +1,7 @@
 -- What serving an input comes to.
 use Rattle.std.specs.Prelude.{◌≡◌, ℕ, List, [], Option, Some, None, Result, Ok, Err}
 use Rattle.imp_fields.specs.Date.{LocalMinute}
-use Rattle.desk_commands.specs.Command.{command_text}
+use Rattle.desk_commands.specs.Command.{command_text, IsCommand}
 use Rattle.shipment_machine.specs.declared.plans.Plan.{Plan}
 use Rattle.shipment_machine.specs.declared.plans.Refusal.{Refusal}
 use Rattle.shipment_machine.specs.Agreement.{outcome_of}
@@ -17,6 +17,16 @@ use Rattle.station_core.specs.Step.{State, IsLawfulState, acted, cargo_acted, re
 abbrev pub request_of : Input → List ℕ
 request_of (Keyed key command) = command_text command
 request_of (Wire telegram) = []
+
+-- a command is in range
+abbrev pub IsAsked : Input → Type 0
+IsAsked (Keyed key command) = IsCommand command
+IsAsked (Wire telegram) = Unit {0}
+
+-- the text is that of an input, whose command is in range
+pub record IsRequestOf (i : Input) (text : List ℕ) : Type 0 where
+  pub in_range : IsAsked i
+  pub is : text ≡ request_of i
 
 -- a plan or a refusal is the effect
 abbrev pub IsEffect : Result Outcome Refusal → Result Plan Refusal → Type 0

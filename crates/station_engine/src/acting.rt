@@ -8,7 +8,7 @@ ghost use Rattle.shipment_machine.specs.Effect.{effect};
 ghost use Rattle.shipment_machine.specs.Lawful.{IsLawful};
 ghost use Rattle.telegrams.specs.NoticeText.{notice_text};
 ghost use Rattle.station_core.specs.Step.{State, IsLawfulState, acted, stock_acted, cargo_acted, repeated};
-ghost use Rattle.station_engine.specs.Serving.{request_of, IsEffect, IfPlanned, IsPlanned, IsAfter, Serves};
+ghost use Rattle.station_engine.specs.Serving.{IsRequestOf, IsEffect, IfPlanned, IsPlanned, IsAfter, Serves};
 ghost use Rattle.state_store.specs.Store.{Seen, at_rest, Survives};
 ghost use Rattle.station_engine.specs.Written.{texts_in};
 
@@ -80,7 +80,7 @@ fn do_plan<S: StateStore>(
     text: &[u8],
     plan: &Plan<'_>,
 ) -> Result<Answer, StoreFault>
-    requires { request.now ≡ request_of input.now }
+    requires { IsRequestOf input.now request.now }
     ensures serves { (s : State) (at : LocalMinute) → S.shows store.old (at_rest s)
         → IsPlanned s input.now at text.now plan.now → S.is_sound store.new
         → IfOk result (Serves s input.now at (λ t. IsLawfulState t
@@ -111,7 +111,7 @@ fn do_shipment<S: StateStore>(
     command: &ShipmentCommand<'_>,
     at: Moment,
 ) -> Result<Answer, StoreFault>
-    requires request { request.now ≡ request_of input.now }
+    requires request { IsRequestOf input.now request.now }
     requires command { (c : AnyCargo)
         → acted c input.now at ≡ cargo_acted text.now c (effect c command.now at) }
     ensures serves { (s : State) → S.shows store.old (at_rest s) → IsLawfulState s
@@ -138,7 +138,7 @@ fn do_order<S: StateStore>(
     request: &str,
     order: &Order,
 ) -> Result<Answer, StoreFault>
-    requires request { request.now ≡ request_of input.now }
+    requires request { IsRequestOf input.now request.now }
     requires order { (c : AnyCargo) (at : LocalMinute)
         → acted c input.now at ≡ stock_acted c order.now (order_refusal c.holders order.now) }
     ensures serves { (s : State) (at : LocalMinute) → S.shows store.old (at_rest s)
@@ -174,7 +174,7 @@ fn act_anew<S: StateStore>(
     request: &str,
     at: Moment,
 ) -> Result<Answer, StoreFault>
-    requires { request.now ≡ request_of input.now }
+    requires { IsRequestOf input.now request.now }
     ensures serves { (s : State) → S.shows store.old (at_rest s) → IsLawfulState s
         → repeated s input.now ≡ None → S.is_sound store.new
         → IfOk result (Serves s input.now at (λ t. IsLawfulState t
@@ -208,7 +208,7 @@ pub(crate) fn serve<S: StateStore>(
     request: &str,
     at: Moment,
 ) -> Result<Answer, StoreFault>
-    requires { request.now ≡ request_of input.now }
+    requires { IsRequestOf input.now request.now }
     ensures serves { (s : State) → S.shows store.old (at_rest s) → IsLawfulState s
         → S.is_sound store.new → IfOk result (Serves s input.now at (λ t. IsLawfulState t
         × S.shows store.new (at_rest t))) }

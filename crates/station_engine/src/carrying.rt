@@ -1,7 +1,7 @@
 //! What an accepted input writes.
-ghost use Rattle.std.specs.Prelude.{◌≡◌, OnOk};
+ghost use Rattle.std.specs.Prelude.{OnOk};
 ghost use Rattle.station_core.specs.Step.{State, kept_with};
-ghost use Rattle.station_engine.specs.Serving.{request_of};
+ghost use Rattle.station_engine.specs.Serving.{IsRequestOf};
 ghost use Rattle.state_store.specs.Store.{at_rest, inside, Survives, MayLeave};
 ghost use Rattle.state_store.specs.Told.{with_moves, with_messages};
 ghost use Rattle.station_engine.specs.Written.{with_changes, with_plan, texts_in};
@@ -77,7 +77,7 @@ pub(crate) fn keep_and_commit<S: StateStore>(
     request: &str,
     count: u32,
 ) -> Result<(), StoreFault>
-    requires { request.now ≡ request_of input.now }
+    requires { IsRequestOf input.now request.now }
     ensures done { (before s : State) → S.shows store.old (inside before s)
         → OnOk result (S.shows store.new (at_rest (kept_with input.now count s))) }
     ensures clean { S.is_clean store.new → S.is_clean store.old }
@@ -100,7 +100,7 @@ pub(crate) fn commit_plan<S: StateStore>(
     plan: &Plan<'_>,
     messages: &[Vec<u8>],
 ) -> Result<(), StoreFault>
-    requires { request.now ≡ request_of input.now }
+    requires { IsRequestOf input.now request.now }
     ensures done { (s : State) → S.shows store.old (at_rest s)
         → OnOk result (S.shows store.new (at_rest (kept_with input.now plan.now.count
         (with_plan text.now plan.now (texts_in messages.now) s)))) }

@@ -2,18 +2,18 @@
 ghost use Rattle.std.specs.Prelude.{◌≡◌, string_bytes, OnOk, IfOk};
 ghost use Rattle.station_core.specs.Step.{State, repeated, key_answer, text_answer, kept_with};
 ghost use Rattle.std.specs.Option.{option_map};
-ghost use Rattle.station_engine.specs.Serving.{request_of};
+ghost use Rattle.station_engine.specs.Serving.{IsRequestOf};
 ghost use Rattle.state_store.specs.Store.{Seen, inside, Survives};
 ghost use Rattle.state_store.specs.Told.{kept_of};
 
-use desk_commands::{command_range_law, command_text};
+use desk_commands::command_text;
 use state_store::{KeptReply, StateStore, StoreFault};
 use station_core::{Answer, Input, Reply, repeated_key};
 use std::alloc::{AllocError, Global};
 
 /// The text by which an input is compared with one that was kept under its key.
 pub(crate) fn request_of(alloc: Global, input: &Input<'_>) -> Result<String, AllocError>
-    ensures { IfOk result (λ text. string_bytes text ≡ request_of input.now) }
+    ensures { IfOk result (λ text. IsRequestOf input.now (string_bytes text)) }
 {
     match input {
         Input::Keyed(_, command) => command_text(alloc, command),
@@ -47,7 +47,7 @@ pub(crate) fn known<S: StateStore>(
     input: &Input<'_>,
     request: &str,
 ) -> Result<Option<Answer>, StoreFault>
-    requires { request.now ≡ request_of input.now }
+    requires { IsRequestOf input.now request.now }
     ensures value { (x : Seen) → S.shows store.old x → S.is_sound store.new
         → IfOk result (λ answer. answer ≡ repeated x.now input.now) }
     ensures same { (x : Seen) → S.shows store.old x → OnOk result (S.shows store.new x) }
@@ -72,16 +72,13 @@ pub(crate) fn keep<S: StateStore>(
     request: &str,
     count: u32,
 ) -> Result<(), StoreFault>
-    requires { request.now ≡ request_of input.now }
+    requires { IsRequestOf input.now request.now }
     ensures done { (before s : State) → S.shows store.old (inside before s)
         → OnOk result (S.shows store.new (inside before (kept_with input.now count s))) }
     ensures survives { Survives S.is_clean S.is_sound S.may_find store.old store.new }
 {
     match input {
-        Input::Keyed(key, command) => {
-            command_range_law(command);
-            store.keep_key(key, request, count)
-        }
+        Input::Keyed(key, _) => store.keep_key(key, request, count),
         Input::Wire(telegram) => store.keep_text(telegram.text().as_bytes(), count),
     }
 }
