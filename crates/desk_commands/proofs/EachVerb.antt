@@ -10,33 +10,13 @@ use Rattle.desk_commands.specs.declared.verb.Verb.TheVariants as verb
 use Rattle.desk_commands.specs.declared.field_value.FieldValue.{FieldValue}
 use Rattle.desk_commands.specs.declared.field_value.FieldValue.TheVariants.{Text, Number}
 use Rattle.desk_commands.specs.Command.{verb_of, values_of, IsCommand, flight_if_any, day_if_any, command_in, command_of, prefix_text, serial_text, number, flight, day}
-use Rattle.desk_commands.specs.Verb.{row, word, verb_called}
+use Rattle.desk_commands.specs.Verb.{row}
 use Rattle.desk_commands.proofs.Free.{free_padded, free_number, free_day, free_airport, free_carrier, free_name, free_goods, free_agent}
 use Rattle.desk_commands.specs.FieldValue.{awb_in, airport_in, airline_in, pieces_in, tenths_in, name_in, goods_in, agent_in, counted_in, number_in, run_in, flight_date_in, flight_if_any_in}
 use Rattle.desk_commands.proofs.Fields.{awb_is, airport_is, airline_is, pieces_is, tenths_is, name_is, goods_is, agent_is, counted_is, number_is, run_is, flight_date_is, awb_again, airport_again, airline_again, pieces_again, tenths_again, name_again, goods_again, agent_again, counted_again, run_again, flight_date_again, flight_if_any_again}
 use Rattle.desk_commands.proofs.Steps.{made1, made2, made3, made4, made6, again1, again2, again3, again4, again6}
 use Rattle.desk_commands.proofs.Fit.{AreFit, pieces_fit, tenths_fit, counted_fit, count_fits, day_long, values_in_places}
 use Rattle.desk_commands.proofs.Made.{IsTyped, AreTyped, date_range, flight_if_any_is}
-
--- ---- a word
-
-pub called_again : (v : Verb) → verb_called (word v) ≡ Some v
-called_again verb.TakeIn = refl
-called_again verb.Issue = refl
-called_again verb.Return = refl
-called_again verb.Void = refl
-called_again verb.Book = refl
-called_again verb.Receive = refl
-called_again verb.Manifest = refl
-called_again verb.Offload = refl
-called_again verb.Depart = refl
-called_again verb.CheckIn = refl
-called_again verb.Notify = refl
-called_again verb.Deliver = refl
-called_again verb.Transfer = refl
-called_again verb.Missing = refl
-called_again verb.Found = refl
-called_again verb.Confirm = refl
 
 -- ---- what the fields of a command hold fits their kinds
 

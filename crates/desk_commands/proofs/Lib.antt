@@ -12,4 +12,5 @@ mod Made
 mod Steps
 mod TextLaws
 mod Verbs
+pub mod Words
 pub mod Written

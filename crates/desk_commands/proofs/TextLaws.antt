@@ -14,11 +14,12 @@ use Rattle.desk_commands.specs.Command.{verb_of, values_of, command_text, IsComm
 use Rattle.desk_commands.specs.Verb.{kind_of, word, verb_called, row, places}
 use Rattle.desk_commands.specs.FieldValue.{line_of}
 use Rattle.desk_commands.specs.Lines.{is_end, lines_of, lines_left, IsNext, places_of, line_says, places_say, lines_say, lines_command, text_says}
-use Rattle.desk_commands.proofs.EachVerb.{made_again, fits, made_of_list, called_again}
+use Rattle.desk_commands.proofs.EachVerb.{made_again, fits, made_of_list}
 use Rattle.desk_commands.proofs.Fit.{values_in_places, AreFit}
 use Rattle.desk_commands.proofs.Free.{free}
 use Rattle.desk_commands.proofs.Made.{AreTyped}
-use Rattle.desk_commands.proofs.Verbs.{places_are, row_short, values_short, free_word, called_is}
+use Rattle.desk_commands.proofs.Verbs.{places_are, row_short, values_short, free_word}
+use Rattle.desk_commands.proofs.Words.{called_again, called_is}
 use Rattle.desk_commands.proofs.LineLaws.{line_again, line_free, line_made}
 use Rattle.desk_commands.proofs.Steps.{some_is, passes, passed, go_on, again2, made2, bound}
 

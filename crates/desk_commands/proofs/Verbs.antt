@@ -1,44 +1,18 @@
 -- Every verb: its word, and its row.
-use Rattle.std.proofs.Common.{◌≡◌, ℕ, Bool, true, false, cond, List, [], ◌∷◌, Some, refl, sym, ap, ◌∙◌, ◌≤◌, suc, length, map, nat_le, arith}
-use Rattle.std.specs.List.{find, list_all}
+use Rattle.std.proofs.Common.{◌≡◌, true, List, [], ◌∷◌, refl, ap, ◌≤◌, suc, length, map, nat_le, arith}
 use Rattle.std.specs.Prelude.{slice_get}
-use Rattle.std.proofs.lemmas.Bool.{and_parts, leb-true}
-use Rattle.imp_fields.proofs.SameFlight.{bytes_eq-true}
+use Rattle.std.proofs.lemmas.Bool.{leb-true}
 use Rattle.desk_commands.specs.declared.verb.Verb.{Verb}
-use Rattle.desk_commands.specs.Verb.{word, is_word, verbs, verb_called, row, places}
+use Rattle.desk_commands.specs.Verb.{word, row, places}
 use Rattle.desk_commands.specs.declared.command.Command.{Command}
 use Rattle.desk_commands.specs.declared.verb.Field.{Field}
 use Rattle.desk_commands.specs.declared.field_value.FieldValue.{FieldValue}
 use Rattle.desk_commands.specs.Command.{IsCommand, verb_of, values_of}
 use Rattle.desk_commands.specs.Lines.{places_of}
-use Rattle.desk_commands.proofs.EachVerb.{called_again, fits}
+use Rattle.desk_commands.proofs.EachVerb.{fits}
 use Rattle.desk_commands.proofs.Fit.{AreFit}
 use Rattle.desk_commands.proofs.Free.{free}
-use Rattle.desk_commands.proofs.Steps.{some_is}
-
--- what is found passes the test
-found_passes : (test : Verb → Bool) (vs : List Verb) (v : Verb) → find test vs ≡ Some v → test v ≡ true
-found_passes test [] v h = cc h
-found_passes test (u ∷ vs) v h = by (test u) refl (found_passes test vs v) h
-  where
-    by : (b : Bool) → test u ≡ b → (find test vs ≡ Some v → test v ≡ true) → cond b (Some u) (find test vs) ≡ Some v → test v ≡ true
-    by true e more g = ap test (sym (some_is u v g)) ∙ e
-    by false e more g = more g
-
-pub called_is : (text : List ℕ) (v : Verb) → verb_called text ≡ Some v → word v ≡ text
-called_is text v h = bytes_eq-true (word v) text (found_passes (is_word text) verbs v h)
-
--- what holds of each verb of the list holds of every verb
-holds_of : (test found : Verb → Bool) (vs : List Verb) (v : Verb) → list_all test vs ≡ true → find found vs ≡ Some v → test v ≡ true
-holds_of test found [] v h e = cc e
-holds_of test found (u ∷ vs) v h e = by (found u) refl (holds_of test found vs v (and_parts _ _ h).1) e
-  where
-    by : (b : Bool) → found u ≡ b → (find found vs ≡ Some v → test v ≡ true) → cond b (Some u) (find found vs) ≡ Some v → test v ≡ true
-    by true is more g = ap test (sym (some_is u v g)) ∙ (and_parts _ _ h).0
-    by false is more g = more g
-
-of_every : (test : Verb → Bool) → list_all test verbs ≡ true → (v : Verb) → test v ≡ true
-of_every test h v = holds_of test (is_word (word v)) verbs v h (called_again v)
+use Rattle.desk_commands.proofs.Words.{of_every}
 
 pub free_word : (v : Verb) → free (word v) ≡ true
 free_word v = of_every (λ v. free (word v)) refl v

@@ -1,18 +1,19 @@
 -- Which paths lead where.
 use Rattle.std.proofs.Common.{arith, ◌≡◌, ◌∙◌, ap, sym, subst, refl, ℕ, Bool, true, false, cond, Option, Some, None, List, ◌∷◌, ◌++◌, codes}
-use Rattle.std.specs.Prelude.{◌↔◌, option_map, option_and_then}
+use Rattle.std.specs.Prelude.{◌↔◌, ◌&&◌, not, nat_lt, length, option_map, option_and_then}
+use Rattle.std.proofs.lemmas.Bool.{and_parts, ltb-true, not-true}
+use Rattle.matchit.specs.Seek.{has_slash}
 use Rattle.std.specs.Str.{bytes_eq}
 use Rattle.imp_fields.proofs.SameFlight.{bytes_eq-true}
 use Rattle.desk_commands.specs.declared.verb.Verb.{Verb}
-use Rattle.desk_commands.specs.declared.verb.Verb.TheVariants as verb
-use Rattle.desk_commands.specs.Verb.{word, verbs, verb_called}
+use Rattle.desk_commands.specs.Verb.{word, verb_called}
+use Rattle.desk_commands.proofs.Words.{called_again, called_is, of_every}
 use Rattle.http_desk.specs.declared.route.Page.{Page}
 use Rattle.http_desk.specs.declared.route.Page.TheVariants as page
 use Rattle.http_desk.specs.declared.route.Report.{Report}
 use Rattle.http_desk.specs.declared.route.Report.TheVariants as report
 use Rattle.http_desk.specs.Routes.{desk_rows, page_of, report_called, posted_command, posted_telegram, got_waybill, got_holder, got_report, Place, posts, gets, place_at, place_of}
 use Rattle.http_desk.specs.Paths.{IsPath, IsName, report_path, LeadsTo}
-use Rattle.http_desk.proofs.NoVerb.{found_word}
 use Rattle.http_desk.proofs.Pages.{LeadsToPage, page_leads, page_only, path_is, path_behind}
 
 -- there, by the page of a path
@@ -20,44 +21,14 @@ at_page : (path : List ℕ) (value : Page) (place : Place) → IsPath path → L
 at_page path value place all leads is =
     ap (λ p. option_and_then (place_at p) (page_of desk_rows p)) (path_is path all) ∙ ap (option_and_then (place_at path)) (page_leads path value all leads) ∙ is
 
+-- a word is a byte or more, and has no slash
 word_name : (v : Verb) → IsName (word v)
-word_name verb.TakeIn = (omega arith, refl)
-word_name verb.Issue = (omega arith, refl)
-word_name verb.Return = (omega arith, refl)
-word_name verb.Void = (omega arith, refl)
-word_name verb.Book = (omega arith, refl)
-word_name verb.Receive = (omega arith, refl)
-word_name verb.Manifest = (omega arith, refl)
-word_name verb.Offload = (omega arith, refl)
-word_name verb.Depart = (omega arith, refl)
-word_name verb.CheckIn = (omega arith, refl)
-word_name verb.Notify = (omega arith, refl)
-word_name verb.Deliver = (omega arith, refl)
-word_name verb.Transfer = (omega arith, refl)
-word_name verb.Missing = (omega arith, refl)
-word_name verb.Found = (omega arith, refl)
-word_name verb.Confirm = (omega arith, refl)
-
-word_called : (v : Verb) → verb_called (word v) ≡ Some v
-word_called verb.TakeIn = refl
-word_called verb.Issue = refl
-word_called verb.Return = refl
-word_called verb.Void = refl
-word_called verb.Book = refl
-word_called verb.Receive = refl
-word_called verb.Manifest = refl
-word_called verb.Offload = refl
-word_called verb.Depart = refl
-word_called verb.CheckIn = refl
-word_called verb.Notify = refl
-word_called verb.Deliver = refl
-word_called verb.Transfer = refl
-word_called verb.Missing = refl
-word_called verb.Found = refl
-word_called verb.Confirm = refl
+word_name v =
+    let both = and_parts _ _ (of_every (λ v. nat_lt 0 (length (word v)) && not (has_slash (word v))) refl v) in
+    (ltb-true _ _ both.0, not-true _ both.1)
 
 act_at : (v : Verb) → place_at (codes "/v1/act/" ++ word v) page.Act ≡ Some (posts (posted_command v))
-act_at v = ap (option_map (λ verb. posts (posted_command verb))) (word_called v)
+act_at v = ap (option_map (λ verb. posts (posted_command verb))) (called_again v)
 
 abbrev IsThere : Place → List ℕ → Type 0
 IsThere place path = IsPath path → place_of path ≡ Some place
@@ -101,7 +72,7 @@ map_some f (Some x) y e = (x, refl, some_is (f x) y e)
 act_only : (name : List ℕ) (place : Place) → place_at (codes "/v1/act/" ++ name) page.Act ≡ Some place → LeadsTo (codes "/v1/act/" ++ name) place
 act_only name place e =
     let told = map_some (λ verb. posts (posted_command verb)) (verb_called name) place e in
-    subst (LeadsTo (codes "/v1/act/" ++ name)) told.2 (ap (λ w. codes "/v1/act/" ++ w) (sym (found_word name verbs told.0 told.1)))
+    subst (LeadsTo (codes "/v1/act/" ++ name)) told.2 (ap (λ w. codes "/v1/act/" ++ w) (sym (called_is name told.0 told.1)))
 
 -- a report by its name
 abbrev IsCalled : List ℕ → Report → Type 0

@@ -1,8 +1,7 @@
 use Rattle.std.proofs.Common.{◌≡◌, ℕ, List, Option, Some, None, IfSome, sym, ap, ◌∙◌}
 use Rattle.desk_commands.specs.declared.verb.Verb.{Verb}
 use Rattle.desk_commands.specs.Verb.{word, verb_called}
-use Rattle.desk_commands.proofs.EachVerb.{called_again}
-use Rattle.desk_commands.proofs.Verbs.{called_is}
+use Rattle.desk_commands.proofs.Words.{called_again, called_is}
 use Rattle.desk_commands.proofs.verb.Verb.read.Goals as goal
 
 read_is : (r : Option Verb) (text : List ℕ) → r ≡ verb_called text → IfSome r (λ v. word v ≡ text)
