@@ -5,7 +5,7 @@ use crate::help;
 use crate::version::program_version;
 use clap::error::ErrorKind;
 use clap::{Arg, ArgAction, ArgMatches, Command, Error};
-use desk_commands::Verb;
+use desk_commands::{VERBS, Verb};
 use std::alloc::{AllocError, Global};
 use std::convert::AsStr;
 
@@ -76,6 +76,11 @@ fn name_of<'a>(verb: Verb) -> &'a str {
     verb.word()
 }
 
+/// What is told of a verb.
+fn about<'a>(verb: Verb) -> &'a str {
+    verb.about()
+}
+
 /// The command that acts.
 fn act<'a>(alloc: Global) -> Result<Command<'a>, AllocError> {
     let mut act = command(alloc, "act", help::ACT, help::ACT_EXAMPLES)
@@ -83,8 +88,8 @@ fn act<'a>(alloc: Global) -> Result<Command<'a>, AllocError> {
         .subcommand_help_heading("Verbs")
         .subcommand_required(true)
         .disable_help_subcommand(true);
-    for each in help::VERBS {
-        act = below(act, verb(alloc, name_of(each), help::verb(each)))?;
+    for each in VERBS {
+        act = below(act, verb(alloc, name_of(each), about(each)))?;
     }
     Ok(act)
 }

@@ -14,4 +14,4 @@ pub use body::{BadBody, read_command};
 pub use command::{Command, command_text, command_text_law};
 pub use day::day_text;
 pub use reading::read_command_text;
-pub use verb::Verb;
+pub use verb::{Field, VERBS, Verb};

@@ -31,8 +31,8 @@ pub enum Verb {
     Confirm,
 }
 
-/// Each verb.
-const VERBS: [Verb; 16] = [
+/// Each verb, in the order in which a desk names them.
+pub const VERBS: [Verb; 16] = [
     Verb::TakeIn,
     Verb::Issue,
     Verb::Return,
@@ -84,6 +84,51 @@ impl Verb {
         }
     }
 
+    /// For people: what the verb does, the fields of its body, a body, and its refusals in the
+    /// order in which they are tested.
+    pub fn about(self) -> &'static str {
+        match self {
+            Verb::TakeIn => TAKE_IN,
+            Verb::Issue => ISSUE,
+            Verb::Return => RETURN,
+            Verb::Void => VOID,
+            Verb::Book => BOOK,
+            Verb::Receive => RECEIVE,
+            Verb::Manifest => MANIFEST,
+            Verb::Offload => OFFLOAD,
+            Verb::Depart => DEPART,
+            Verb::CheckIn => CHECK_IN,
+            Verb::Notify => NOTIFY,
+            Verb::Deliver => DELIVER,
+            Verb::Transfer => TRANSFER,
+            Verb::Missing => MISSING,
+            Verb::Found => FOUND,
+            Verb::Confirm => CONFIRM,
+        }
+    }
+
+    /// The fields, in their order.
+    pub fn fields(self) -> &'static [Field]
+        ensures { result.now ≡ row self }
+    {
+        match self {
+            Verb::TakeIn | Verb::Void => &[Prefix, Serial, Count],
+            Verb::Issue | Verb::Return => &[Prefix, Serial, Count, Agent],
+            Verb::Book => &[Awb, Origin, Destination, Pieces, Tenths, Goods],
+            Verb::Receive => &[Awb, Pieces, Tenths, Name],
+            Verb::Manifest => &[Awb, Flight, Date, Unload, Pieces],
+            Verb::Offload => &[Awb, Flight, Date, Pieces],
+            Verb::Depart => &[Flight, Date],
+            Verb::CheckIn => &[Awb, Flight, Date, Counted],
+            Verb::Notify => &[Awb, Name],
+            Verb::Deliver => &[Awb, Pieces, Name],
+            Verb::Transfer => &[Awb, Pieces, Airline],
+            Verb::Missing => &[Awb, Pieces, FlightIfAny, DateIfAny],
+            Verb::Found => &[Awb, Pieces, Tenths, FlightIfAny, DateIfAny],
+            Verb::Confirm => &[Upto],
+        }
+    }
+
     pub(crate) fn of_word(text: &[u8]) -> Option<Verb>
         ensures { result ≡ verb_called text.now }
     {
@@ -110,7 +155,7 @@ fn is_word(verb: Verb, text: &[u8]) -> bool
 
 /// A field of a command.
 #[derive(Clone, Copy, Debug, PartialEq, Eq)]
-pub(crate) enum Field {
+pub enum Field {
     Prefix,
     Serial,
     Count,
@@ -126,6 +171,7 @@ pub(crate) enum Field {
     Date,
     /// A flight that may be left out, with its date.
     FlightIfAny,
+    /// The date of such a flight.
     DateIfAny,
     Unload,
     Counted,
@@ -145,7 +191,7 @@ pub(crate) enum Kind {
 
 impl Field {
     /// The key in a body of JSON.
-    pub(crate) fn name(self) -> &'static str
+    pub fn name(self) -> &'static str
         ensures { result.now ≡ name self }
     {
         match self {
@@ -194,33 +240,11 @@ impl Field {
     }
 }
 
-/// The fields of a verb, in their order.
-fn row(verb: Verb) -> &'static [Field]
-    ensures { result.now ≡ row verb }
-{
-    match verb {
-        Verb::TakeIn | Verb::Void => &[Prefix, Serial, Count],
-        Verb::Issue | Verb::Return => &[Prefix, Serial, Count, Agent],
-        Verb::Book => &[Awb, Origin, Destination, Pieces, Tenths, Goods],
-        Verb::Receive => &[Awb, Pieces, Tenths, Name],
-        Verb::Manifest => &[Awb, Flight, Date, Unload, Pieces],
-        Verb::Offload => &[Awb, Flight, Date, Pieces],
-        Verb::Depart => &[Flight, Date],
-        Verb::CheckIn => &[Awb, Flight, Date, Counted],
-        Verb::Notify => &[Awb, Name],
-        Verb::Deliver => &[Awb, Pieces, Name],
-        Verb::Transfer => &[Awb, Pieces, Airline],
-        Verb::Missing => &[Awb, Pieces, FlightIfAny, DateIfAny],
-        Verb::Found => &[Awb, Pieces, Tenths, FlightIfAny, DateIfAny],
-        Verb::Confirm => &[Upto],
-    }
-}
-
-/// The same as six places, of which the last may be empty.
+/// The fields of a verb as six places, of which the last may be empty.
 pub(crate) fn places(verb: Verb) -> [Option<Field>; 6]
     ensures { result ≡ places verb }
 {
-    let row = row(verb);
+    let row = verb.fields();
     [
         row.first().copied(),
         row.get(1).copied(),
@@ -230,3 +254,128 @@ pub(crate) fn places(verb: Verb) -> [Option<Field>; 6]
         row.get(5).copied(),
     ]
 }
+
+const TAKE_IN: &str = "\
+Numbers that aren't in stock come to the desk
+Fields: prefix, serial, count
+Body: {\"prefix\":\"020\",\"serial\":\"1234567\",\"count\":10}
+Refused: 105 the count isn't 1 to 1,000,000, or the run goes past serial 9999999
+         101 a number is in stock already";
+
+const ISSUE: &str = "\
+Numbers of the desk go to an agent
+Fields: prefix, serial, count, agent
+Body: {\"prefix\":\"020\",\"serial\":\"1234570\",\"count\":3,\"agent\":\"ACME\"}
+Refused: 105 the count isn't 1 to 1,000,000, or the run goes past serial 9999999
+         102 a number isn't at the desk";
+
+const RETURN: &str = "\
+Numbers of an agent come back to the desk
+Fields: prefix, serial, count, agent
+Body: {\"prefix\":\"020\",\"serial\":\"1234570\",\"count\":3,\"agent\":\"ACME\"}
+Refused: 105 the count isn't 1 to 1,000,000, or the run goes past serial 9999999
+         103 a number isn't with that agent";
+
+const VOID: &str = "\
+Numbers of the desk or of any agent become void
+Fields: prefix, serial, count
+Body: {\"prefix\":\"020\",\"serial\":\"1234567\",\"count\":1}
+Refused: 105 the count isn't 1 to 1,000,000, or the run goes past serial 9999999
+         104 a number is used, void or not in stock";
+
+const BOOK: &str = "\
+A waybill is declared, or declared anew while it has no moves
+Fields: awb, origin, destination, pieces, tenths, goods
+Body: {\"awb\":\"020-12345675\",\"origin\":\"FRA\",\"destination\":\"JFK\",\"pieces\":10,\"tenths\":1000,\"goods\":\"CARGO\"}
+Refused: 217 past 9,999 pieces or 999,999 tenths
+         202 it is declared, and has moves
+         203 its number is in stock with the desk, or void";
+
+const RECEIVE: &str = "\
+Pieces of a waybill are taken over
+Fields: awb, pieces, tenths, name
+Body: {\"awb\":\"020-12345675\",\"pieces\":10,\"tenths\":1000,\"name\":\"ACME\"}
+Refused: 201 unknown waybill
+         204 its origin isn't here
+         205 more taken over than declared
+         217 past 9,999 pieces or 999,999 tenths";
+
+const MANIFEST: &str = "\
+Pieces are built on a flight
+Fields: awb, flight, date, unload, pieces
+Body: {\"awb\":\"020-12345675\",\"flight\":\"LH400\",\"date\":\"2026-01-12\",\"unload\":\"JFK\",\"pieces\":4}
+Refused: 201 unknown waybill
+         204 the flight would be unloaded here
+         208 the flight is closed
+         218 the flight unloads elsewhere
+         206 not enough free pieces
+         219 500 waybills are on the flight already";
+
+const OFFLOAD: &str = "\
+Pieces are taken off a flight
+Fields: awb, flight, date, pieces
+Body: {\"awb\":\"020-12345675\",\"flight\":\"LH400\",\"date\":\"2026-01-12\",\"pieces\":1}
+Refused: 201 unknown waybill
+         208 the flight is closed
+         207 not enough of it on that flight";
+
+const DEPART: &str = "\
+A flight leaves with all that is built on it
+Fields: flight, date
+Body: {\"flight\":\"LH400\",\"date\":\"2026-01-12\"}
+Refused: 208 the flight is closed
+         209 nothing is on that flight";
+
+const CHECK_IN: &str = "\
+The pieces that a flight brought of a waybill are counted
+Fields: awb, flight, date, counted
+Body: {\"awb\":\"020-12345675\",\"flight\":\"LH400\",\"date\":\"2026-01-12\",\"counted\":7}
+Refused: 201 unknown waybill
+         211 not expected on that flight
+         212 checked in already
+         217 past 9,999 pieces or 999,999 tenths";
+
+const NOTIFY: &str = "\
+The consignee is notified of what is free
+Fields: awb, name
+Body: {\"awb\":\"020-12345675\",\"name\":\"BROWN\"}
+Refused: 201 unknown waybill
+         204 its destination isn't here
+         206 no free pieces";
+
+const DELIVER: &str = "\
+Pieces go to the consignee
+Fields: awb, pieces, name
+Body: {\"awb\":\"020-12345675\",\"pieces\":7,\"name\":\"BROWN\"}
+Refused: 201 unknown waybill
+         204 its destination isn't here
+         210 not notified
+         206 not enough free pieces";
+
+const TRANSFER: &str = "\
+Pieces go to another airline, which carries them on
+Fields: awb, pieces, airline
+Body: {\"awb\":\"020-12345675\",\"pieces\":4,\"airline\":\"BA\"}
+Refused: 201 unknown waybill
+         220 its destination is here
+         206 not enough free pieces";
+
+const MISSING: &str = "\
+Free pieces are missing
+Fields: awb, pieces, and flight and date or neither
+Body: {\"awb\":\"020-12345675\",\"pieces\":1,\"flight\":\"LH400\",\"date\":\"2026-01-12\"}
+Refused: 201 unknown waybill
+         206 not enough free pieces";
+
+const FOUND: &str = "\
+Pieces are found: those that are missing first, and others beside them
+Fields: awb, pieces, tenths, and flight and date or neither
+Body: {\"awb\":\"020-12345675\",\"pieces\":1,\"tenths\":100,\"flight\":\"LH400\",\"date\":\"2026-01-12\"}
+Refused: 201 unknown waybill
+         217 past 9,999 pieces or 999,999 tenths";
+
+const CONFIRM: &str = "\
+The messages up to a number are confirmed
+Fields: upto
+Body: {\"upto\":3}
+Refused: 401 below the mark of what was confirmed, or past the last message";

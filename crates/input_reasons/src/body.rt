@@ -2,10 +2,10 @@
 ghost use Rattle.std.specs.Prelude.{IfOk, codes, string_bytes};
 ghost use Rattle.input_reasons.specs.Reason.{IsReason};
 
-use crate::field::{Field, fields, fields_words, may_lack_flight};
+use crate::field::fields_words;
 use crate::member::{kind_words, member_words};
 use crate::shown::{quoted, reason_line};
-use desk_commands::Verb;
+use desk_commands::{Field, Verb};
 use serde_json::{Error, Value};
 use std::alloc::{AllocError, Global};
 
@@ -41,13 +41,12 @@ fn missing_words(alloc: Global, verb: Verb, field: Field) -> Result<String, Allo
 
 /// Whether a key is that of a field of the verb.
 fn is_field(verb: Verb, key: &str) -> bool {
-    fields(verb).iter().any(|field| field.name() == key)
+    verb.fields().iter().any(|field| field.name() == key)
 }
 
 /// Whether a field may be left out of this body.
-fn may_lack(verb: Verb, field: Field, body: &Value) -> bool {
-    may_lack_flight(verb)
-        && matches!(field, Field::Flight | Field::Date)
+fn may_lack(field: Field, body: &Value) -> bool {
+    matches!(field, Field::FlightIfAny | Field::DateIfAny)
         && body.get("flight").is_none()
         && body.get("date").is_none()
 }
@@ -69,12 +68,12 @@ fn keys_words(alloc: Global, verb: Verb, body: &Value) -> Result<Option<String>,
 
 /// What is said of the first field that is missing, or that holds something else.
 fn fields_fault(alloc: Global, verb: Verb, body: &Value) -> Result<Option<String>, AllocError> {
-    for field in fields(verb) {
-        if body.get(field.name()).is_none() && !may_lack(verb, *field, body) {
+    for field in verb.fields() {
+        if body.get(field.name()).is_none() && !may_lack(*field, body) {
             return Ok(Some(missing_words(alloc, verb, *field)?));
         }
     }
-    for field in fields(verb) {
+    for field in verb.fields() {
         if let Some(value) = body.get(field.name()) {
             if let Some(words) = member_words(alloc, *field, value)? {
                 return Ok(Some(words));

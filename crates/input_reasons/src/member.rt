@@ -1,8 +1,9 @@
 //! Why a member of a body isn't what its field wants.
 
-use crate::field::Field;
+use crate::field::{range, reads, wanted};
 use crate::shown::{cut, digits_words, quoted};
 use awb_number::{Awb, AwbFault, check, decimal};
+use desk_commands::Field;
 use serde_json::Value;
 use std::alloc::{AllocError, Global};
 
@@ -68,7 +69,7 @@ fn awb_words(alloc: Global, text: &[u8]) -> Result<Option<String>, AllocError> {
 
 /// What is said of a text that may not stand there.
 fn other_words(alloc: Global, field: Field, text: &[u8]) -> Result<String, AllocError> {
-    let (name, wanted) = (field.name(), field.wanted());
+    let (name, wanted) = (field.name(), wanted(field));
     let text = quoted(alloc, text)?;
     format!(in alloc; "\"{name}\" is {text}, {wanted}")
 }
@@ -94,7 +95,7 @@ fn text_words(alloc: Global, field: Field, text: &[u8]) -> Result<Option<String>
         Field::Serial => code_words(alloc, "\"serial\"", text, 7),
         Field::Awb => awb_words(alloc, text),
         _ => {
-            if field.reads(text) {
+            if reads(field, text) {
                 Ok(None)
             } else {
                 Ok(Some(other_words(alloc, field, text)?))
@@ -115,7 +116,7 @@ pub(crate) fn member_words(
     field: Field,
     value: &Value,
 ) -> Result<Option<String>, AllocError> {
-    if let Some(range) = field.range() {
+    if let Some(range) = range(field) {
         return number_words(alloc, field, range, value);
     }
     match value.as_str() {
