@@ -58,17 +58,23 @@ put_means : (t : Tables) (s : State) (text : List ℕ) (w : ℕ) (d : Declared) 
 put_means t s text w d new is fits means None has = waybill_written t s means text w d new is fits
 put_means t s text w d new is fits means (Some was) has = waybill_changed t s means text w d new was is fits has
 
+putting_means : (t : Tables) (s : State) (text : List ℕ) (is_missing : Bool) (w : ℕ) (d : Declared) (new : table.Waybill) → new ≡ waybill_row w d → is_waybill_row (waybill_row w d) ≡ true → Means t (Some s)
+    → Means (putting_waybill is_missing new t) (Some (on_cargo (written text (Declare w d)) s))
+putting_means t s text true w d new is fits means = waybill_written t s means text w d new is fits
+putting_means t s text false w d new is fits means =
+    put_means t s text w d new is fits means (get_by waybill_id t.waybills new.awb) (ap (λ (r : table.Waybill). get_by waybill_id t.waybills r.awb) (sym is))
+
 module _ (old new : View) (here : List ℕ) (counted : Counted) (confirmed : ℕ) (before s : State) (was : Shows old here counted confirmed (inside before s)) (survives : row.Survives old new) where
   same_rest : (after : State) → s.cargo.here ≡ after.cargo.here → sizes_of s.cargo ≡ sizes_of after.cargo → s.cargo.confirmed ≡ after.cargo.confirmed
       → Knows here counted.sizes confirmed (inside before s) → Knows here counted.sizes confirmed (inside before after)
   same_rest after place counts mark k = record { here_is = k.here_is ∙ place; sizes_are = k.sizes_are ∙ counts; confirmed_is = k.confirmed_is ∙ mark }
 
-  pub declares_on : (text : List ℕ) (w : ℕ) (d : Declared) (row_is : table.Waybill) → row_is ≡ waybill_row w d → IsTrue (is_waybill_row (waybill_row w d))
-      → (IsShowing old (row.inside old.committed old.now) → IsShowing new (row.inside old.committed (putting_waybill row_is old.now)))
+  pub declares_on : (text : List ℕ) (is_missing : Bool) (w : ℕ) (d : Declared) (row_is : table.Waybill) → row_is ≡ waybill_row w d → IsTrue (is_waybill_row (waybill_row w d))
+      → (IsShowing old (row.inside old.committed old.now) → IsShowing new (row.inside old.committed (putting_waybill is_missing row_is old.now)))
       → Shows new here counted confirmed (inside before (on_cargo (written text (Declare w d)) s))
-  declares_on text w d row_is is fits done =
-      writes_on old new here counted confirmed (putting_waybill row_is) counted confirmed before s (on_cargo (written text (Declare w d)) s) was survives done
-      (λ _ means. put_means old.now s text w d row_is is fits means (get_by waybill_id old.now.waybills row_is.awb) (ap (λ (r : table.Waybill). get_by waybill_id old.now.waybills r.awb) (sym is)))
+  declares_on text is_missing w d row_is is fits done =
+      writes_on old new here counted confirmed (putting_waybill is_missing row_is) counted confirmed before s (on_cargo (written text (Declare w d)) s) was survives done
+      (λ _ means. putting_means old.now s text is_missing w d row_is is fits means)
       (same_rest (on_cargo (written text (Declare w d)) s) refl refl refl) (λ b. b)
 
   pub notes_flight_on : (text name : List ℕ) (day : ℤ) (f : FlightDate) (o : Outbound) (row_is : table.Flight) → name ≡ flight_text f.flight → day ≡ pos f.day → row_is ≡ outbound_row o

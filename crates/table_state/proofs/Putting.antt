@@ -1,5 +1,5 @@
 -- A row that is written over the one with its key.
-use Rattle.std.proofs.Common.{◌≡◌, true, false, Option, Some, None, sym, ap, subst, Ordering}
+use Rattle.std.proofs.Common.{◌≡◌, Bool, true, false, Option, Some, None, sym, ap, subst, ◌∙◌, Ordering}
 use Rattle.std.specs.Prelude.{option_map, unwrap_or, is_some}
 use Rattle.std.specs.FinMap.{FinMap, get, insert}
 use Rattle.sqlite_keyed.specs.Keyed.{get_by}
@@ -28,18 +28,21 @@ module _ (v : View) (before now : Tables) where
       → IsShowing v (inside before (changing_expected key new now)) → IsShowing v (inside before (with_expected key new now))
   over_expected key found new some has = shown_as (changing_expected key new now) (with_expected key new now) (λ sound. ap (λ m. record now { expected = m }) (adjusts now.expected key expected_meant found new some (has sound)))
 
-  there : (found : Option WaybillRow) (new : Waybill) → is_some found ≡ true → option_map waybill_meant found ≡ get_by waybill_id now.waybills new.awb → changing_waybill new now ≡ putting_waybill new now
+  there : (found : Option WaybillRow) (new : Waybill) → is_some found ≡ true → option_map waybill_meant found ≡ get_by waybill_id now.waybills new.awb → changing_waybill new now ≡ putting_waybill false new now
   there None new some has = absurd (cc)
   there (Some row) new some has = ap (λ o. put_over o new now) has
 
-  not_there : (found : Option WaybillRow) (new : Waybill) → is_some found ≡ false → option_map waybill_meant found ≡ get_by waybill_id now.waybills new.awb → with_waybill new now ≡ putting_waybill new now
+  not_there : (found : Option WaybillRow) (new : Waybill) → is_some found ≡ false → option_map waybill_meant found ≡ get_by waybill_id now.waybills new.awb → with_waybill new now ≡ putting_waybill false new now
   not_there None new none has = ap (λ o. put_over o new now) has
   not_there (Some row) new none has = absurd (cc)
 
-  pub over_waybill : (found : Option WaybillRow) (new : Waybill) → is_some found ≡ true → (v.IsSound → option_map waybill_meant found ≡ get_by waybill_id now.waybills new.awb)
-      → IsShowing v (inside before (changing_waybill new now)) → IsShowing v (inside before (putting_waybill new now))
-  over_waybill found new some has = shown_as (changing_waybill new now) (putting_waybill new now) (λ sound. there found new some (has sound))
+  looked_for : (is_missing : Bool) (new : Waybill) → is_missing ≡ false → putting_waybill false new now ≡ putting_waybill is_missing new now
+  looked_for is_missing new asked = ap (λ b. putting_waybill b new now) (sym asked)
 
-  pub as_new_waybill : (found : Option WaybillRow) (new : Waybill) → is_some found ≡ false → (v.IsSound → option_map waybill_meant found ≡ get_by waybill_id now.waybills new.awb)
-      → IsShowing v (inside before (with_waybill new now)) → IsShowing v (inside before (putting_waybill new now))
-  as_new_waybill found new none has = shown_as (with_waybill new now) (putting_waybill new now) (λ sound. not_there found new none (has sound))
+  pub over_waybill : (is_missing : Bool) (found : Option WaybillRow) (new : Waybill) → is_missing ≡ false → is_some found ≡ true → (v.IsSound → option_map waybill_meant found ≡ get_by waybill_id now.waybills new.awb)
+      → IsShowing v (inside before (changing_waybill new now)) → IsShowing v (inside before (putting_waybill is_missing new now))
+  over_waybill is_missing found new asked some has = shown_as (changing_waybill new now) (putting_waybill is_missing new now) (λ sound. there found new some (has sound) ∙ looked_for is_missing new asked)
+
+  pub as_new_waybill : (is_missing : Bool) (found : Option WaybillRow) (new : Waybill) → is_missing ≡ false → is_some found ≡ false → (v.IsSound → option_map waybill_meant found ≡ get_by waybill_id now.waybills new.awb)
+      → IsShowing v (inside before (with_waybill new now)) → IsShowing v (inside before (putting_waybill is_missing new now))
+  as_new_waybill is_missing found new asked none has = shown_as (with_waybill new now) (putting_waybill is_missing new now) (λ sound. not_there found new none (has sound) ∙ looked_for is_missing new asked)

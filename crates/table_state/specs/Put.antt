@@ -1,5 +1,5 @@
 -- A row that is written over the one with its key, or anew.
-use Rattle.std.specs.Prelude.{Option, Some, None}
+use Rattle.std.specs.Prelude.{Bool, true, false, Option, Some, None}
 use Rattle.sqlite_keyed.specs.Keyed.{get_by}
 use Rattle.row_schema.specs.Tables.{Tables, Waybill, waybill_id}
 use Rattle.cargo_rows.specs.Meant.{with_waybill, changing_waybill}
@@ -8,5 +8,7 @@ abbrev pub put_over : Option Waybill → Waybill → Tables → Tables
 put_over None new tables = with_waybill new tables
 put_over (Some was) new tables = changing_waybill new tables
 
-abbrev pub putting_waybill : Waybill → Tables → Tables
-putting_waybill new tables = put_over (get_by waybill_id tables.waybills new.awb) new tables
+-- anew where the row is said to be missing, and where none has its key
+abbrev pub putting_waybill : Bool → Waybill → Tables → Tables
+putting_waybill true new tables = with_waybill new tables
+putting_waybill false new tables = put_over (get_by waybill_id tables.waybills new.awb) new tables

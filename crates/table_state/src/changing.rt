@@ -33,7 +33,8 @@ impl<S: TableStore> TableState<S> {
         let Ok(row) = waybill_row(self.alloc, awb, declared) else {
             return Err(StoreFault);
         };
-        match put_waybill(&mut self.store, &row) {
+        let is_missing = self.missed.take_waybill(awb);
+        match put_waybill(&mut self.store, is_missing, &row) {
             Err(_) => Err(StoreFault),
             Ok(()) => Ok(()),
         }
@@ -75,7 +76,14 @@ impl<S: TableStore> TableState<S> {
         let Ok(row) = outbound_row(self.alloc, outbound) else {
             return Err(StoreFault);
         };
-        match put_flight(&mut self.store, &name, day_number(flight.day), &row) {
+        let is_missing = self.missed.take_flight(flight);
+        match put_flight(
+            &mut self.store,
+            is_missing,
+            &name,
+            day_number(flight.day),
+            &row,
+        ) {
             Err(_) => Err(StoreFault),
             Ok(()) => Ok(()),
         }
@@ -101,8 +109,10 @@ impl<S: TableStore> TableState<S> {
             return Err(StoreFault);
         };
         let row = expected_row(expected);
+        let is_missing = self.missed.take_expected(flight, awb);
         match put_expected(
             &mut self.store,
+            is_missing,
             &name,
             day_number(flight.day),
             awb_key(awb),

@@ -5,6 +5,7 @@ mod boarding;
 mod changing;
 mod counted;
 mod handing;
+mod missed;
 mod noted;
 mod opening;
 mod recording;

@@ -10,6 +10,7 @@ ghost use Rattle.table_state.specs.Shown.{Shows, Finds, HasThese, Knows};
 use crate::boarding::{after_move, number_on};
 use crate::counted::{Boarded, Counted};
 use crate::handing::{Telling, ended};
+use crate::missed::Missed;
 use crate::noted::{flights_noted, waybills_expected};
 use crate::recording::record_move;
 use agent_stock::{Holder, Order, StockFault, StockRun};
@@ -37,6 +38,7 @@ pub struct TableState<S: TableStore> {
     pub(crate) here: Airport,
     pub(crate) counted: Counted,
     pub(crate) confirmed: u32,
+    pub(crate) missed: Missed,
 }
 
 impl<S: TableStore> TableState<S> {
@@ -66,6 +68,7 @@ impl<S: TableStore> TableState<S> {
                 boarded: None,
             },
             confirmed,
+            missed: Missed::new(alloc),
         }
     }
 
@@ -94,6 +97,7 @@ impl<S: TableStore> TableState<S> {
             here: _,
             counted: _,
             confirmed: _,
+            missed: _,
         } = self;
         store
     }
@@ -155,7 +159,10 @@ impl<S: TableStore> StateStore for TableState<S> {
     fn declared(&mut self, awb: &Awb) -> Result<Option<Declared>, StoreFault> {
         match self.store.waybill_row(awb_key(awb)) {
             Err(_) => Err(StoreFault),
-            Ok(None) => Ok(None),
+            Ok(None) => {
+                self.missed.note_waybill(awb);
+                Ok(None)
+            }
             Ok(Some(row)) => match declared_by(&row) {
                 None => Err(StoreFault),
                 Some(declared) => Ok(Some(declared)),
@@ -227,7 +234,10 @@ impl<S: TableStore> StateStore for TableState<S> {
         };
         match self.store.flight_row(&text, day_number(flight.day)) {
             Err(_) => Err(StoreFault),
-            Ok(None) => Ok(None),
+            Ok(None) => {
+                self.missed.note_flight(flight);
+                Ok(None)
+            }
             Ok(Some(row)) => match outbound_by(&row) {
                 None => Err(StoreFault),
                 Some(outbound) => Ok(Some(outbound)),
@@ -245,7 +255,10 @@ impl<S: TableStore> StateStore for TableState<S> {
             .expected_row(&text, day_number(flight.day), awb_key(awb))
         {
             Err(_) => Err(StoreFault),
-            Ok(None) => Ok(None),
+            Ok(None) => {
+                self.missed.note_expected(flight, awb);
+                Ok(None)
+            }
             Ok(Some(row)) => match expected_by(&row) {
                 None => Err(StoreFault),
                 Some(expected) => Ok(Some(expected)),

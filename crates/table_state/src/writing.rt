@@ -7,12 +7,19 @@ ghost use Rattle.table_state.specs.Put.{putting_waybill};
 use cargo_rows::{ExpectedRow, FlightRow, WaybillRow};
 use station_rows::{StoreFault, TableStore};
 
-/// Writes what is declared of a waybill.
-pub(crate) fn put_waybill<S: TableStore>(store: &mut S, row: &WaybillRow) -> Result<(), StoreFault>
+/// Writes what is declared of a waybill. A row that is known to be missing isn't looked for.
+pub(crate) fn put_waybill<S: TableStore>(
+    store: &mut S,
+    is_missing: bool,
+    row: &WaybillRow,
+) -> Result<(), StoreFault>
     ensures done { ShowsChange (S.view store.old) (S.view store.new) result
-        (putting_waybill (waybill_meant row.now)) }
+        (putting_waybill is_missing (waybill_meant row.now)) }
     ensures survives { Survives (S.view store.old) (S.view store.new) }
 {
+    if is_missing {
+        return store.insert_waybill(row);
+    }
     let there = store.waybill_row(row.awb)?.is_some();
     if there {
         store.update_waybill(row)?;
@@ -23,9 +30,10 @@ pub(crate) fn put_waybill<S: TableStore>(store: &mut S, row: &WaybillRow) -> Res
     }
 }
 
-/// Writes what is noted of a flight of a day.
+/// Writes what is noted of a flight of a day. A row that is known to be missing isn't looked for.
 pub(crate) fn put_flight<S: TableStore>(
     store: &mut S,
+    is_missing: bool,
     flight: &str,
     day: i64,
     row: &FlightRow,
@@ -34,6 +42,9 @@ pub(crate) fn put_flight<S: TableStore>(
         (with_flight (flight.now, day) (flight_meant row.now)) }
     ensures survives { Survives (S.view store.old) (S.view store.new) }
 {
+    if is_missing {
+        return store.insert_flight(flight, day, row);
+    }
     let there = store.flight_row(flight, day)?.is_some();
     if there {
         store.update_flight(flight, day, row)?;
@@ -44,9 +55,11 @@ pub(crate) fn put_flight<S: TableStore>(
     }
 }
 
-/// Writes what a flight is to bring of a waybill.
+/// Writes what a flight is to bring of a waybill. A row that is known to be missing isn't looked
+/// for.
 pub(crate) fn put_expected<S: TableStore>(
     store: &mut S,
+    is_missing: bool,
     flight: &str,
     day: i64,
     awb: i64,
@@ -56,6 +69,9 @@ pub(crate) fn put_expected<S: TableStore>(
         (with_expected (flight.now, (day, awb)) (expected_meant row.now)) }
     ensures survives { Survives (S.view store.old) (S.view store.new) }
 {
+    if is_missing {
+        return store.insert_expected(flight, day, awb, row);
+    }
     let there = store.expected_row(flight, day, awb)?.is_some();
     if there {
         store.update_expected(flight, day, awb, row)?;

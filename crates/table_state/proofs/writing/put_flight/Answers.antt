@@ -15,3 +15,7 @@ returns-in_ok-update_flight-clause-done g c = λ before now shown.
 pub returns-in_ok-insert_flight-clause-done : goal.returns-in_ok-insert_flight-clause-done
 returns-in_ok-insert_flight-clause-done g c = λ before now shown.
     rw (to_z-of_z w64 c.args.day c.ranges.day) at (c.in_ok-insert_flight.ensures.done before now (c.in_ok-flight_row.ensures.same (inside before now) shown))
+
+pub returns-then-is_missing-clause-done : goal.returns-then-is_missing-clause-done
+returns-then-is_missing-clause-done g c = λ before now shown.
+    rw (to_z-of_z w64 c.args.day c.ranges.day) at (c.insert_flight.ensures.done before now shown)

@@ -4,4 +4,4 @@ use Rattle.table_state.proofs.state.TableState.declare.Goals as goal
 
 pub returns-clause-done : goal.returns-clause-done
 returns-clause-done g c = λ before s shown.
-    declares_on _ _ _ _ _ before s shown c.in-Ok-put_waybill.ensures.survives [] c.args.awb.now c.args.declared.now _ c.in-Ok.ensures.value c.waybill_row.ensures.lawful (c.in-Ok-put_waybill.ensures.done _ _)
+    declares_on _ _ _ _ _ before s shown c.in-Ok-put_waybill.ensures.survives [] _ c.args.awb.now c.args.declared.now _ c.in-Ok.ensures.value c.waybill_row.ensures.lawful (c.in-Ok-put_waybill.ensures.done _ _)
