@@ -10,15 +10,15 @@ use Rattle.imp_fields.specs.Amount.{IsPieces, IsBookTenths, IsPartNumber}
 use Rattle.imp_fields.specs.Characters.{is_line}
 use Rattle.imp_fields.specs.Date.{IsMomentDay}
 use Rattle.imp_fields.specs.Name.{is_goods}
-use Rattle.shipment_machine.specs.declared.flight.FlightDate.{FlightDate}
 use Rattle.shipment_machine.specs.declared.moves.Declared.{Declared}
 use Rattle.shipment_machine.specs.declared.moves.Outbound.{Outbound}
 use Rattle.shipment_machine.specs.declared.moves.Expected.{Expected}
 use Rattle.shipment_machine.specs.declared.moves.Part.{Part}
 use Rattle.row_codec.specs.Numbers.{is_within, is_number, is_count, is_day, flag, is_flag}
 use Rattle.row_codec.specs.Waybills.{since_column, is_since, waybill_row, is_waybill_row}
-use Rattle.row_codec.specs.Flights.{is_designator, flight_key, outbound_row, is_flight_row}
-use Rattle.row_codec.specs.Manifests.{expected_key, expected_row, is_expected_row, part_key, is_part_row}
+use Rattle.row_schema.specs.Tables.{FlightKey, ExpectedKey}
+use Rattle.row_codec.specs.Flights.{is_designator, outbound_row, is_flight_key, is_flight_row}
+use Rattle.row_codec.specs.Manifests.{expected_row, is_expected_key, is_expected_row, part_key, is_part_row}
 use Rattle.row_codec.specs.Logs.{line_row, is_trail_row}
 use Rattle.row_codec.proofs.FlightKeys.{written_reads}
 
@@ -62,13 +62,11 @@ pub waybill_fits : (w : ℕ) (d : Declared) → IsNumber w → IsTrue (is_airpor
 waybill_fits w d number origin destination pieces tenths goods since =
     and_from _ _ (and_from _ _ (and_from _ _ (and_from _ _ (and_from _ _ (and_from _ _ (and_from _ _ (number_fits w number) origin) destination) (pieces_fit d.pieces pieces)) (tenths_fit d.tenths tenths)) goods) (flag_fits d.notified)) since
 
-pub flight_fits : (f : FlightDate) (o : Outbound) → IsTrue (is_designator f.flight) → IsTrue (is_day (pos f.day)) → IsTrue (is_airport o.unload) → IsTrue (is_flight_row (flight_key f, outbound_row o))
-flight_fits f o is day unload = and_from _ _ (and_from _ _ (and_from _ _ (written_reads f.flight is) day) unload) (flag_fits o.closed)
+pub outbound_fits : (key : FlightKey) (o : Outbound) → IsTrue (is_flight_key key) → IsTrue (is_airport o.unload) → IsTrue (is_flight_row (key, outbound_row o))
+outbound_fits key o is unload = and_from _ _ (and_from _ _ is unload) (flag_fits o.closed)
 
-pub expected_fits : (f : FlightDate) (w : ℕ) (e : Expected) → IsTrue (is_designator f.flight) → IsTrue (is_day (pos f.day)) → IsTrue (is_number (pos w)) → IsPieces e.pieces → IsBookTenths e.tenths
-    → IsTrue (is_expected_row (expected_key f w, expected_row e))
-expected_fits f w e is day number pieces tenths =
-    and_from _ _ (and_from _ _ (and_from _ _ (and_from _ _ (and_from _ _ (written_reads f.flight is) day) number) (pieces_fit e.pieces pieces)) (tenths_fit e.tenths tenths)) (flag_fits e.checked)
+pub expected_fits : (key : ExpectedKey) (e : Expected) → IsTrue (is_expected_key key) → IsPieces e.pieces → IsBookTenths e.tenths → IsTrue (is_expected_row (key, expected_row e))
+expected_fits key e is pieces tenths = and_from _ _ (and_from _ _ (and_from _ _ is (pieces_fit e.pieces pieces)) (tenths_fit e.tenths tenths)) (flag_fits e.checked)
 
 pub part_fits : (p : Part) → IsTrue (is_designator p.flight.flight) → IsTrue (is_day (pos p.flight.day)) → IsTrue (is_airport p.airport) → IsPartNumber p.number → (telegram : List ℕ)
     → IsTrue (is_utf8 telegram) → IsTrue (is_part_row (part_key p, telegram))

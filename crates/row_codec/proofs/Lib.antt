@@ -16,4 +16,5 @@ pub mod Handing
 pub mod Noted
 pub mod Reading
 pub mod Written
+pub mod Exact
 mod Examples

@@ -1,6 +1,6 @@
 -- The row of a move is within range, and is read as that move.
-use Rattle.std.proofs.Common.{◌≡◌, ℕ, ◌<◌, pos, true, Option, Some, is_some, unwrap_or, option_map, IsTrue, ap, ◌∙◌, arith}
-use Rattle.std.proofs.lemmas.Bool.{and_from, or_right}
+use Rattle.std.proofs.Common.{◌≡◌, ℕ, ◌<◌, pos, Bool, true, false, Option, Some, is_some, unwrap_or, option_map, IsTrue, refl, ap, ◌∙◌, arith}
+use Rattle.std.proofs.lemmas.Bool.{and_parts, and_from, or_right}
 use Rattle.imp_fields.specs.Amount.{IsPieces, IsBookTenths}
 use Rattle.imp_fields.specs.Flight.{Designator, flight_text}
 use Rattle.shipment_machine.specs.Flights.{same_flight_date}
@@ -10,7 +10,7 @@ use Rattle.shipment_machine.specs.declared.moves.Place.{Place}
 use Rattle.shipment_machine.specs.declared.moves.Place.TheVariants.{Hand, Built}
 use Rattle.shipment_machine.proofs.FlightKeys.{same-is}
 use Rattle.row_schema.specs.Tables as table
-use Rattle.row_codec.specs.Numbers.{natural, is_number, is_day}
+use Rattle.row_codec.specs.Numbers.{natural, is_within, is_number, is_day}
 use Rattle.row_codec.specs.Flights.{is_designator, flight_date_of}
 use Rattle.row_codec.specs.Moves.{place_code, place_of, move_by, move_row, flight_column, day_column, are_flight_columns, is_move_row}
 use Rattle.row_codec.proofs.FlightKeys.{read_again, written_reads}
@@ -32,6 +32,42 @@ move_is row m awb from to pieces tenths flight at =
     let there = from ∙ ap (λ (f : Option FlightDate). unwrap_or (place_of row.src f) Hand) flight in
     let then = to ∙ ap (λ (f : Option FlightDate). unwrap_or (place_of row.dst f) Hand) flight in
     λ i. record { awb = awb i; from = there i; to = then i; pieces = pieces i; tenths = tenths i; flight = flight i; at = at i }
+
+-- ---- what is tested of a row
+
+pub record HasColumns (row : table.Move) : Type 0 where
+  pub awb : is_number row.awb ≡ true
+  pub from : is_some (place_of row.src (flight_date_of row.flight row.fday)) ≡ true
+  pub to : is_some (place_of row.dst (flight_date_of row.flight row.fday)) ≡ true
+  pub pieces : is_within 1 9999 row.pieces ≡ true
+  pub tenths : is_within 0 999_999 row.tenths ≡ true
+  pub columns : are_flight_columns row.flight row.fday ≡ true
+  pub day : is_day row.day ≡ true
+  pub minute : is_within 0 1439 row.minute ≡ true
+
+pub columns_of : (row : table.Move) → is_move_row row ≡ true → HasColumns row
+columns_of row h =
+    let a = and_parts _ _ h in
+    let b = and_parts _ _ a.0 in
+    let c = and_parts _ _ b.0 in
+    let d = and_parts _ _ c.0 in
+    let e = and_parts _ _ d.0 in
+    let f = and_parts _ _ e.0 in
+    let g = and_parts _ _ f.0 in
+    record { awb = g.0; from = g.1; to = f.1; pieces = e.1; tenths = d.1; columns = c.1; day = b.1; minute = a.1 }
+
+pub is_row : (row : table.Move) → HasColumns row → is_move_row row ≡ true
+is_row row is =
+    and_from _ _ (and_from _ _ (and_from _ _ (and_from _ _ (and_from _ _ (and_from _ _ (and_from _ _ is.awb is.from) is.to) is.pieces) is.tenths) is.columns) is.day) is.minute
+
+pub is_no_row : (row : table.Move) → (HasColumns row → ⊥) → false ≡ is_move_row row
+is_no_row row not = go (is_move_row row) refl
+  where
+    go : (b : Bool) → is_move_row row ≡ b → false ≡ b
+    go true e = absurd (not (columns_of row e))
+    go false e = refl
+
+-- ---- a move and its row
 
 module _ (n : ℕ) (m : Move) (again : flight_date_of (flight_column m.flight) (day_column m.flight) ≡ m.flight)
     (from : place_of (pos (place_code m.from)) m.flight ≡ Some m.from) (to : place_of (pos (place_code m.to)) m.flight ≡ Some m.to) where

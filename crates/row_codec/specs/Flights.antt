@@ -49,6 +49,10 @@ noted_by row = option_map (λ f. record { flight = f; outbound = outbound_by row
 abbrev pub flights_in : FinMap flight_cmp Flight → FlightDate → Option Outbound
 flights_in rows f = if is_designator f.flight then option_map outbound_by (get rows (flight_key f)) else None
 
+-- a flight in written form, and a day
+abbrev pub is_flight_key : FlightKey → Bool
+is_flight_key key = is_flight_text key.0 && is_day key.1
+
 -- within range
 abbrev pub is_flight_row : FlightKey × Flight → Bool
-is_flight_row row = is_flight_text row.0.0 && is_day row.0.1 && is_airport row.1.unload && is_flag row.1.closed
+is_flight_row row = is_flight_key row.0 && is_airport row.1.unload && is_flag row.1.closed

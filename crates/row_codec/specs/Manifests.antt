@@ -31,11 +31,13 @@ expectation_by row =
 abbrev pub expected_in : FinMap expected_cmp Expected → FlightDate → ℕ → Option cargo.Expected
 expected_in rows f w = if is_designator f.flight then option_map expected_by (get rows (expected_key f w)) else None
 
+-- a flight in written form, a day and a waybill number
+abbrev pub is_expected_key : ExpectedKey → Bool
+is_expected_key key = is_flight_text key.0 && is_day key.1.0 && is_number key.1.1
+
 -- within range
 abbrev pub is_expected_row : ExpectedKey × Expected → Bool
-is_expected_row row =
-    is_flight_text row.0.0 && is_day row.0.1.0 && is_number row.0.1.1 && is_within 1 9999 row.1.pieces
-    && is_within 0 999_999 row.1.tenths && is_flag row.1.checked
+is_expected_row row = is_expected_key row.0 && is_within 1 9999 row.1.pieces && is_within 0 999_999 row.1.tenths && is_flag row.1.checked
 
 abbrev pub part_key : Part → PartKey
 part_key p = (flight_text p.flight.flight, (pos p.flight.day, (p.airport, pos p.number)))
@@ -44,7 +46,14 @@ part_key p = (flight_text p.flight.flight, (pos p.flight.day, (p.airport, pos p.
 abbrev pub parts_in : FinMap part_cmp (List ℕ) → Part → Option (List ℕ)
 parts_in rows p = if is_designator p.flight.flight then get rows (part_key p) else None
 
+-- the part that has a key
+abbrev pub part_by : PartKey → Option Part
+part_by key = option_map (λ f. record { flight = f; airport = key.1.1.0; number = natural key.1.1.1 }) (flight_date_of key.0 key.1.0)
+
+-- a flight in written form, a day, an airport and the number of a part
+abbrev pub is_part_key : PartKey → Bool
+is_part_key key = is_flight_text key.0 && is_day key.1.0 && is_airport key.1.1.0 && is_within 1 9999 key.1.1.1
+
 -- within range, and the telegram is a text
 abbrev pub is_part_row : PartKey × List ℕ → Bool
-is_part_row row =
-    is_flight_text row.0.0 && is_day row.0.1.0 && is_airport row.0.1.1.0 && is_within 1 9999 row.0.1.1.1 && is_utf8 row.1
+is_part_row row = is_part_key row.0 && is_utf8 row.1

@@ -1,5 +1,5 @@
 -- Who holds each number, by the rows of `stock`.
-use Rattle.std.specs.Prelude.{ℕ, ℤ, pos, int_le, int_lt, ◌==◌, Bool, true, ◌&&◌, ◌||◌, IsTrue, if◌then◌else◌, is_some, Option, Some, None, List, [], ◌∷◌, length}
+use Rattle.std.specs.Prelude.{ℕ, ℤ, pos, ◌+◌, ◌-◌, ◌*◌, int_le, int_lt, ◌==◌, Bool, true, ◌&&◌, ◌||◌, IsTrue, if◌then◌else◌, is_some, Option, Some, None, List, [], ◌∷◌, length}
 use Rattle.std.specs.Option.{option_and_then}
 use Rattle.std.specs.Ordering.{int_eq}
 use Rattle.std.specs.List.{find, list_all}
@@ -9,8 +9,9 @@ use Rattle.agent_stock.specs.Code.{is_agent_code}
 use Rattle.agent_stock.specs.Stock.{Holders}
 use Rattle.agent_stock.specs.declared.stock.Holder.{Holder}
 use Rattle.agent_stock.specs.declared.stock.Holder.TheVariants as holder
+use Rattle.agent_stock.specs.declared.runs.StockRun.{StockRun}
 use Rattle.row_schema.specs.Tables.{Stock, StockKey, stock_cmp}
-use Rattle.row_codec.specs.Numbers.{is_within}
+use Rattle.row_codec.specs.Numbers.{natural, is_within}
 
 -- 0 the desk, 2 used, 3 void
 abbrev pub unnamed_holder : ℤ → Option Holder
@@ -20,6 +21,18 @@ unnamed_holder n = if int_eq n (pos 0) then Some holder.Desk else if int_eq n (p
 abbrev pub holder_by : Stock → Option Holder
 holder_by s = if int_eq s.holder (pos 1) then (if is_agent_code s.agent then Some (holder.Agent s.agent) else None)
     else if length s.agent == 0 then unnamed_holder s.holder else None
+
+abbrev pub named : Option Holder → Holder
+named (Some holder) = holder
+named None = holder.Desk
+
+-- a row as a run
+abbrev pub run_in : StockKey × Stock → StockRun
+run_in e = record {
+  first = natural e.0.0 * 10_000_000 + natural e.0.1;
+  count = natural e.1.high + 1 - natural e.0.1;
+  holder = named (holder_by e.1);
+}
 
 -- a row stands for each of its serials
 abbrev pub stands_for : ℕ → StockKey × Stock → Bool

@@ -1,12 +1,16 @@
-ghost use Rattle.std.specs.Prelude.{◌≡◌, pos, IsTrue, IfSome, IfOk, Some, string_bytes};
-ghost use Rattle.imp_fields.specs.Flight.{flight_text};
+ghost use Rattle.std.specs.Prelude.{◌≡◌, ◌&&◌, pos, is_some, IsTrue, IfSome, IfOk, Some, string_bytes};
+ghost use Rattle.std.specs.Str.{bytes_eq};
+ghost use Rattle.imp_fields.specs.Airport.{is_airport};
+ghost use Rattle.imp_fields.specs.Flight.{flight_of, flight_text};
 ghost use Rattle.cargo_rows.specs.Meant.{flight_meant, noted_flight_meant};
-ghost use Rattle.row_codec.specs.Numbers.{natural, is_number, is_day};
-ghost use Rattle.row_codec.specs.Flights.{is_designator, is_flight_text, flight_date_of, flight_key, noted_by, outbound_by, outbound_row, is_flight_row};
+ghost use Rattle.row_schema.specs.Tables.{FlightKey};
+ghost use Rattle.row_codec.specs.Numbers.{is_number, is_day, is_flag};
+ghost use Rattle.row_codec.specs.Flights.{is_designator, is_flight_text, flight_date_of, is_flight_key, noted_by, outbound_by, outbound_row, is_flight_row};
 
+use crate::columns::{airport_of, day_by, flag_by};
 use crate::texts::text;
 use awb_number::Awb;
-use imp_fields::{Airport, Flight, LocalDay};
+use imp_fields::{Flight, LocalDay};
 use shipment_machine::{FlightDate, Outbound};
 use station_core::NotedFlight;
 use station_rows::{FlightRow, NotedFlightRow, StoreFault};
@@ -18,13 +22,6 @@ pub fn awb_key(awb: &Awb) -> i64
     ensures in_range { IsTrue (is_number (pos awb.now)) }
 {
     awb.key() as i64
-}
-
-/// A waybill's number in a column.
-pub(crate) fn awb_by(number: i64) -> Option<Awb>
-    ensures { IfSome result (λ awb. awb ≡ natural number) }
-{
-    Awb::of_key(u64::try_from(number).ok()?)
 }
 
 /// A day as a column has it: days since 1970-01-01.
@@ -48,69 +45,91 @@ pub fn flight_text(alloc: Global, flight: &Flight) -> Result<String, StoreFault>
     text(alloc, &buffer[..len])
 }
 
-/// The flight of a text and a day. `None`: one of them is out of range.
-pub(crate) fn flight_date_by(text: &str, day: i64) -> Option<FlightDate>
-    ensures { IfSome result (λ flight. Some flight ≡ flight_date_of text.now day) }
+/// Whether the designator is written so.
+fn is_written(flight: &Flight, text: &[u8]) -> bool
+    ensures { result ≡ bytes_eq (flight_text flight.now) text.now }
+{
+    let mut buffer = [0; 7];
+    let len = flight.write(&mut buffer);
+    &buffer[..len] == text
+}
+
+/// The flight of a text that is its written form.
+fn flight_of(text: &str) -> Option<Flight>
+    ensures exact { is_some result ≡ is_flight_text text.now }
+    ensures value { IfSome result (λ flight. Some flight ≡ flight_of text.now) }
 {
     let flight = Flight::read(text.as_bytes())?;
-    let day = LocalDay::new(u32::try_from(day).ok()?)?;
+    if is_written(&flight, text.as_bytes()) {
+        Some(flight)
+    } else {
+        None
+    }
+}
+
+/// The flight of a text and a day. `None`: one of them is out of range.
+pub(crate) fn flight_date_by(text: &str, day: i64) -> Option<FlightDate>
+    ensures exact { is_some result ≡ is_flight_key (text.now, day) }
+    ensures value { IfSome result (λ flight. Some flight ≡ flight_date_of text.now day) }
+{
+    let flight = flight_of(text)?;
+    let day = day_by(day)?;
     Some(FlightDate { flight, day })
 }
 
 /// What the columns of a row note of a flight.
 fn outbound_of(unload: &str, closed: i64) -> Option<Outbound>
-    ensures { IfSome result (λ outbound. outbound
+    ensures exact { is_some result ≡ is_airport unload.now && is_flag closed }
+    ensures value { IfSome result (λ outbound. outbound
         ≡ outbound_by (record { unload = unload.now; closed = closed })) }
 {
-    Some(Outbound {
-        unload: Airport::read(unload.as_bytes())?,
-        closed: closed == 1,
-    })
+    let unload = airport_of(unload)?;
+    let closed = flag_by(closed)?;
+    Some(Outbound { unload, closed })
 }
 
 /// What a row notes of a flight. `None`: a column is out of range.
+#[tactic(auto, using(crate::proofs::Exact::under_flight))]
 pub fn outbound_by(row: &FlightRow) -> Option<Outbound>
-    ensures { IfSome result (λ outbound. outbound ≡ outbound_by (flight_meant row.now)) }
+    ensures exact { (key : FlightKey) → IsTrue (is_flight_key key)
+        → is_some result ≡ is_flight_row (key, flight_meant row.now) }
+    ensures value { IfSome result (λ outbound. outbound ≡ outbound_by (flight_meant row.now)) }
 {
     outbound_of(&row.unload, row.closed)
 }
 
+/// The flight of a row with these columns, and what the row notes of it. `None`: a column is out of
+/// range.
+pub fn noted_of(flight: &str, day: i64, unload: &str, closed: i64) -> Option<NotedFlight>
+    ensures exact { is_some result ≡ is_flight_row
+        ((flight.now, day), record { unload = unload.now; closed = closed }) }
+    ensures value { IfSome result (λ noted. Some noted
+        ≡ noted_by ((flight.now, day), record { unload = unload.now; closed = closed })) }
+{
+    let flight = flight_date_by(flight, day)?;
+    let outbound = outbound_of(unload, closed)?;
+    Some(NotedFlight { flight, outbound })
+}
+
 /// The flight that a row is of, and what it notes of it. `None`: a column is out of range.
 pub fn noted_by(row: &NotedFlightRow) -> Option<NotedFlight>
-    ensures { IfSome result (λ noted. Some noted ≡ noted_by (noted_flight_meant row.now)) }
+    ensures exact { is_some result ≡ is_flight_row (noted_flight_meant row.now) }
+    ensures value { IfSome result (λ noted. Some noted ≡ noted_by (noted_flight_meant row.now)) }
 {
-    Some(NotedFlight {
-        flight: flight_date_by(&row.flight, row.day)?,
-        outbound: outbound_of(&row.unload, row.closed)?,
-    })
+    noted_of(&row.flight, row.day, &row.unload, row.closed)
 }
 
-/// The row of what is noted of a flight. A fault: out of memory.
+/// The row of what is noted of a flight, within range under the key of any flight. A fault: out of
+/// memory.
+#[tactic(auto, using(crate::proofs::Fits::outbound_fits))]
 pub fn outbound_row(alloc: Global, outbound: &Outbound) -> Result<FlightRow, StoreFault>
-    ensures { IfOk result (λ row. flight_meant row ≡ outbound_row outbound.now) }
+    ensures value { IfOk result (λ row. flight_meant row ≡ outbound_row outbound.now) }
+    ensures lawful { (key : FlightKey) → IsTrue (is_flight_key key)
+        → IsTrue (is_flight_row (key, outbound_row outbound.now)) }
 {
+    let unload = outbound.unload.letters();
     Ok(FlightRow {
-        unload: text(alloc, &outbound.unload.letters())?,
+        unload: text(alloc, &unload)?,
         closed: i64::from(outbound.closed),
     })
-}
-
-/// A flight can be written.
-#[tactic(auto, using(crate::proofs::FlightKeys::designator_test))]
-pub(crate) fn flight_range(flight: &Flight)
-    ensures { IsTrue (is_designator flight.now) }
-{
-    let mut buffer = [0; 7];
-    let _len = flight.write(&mut buffer);
-}
-
-/// What is noted of a flight is within the range of its row, under the flight's key.
-#[tactic(auto, using(crate::proofs::Fits::flight_fits))]
-pub fn outbound_range(flight: &FlightDate, outbound: &Outbound)
-    ensures designator { IsTrue (is_designator flight.now.flight) }
-    ensures lawful { IsTrue (is_flight_row (flight_key flight.now, outbound_row outbound.now)) }
-{
-    flight_range(&flight.flight);
-    let _day = day_number(flight.day);
-    let _unload = outbound.unload.letters();
 }

@@ -4,22 +4,26 @@
 //! takes memory for the texts, and fails where there is none.
 #![tactic(auto)]
 
+mod columns;
 mod flights;
 mod logs;
 mod manifests;
 mod moves;
 mod replies;
 mod station;
+mod stock;
 mod texts;
 mod waybills;
 
+pub use columns::count_of;
 pub use flights::{
-    awb_key, day_number, flight_text, noted_by, outbound_by, outbound_range, outbound_row,
+    awb_key, day_number, flight_text, noted_by, noted_of, outbound_by, outbound_row,
 };
-pub use logs::{line_by, message_by, message_row, trail_row};
-pub use manifests::{expectation_by, expected_by, expected_range, expected_row, part_range};
+pub use logs::{line_by, message_by, message_row, trail_row, waybill_of_line};
+pub use manifests::{expectation_by, expectation_of, expected_by, expected_row, part_by};
 pub use moves::{book_row_by, move_by, move_row, place_code};
-pub use replies::{count_of, kept_by};
+pub use replies::kept_by;
 pub use station::airport_by;
+pub use stock::run_by;
 pub use texts::text;
-pub use waybills::{declared_by, waybill_row};
+pub use waybills::{waybill_by, waybill_row};

@@ -1,11 +1,13 @@
-ghost use Rattle.std.specs.Prelude.{◌≡◌, IsTrue, IfSome, IfOk, OnOk};
+ghost use Rattle.std.specs.Prelude.{◌≡◌, is_some, IsTrue, IfSome, IfOk, OnOk};
+ghost use Rattle.std.specs.List.{list_all};
+ghost use Rattle.imp_fields.specs.Characters.{is_printable, is_line};
 ghost use Rattle.station_core.specs.Readers.{trail_row as reader_line, message};
 ghost use Rattle.text_rows.specs.Meant.{trail_meant, message_meant};
-ghost use Rattle.row_codec.specs.Numbers.{natural};
+ghost use Rattle.row_codec.specs.Numbers.{natural, is_count};
 ghost use Rattle.row_codec.specs.Logs.{line_by, line_row, is_trail_row, message_row, is_message_row};
 
-use crate::flights::{awb_by, awb_key};
-use crate::replies::count_of;
+use crate::columns::{awb_by, count_of};
+use crate::flights::awb_key;
 use crate::texts::text;
 use awb_number::Awb;
 use shipment_machine::TrailLine;
@@ -13,16 +15,22 @@ use station_core::{Message, RowText, TrailRow as ReaderLine};
 use station_rows::{MessageRow, StoreFault, TrailRow};
 use std::alloc::Global;
 
-/// A line is within the range of its row.
-#[tactic(auto, using(crate::proofs::Fits::line_fits))]
-fn trail_range(number: u32, awb: &Awb, line: &TrailLine<'_>)
-    ensures { IsTrue (is_trail_row (line_row number awb.now line.now)) }
+/// Whether each byte prints.
+fn prints(text: &[u8]) -> bool
+    ensures { result ≡ list_all is_printable text.now }
 {
-    let _awb = awb_key(awb);
-    let _line = line.as_bytes();
+    text.iter().all(|byte| 32 <= *byte && *byte <= 126)
+}
+
+/// Whether it is a line of a message.
+fn is_line(text: &str) -> bool
+    ensures { result ≡ is_line text.now }
+{
+    prints(text.as_bytes()) && text.len() <= 255
 }
 
 /// The row of a line of a waybill's trail, under its number from 1. A fault: out of memory.
+#[tactic(auto, using(crate::proofs::Fits::line_fits))]
 pub fn trail_row(
     alloc: Global,
     number: u32,
@@ -32,11 +40,11 @@ pub fn trail_row(
     ensures value { IfOk result (λ row. trail_meant row ≡ line_row number awb.now line.now) }
     ensures lawful { IsTrue (is_trail_row (line_row number awb.now line.now)) }
 {
-    trail_range(number, awb, line);
+    let (awb, line) = (awb_key(awb), line.as_bytes());
     Ok(TrailRow {
         number: i64::from(number),
-        awb: awb_key(awb),
-        line: text(alloc, line.as_bytes())?,
+        awb,
+        line: text(alloc, line)?,
     })
 }
 
@@ -51,11 +59,21 @@ pub fn message_row(alloc: Global, number: u32, message: &[u8]) -> Result<Message
     })
 }
 
-/// A line of the trail, as readers are given it. `None`: the waybill's number is out of range.
-pub fn line_by(row: TrailRow) -> Option<ReaderLine>
-    ensures { IfSome result (λ line. line ≡ reader_line (line_by (trail_meant row))) }
+/// The waybill that a row of the trail is of. `None`: a column is out of range.
+pub fn waybill_of_line(row: &TrailRow) -> Option<Awb>
+    ensures exact { is_some result ≡ is_trail_row (trail_meant row.now) }
+    ensures value { IfSome result (λ awb. awb ≡ natural row.now.awb) }
 {
     let awb = awb_by(row.awb)?;
+    if is_line(&row.line) { Some(awb) } else { None }
+}
+
+/// A line of the trail, as readers are given it. `None`: a column is out of range.
+pub fn line_by(row: TrailRow) -> Option<ReaderLine>
+    ensures exact { is_some result ≡ is_trail_row (trail_meant row) }
+    ensures value { IfSome result (λ line. line ≡ reader_line (line_by (trail_meant row))) }
+{
+    let awb = waybill_of_line(&row)?;
     Some(ReaderLine {
         awb,
         line: RowText::new(row.line.into_bytes()),
@@ -64,7 +82,9 @@ pub fn line_by(row: TrailRow) -> Option<ReaderLine>
 
 /// A message, as readers are given it. `None`: its number is out of range.
 pub fn message_by(row: MessageRow) -> Option<Message>
-    ensures { IfSome result (λ one. one ≡ message (natural row.number) (message_meant row).body) }
+    ensures exact { is_some result ≡ is_count row.number }
+    ensures value { IfSome result (λ one. one
+        ≡ message (natural row.number) (message_meant row).body) }
 {
     let number = count_of(row.number)?;
     Some(Message {

@@ -1,24 +1,27 @@
-ghost use Rattle.std.specs.Prelude.{◌≡◌, IsTrue, IfSome, IfOk};
+ghost use Rattle.std.specs.Prelude.{◌≡◌, is_some, IsTrue, IfSome, IfOk};
 ghost use Rattle.cargo_rows.specs.Meant.{waybill_meant};
+ghost use Rattle.row_codec.specs.Numbers.{natural};
 ghost use Rattle.row_codec.specs.Waybills.{since_of, since_column, is_since, declared_by, waybill_row, is_waybill_row};
 
-use crate::flights::day_number;
+use crate::columns::{airport_of, awb_by, day_by, flag_by, goods_of, pieces_by, tenths_by};
+use crate::flights::{awb_key, day_number};
 use crate::texts::text;
 use awb_number::Awb;
-use imp_fields::{Airport, BookTenths, Goods, LocalDay, Pieces};
+use imp_fields::LocalDay;
 use shipment_machine::Declared;
 use station_rows::{StoreFault, WaybillRow};
 use std::alloc::Global;
 
 /// The day that a column `since` has, or none. `None`: it is out of range.
 fn since_by(column: i64) -> Option<Option<LocalDay>>
-    ensures { IfSome result (λ since. since ≡ since_of column) }
+    ensures exact { is_some result ≡ is_since column }
+    ensures value { IfSome result (λ since. since ≡ since_of column) }
 {
     if column == 0 {
         return Some(None);
     }
-    let day = u32::try_from(column).ok()?;
-    Some(Some(LocalDay::new(day)?))
+    let day = day_by(column)?;
+    Some(Some(day))
 }
 
 /// The column of a day, or of none.
@@ -33,51 +36,44 @@ fn since_number(since: Option<LocalDay>) -> i64
     }
 }
 
-/// What a row declares. `None`: a column is out of range.
-pub fn declared_by(row: &WaybillRow) -> Option<Declared>
-    ensures { IfSome result (λ d. d ≡ declared_by (waybill_meant row.now)) }
+/// The waybill that a row is of, and what it declares. `None`: a column is out of range.
+pub fn waybill_by(row: &WaybillRow) -> Option<(Awb, Declared)>
+    ensures exact { is_some result ≡ is_waybill_row (waybill_meant row.now) }
+    ensures awb { IfSome result (λ found. found.0 ≡ natural row.now.awb) }
+    ensures declared { IfSome result (λ found. found.1 ≡ declared_by (waybill_meant row.now)) }
 {
-    let pieces = u32::try_from(row.pieces).ok()?;
-    let tenths = u32::try_from(row.tenths).ok()?;
-    Some(Declared {
-        origin: Airport::read(row.origin.as_bytes())?,
-        destination: Airport::read(row.destination.as_bytes())?,
-        pieces: Pieces::new(pieces)?,
-        tenths: BookTenths::new(tenths)?,
-        goods: Goods::read(row.goods.as_bytes())?,
-        notified: row.notified == 1,
+    let awb = awb_by(row.awb)?;
+    let declared = Declared {
+        origin: airport_of(&row.origin)?,
+        destination: airport_of(&row.destination)?,
+        pieces: pieces_by(row.pieces)?,
+        tenths: tenths_by(row.tenths)?,
+        goods: goods_of(&row.goods)?,
+        notified: flag_by(row.notified)?,
         since: since_by(row.since)?,
-    })
+    };
+    Some((awb, declared))
 }
 
-/// What is declared of a waybill is within the range of its row.
+/// The row of what is declared of a waybill, which is within range. A fault: out of memory.
 #[tactic(auto, using(crate::proofs::Fits::waybill_fits))]
-fn waybill_range(awb: &Awb, declared: &Declared)
-    ensures { IsTrue (is_waybill_row (waybill_row awb.now declared.now)) }
-{
-    let _number = awb.key();
-    let _origin = declared.origin.letters();
-    let _destination = declared.destination.letters();
-    let _pieces = declared.pieces.number();
-    let _tenths = declared.tenths.number();
-    let _goods = declared.goods.as_bytes();
-    let _since = since_number(declared.since);
-}
-
-/// The row of what is declared of a waybill. A fault: out of memory.
 pub fn waybill_row(alloc: Global, awb: &Awb, declared: &Declared) -> Result<WaybillRow, StoreFault>
     ensures value { IfOk result (λ row. waybill_meant row ≡ waybill_row awb.now declared.now) }
     ensures lawful { IsTrue (is_waybill_row (waybill_row awb.now declared.now)) }
 {
-    waybill_range(awb, declared);
+    let number = awb_key(awb);
+    let (origin, destination) = (declared.origin.letters(), declared.destination.letters());
+    let (pieces, tenths) = (declared.pieces.number(), declared.tenths.number());
+    let goods = declared.goods.as_bytes();
+    let since = since_number(declared.since);
     Ok(WaybillRow {
-        awb: awb.key() as i64,
-        origin: text(alloc, &declared.origin.letters())?,
-        destination: text(alloc, &declared.destination.letters())?,
-        pieces: i64::from(declared.pieces.number()),
-        tenths: i64::from(declared.tenths.number()),
-        goods: text(alloc, declared.goods.as_bytes())?,
+        awb: number,
+        origin: text(alloc, &origin)?,
+        destination: text(alloc, &destination)?,
+        pieces: i64::from(pieces),
+        tenths: i64::from(tenths),
+        goods: text(alloc, goods)?,
         notified: i64::from(declared.notified),
-        since: since_number(declared.since),
+        since,
     })
 }

@@ -14,9 +14,9 @@ use Rattle.agent_stock.specs.declared.stock.Holder.TheVariants.{Desk, Agent, Use
 use Rattle.agent_stock.specs.declared.runs.StockRun.{StockRun}
 use Rattle.row_schema.specs.Tables.{Stock, StockKey, stock_cmp}
 use Rattle.row_codec.specs.Numbers.{natural}
-use Rattle.row_codec.specs.Stock.{holder_by, unnamed_holder, is_stock_row, is_behind, are_apart}
+use Rattle.row_codec.specs.Stock.{holder_by, unnamed_holder, is_stock_row, is_behind, are_apart, run_in, named}
 use Rattle.run_rows.specs.Rows.{end_of, IsRunRow, StandFrom}
-use Rattle.stock_runs.specs.Runs.{run_in, named, holder_number, code_of, key_of, entry_of, IsWritable}
+use Rattle.stock_runs.specs.Runs.{holder_number, code_of, key_of, entry_of, IsWritable}
 use Rattle.stock_runs.proofs.Meant.{fits, low_fits, natural_is, bounds, row_fits, has_holder}
 
 -- ---- a row, as a run, is the row again

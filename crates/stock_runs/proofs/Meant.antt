@@ -12,9 +12,8 @@ use Rattle.agent_stock.specs.Stock.{is_among}
 use Rattle.agent_stock.specs.declared.stock.Holder.{Holder}
 use Rattle.row_schema.specs.Tables.{Stock, StockKey, stock_cmp}
 use Rattle.row_codec.specs.Numbers.{natural, is_within}
-use Rattle.row_codec.specs.Stock.{holder_by, holders_in, stands_for, is_stock_row, is_behind, are_apart}
+use Rattle.row_codec.specs.Stock.{holder_by, holders_in, stands_for, is_stock_row, is_behind, are_apart, run_in, named}
 use Rattle.run_rows.specs.Rows.{holders_by, end_of, IsRunRow, StandFrom, AreRuns}
-use Rattle.stock_runs.specs.Runs.{run_in, named}
 
 abbrev pub fits : ℤ → ℤ → ℤ → Bool
 fits p low high = is_within 0 999 p && is_within 0 9_999_999 low && int_le low high && int_le high (pos 9_999_999)

@@ -13,10 +13,10 @@ use Rattle.agent_stock.specs.declared.runs.StockRun.{StockRun}
 use Rattle.row_laws.proofs.Keys.{pair_eq, int_tied}
 use Rattle.row_schema.proofs.Keys.{stock_total, stock_same}
 use Rattle.row_schema.specs.Tables.{Stock, StockKey, stock_cmp}
-use Rattle.row_codec.specs.Stock.{holders_in, is_stock_row, are_apart, AreStockRows}
+use Rattle.row_codec.specs.Stock.{holders_in, is_stock_row, are_apart, AreStockRows, run_in}
 use Rattle.run_rows.specs.Rows.{holders_by, IsRunRow, AreRuns}
 use Rattle.run_rows.proofs.Standing.{each_split, each_join}
-use Rattle.stock_runs.specs.Runs.{run_in, key_of, row_in, entry_of, IsWritable}
+use Rattle.stock_runs.specs.Runs.{key_of, row_in, entry_of, IsWritable}
 use Rattle.stock_runs.specs.Writes.{begins, without, cleared, put_in}
 use Rattle.stock_runs.proofs.Meant.{same_holders, are_in_order}
 use Rattle.stock_runs.proofs.Entries.{again, all_again, run_again, is_row, rows_apart, sorted_rows, rows_sorted}

@@ -1,24 +1,11 @@
--- The rows of the stock's table as runs, and runs as rows.
-use Rattle.std.specs.Prelude.{ℕ, ℤ, pos, ◌≡◌, ◌+◌, ◌-◌, ◌*◌, Option, Some, None, List, []}
+-- Runs as rows of the stock's table.
+use Rattle.std.specs.Prelude.{ℕ, ℤ, pos, ◌≡◌, ◌+◌, ◌-◌, Some, List, []}
 use Rattle.awb_number.specs.Number.{IsNumber, prefix_of, serial_of}
 use Rattle.agent_stock.specs.declared.stock.Holder.{Holder}
 use Rattle.agent_stock.specs.declared.stock.Holder.TheVariants.{Desk, Agent, Used, Void}
 use Rattle.agent_stock.specs.declared.runs.StockRun.{StockRun}
 use Rattle.row_schema.specs.Tables.{Stock, StockKey}
-use Rattle.row_codec.specs.Numbers.{natural}
 use Rattle.row_codec.specs.Stock.{holder_by}
-
-abbrev pub named : Option Holder → Holder
-named (Some holder) = holder
-named None = Desk
-
--- a row as a run
-abbrev pub run_in : StockKey × Stock → StockRun
-run_in e = record {
-  first = natural e.0.0 * 10_000_000 + natural e.0.1;
-  count = natural e.1.high + 1 - natural e.0.1;
-  holder = named (holder_by e.1);
-}
 
 -- what stands in a row for a holder: its number, and the agent's code
 abbrev pub holder_number : Holder → ℤ

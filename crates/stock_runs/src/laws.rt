@@ -2,9 +2,8 @@
 ghost use Rattle.std.specs.Prelude.{◌≡◌, map};
 ghost use Rattle.std.specs.FinMap.{FinMap, entries};
 ghost use Rattle.row_schema.specs.Tables.{Stock, stock_cmp};
-ghost use Rattle.row_codec.specs.Stock.{AreStockRows, holders_in};
+ghost use Rattle.row_codec.specs.Stock.{AreStockRows, holders_in, run_in};
 ghost use Rattle.run_rows.specs.Rows.{AreRuns, holders_by};
-ghost use Rattle.stock_runs.specs.Runs.{run_in};
 
 /// Rows within range that are apart are runs in ascending order, and say who has each number as the
 /// table does.

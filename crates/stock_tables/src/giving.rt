@@ -4,9 +4,8 @@ ghost use Rattle.std.specs.FinMap.{entries};
 ghost use Rattle.agent_stock.specs.Stock.{is_run, assigned};
 ghost use Rattle.row_schema.specs.Store.{IsShowing, Survives, at_rest, inside};
 ghost use Rattle.row_schema.specs.Tables.{Tables};
-ghost use Rattle.row_codec.specs.Stock.{holders_in};
+ghost use Rattle.row_codec.specs.Stock.{holders_in, run_in};
 ghost use Rattle.run_rows.specs.Rows.{rows_near};
-ghost use Rattle.stock_runs.specs.Runs.{run_in};
 ghost use Rattle.stock_tables.specs.Stocked.{Stocked, Restocked, using_up};
 
 use crate::near::{near_of, without_neighbours};

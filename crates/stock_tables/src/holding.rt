@@ -1,23 +1,22 @@
 //! Who holds a number.
 ghost use Rattle.std.specs.Prelude.{◌≡◌, IfOk};
 ghost use Rattle.row_schema.specs.Store.{Seen, IsShowing, Rests, Survives};
-ghost use Rattle.row_codec.specs.Stock.{holders_in};
+ghost use Rattle.row_codec.specs.Stock.{holders_in, run_in};
 ghost use Rattle.station_rows.specs.Clauses.{ShowsStill, WasOpen};
 ghost use Rattle.station_rows.specs.Meant.{stock_meant};
 ghost use Rattle.stock_runs.specs.Reads.{holder_at};
-ghost use Rattle.stock_runs.specs.Runs.{run_in};
 ghost use Rattle.stock_tables.specs.Stocked.{Stocked};
 
-use crate::row::run_of;
 use agent_stock::Holder;
 use awb_number::Awb;
+use row_codec::run_by;
 use station_rows::{StockRow, StoreFault, TableStore};
 
 /// The holder in a row, where the row reaches a number. A fault: the row is out of range.
 fn holder_in(row: &StockRow, awb: &Awb) -> Result<Option<Holder>, StoreFault>
     ensures { IfOk result (λ holder. holder ≡ holder_at awb.now (run_in (stock_meant row.now))) }
 {
-    let Some(run) = run_of(row) else {
+    let Some(run) = run_by(row) else {
         return Err(StoreFault);
     };
     if awb.key() < run.first.key() + u64::from(run.count) {

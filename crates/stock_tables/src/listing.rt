@@ -2,11 +2,10 @@
 ghost use Rattle.std.specs.Prelude.{◌≡◌, map, IfOk};
 ghost use Rattle.agent_stock.specs.Runs.{AreStockRuns};
 ghost use Rattle.row_schema.specs.Store.{Seen, IsShowing, Rests, Survives};
-ghost use Rattle.row_codec.specs.Stock.{holders_in};
+ghost use Rattle.row_codec.specs.Stock.{holders_in, run_in};
 ghost use Rattle.station_rows.specs.Clauses.{ShowsStill, WasOpen};
 ghost use Rattle.station_rows.specs.Meant.{stock_meant};
 ghost use Rattle.run_rows.specs.Rows.{AreRuns, holders_by};
-ghost use Rattle.stock_runs.specs.Runs.{run_in};
 ghost use Rattle.stock_tables.specs.Stocked.{Stocked};
 
 use crate::near::with_rows;

@@ -6,11 +6,11 @@ ghost use Rattle.run_rows.specs.Rows.{rows_near, end_of};
 ghost use Rattle.station_rows.specs.Clauses.{TellsOf, ShowsStill, WasOpen};
 ghost use Rattle.station_rows.specs.Meant.{stock_meant};
 ghost use Rattle.stock_runs.specs.Reads.{reaches, reaching, are_enough};
-ghost use Rattle.stock_runs.specs.Runs.{run_in};
+ghost use Rattle.row_codec.specs.Stock.{run_in};
 ghost use Rattle.stock_tables.specs.Stocked.{Stocked, IsCut, EndsBehind, BeginsAhead};
 
-use crate::row::run_of;
 use agent_stock::{Holder, Run, StockRun};
+use row_codec::run_by;
 use station_rows::{StockRow, StoreFault, TableStore};
 use std::alloc::Global;
 use std::slice;
@@ -31,7 +31,7 @@ pub(crate) fn with_rows(
     let mut all = Vec::new(alloc);
     all.extend_from_slice(ahead).ok()?;
     for row in rows {
-        let run = run_of(row)?;
+        let run = run_by(row)?;
         all.extend_from_slice(slice::from_ref(&run)).ok()?;
     }
     Some(all)
@@ -48,7 +48,7 @@ fn reaching_run(
 {
     let mut near = Vec::new(alloc);
     if let Some(row) = row {
-        let Some(row) = run_of(row) else {
+        let Some(row) = run_by(row) else {
             return Err(StoreFault);
         };
         if run.first.key() <= row.first.key() + u64::from(row.count) && near.push(row).is_err() {

@@ -12,8 +12,7 @@ use crate::state::TableState;
 use crate::writing::{put_expected, put_flight, put_waybill};
 use awb_number::Awb;
 use row_codec::{
-    awb_key, day_number, expected_range, expected_row, flight_text, outbound_range, outbound_row,
-    part_range, text, trail_row, waybill_row,
+    awb_key, day_number, expected_row, flight_text, outbound_row, text, trail_row, waybill_row,
 };
 use shipment_machine::{Declared, Expected, FlightDate, Outbound, Part, TrailLine};
 use state_store::StoreFault;
@@ -69,7 +68,6 @@ impl<S: TableStore> TableState<S> {
             (on_cargo (written [] (NoteFlight flight.now outbound.now)) s))) }
         ensures survives { Survives (S.view self.old.store) (S.view self.new.store) }
     {
-        outbound_range(flight, outbound);
         let Ok(name) = flight_text(self.alloc, &flight.flight) else {
             return Err(StoreFault);
         };
@@ -104,7 +102,6 @@ impl<S: TableStore> TableState<S> {
             (on_cargo (written [] (Expect flight.now awb.now expected.now)) s))) }
         ensures survives { Survives (S.view self.old.store) (S.view self.new.store) }
     {
-        expected_range(flight, awb, expected);
         let Ok(name) = flight_text(self.alloc, &flight.flight) else {
             return Err(StoreFault);
         };
@@ -133,7 +130,6 @@ impl<S: TableStore> TableState<S> {
             (on_cargo (written telegram.now (NotePart part.now)) s))) }
         ensures survives { Survives (S.view self.old.store) (S.view self.new.store) }
     {
-        part_range(part);
         let Ok(name) = flight_text(self.alloc, &part.flight.flight) else {
             return Err(StoreFault);
         };

@@ -17,8 +17,8 @@ use agent_stock::{Holder, Order, StockFault, StockRun};
 use awb_number::Awb;
 use imp_fields::Airport;
 use row_codec::{
-    awb_key, count_of, day_number, declared_by, expected_by, flight_text, kept_by, message_row,
-    outbound_by,
+    awb_key, count_of, day_number, expected_by, flight_text, kept_by, message_row, outbound_by,
+    waybill_by,
 };
 use shipment_machine::{
     Amount, Balances, Change, Declared, Expected, FlightDate, Move, Outbound, Part,
@@ -163,9 +163,9 @@ impl<S: TableStore> StateStore for TableState<S> {
                 self.missed.note_waybill(awb);
                 Ok(None)
             }
-            Ok(Some(row)) => match declared_by(&row) {
+            Ok(Some(row)) => match waybill_by(&row) {
                 None => Err(StoreFault),
-                Some(declared) => Ok(Some(declared)),
+                Some(waybill) => Ok(Some(waybill.1)),
             },
         }
     }

@@ -5,11 +5,10 @@ use Rattle.std.specs.FinMap.{entries}
 use Rattle.awb_number.specs.Number.{prefix_of, serial_of}
 use Rattle.agent_stock.specs.declared.stock.Holder.{Holder}
 use Rattle.row_schema.specs.Tables.{Tables}
-use Rattle.row_codec.specs.Stock.{holders_in}
+use Rattle.row_codec.specs.Stock.{holders_in, run_in}
 use Rattle.station_rows.specs.declared.stock.StockRow.{StockRow}
 use Rattle.station_rows.specs.Meant.{stock_meant, last_up_to}
 use Rattle.stock_runs.specs.Reads.{holder_at}
-use Rattle.stock_runs.specs.Runs.{run_in}
 use Rattle.stock_tables.proofs.Held.{held_is}
 use Rattle.stock_tables.proofs.holding.holder.Goals as goal
 

@@ -6,7 +6,7 @@ use Rattle.agent_stock.specs.declared.runs.StockRun.{StockRun}
 use Rattle.row_schema.specs.Tables.{Tables}
 use Rattle.station_rows.specs.declared.stock.StockRow.{StockRow}
 use Rattle.station_rows.specs.Meant.{stock_meant, is_between, last_up_to}
-use Rattle.stock_runs.specs.Runs.{run_in}
+use Rattle.row_codec.specs.Stock.{run_in}
 use Rattle.stock_tables.proofs.Held.{near_is}
 use Rattle.stock_tables.proofs.near.near_by_two.Goals as goal
 

@@ -1,7 +1,10 @@
-use Rattle.std.proofs.Common.{rules, ◌≡◌, ◌∙◌, ap, pos, SFits, w64, IsTrue}
+use Rattle.std.proofs.Common.{rules, ◌≡◌, ◌∙◌, ap, pos, SFits, w64, IsTrue, List, ℕ, subst}
 use Rattle.std.specs.Str.{IsUtf8, is_utf8}
 use Rattle.std.proofs.lemmas.Int.{to_z-of_z}
 use Rattle.std.proofs.lemmas.Str.{is_utf8-from_IsUtf8}
+use Rattle.imp_fields.specs.Airport.{is_airport}
+use Rattle.imp_fields.specs.Amount.{IsPartNumber}
+use Rattle.row_codec.proofs.Fits.{part_fits}
 use Rattle.table_state.proofs.Changes.{notes_part_on}
 use Rattle.table_state.proofs.state.TableState.note_part.Goals as goal
 
@@ -15,4 +18,6 @@ returns-clause-done g c = λ before s shown.
     let text : IsTrue (is_utf8 c.args.telegram.now) = is_utf8-from_IsUtf8 _ valid in
     notes_part_on _ _ _ _ _ before s shown c.in-Ok-insert_part.ensures.survives c.args.telegram.now _ _ _ _ _ c.args.part.now (c.deref.ensures ∙ c.in-Ok.ensures.text)
     (to_z-of_z w64 c.day_number-day.result day_fits ∙ c.day_number-day.ensures.value) airport (to_z-of_z w64 c.from-number.result number_fits ∙ c.from-number.ensures ∙ ap pos c.number.ensures.value) body
-    c.part_range.ensures.designator (c.part_range.ensures.lawful c.args.telegram.now text) (c.in-Ok-insert_part.ensures.done _ _)
+    c.flight_text.ensures.designator
+    (part_fits c.args.part.now c.flight_text.ensures.designator c.day_number-day.ensures.in_range (subst (λ (l : List ℕ). IsTrue (is_airport l)) c.letters.ensures.value c.letters.ensures.letters)
+    (subst IsPartNumber c.number.ensures.value c.number.ensures.in_range) c.args.telegram.now text) (c.in-Ok-insert_part.ensures.done _ _)

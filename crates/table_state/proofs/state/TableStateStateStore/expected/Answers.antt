@@ -21,7 +21,7 @@ pub returns-clause-value : goal.returns-clause-value
 returns-clause-value g c = λ x shown sound.
     let day_fits : SFits w64 c.day_number.result = search rules in
     let awb_fits : SFits w64 c.awb_key.result = search rules in
-    ap Some c.in-Some.ensures ∙ ap (option_map (λ (r : ExpectedRow). expected_by (expected_meant r))) (sym c.in-Ok-Some.field-0-is)
+    ap Some c.in-Some.ensures.value ∙ ap (option_map (λ (r : ExpectedRow). expected_by (expected_meant r))) (sym c.in-Ok-Some.field-0-is)
     ∙ expected_is _ _ _ _ _ x shown c.in-Ok-Some.ensures.survives c.in-Ok-Some.ensures.open sound c.args.flight.now c.args.awb.now _ _ _ c.in-Ok-Some.field-0 (c.deref.ensures ∙ c.in-Ok.ensures.text) (to_z-of_z w64 c.day_number.result day_fits ∙ c.day_number.ensures.value) (to_z-of_z w64 c.awb_key.result awb_fits ∙ c.awb_key.ensures.value) c.flight_text.ensures.designator (c.in-Ok-Some.ensures.read (seen_in (g.S.TableStore.view c.args.self.now.store)))
 
 pub returns-clause-same : goal.returns-clause-same

@@ -18,7 +18,7 @@ pub returns-in-Some-clause-value : goal.returns-in-Some-clause-value
 returns-in-Some-clause-value g c = λ x shown sound.
     let name : c.in-Ok.text.now ≡ c.args.text.now = search rules in
     let fits : SFits w64 c.in-Ok-Some.count = search rules in
-    ap Some (c.in-Some.ensures ∙ ap natural (to_z-of_z w64 c.in-Ok-Some.count fits)) ∙ ap (option_map natural) (sym c.in-Ok-Some.field-0-is)
+    ap Some (c.in-Some.ensures.value ∙ ap natural (to_z-of_z w64 c.in-Ok-Some.count fits)) ∙ ap (option_map natural) (sym c.in-Ok-Some.field-0-is)
     ∙ kept_text_is _ _ _ _ _ x shown c.in-Ok-Some.ensures.survives c.in-Ok-Some.ensures.open sound c.args.text.now _ c.in-Ok-Some.field-0 name (c.in-Ok-Some.ensures.read (seen_in (g.S.TableStore.view c.args.self.now.store)))
 
 pub returns-in-Some-clause-same : goal.returns-in-Some-clause-same

@@ -19,7 +19,7 @@ returns-in-Ok-None-clause-same g c = λ x shown. reads_on _ _ _ _ _ x shown c.in
 pub returns-clause-value : goal.returns-clause-value
 returns-clause-value g c = λ x shown sound.
     let day_fits : SFits w64 c.day_number.result = search rules in
-    ap Some c.in-Some.ensures ∙ ap (option_map (λ (r : FlightRow). outbound_by (flight_meant r))) (sym c.in-Ok-Some.field-0-is)
+    ap Some c.in-Some.ensures.value ∙ ap (option_map (λ (r : FlightRow). outbound_by (flight_meant r))) (sym c.in-Ok-Some.field-0-is)
     ∙ outbound_is _ _ _ _ _ x shown c.in-Ok-Some.ensures.survives c.in-Ok-Some.ensures.open sound c.args.flight.now _ _ c.in-Ok-Some.field-0 (c.deref.ensures ∙ c.in-Ok.ensures.text) (to_z-of_z w64 c.day_number.result day_fits ∙ c.day_number.ensures.value) c.flight_text.ensures.designator (c.in-Ok-Some.ensures.read (seen_in (g.S.TableStore.view c.args.self.now.store)))
 
 pub returns-clause-same : goal.returns-clause-same

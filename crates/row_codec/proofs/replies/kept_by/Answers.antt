@@ -1,0 +1,10 @@
+use Rattle.std.proofs.Common.{rules, true, SFits, w64}
+use Rattle.std.proofs.lemmas.Int.{to_z-of_z}
+use Rattle.text_rows.specs.Meant.{kept_meant}
+use Rattle.row_codec.proofs.Exact.{under_key, text_is}
+use Rattle.row_codec.proofs.replies.kept_by.Goals as goal
+
+pub returns-clause-exact : goal.returns-clause-exact
+returns-clause-exact c = λ key is.
+    let fits : SFits w64 c.args.row.count = search rules in
+    under_key key (kept_meant c.args.row) true is (text_is c.args.row.command) (simp to_z-of_z at c.in_ok-count.ensures.exact)

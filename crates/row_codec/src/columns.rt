@@ -1,0 +1,91 @@
+//! One column of a row: the value that stands in it. `None`: what stands there is out of range.
+ghost use Rattle.std.specs.Prelude.{◌≡◌, is_some, IfSome};
+ghost use Rattle.imp_fields.specs.Airport.{is_airport};
+ghost use Rattle.imp_fields.specs.Name.{is_goods};
+ghost use Rattle.row_codec.specs.Numbers.{natural, is_within, is_number, is_count, is_day, is_set, is_flag};
+
+use awb_number::Awb;
+use imp_fields::{Airport, BookTenths, Goods, LocalDay, PartNumber, Pieces};
+
+/// The waybill's number of a key.
+#[tactic(auto, using(crate::proofs::Exact::within_number))]
+pub(crate) fn awb_by(column: i64) -> Option<Awb>
+    ensures exact { is_some result ≡ is_number column }
+    ensures value { IfSome result (λ awb. awb ≡ natural column) }
+{
+    Awb::of_key(u64::try_from(column).ok()?)
+}
+
+/// A count of pieces.
+#[tactic(auto, using(crate::proofs::Exact::within_both))]
+pub(crate) fn pieces_by(column: i64) -> Option<Pieces>
+    ensures exact { is_some result ≡ is_within 1 9999 column }
+    ensures value { IfSome result (λ pieces. pieces ≡ natural column) }
+{
+    Pieces::new(u32::try_from(column).ok()?)
+}
+
+/// A weight in tenths of a kilogram that the book can have.
+#[tactic(auto, using(crate::proofs::Exact::within_most))]
+pub(crate) fn tenths_by(column: i64) -> Option<BookTenths>
+    ensures exact { is_some result ≡ is_within 0 999_999 column }
+    ensures value { IfSome result (λ tenths. tenths ≡ natural column) }
+{
+    BookTenths::new(u32::try_from(column).ok()?)
+}
+
+/// The number of a part of a manifest.
+#[tactic(auto, using(crate::proofs::Exact::within_both))]
+pub(crate) fn part_number_by(column: i64) -> Option<PartNumber>
+    ensures exact { is_some result ≡ is_within 1 9999 column }
+    ensures value { IfSome result (λ number. number ≡ natural column) }
+{
+    PartNumber::new(u32::try_from(column).ok()?)
+}
+
+/// A day from 2000-01-01 to 2099-12-31.
+#[tactic(auto, using(crate::proofs::Exact::within_both))]
+pub(crate) fn day_by(column: i64) -> Option<LocalDay>
+    ensures exact { is_some result ≡ is_day column }
+    ensures value { IfSome result (λ day. day ≡ natural column) }
+{
+    LocalDay::new(u32::try_from(column).ok()?)
+}
+
+/// Whether a flag is set: 1 or 0.
+pub(crate) fn flag_by(column: i64) -> Option<bool>
+    ensures exact { is_some result ≡ is_flag column }
+    ensures value { IfSome result (λ set. set ≡ is_set column) }
+{
+    match column {
+        0 => Some(false),
+        1 => Some(true),
+        _ => None,
+    }
+}
+
+/// The airport of a code.
+#[tactic(auto, using(crate::proofs::Exact::some_where))]
+pub(crate) fn airport_of(text: &str) -> Option<Airport>
+    ensures exact { is_some result ≡ is_airport text.now }
+    ensures value { IfSome result (λ airport. airport ≡ text.now) }
+{
+    Airport::read(text.as_bytes())
+}
+
+/// What the goods are.
+#[tactic(auto, using(crate::proofs::Exact::same_tests))]
+pub(crate) fn goods_of(text: &str) -> Option<Goods>
+    ensures exact { is_some result ≡ is_goods text.now }
+    ensures value { IfSome result (λ goods. goods ≡ text.now) }
+{
+    Goods::read(text.as_bytes())
+}
+
+/// A count. `None`: it is negative, or above 4,294,967,295.
+pub fn count_of(column: i64) -> Option<u32>
+    ensures exact { is_some result ≡ is_count column }
+    ensures value { IfSome result (λ count. count ≡ natural column) }
+{
+    u32::try_from(column).ok()
+}
