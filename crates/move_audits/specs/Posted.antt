@@ -1,13 +1,14 @@
 -- What a row of `moves` is posted as, and what a walk over postings finds.
-use Rattle.std.specs.Prelude.{◌≡◌, ℤ, true, Option, Some, None, List}
+use Rattle.std.specs.Prelude.{◌≡◌, pos, true, Option, Some, None, List}
 use Rattle.std.specs.List.{list_all, AllByRecursion, AllZip}
 use Rattle.std.specs.FinMap.{entries}
 use Rattle.shipment_machine.specs.declared.flight.FlightDate.{FlightDate}
+use Rattle.shipment_machine.specs.declared.moves.Move.{Move}
 use Rattle.shipment_machine.specs.declared.moves.Place.{Place}
 use Rattle.shipment_machine.specs.Lawful.{IsNoted, IsLawfulMove}
 use Rattle.row_schema.specs.Tables as table
-use Rattle.row_codec.specs.Flights.{flight_date_of, is_flight_row}
-use Rattle.row_codec.specs.Moves.{place_of, move_by, is_move_row}
+use Rattle.row_codec.specs.Flights.{is_flight_row}
+use Rattle.row_codec.specs.Moves.{move_by, is_move_row}
 use Rattle.lawful_tables.specs.Lawful.{cargo_in}
 use Rattle.table_audits.specs.Order.{RisesByNumber}
 use Rattle.book_audits.specs.declared.sums.Spot.{Spot}
@@ -26,24 +27,18 @@ pub record AreBeside (t : table.Tables) (waybills : List table.Waybill) (flights
 abbrev pub listed_in : table.Tables → List FlightDate
 listed_in t = flights_of (entries t.flights)
 
--- the place of a code of a row
-abbrev pub place_in : table.Move → ℤ → Option Place
-place_in row code = place_of code (flight_date_of row.flight row.fday)
-
--- a place of a row, which is noted where it is built
-pub record IsSpotOf (t : table.Tables) (row : table.Move) (code : ℤ) (spot : Spot) : Type 0 where
-  pub place : Place
-  pub is : place_in row code ≡ Some place
+-- a place as it is posted, which is noted where it is built
+pub record IsSpotOf (t : table.Tables) (place : Place) (spot : Spot) : Type 0 where
   pub spot_is : IsSpot (listed_in t) spot place
   pub noted : IsNoted (cargo_in t) place
 
-abbrev pub IsSpotFound : table.Tables → table.Move → ℤ → Option Spot → Type 0
-IsSpotFound t row code None = (p : Place) → place_in row code ≡ Some p → IsNoted (cargo_in t) p → ⊥
-IsSpotFound t row code (Some spot) = IsSpotOf t row code spot
+abbrev pub IsSpotFound : table.Tables → Place → Option Spot → Type 0
+IsSpotFound t place None = IsNoted (cargo_in t) place → ⊥
+IsSpotFound t place (Some spot) = IsSpotOf t place spot
 
--- what a row says as a posting, from one place to another
-abbrev pub posting_in : table.Move → Spot → Spot → Posting
-posting_in row from to = record { awb = row.awb; from = from; to = to; amount = record { pieces = row.pieces; tenths = row.tenths } }
+-- a move as a posting, from one place to another
+abbrev pub posting_in : Move → Spot → Spot → Posting
+posting_in m from to = record { awb = pos m.awb; from = from; to = to; amount = record { pieces = pos m.pieces; tenths = pos m.tenths } }
 
 -- a row within range, and a lawful move by itself
 pub record IsGoodRow (t : table.Tables) (row : table.Move) : Type 0 where

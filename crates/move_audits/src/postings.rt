@@ -15,22 +15,24 @@ ghost use Rattle.move_audits.specs.Posted.{AreBeside, posting_in, IsPostedOr, Ar
 use crate::rows::is_fit;
 use crate::spots::spot_of;
 use book_audits::{NoRoom, Posting, Spot, Tally};
+use row_codec::{awb_key, move_by};
+use shipment_machine::Move;
 use station_rows::{MoveRow, WaybillRow};
 use std::alloc::Global;
 use table_audits::numbers::are_moves_numbered;
 use table_load::FlightEntry;
 
-/// What a row says as a posting, from one place to another.
-fn posted(row: &MoveRow, from: Spot, to: Spot) -> Posting
-    ensures { result ≡ posting_in (move_meant row.now) from to }
+/// A move as a posting, from one place to another.
+fn posted(movement: &Move, from: Spot, to: Spot) -> Posting
+    ensures { result ≡ posting_in movement.now from to }
 {
     Posting {
-        awb: row.awb,
+        awb: awb_key(&movement.awb),
         from,
         to,
         amount: Tally {
-            pieces: row.pieces,
-            tenths: row.tenths,
+            pieces: i64::from(movement.pieces.number()),
+            tenths: i64::from(movement.tenths.number()),
         },
     }
 }
@@ -40,12 +42,13 @@ fn posting_of(row: &MoveRow, waybills: &[WaybillRow], flights: &[FlightEntry]) -
     ensures { (t : Tables) → AreBeside t (map waybill_meant waybills.now)
         (map flight_entry flights.now) → IsPostedOr t (move_meant row.now) result }
 {
-    if !is_fit(row, waybills) {
+    let movement = move_by(row)?;
+    if !is_fit(&movement, waybills) {
         return None;
     }
-    let from = spot_of(&row.src, row, flights)?;
-    let to = spot_of(&row.dst, row, flights)?;
-    Some(posted(row, from, to))
+    let from = spot_of(&movement.from, row, flights)?;
+    let to = spot_of(&movement.to, row, flights)?;
+    Some(posted(&movement, from, to))
 }
 
 /// Puts a posting behind the others.

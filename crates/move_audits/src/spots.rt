@@ -1,35 +1,36 @@
-ghost use Rattle.std.specs.Prelude.{◌≡◌, map, is_some, true, pos, List};
-ghost use Rattle.std.specs.Ordering.{int_eq};
+ghost use Rattle.std.specs.Prelude.{◌≡◌, map, true, List};
 ghost use Rattle.cargo_rows.specs.Meant.{move_meant};
+ghost use Rattle.shipment_machine.specs.Lawful.{NamesFlight};
+ghost use Rattle.shipment_machine.specs.declared.moves.Place.{Place};
 ghost use Rattle.table_load.specs.Held.{flight_entry};
 ghost use Rattle.row_schema.specs.Tables.{Tables, Waybill};
-ghost use Rattle.row_codec.specs.Moves.{plain_place, are_flight_columns};
+ghost use Rattle.row_codec.specs.Flights.{flight_date_of};
+ghost use Rattle.row_codec.specs.Moves.{are_flight_columns};
+ghost use Rattle.running_totals.specs.Sums.{is_built};
 ghost use Rattle.move_audits.specs.Posted.{AreBeside, IsSpotFound};
 
 use book_audits::Spot;
+use row_codec::place_code;
+use shipment_machine::Place;
 use station_rows::MoveRow;
 use table_audits::lookups::flight_place;
 use table_load::FlightEntry;
 
-/// Whether it is the code of a built place.
-fn is_built(code: &i64) -> bool
-    ensures { result ≡ int_eq code.now (pos 3) }
+/// Whether a place is built.
+fn is_built(place: &Place) -> bool
+    ensures { result ≡ is_built place.now }
 {
-    *code == 3
+    matches!(place, Place::Built(_))
 }
 
-/// Whether it is the code of a place that isn't built.
-fn is_plain(code: &i64) -> bool
-    ensures { result ≡ is_some (plain_place code.now) }
-{
-    *code == 0 || *code == 1 || *code == 2 || *code == 4 || *code == 5 || *code == 6 || *code == 7
-}
-
-/// The row's flight, by the place of its row in the table.
+/// The flight of a move's row, by the place of its row in the table.
 fn flight_spot(row: &MoveRow, flights: &[FlightEntry]) -> Option<Spot>
-    ensures { (t : Tables) (ws : List Waybill) → AreBeside t ws (map flight_entry flights.now)
+    ensures { (t : Tables) (ws : List Waybill) (place : Place)
+        → AreBeside t ws (map flight_entry flights.now)
         → are_flight_columns (move_meant row.now).flight row.now.fday ≡ true
-        → IsSpotFound t (move_meant row.now) (pos 3) result }
+        → is_built place ≡ true
+        → NamesFlight place (flight_date_of (move_meant row.now).flight row.now.fday)
+        → IsSpotFound t place result }
 {
     match flight_place(flights, &row.flight, &row.fday) {
         Ok(at) => Some(Spot::OnFlight(at)),
@@ -37,18 +38,16 @@ fn flight_spot(row: &MoveRow, flights: &[FlightEntry]) -> Option<Spot>
     }
 }
 
-/// The place of a code of a row. `None`: there is no such place, or no row of the flight on which
-/// it is built.
-pub(crate) fn spot_of(code: &i64, row: &MoveRow, flights: &[FlightEntry]) -> Option<Spot>
+/// A place of the move in a row, as it is posted. `None`: the flight on which it is built has no
+/// row.
+pub(crate) fn spot_of(place: &Place, row: &MoveRow, flights: &[FlightEntry]) -> Option<Spot>
     ensures { (t : Tables) (ws : List Waybill) → AreBeside t ws (map flight_entry flights.now)
         → are_flight_columns (move_meant row.now).flight row.now.fday ≡ true
-        → IsSpotFound t (move_meant row.now) code.now result }
+        → NamesFlight place.now (flight_date_of (move_meant row.now).flight row.now.fday)
+        → IsSpotFound t place.now result }
 {
-    if is_built(code) {
+    if is_built(place) {
         return flight_spot(row, flights);
     }
-    if is_plain(code) {
-        return Some(Spot::Plain(*code));
-    }
-    None
+    Some(Spot::Plain(place_code(place)))
 }

@@ -21,14 +21,14 @@ use Rattle.table_audits.proofs.FlightRows.{flight_at}
 use Rattle.table_audits.proofs.DeclaredLaws.{declared_from, declared_back}
 
 -- what is in range of a row
-record InRange (e : ExpectedKey × Expected) : Type 0 where
-  flight : is_flight_text e.0.0 ≡ true
-  day : is_day e.0.1.0 ≡ true
-  number : is_number e.0.1.1 ≡ true
-  pieces : is_within 1 9999 e.1.pieces ≡ true
-  tenths : is_within 0 999_999 e.1.tenths ≡ true
+pub record InRange (e : ExpectedKey × Expected) : Type 0 where
+  pub flight : is_flight_text e.0.0 ≡ true
+  pub day : is_day e.0.1.0 ≡ true
+  pub number : is_number e.0.1.1 ≡ true
+  pub pieces : is_within 1 9999 e.1.pieces ≡ true
+  pub tenths : is_within 0 999_999 e.1.tenths ≡ true
 
-in_range : (e : ExpectedKey × Expected) → is_expected_row e ≡ true → InRange e
+pub in_range : (e : ExpectedKey × Expected) → is_expected_row e ≡ true → InRange e
 in_range e h =
     let a = and_parts _ _ (and_parts _ _ h).0 in
     let b = and_parts _ _ a.0 in

@@ -12,3 +12,4 @@ pub mod KeptKeyLaws
 pub mod StockRows
 pub mod StockLaws
 pub mod Texts
+pub mod Judged

@@ -1,10 +1,10 @@
 -- The numbers of a row of `stock`, and rows that are apart.
-use Rattle.std.proofs.Common.{◌≡◌, ℕ, zero, suc, ◌+◌, ◌*◌, ◌/◌, ◌%◌, ◌≤◌, ◌<◌, ℤ, pos, negsuc, ◌+ℤ◌, ◌*ℤ◌, to_z, of_z, w64, Bool, true, false, cond, ◌&&◌, ◌||◌, Some, is_some, List, [], ◌∷◌, map, length, slice_index_or, refl, sym, ap, subst, ◌∙◌, int_eq, true≢false, arith}
+use Rattle.std.proofs.Common.{◌≡◌, ℕ, zero, suc, ◌+◌, ◌*◌, ◌/◌, ◌%◌, ◌≤◌, ◌<◌, ℤ, pos, negsuc, Bool, true, false, cond, ◌&&◌, ◌||◌, Some, is_some, List, [], ◌∷◌, map, length, slice_index_or, refl, sym, ap, subst, ◌∙◌, int_eq, true≢false, arith}
 use Rattle.std.specs.Prelude.{find, int_le, int_lt, IsTrue, ◌↔◌, MatchBool}
 use Rattle.std.specs.List.{AllByRecursion, AllWithin, HoldsAt, AllAdjacentBelow, IsAllAdjacentAnswer, list_all}
 use Rattle.std.proofs.lemmas.Bool.{and_parts, and_from}
 use Rattle.std.proofs.lemmas.Bool.Decides.{Decides-int_eq}
-use Rattle.std.proofs.lemmas.Int.{ints, to_z-of_z}
+use Rattle.std.proofs.lemmas.Int.{ints}
 use Rattle.sqlite_keyed.proofs.ListLemmas.{all_weaker, all_both}
 use Rattle.awb_number.specs.Number.{prefix_of, serial_of}
 use Rattle.row_schema.specs.Tables.{Stock, StockKey}
@@ -28,17 +28,6 @@ in_range e h =
     let c = and_parts _ _ b.0 in
     let d = and_parts _ _ c.0 in
     record { prefix = d.0; low = d.1; some = c.1; high = b.1; held = a.1 }
-
-pub high_within : (e : StockKey × Stock) → is_stock_row e ≡ true → is_within 0 9_999_999 e.1.high ≡ true
-high_within e h = let range = in_range e h in within e.0.1 e.1.high range.low range.some range.high
-  where
-    within : (low high : ℤ) → is_within 0 9_999_999 low ≡ true → int_le low high ≡ true → int_le high (pos 9_999_999) ≡ true → is_within 0 9_999_999 high ≡ true
-    within low high a b c = grind (arith, ints)
-
-pub highest_is : (p high : ℤ) → is_within 0 999 p ≡ true → is_within 0 9_999_999 high ≡ true → to_z w64 (of_z w64 (to_z w64 (of_z w64 (to_z w64 (of_z w64 p) *ℤ pos 10_000_000)) +ℤ to_z w64 (of_z w64 high))) ≡ number_at p high
-highest_is (pos p) (pos high) a b = grind (arith, ints, to_z-of_z)
-highest_is (negsuc p) high a b = absurd (let no' : ⊥ = grind (arith, ints) in no')
-highest_is (pos p) (negsuc high) a b = absurd (let no' : ⊥ = grind (arith, ints) in no')
 
 le_nat : (a b : ℕ) → int_le (pos a) (pos b) ≡ true → a ≤ b
 le_nat a b h = grind (arith, ints)

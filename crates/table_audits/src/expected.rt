@@ -1,4 +1,4 @@
-ghost use Rattle.std.specs.Prelude.{◌≡◌, ◌↔◌, map, IsTrue};
+ghost use Rattle.std.specs.Prelude.{◌≡◌, ◌↔◌, map, nat_le, is_some, IsTrue, IfSome, Some};
 ghost use Rattle.std.specs.FinMap.{entries};
 ghost use Rattle.std.specs.List.{list_all};
 ghost use Rattle.cargo_rows.specs.Meant.{waybill_meant};
@@ -7,34 +7,34 @@ ghost use Rattle.table_audits.specs.Order.{RisesByNumber};
 ghost use Rattle.row_schema.specs.Tables.{Tables};
 ghost use Rattle.lawful_tables.specs.Lawful.{IsLawfulTable};
 ghost use Rattle.lawful_tables.specs.declared.name.TableName.TheVariants as table;
-ghost use Rattle.row_codec.specs.Manifests.{is_expected_row};
+ghost use Rattle.row_codec.specs.Manifests.{is_expected_row, expectation_by};
 ghost use Rattle.table_audits.specs.Rows.{is_lawful_expected};
 
 use crate::lookups::is_declared;
-use crate::ranges::{is_day, is_flag, is_flight_text, is_number, is_pieces, is_tenths};
-use station_rows::WaybillRow;
+use row_codec::{awb_key, expectation_of};
+use shipment_machine::Expected;
+use station_core::Expectation;
+use station_rows::{ExpectedRow, WaybillRow};
 use table_load::ExpectedEntry;
 
-/// Whether the row is within range.
-fn is_in_range(row: &ExpectedEntry) -> bool
-    ensures { result ≡ is_expected_row (expected_entry row.now) }
+/// What a row says, where it is within range.
+fn listed(row: &ExpectedEntry) -> Option<Expectation>
+    ensures exact { is_some result ≡ is_expected_row (expected_entry row.now) }
+    ensures value { IfSome result (λ one. Some one ≡ expectation_by (expected_entry row.now)) }
 {
-    if !is_flight_text(&row.flight) {
-        return false;
-    }
-    if !is_day(row.day) {
-        return false;
-    }
-    if !is_number(row.awb) {
-        return false;
-    }
-    if !is_pieces(row.pieces) {
-        return false;
-    }
-    if !is_tenths(row.tenths) {
-        return false;
-    }
-    is_flag(row.checked)
+    let columns = ExpectedRow {
+        pieces: row.pieces,
+        tenths: row.tenths,
+        checked: row.checked,
+    };
+    expectation_of(&row.flight, row.day, row.awb, &columns)
+}
+
+/// Whether the weight is at least a tenth a piece.
+fn is_enough(expected: &Expected) -> bool
+    ensures { result ≡ nat_le expected.now.pieces expected.now.tenths }
+{
+    expected.pieces.number() <= expected.tenths.number()
 }
 
 /// Whether the row is within range, its weight at least a tenth a piece, and its waybill declared.
@@ -42,10 +42,13 @@ fn is_lawful(row: &ExpectedEntry, waybills: &[WaybillRow]) -> bool
     ensures { RisesByNumber (map waybill_meant waybills.now)
         → result ≡ is_lawful_expected (map waybill_meant waybills.now) (expected_entry row.now) }
 {
-    if !is_in_range(row) {
+    let Some(one) = listed(row) else {
+        return false;
+    };
+    if !is_enough(&one.expected) {
         return false;
     }
-    row.pieces <= row.tenths && is_declared(waybills, row.awb)
+    is_declared(waybills, awb_key(&one.awb))
 }
 
 /// Whether each row is.

@@ -1,38 +1,44 @@
-ghost use Rattle.std.specs.Prelude.{◌≡◌, ◌↔◌, map, IsTrue};
+ghost use Rattle.std.specs.Prelude.{◌≡◌, ◌↔◌, map, not, is_some, IsTrue, IfSome, Some};
 ghost use Rattle.std.specs.FinMap.{entries};
 ghost use Rattle.std.specs.List.{list_all};
+ghost use Rattle.std.specs.Str.{bytes_eq};
 ghost use Rattle.table_load.specs.Held.{flight_entry};
 ghost use Rattle.row_schema.specs.Tables.{Tables};
 ghost use Rattle.lawful_tables.specs.Lawful.{IsLawfulTable};
 ghost use Rattle.lawful_tables.specs.declared.name.TableName.TheVariants as table;
+ghost use Rattle.row_codec.specs.Flights.{is_flight_row, noted_by};
 ghost use Rattle.row_codec.specs.Meaning.{airport_in};
-ghost use Rattle.row_codec.specs.Flights.{is_flight_row};
 ghost use Rattle.table_audits.specs.Rows.{is_lawful_flight};
 
-use crate::ranges::{is_airport, is_day, is_flag, is_flight_text};
+use imp_fields::Airport;
+use row_codec::noted_of;
+use station_core::NotedFlight;
 use table_load::FlightEntry;
 
-/// Whether the row is within range.
-fn is_in_range(row: &FlightEntry) -> bool
-    ensures { result ≡ is_flight_row (flight_entry row.now) }
+/// What a row notes, where it is within range.
+fn noted(row: &FlightEntry) -> Option<NotedFlight>
+    ensures exact { is_some result ≡ is_flight_row (flight_entry row.now) }
+    ensures value { IfSome result (λ one. Some one ≡ noted_by (flight_entry row.now)) }
 {
-    if !is_flight_text(&row.flight) {
-        return false;
-    }
-    if !is_day(row.day) {
-        return false;
-    }
-    if !is_airport(&row.unload) {
-        return false;
-    }
-    is_flag(row.closed)
+    noted_of(&row.flight, row.day, &row.unload, row.closed)
+}
+
+/// Whether a flight with this airport of unloading is unloaded elsewhere.
+fn is_elsewhere(unload: &Airport, here: &str) -> bool
+    ensures { result ≡ not (bytes_eq unload.now here.now) }
+{
+    let letters = unload.letters();
+    &letters[..] != here.as_bytes()
 }
 
 /// Whether the row is within range, and the flight unloaded elsewhere.
 fn is_lawful(row: &FlightEntry, here: &str) -> bool
     ensures { result ≡ is_lawful_flight here.now (flight_entry row.now) }
 {
-    is_in_range(row) && row.unload.as_str() != here
+    let Some(one) = noted(row) else {
+        return false;
+    };
+    is_elsewhere(&one.outbound.unload, here)
 }
 
 /// Whether each row is.

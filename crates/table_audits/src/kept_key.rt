@@ -10,8 +10,8 @@ ghost use Rattle.station_core.specs.Key.{is_key};
 ghost use Rattle.row_codec.specs.Numbers.{is_count};
 ghost use Rattle.row_codec.specs.Replies.{is_kept_row};
 
-use crate::ranges::is_count;
 use desk_commands::read_command_text;
+use row_codec::count_of;
 use station_core::Key;
 use table_load::KeptKeyEntry;
 
@@ -19,10 +19,7 @@ use table_load::KeptKeyEntry;
 fn is_counted(row: &KeptKeyEntry) -> bool
     ensures { result ≡ is_key (string_bytes row.now.id) && is_count row.now.count }
 {
-    if Key::read(row.id.as_bytes()).is_none() {
-        return false;
-    }
-    is_count(row.count)
+    Key::read(row.id.as_bytes()).is_some() && count_of(row.count).is_some()
 }
 
 /// Whether the row is within range. Its command is a text by its type.

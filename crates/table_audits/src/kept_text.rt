@@ -9,14 +9,14 @@ ghost use Rattle.row_codec.specs.Replies.{is_kept_text_row};
 ghost use Rattle.table_audits.specs.Rows.{has_text};
 
 use crate::lookups::is_kept;
-use crate::ranges::is_count;
+use row_codec::count_of;
 use table_load::{KeptTextEntry, PartEntry};
 
 /// Whether each row is within range.
 fn are_in_range(rows: &[KeptTextEntry]) -> bool
     ensures { result ≡ list_all is_kept_text_row (map kept_text_entry rows.now) }
 {
-    rows.iter().all(|row| is_count(row.count))
+    rows.iter().all(|row| count_of(row.count).is_some())
 }
 
 /// Whether the telegram of each part is among the texts.

@@ -13,7 +13,6 @@ pub mod numbers;
 mod old_waybill;
 mod outbox;
 mod part;
-pub mod ranges;
 mod station;
 mod stock;
 mod trail;

@@ -1,40 +1,27 @@
-ghost use Rattle.std.specs.Prelude.{◌≡◌, ◌↔◌, ◌&&◌, map, IsTrue, string_bytes};
+ghost use Rattle.std.specs.Prelude.{◌≡◌, ◌↔◌, map, IsTrue};
 ghost use Rattle.std.specs.FinMap.{entries};
 ghost use Rattle.std.specs.List.{list_all};
 ghost use Rattle.table_load.specs.Held.{part_entry};
 ghost use Rattle.row_schema.specs.Tables.{Tables};
 ghost use Rattle.lawful_tables.specs.Lawful.{IsLawfulTable};
 ghost use Rattle.lawful_tables.specs.declared.name.TableName.TheVariants as table;
-ghost use Rattle.imp_fields.specs.Airport.{is_airport};
-ghost use Rattle.row_codec.specs.Flights.{is_flight_text};
-ghost use Rattle.row_codec.specs.Manifests.{is_part_row};
-ghost use Rattle.row_codec.specs.Numbers.{is_day, is_within};
+ghost use Rattle.row_codec.specs.Manifests.{is_part_key, is_part_row};
 
-use crate::ranges::{is_airport, is_day, is_flight_text, is_pieces};
+use row_codec::part_by;
 use table_load::PartEntry;
 
-/// Whether the row's key is within range.
-fn is_in_range(row: &PartEntry) -> bool
-    ensures { result ≡ is_flight_text (string_bytes row.now.flight) && is_day row.now.day &&
-        is_airport (string_bytes row.now.airport) && is_within 1 9999 row.now.seq }
+/// Whether the row's key is that of a part.
+fn has_part(row: &PartEntry) -> bool
+    ensures { result ≡ is_part_key (part_entry row.now).0 }
 {
-    if !is_flight_text(&row.flight) {
-        return false;
-    }
-    if !is_day(row.day) {
-        return false;
-    }
-    if !is_airport(&row.airport) {
-        return false;
-    }
-    is_pieces(row.seq)
+    part_by(&row.flight, row.day, &row.airport, row.seq).is_some()
 }
 
 /// Whether the row is within range. Its telegram is a text by its type.
 fn is_lawful(row: &PartEntry) -> bool
     ensures { result ≡ is_part_row (part_entry row.now) }
 {
-    is_in_range(row)
+    has_part(row)
 }
 
 /// Whether each row is.

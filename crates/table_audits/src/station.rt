@@ -4,7 +4,8 @@ ghost use Rattle.table_load.specs.Verdict.{new_row};
 ghost use Rattle.lawful_tables.specs.Lawful.{IsLawfulTable};
 ghost use Rattle.lawful_tables.specs.declared.name.TableName.TheVariants as table;
 
-use crate::ranges::{is_airport, is_count};
+use imp_fields::Airport;
+use row_codec::count_of;
 
 /// Whether the one row of `station`, with this airport and this number of the last message that was
 /// confirmed, is lawful.
@@ -12,5 +13,5 @@ pub fn is_station_lawful(airport: &str, confirmed: i64) -> bool
     ensures exact { (t : Tables) → t.stations ≡ new_row airport.now confirmed ∷ []
         → (IsTrue result ↔ IsLawfulTable table.Station t) }
 {
-    is_airport(airport) && is_count(confirmed)
+    Airport::read(airport.as_bytes()).is_some() && count_of(confirmed).is_some()
 }

@@ -1,71 +1,20 @@
-ghost use Rattle.std.specs.Prelude.{◌≡◌, ◌↔◌, map, IsTrue, is_some, pos};
-ghost use Rattle.std.specs.Ordering.{int_eq};
+ghost use Rattle.std.specs.Prelude.{◌≡◌, ◌↔◌, ◌≤◌, ◌+◌, ◌-◌, map, IsTrue, pos};
 ghost use Rattle.std.specs.List.{AllByRecursion};
 ghost use Rattle.std.specs.FinMap.{entries};
+ghost use Rattle.agent_stock.specs.declared.stock.Holder.TheVariants.{Used};
 ghost use Rattle.row_schema.specs.Tables.{Tables};
 ghost use Rattle.lawful_tables.specs.Lawful.{IsLawfulTable};
 ghost use Rattle.lawful_tables.specs.declared.name.TableName.TheVariants as table;
 ghost use Rattle.cargo_rows.specs.Meant.{waybill_meant};
 ghost use Rattle.station_rows.specs.Meant.{stock_meant};
 ghost use Rattle.table_audits.specs.Order.{RisesByNumber};
-ghost use Rattle.row_codec.specs.Stock.{holder_by, is_stock_row, is_behind, are_apart};
-ghost use Rattle.table_audits.specs.Rows.{lowest, highest, AreDeclared, IsLawfulStock};
+ghost use Rattle.row_codec.specs.Stock.{is_behind, are_apart};
+ghost use Rattle.table_audits.specs.Rows.{AreDeclared, IsLawfulStock};
 
 use crate::lookups::is_declared;
-use crate::ranges::{is_agent, is_prefix, is_serial};
-use awb_number::SERIALS;
+use agent_stock::{Holder, StockRun};
+use row_codec::{awb_key, run_by};
 use station_rows::{StockRow, WaybillRow};
-
-/// The number of serials that a prefix has.
-const SERIALS_OF_PREFIX: i64 = SERIALS as i64;
-
-/// Whether the row names a holder.
-fn has_holder(row: &StockRow) -> bool
-    ensures { result ≡ is_some (holder_by (stock_meant row.now).1) }
-{
-    if row.holder == 1 {
-        return is_agent(&row.agent);
-    }
-    if !row.agent.is_empty() {
-        return false;
-    }
-    row.holder == 0 || row.holder == 2 || row.holder == 3
-}
-
-/// Whether the row is within range.
-fn is_in_range(row: &StockRow) -> bool
-    ensures { result ≡ is_stock_row (stock_meant row.now) }
-{
-    if !is_prefix(row.prefix) {
-        return false;
-    }
-    if !is_serial(row.low) {
-        return false;
-    }
-    if row.high < row.low {
-        return false;
-    }
-    if row.high >= SERIALS_OF_PREFIX {
-        return false;
-    }
-    has_holder(row)
-}
-
-/// The lowest number of a row within range, prefix and serial in one.
-fn lowest_of(row: &StockRow) -> i64
-    requires { IsTrue (is_stock_row (stock_meant row.now)) }
-    ensures { result ≡ lowest (stock_meant row.now) }
-{
-    row.prefix * SERIALS_OF_PREFIX + row.low
-}
-
-/// The highest number of a row within range.
-fn highest_of(row: &StockRow) -> i64
-    requires { IsTrue (is_stock_row (stock_meant row.now)) }
-    ensures { result ≡ highest (stock_meant row.now) }
-{
-    row.prefix * SERIALS_OF_PREFIX + row.high
-}
 
 /// Whether each number from the first to the last is declared. It asks up to the first that isn't.
 fn are_declared(waybills: &[WaybillRow], first: i64, last: i64) -> bool
@@ -80,11 +29,19 @@ fn are_declared(waybills: &[WaybillRow], first: i64, last: i64) -> bool
     true
 }
 
-/// Whether the row's numbers are used.
-fn is_used(row: &StockRow) -> bool
-    ensures { result ≡ int_eq (stock_meant row.now).1.holder (pos 2) }
+/// Whether the numbers of a run are used.
+fn is_used(run: &StockRun) -> bool
+    ensures { IsTrue result ↔ (run.now.holder ≡ Used) }
 {
-    row.holder == 2
+    matches!(run.holder, Holder::Used)
+}
+
+/// The last number of a run that has one, prefix and serial in one.
+fn last_of(run: &StockRun) -> i64
+    requires { 1 ≤ run.now.count }
+    ensures { result ≡ pos (run.now.first + run.now.count - 1) }
+{
+    awb_key(&run.first) + i64::from(run.count - 1)
 }
 
 /// Whether the row is within range, and each of its numbers declared where they are used.
@@ -92,10 +49,10 @@ fn is_lawful(row: &StockRow, waybills: &[WaybillRow]) -> bool
     ensures { RisesByNumber (map waybill_meant waybills.now)
         → (IsTrue result ↔ IsLawfulStock (map waybill_meant waybills.now) (stock_meant row.now)) }
 {
-    if !is_in_range(row) {
+    let Some(run) = run_by(row) else {
         return false;
-    }
-    !is_used(row) || are_declared(waybills, lowest_of(row), highest_of(row))
+    };
+    !is_used(&run) || are_declared(waybills, awb_key(&run.first), last_of(&run))
 }
 
 /// Whether each row is.

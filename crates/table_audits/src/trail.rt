@@ -10,7 +10,7 @@ ghost use Rattle.table_audits.specs.Rows.{is_lawful_line};
 
 use crate::lookups::is_declared;
 use crate::numbers::are_lines_numbered;
-use crate::ranges::{is_line, is_number};
+use row_codec::{awb_key, waybill_of_line};
 use station_rows::{TrailRow, WaybillRow};
 
 /// Whether the row is within range, and its waybill declared.
@@ -18,10 +18,10 @@ fn is_lawful(row: &TrailRow, waybills: &[WaybillRow]) -> bool
     ensures { RisesByNumber (map waybill_meant waybills.now)
         → result ≡ is_lawful_line (map waybill_meant waybills.now) (trail_meant row.now) }
 {
-    if !is_number(row.awb) {
-        return false;
+    match waybill_of_line(row) {
+        Some(awb) => is_declared(waybills, awb_key(&awb)),
+        None => false,
     }
-    is_line(&row.line) && is_declared(waybills, row.awb)
 }
 
 /// Whether each row is.

@@ -5,45 +5,19 @@ ghost use Rattle.row_schema.specs.Tables.{Tables};
 ghost use Rattle.table_audits.specs.Order.{RisesByNumber};
 ghost use Rattle.lawful_tables.specs.Lawful.{IsLawfulTable};
 ghost use Rattle.lawful_tables.specs.declared.name.TableName.TheVariants as table;
-ghost use Rattle.row_codec.specs.Waybills.{is_waybill_row};
 ghost use Rattle.table_audits.specs.Rows.{is_lawful_waybill};
 
-use crate::ranges::{is_airport, is_flag, is_goods, is_number, is_pieces, is_since, is_tenths};
+use row_codec::waybill_by;
 use station_rows::WaybillRow;
-
-/// Whether the row is within range.
-fn is_in_range(row: &WaybillRow) -> bool
-    ensures { result ≡ is_waybill_row (waybill_meant row.now) }
-{
-    if !is_number(row.awb) {
-        return false;
-    }
-    if !is_airport(&row.origin) {
-        return false;
-    }
-    if !is_airport(&row.destination) {
-        return false;
-    }
-    if !is_pieces(row.pieces) {
-        return false;
-    }
-    if !is_tenths(row.tenths) {
-        return false;
-    }
-    if !is_goods(&row.goods) {
-        return false;
-    }
-    if !is_flag(row.notified) {
-        return false;
-    }
-    is_since(row.since)
-}
 
 /// Whether the row is within range, and its weight at least a tenth a piece.
 fn is_lawful(row: &WaybillRow) -> bool
     ensures { result ≡ is_lawful_waybill (waybill_meant row.now) }
 {
-    is_in_range(row) && row.pieces <= row.tenths
+    let Some((_, declared)) = waybill_by(row) else {
+        return false;
+    };
+    declared.pieces.number() <= declared.tenths.number()
 }
 
 /// Whether each row is.

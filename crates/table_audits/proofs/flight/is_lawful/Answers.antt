@@ -1,0 +1,12 @@
+use Rattle.std.proofs.Common.{List, ℕ, not, ap, ◌∙◌}
+use Rattle.std.specs.Str.{bytes_eq}
+use Rattle.table_load.specs.Held.{flight_entry}
+use Rattle.row_codec.specs.Flights.{is_flight_row}
+use Rattle.table_audits.proofs.Judged.{as_tested, unload_is}
+use Rattle.table_audits.proofs.flight.is_lawful.Goals as goal
+
+pub returns : goal.returns
+returns c =
+    let row = flight_entry c.args.row.now in
+    as_tested (is_flight_row row) (not (bytes_eq row.1.unload c.args.here.now)) c.is_elsewhere.result c.in-Some.ensures.exact
+    (c.is_elsewhere.ensures ∙ ap (λ (u : List ℕ). not (bytes_eq u c.args.here.now)) (unload_is row c.in-Some.one c.in-Some.ensures.value))
