@@ -2,35 +2,10 @@
 ghost use Rattle.std.specs.Prelude.{◌≡◌, ◌≤◌, ◌-◌, length};
 ghost use Rattle.plain_station.specs.Bounds.{IsWithin};
 ghost use Rattle.plain_station.specs.Spots.{is_in};
-ghost use Rattle.shipment_machine.specs.Flights.{same_flight_date};
 ghost use Rattle.shipment_machine.specs.Book.{same_place, in_store, pieces_of, tenths_of, moved_in, moved_out, held, store, drawn, has_moves};
 
 use awb_number::Awb;
-use shipment_machine::{Amount, FlightDate, Move, Place};
-
-/// Whether two flights are one.
-pub(crate) fn is_flight(a: &FlightDate, b: &FlightDate) -> bool
-    ensures { result ≡ same_flight_date a.now b.now }
-{
-    a.flight.is_same(&b.flight) && a.day == b.day
-}
-
-/// Whether two places are one.
-fn is_place(a: &Place, b: &Place) -> bool
-    ensures { result ≡ same_place a.now b.now }
-{
-    match (a, b) {
-        (Place::Hand, Place::Hand) => true,
-        (Place::Surplus, Place::Surplus) => true,
-        (Place::Free, Place::Free) => true,
-        (Place::Built(one), Place::Built(other)) => is_flight(one, other),
-        (Place::Departed, Place::Departed) => true,
-        (Place::Delivered, Place::Delivered) => true,
-        (Place::Missing, Place::Missing) => true,
-        (Place::Transferred, Place::Transferred) => true,
-        _ => false,
-    }
-}
+use shipment_machine::{Amount, Move, Place};
 
 /// Whether a place is in the store.
 fn is_stored(place: &Place) -> bool
@@ -82,7 +57,7 @@ impl Spot {
         ensures { result ≡ is_in self.now place.now }
     {
         match self {
-            Spot::At(at) => is_place(at, place),
+            Spot::At(at) => at.is_same(place),
             Spot::Store => is_stored(place),
         }
     }

@@ -3,7 +3,6 @@ ghost use Rattle.std.specs.Option.{option_copied};
 ghost use Rattle.shipment_machine.specs.Cargo.{opening_cargo};
 ghost use Rattle.plain_station.specs.Lists.{cargo_of, declared_in, flights_in, expected_in, parts_in};
 
-use crate::balances::is_flight;
 use crate::rows::{DeclaredRow, ExpectedRow, FlightRow, PartRow, TrailRow};
 use agent_stock::PlainRows;
 use awb_number::Awb;
@@ -71,10 +70,7 @@ impl CargoLists {
     pub(crate) fn outbound_of(&self, flight: &FlightDate) -> Option<Outbound>
         ensures { result ≡ flights_in self.now.flights.items flight.now }
     {
-        let row = self
-            .flights
-            .iter()
-            .find(|row| is_flight(flight, &row.flight))?;
+        let row = self.flights.iter().find(|row| flight.is_same(&row.flight))?;
         Some(row.outbound)
     }
 

@@ -2,7 +2,6 @@ ghost use Rattle.std.specs.Prelude.{◌≡◌, ◌&&◌, ◌==◌};
 ghost use Rattle.shipment_machine.specs.Cargo.{same_part};
 ghost use Rattle.shipment_machine.specs.Flights.{same_flight_date};
 
-use crate::balances::is_flight;
 use awb_number::Awb;
 use shipment_machine::{Declared, Expected, FlightDate, Outbound, Part};
 
@@ -34,7 +33,7 @@ impl ExpectedRow {
         ensures { result ≡ same_flight_date flight.now self.now.flight &&
             (awb.now == self.now.awb) }
     {
-        is_flight(flight, &self.flight) && *awb == self.awb
+        flight.is_same(&self.flight) && *awb == self.awb
     }
 }
 
@@ -50,7 +49,7 @@ impl PartRow {
     pub(crate) fn is_of(&self, part: &Part) -> bool
         ensures { result ≡ same_part part.now self.now.part }
     {
-        is_flight(&part.flight, &self.part.flight)
+        part.flight.is_same(&self.part.flight)
             && part.airport == self.part.airport
             && part.number == self.part.number
     }

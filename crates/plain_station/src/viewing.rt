@@ -11,7 +11,7 @@ ghost use Rattle.shipment_machine.specs.Views.{declaration_view, waybill_view, l
 ghost use Rattle.plain_station.specs.Aboard.{is_built_on, is_onto, aboard_of};
 ghost use Rattle.plain_station.specs.Lists.{cargo_of};
 
-use crate::balances::{held, is_flight, is_moved};
+use crate::balances::{held, is_moved};
 use crate::cargo::PlainCargo;
 use awb_number::Awb;
 use imp_fields::{DayMonth, LocalDay, Moment, resolve};
@@ -27,7 +27,7 @@ fn is_onto(flight: &FlightDate, movement: &Move) -> bool
     ensures { result ≡ is_onto flight.now movement.now }
 {
     match movement.to {
-        Place::Built(other) => is_flight(flight, &other),
+        Place::Built(other) => flight.is_same(&other),
         _ => false,
     }
 }

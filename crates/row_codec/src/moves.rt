@@ -1,5 +1,4 @@
 ghost use Rattle.std.specs.Prelude.{◌≡◌, ◌<◌, ◌&&◌, pos, true, is_some, IsTrue, IfSome, IfOk, OnOk, Some, string_bytes};
-ghost use Rattle.shipment_machine.specs.Flights.{same_flight_date};
 ghost use Rattle.station_core.specs.Readers.{book_row};
 ghost use Rattle.cargo_rows.specs.Meant.{move_meant};
 ghost use Rattle.row_codec.specs.Flights.{flight_date_of};
@@ -100,13 +99,6 @@ pub fn place_code(place: &Place) -> i64
     }
 }
 
-/// Whether these are one flight of one day.
-fn is_same(a: &FlightDate, b: &FlightDate) -> bool
-    ensures { result ≡ same_flight_date a.now b.now }
-{
-    a.flight.is_same(&b.flight) && a.day.number() == b.day.number()
-}
-
 /// Whether a place is built on this flight, or isn't built.
 #[tactic(auto, using(crate::proofs::MoveRows::built_again))]
 fn is_named(place: &Place, flight: &Option<FlightDate>) -> bool
@@ -114,7 +106,7 @@ fn is_named(place: &Place, flight: &Option<FlightDate>) -> bool
 {
     match place {
         Place::Built(on) => match flight {
-            Some(flight) => is_same(flight, on),
+            Some(flight) => flight.is_same(on),
             None => false,
         },
         Place::Hand => true,

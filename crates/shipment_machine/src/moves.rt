@@ -1,3 +1,6 @@
+ghost use Rattle.std.specs.Prelude.{◌≡◌};
+ghost use Rattle.shipment_machine.specs.Places.{same_place};
+
 use crate::amount::Amount;
 use crate::flight::FlightDate;
 use awb_number::Awb;
@@ -19,6 +22,25 @@ pub enum Place {
     Missing,
     /// Handed to another airline.
     Transferred,
+}
+
+impl Place {
+    /// Whether the two are one place: of two built ones, whether they are on one flight.
+    pub fn is_same(&self, other: &Place) -> bool
+        ensures { result ≡ same_place self.now other.now }
+    {
+        match (self, other) {
+            (Place::Hand, Place::Hand) => true,
+            (Place::Surplus, Place::Surplus) => true,
+            (Place::Free, Place::Free) => true,
+            (Place::Built(one), Place::Built(two)) => one.is_same(two),
+            (Place::Departed, Place::Departed) => true,
+            (Place::Delivered, Place::Delivered) => true,
+            (Place::Missing, Place::Missing) => true,
+            (Place::Transferred, Place::Transferred) => true,
+            _ => false,
+        }
+    }
 }
 
 /// The balances of a waybill: what came in from outside, and what is at each place but the built

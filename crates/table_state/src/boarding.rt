@@ -1,7 +1,6 @@
 //! How many waybills are on a flight, and what a move makes of it.
 ghost use Rattle.std.specs.Prelude.{◌≡◌, ◌∷◌, [], ◌++◌, length, List, IfSome};
 ghost use Rattle.shipment_machine.specs.Book.{same_place, waybills_on};
-ghost use Rattle.shipment_machine.specs.Flights.{same_flight_date};
 ghost use Rattle.shipment_machine.specs.declared.moves.Move as cargo;
 ghost use Rattle.shipment_machine.specs.declared.moves.Place.TheVariants.{Built};
 ghost use Rattle.running_totals.specs.Posted.{WereThere};
@@ -10,19 +9,12 @@ ghost use Rattle.table_state.specs.Shown.{IsBoarded, joins};
 use crate::counted::Boarded;
 use shipment_machine::{FlightDate, Move, Place};
 
-/// Whether these are one flight of one day.
-fn is_same(a: &FlightDate, b: &FlightDate) -> bool
-    ensures { result ≡ same_flight_date a.now b.now }
-{
-    a.flight.is_same(&b.flight) && a.day.number() == b.day.number()
-}
-
 /// Whether a place is on a flight.
 fn is_on(flight: &FlightDate, place: &Place) -> bool
     ensures { result ≡ same_place (Built flight.now) place.now }
 {
     match place {
-        Place::Built(on) => is_same(flight, on),
+        Place::Built(on) => flight.is_same(on),
         _ => false,
     }
 }
@@ -34,7 +26,7 @@ pub(crate) fn number_on(boarded: Option<Boarded>, flight: &FlightDate) -> Option
         → number ≡ length (waybills_on book flight.now)) }
 {
     match boarded {
-        Some(kept) if is_same(&kept.flight, flight) => Some(kept.waybills),
+        Some(kept) if kept.flight.is_same(flight) => Some(kept.waybills),
         _ => None,
     }
 }
