@@ -79,6 +79,12 @@ module _ (counts : FinMap count_cmp Count) (book : List Move) (are : AreCounts c
   pub drawn_nothing : ◌≡◌ {A = Option Running} None (option_map running_in (get counts (pos w, code))) → amount 0 0 ≡ drawn book w (same_place place)
   drawn_nothing found = none_drawn book w place (is_none (running book w place) (sym (by_code None found)))
 
+  pub sum_told : (t : Tally) → ◌≡◌ {A = Option Running} (Some (meant t)) (option_map running_in (get counts (pos w, code))) → meant t ≡ running book w place
+  sum_told t found = is_told (running book w place) (meant t) (sym (by_code (Some (meant t)) found))
+
+  pub sum_none : ◌≡◌ {A = Option Running} None (option_map running_in (get counts (pos w, code))) → ◌≡◌ {A = Running} (record { pieces = pos 0; tenths = pos 0 }) (running book w place)
+  sum_none found = let n = is_none (running book w place) (sym (by_code None found)) in λ i. record { pieces = sym n.pieces i; tenths = sym n.tenths i }
+
 module _ (builds : FinMap build_cmp Build) (book : List Move) (are : AreBuilds builds book) (w : ℕ) (f : FlightDate) (designator : IsDesignator f.flight) where
   pub at_flight : get builds (flight_text f.flight, (pos f.day, pos w)) ≡ option_map build_row (unless_nothing (running book w (Built f)))
   at_flight = are (flight_text f.flight, (pos f.day, pos w)) ∙ ap (build_at book f.day w) (written_again f.flight designator)
@@ -91,3 +97,9 @@ module _ (builds : FinMap build_cmp Build) (book : List Move) (are : AreBuilds b
 
   pub built_nothing : ◌≡◌ {A = Option Running} None (option_map running_on (get builds (flight_text f.flight, (pos f.day, pos w)))) → amount 0 0 ≡ built book w f
   built_nothing found = none_held book w (Built f) (is_none (running book w (Built f)) (sym (by_flight None found)))
+
+  pub carried_told : (t : Tally) → ◌≡◌ {A = Option Running} (Some (meant t)) (option_map running_on (get builds (flight_text f.flight, (pos f.day, pos w)))) → meant t ≡ running book w (Built f)
+  carried_told t found = is_told (running book w (Built f)) (meant t) (sym (by_flight (Some (meant t)) found))
+
+  pub carried_none : ◌≡◌ {A = Option Running} None (option_map running_on (get builds (flight_text f.flight, (pos f.day, pos w)))) → ◌≡◌ {A = Running} (record { pieces = pos 0; tenths = pos 0 }) (running book w (Built f))
+  carried_none found = let n = is_none (running book w (Built f)) (sym (by_flight None found)) in λ i. record { pieces = sym n.pieces i; tenths = sym n.tenths i }

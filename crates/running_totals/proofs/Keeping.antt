@@ -16,7 +16,10 @@ use Rattle.row_schema.specs.Tables.{Tables, CountKey, count_cmp, BuildKey, build
 use Rattle.row_codec.specs.Counts.{Running, running, running_in, running_on, count_row, build_row, is_nothing, unless_nothing, AreCounts, AreBuilds}
 use Rattle.row_codec.specs.Moves.{place_code}
 use Rattle.running_totals.specs.Sums.{Sums, plus, posting, come, gone, is_built, count_in, build_in}
-use Rattle.running_totals.specs.Stored.{pieces_found, posting_count, posting_build}
+use Rattle.std.specs.Prelude.{IfSome}
+use Rattle.running_totals.specs.Known.{IsRowOf}
+use Rattle.running_totals.specs.declared.tally.Tally.{Tally}
+use Rattle.running_totals.specs.Stored.{meant, pieces_found, posting_count, posting_build}
 use Rattle.running_totals.specs.Posted.{Keeps, Posted, WereThere}
 use Rattle.running_totals.proofs.Tests.{and_no}
 use Rattle.running_totals.proofs.Storing.{nothing_is, posted_as}
@@ -121,3 +124,25 @@ built_before v before now sums a f text day number designator is_text is_day is_
 pub there_before : (book : List Move) (m : Move) (away : Running) (pieces : ℤ) → pieces ≡ (posting m.awb m.from away (running book) m.awb m.to).pieces → WereThere book m pieces
 there_before book m away pieces is other =
     is ∙ ap (λ b. (cond b (plus (running book m.awb m.to) away) (running book m.awb m.to)).pieces) (ap (λ b. (m.awb == m.awb) && b) other ∙ and_no (m.awb == m.awb))
+
+-- what is known of a sum is what stands in its row
+
+shown_again : {V : Type 0} (row : Running → V) (amount : V → Running) → ((r : Running) → amount (row r) ≡ r) → (o : Option Running) → option_map amount (option_map row o) ≡ o
+shown_again row amount again None = refl
+shown_again row amount again (Some r) = ap (λ (x : Running). Some x) (again r)
+
+pub counted_known : (v : View) (before now : Tables) (sums : Sums) (a : ℕ) (place : Place) (number code : ℤ) → is_built place ≡ false → number ≡ pos a → code ≡ pos (place_code place) → (k : Keeps v before now sums)
+    → (known : Option Tally) → IfSome known (λ t. meant t ≡ sums a place) → IfSome known (IsRowOf running_in (get k.counts (number, code)))
+counted_known v before now sums a place number code plain is_number is_code k None are = tt
+counted_known v before now sums a place number code plain is_number is_code k (Some t) are =
+    ap (λ (q : CountKey). option_map running_in (get k.counts q)) (λ i. (is_number i, is_code i))
+    ∙ ap (option_map running_in) (k.are_counts (pos a, pos (place_code place)) ∙ codes.at_key sums a place (sums a place) plain)
+    ∙ shown_again count_row running_in (λ r. refl) (unless_nothing (sums a place)) ∙ ap unless_nothing (sym are)
+
+pub built_known : (v : View) (before now : Tables) (sums : Sums) (a : ℕ) (f : FlightDate) (text : List ℕ) (day number : ℤ) → IsDesignator f.flight → text ≡ flight_text f.flight → day ≡ pos f.day → number ≡ pos a → (k : Keeps v before now sums)
+    → (known : Option Tally) → IfSome known (λ t. meant t ≡ sums a (Built f)) → IfSome known (IsRowOf running_on (get k.builds (text, (day, number))))
+built_known v before now sums a f text day number designator is_text is_day is_number k None are = tt
+built_known v before now sums a f text day number designator is_text is_day is_number k (Some t) are =
+    ap (λ (q : BuildKey). option_map running_on (get k.builds q)) (λ i. (is_text i, (is_day i, is_number i)))
+    ∙ ap (option_map running_on) (k.are_builds (flight_text f.flight, (pos f.day, pos a)) ∙ written.at_key sums a f (sums a (Built f)) designator)
+    ∙ shown_again build_row running_on (λ r. refl) (unless_nothing (sums a (Built f))) ∙ ap unless_nothing (sym are)

@@ -7,6 +7,7 @@ pub mod Keeping
 pub mod Found
 pub mod Amounts
 pub mod Stores
+pub mod KnownLaws
 pub mod Entries
 pub mod FlightRows
 pub mod Loads

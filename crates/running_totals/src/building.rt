@@ -1,13 +1,16 @@
-ghost use Rattle.std.specs.Prelude.{◌≡◌, ℕ, ℤ, pos, List, Option, map, filter, option_map, IfOk};
+ghost use Rattle.std.specs.Prelude.{◌≡◌, ℕ, ℤ, pos, List, Option, map, filter, option_map, IfOk, IfSome, OnErr, OnOk};
 ghost use Rattle.std.specs.FinMap.{get};
 ghost use Rattle.shipment_machine.specs.Book.{built};
-ghost use Rattle.row_schema.specs.Store.{Seen, Rests, Survives, IsShowing};
+ghost use Rattle.row_schema.specs.Store.{Seen, Rests, Survives, IsShowing, inside};
+ghost use Rattle.row_schema.specs.Tables.{Tables};
 ghost use Rattle.cargo_rows.specs.Meant.{build_meant};
 ghost use Rattle.station_rows.specs.Clauses.{ShowsChange, ShowsStill, TellsOf, WasOpen};
-ghost use Rattle.row_codec.specs.Counts.{AreBuilds, build_row, running_on};
+ghost use Rattle.row_codec.specs.Counts.{AreBuilds, build_row, running, running_on};
+ghost use Rattle.running_totals.specs.Known.{AreKnown, IsRowOf};
 ghost use Rattle.running_totals.specs.Stored.{meant, pieces_found, storing_build, posting_build};
 
 use crate::fields::{number_of, whole, written};
+use crate::known::{BuildSum, KnownSums};
 use crate::tally::{Tally, build_tally, pieces_found};
 use awb_number::Awb;
 use shipment_machine::{Amount, FlightDate, Move};
@@ -83,8 +86,29 @@ fn put_build<S: TableStore>(
     }
 }
 
+/// What a flight carries of a waybill, if it has a row: by what is known, or by its row.
+fn carried<S: TableStore>(
+    store: &mut S,
+    flight: &str,
+    day: i64,
+    awb: i64,
+    known: Option<Tally>,
+) -> Result<Option<Tally>, StoreFault>
+    ensures read { (x : Seen) → IsShowing (S.view store.old) x
+        → IfSome known (IsRowOf running_on (get x.now.builds (flight.now, (day, awb))))
+        → (S.view store.new).IsSound → IfOk result (λ found. option_map meant found
+        ≡ option_map running_on (get x.now.builds (flight.now, (day, awb)))) }
+    ensures same { ShowsStill (S.view store.old) (S.view store.new) result }
+    ensures survives { Survives (S.view store.old) (S.view store.new) }
+{
+    if let Some(sum) = known {
+        return Ok(sum.row());
+    }
+    at_flight(store, flight, day, awb)
+}
+
 /// Adds an amount to what a flight carries of a waybill, and returns the pieces that it carried
-/// before.
+/// before. Where the sum is known it isn't read.
 pub(crate) fn post_build<S: TableStore>(
     alloc: Global,
     store: &mut S,
@@ -92,32 +116,41 @@ pub(crate) fn post_build<S: TableStore>(
     day: i64,
     awb: i64,
     by: Tally,
+    known: Option<Tally>,
 ) -> Result<i64, StoreFault>
-    ensures done { ShowsChange (S.view store.old) (S.view store.new) result
-        (posting_build (flight.now, (day, awb)) (meant by)) }
-    ensures before { TellsOf (S.view store.old) (S.view store.new) result
-        (λ tables pieces. pieces ≡ pieces_found (option_map running_on
-        (get tables.builds (flight.now, (day, awb))))) }
+    ensures done { (before now : Tables) → IsShowing (S.view store.old) (inside before now)
+        → IfSome known (IsRowOf running_on (get now.builds (flight.now, (day, awb))))
+        → OnOk result (IsShowing (S.view store.new)
+        (inside before (posting_build (flight.now, (day, awb)) (meant by) now))) }
+    ensures before { (x : Seen) → IsShowing (S.view store.old) x
+        → IfSome known (IsRowOf running_on (get x.now.builds (flight.now, (day, awb))))
+        → (S.view store.new).IsSound → IfOk result (λ pieces. pieces
+        ≡ pieces_found (option_map running_on (get x.now.builds (flight.now, (day, awb))))) }
     ensures survives { Survives (S.view store.old) (S.view store.new) }
 {
-    let found = at_flight(store, flight, day, awb)?;
+    let found = carried(store, flight, day, awb, known)?;
     let sum = by.onto(found)?;
     put_build(alloc, store, found.is_some(), flight, day, awb, sum)?;
     Ok(pieces_found(found))
 }
 
-/// What of a waybill is built on a flight, inside a transaction or outside. A fault: the database
-/// call failed, memory ran out, or an amount is out of range. A fault outside changes nothing while
-/// the store is open.
+/// What of a waybill is built on a flight, inside a transaction or outside, and from then on what is
+/// known of it there. A fault: the database call failed, memory ran out, or an amount is out of
+/// range. A fault outside changes nothing while the store is open.
 pub fn load<S: TableStore>(
     alloc: Global,
     store: &mut S,
+    known: &mut KnownSums,
     awb: &Awb,
     flight: &FlightDate,
 ) -> Result<Amount, StoreFault>
     ensures value { (x : Seen) → IsShowing (S.view store.old) x → (S.view store.new).IsSound
         → (book : List Move) → AreBuilds x.now.builds book
         → IfOk result (λ load. load ≡ built book awb.now flight.now) }
+    ensures known { (x : Seen) → IsShowing (S.view store.old) x → (S.view store.new).IsSound
+        → (book : List Move) → AreBuilds x.now.builds book → AreKnown known.old (running book)
+        → OnOk result (AreKnown known.new (running book)) }
+    ensures known_at_err { OnErr result (known.new ≡ known.old) }
     ensures same { ShowsStill (S.view store.old) (S.view store.new) result }
     ensures open { WasOpen (S.view store.old) (S.view store.new) result }
     ensures rests { (S.view store.new).IsSound → Rests (S.view store.old) (S.view store.new) }
@@ -127,10 +160,28 @@ pub fn load<S: TableStore>(
     let day = whole(flight.day.number());
     let number = number_of(awb);
     match at_flight(store, text.as_str(), day, number)? {
-        Some(tally) => Ok(tally.amount()?),
-        None => Ok(Amount {
-            pieces: 0,
-            tenths: 0,
-        }),
+        Some(sum) => {
+            let load = sum.amount()?;
+            known.build = Some(BuildSum {
+                awb: *awb,
+                flight: *flight,
+                sum,
+            });
+            Ok(load)
+        }
+        None => {
+            known.build = Some(BuildSum {
+                awb: *awb,
+                flight: *flight,
+                sum: Tally {
+                    pieces: 0,
+                    tenths: 0,
+                },
+            });
+            Ok(Amount {
+                pieces: 0,
+                tenths: 0,
+            })
+        }
     }
 }

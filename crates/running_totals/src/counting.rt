@@ -1,17 +1,19 @@
-ghost use Rattle.std.specs.Prelude.{◌≡◌, ℕ, ℤ, pos, false, List, Option, map, filter, option_map, option_copied, IfOk};
+ghost use Rattle.std.specs.Prelude.{◌≡◌, ℕ, ℤ, pos, false, List, Option, map, filter, option_map, option_copied, IfOk, IfSome, OnErr, OnOk};
 ghost use Rattle.std.specs.FinMap.{FinMap, entries, get};
 ghost use Rattle.std.specs.List.{find};
 ghost use Rattle.std.specs.Ordering.{int_eq};
 ghost use Rattle.shipment_machine.specs.Book.{balances_of, drawn, held, same_place};
-ghost use Rattle.row_schema.specs.Store.{Seen, Rests, Survives, IsShowing};
-ghost use Rattle.row_schema.specs.Tables.{Count, count_cmp};
+ghost use Rattle.row_schema.specs.Store.{Seen, Rests, Survives, IsShowing, inside};
+ghost use Rattle.row_schema.specs.Tables.{Count, Tables, count_cmp};
 ghost use Rattle.cargo_rows.specs.Meant.{count_meant, counts_for};
 ghost use Rattle.station_rows.specs.Clauses.{ShowsChange, ShowsStill, TellsOf, WasOpen};
-ghost use Rattle.row_codec.specs.Counts.{AreCounts, count_row, running_in};
+ghost use Rattle.row_codec.specs.Counts.{AreCounts, count_row, running, running_in};
+ghost use Rattle.running_totals.specs.Known.{AreKnown, AreSumsOf, IsRowOf};
 ghost use Rattle.running_totals.specs.Sums.{is_built};
 ghost use Rattle.running_totals.specs.Stored.{meant, pieces_found, storing_count, posting_count};
 
 use crate::fields::number_of;
+use crate::known::{CountSums, KnownSums, PlaceSums};
 use crate::tally::{Tally, count_tally, pieces_found};
 use awb_number::Awb;
 use row_codec::place_code;
@@ -72,22 +74,47 @@ fn put_count<S: TableStore>(
     }
 }
 
-/// Adds an amount to what a waybill has at a place, and returns the pieces that it had there before.
+/// What a waybill has at a place, if it has a row: by what is known, or by its rows.
+fn counted<S: TableStore>(
+    store: &mut S,
+    awb: i64,
+    place: i64,
+    known: Option<Tally>,
+) -> Result<Option<Tally>, StoreFault>
+    ensures read { (x : Seen) → IsShowing (S.view store.old) x
+        → IfSome known (IsRowOf running_in (get x.now.counts (awb, place)))
+        → (S.view store.new).IsSound → IfOk result (λ found. option_map meant found
+        ≡ option_map running_in (get x.now.counts (awb, place))) }
+    ensures same { ShowsStill (S.view store.old) (S.view store.new) result }
+    ensures survives { Survives (S.view store.old) (S.view store.new) }
+{
+    if let Some(sum) = known {
+        return Ok(sum.row());
+    }
+    let rows = store.counts_of(awb)?;
+    Ok(at_place(&rows, place))
+}
+
+/// Adds an amount to what a waybill has at a place, and returns the pieces that it had there
+/// before. Where the sum is known it isn't read.
 pub(crate) fn post_count<S: TableStore>(
     store: &mut S,
     awb: i64,
     place: i64,
     by: Tally,
+    known: Option<Tally>,
 ) -> Result<i64, StoreFault>
-    ensures done { ShowsChange (S.view store.old) (S.view store.new) result
-        (posting_count (awb, place) (meant by)) }
-    ensures before { TellsOf (S.view store.old) (S.view store.new) result
-        (λ tables pieces. pieces ≡ pieces_found (option_map running_in
-        (get tables.counts (awb, place)))) }
+    ensures done { (before now : Tables) → IsShowing (S.view store.old) (inside before now)
+        → IfSome known (IsRowOf running_in (get now.counts (awb, place)))
+        → OnOk result (IsShowing (S.view store.new)
+        (inside before (posting_count (awb, place) (meant by) now))) }
+    ensures before { (x : Seen) → IsShowing (S.view store.old) x
+        → IfSome known (IsRowOf running_in (get x.now.counts (awb, place)))
+        → (S.view store.new).IsSound → IfOk result (λ pieces. pieces
+        ≡ pieces_found (option_map running_in (get x.now.counts (awb, place)))) }
     ensures survives { Survives (S.view store.old) (S.view store.new) }
 {
-    let rows = store.counts_of(awb)?;
-    let found = at_place(&rows, place);
+    let found = counted(store, awb, place, known)?;
     let sum = by.onto(found)?;
     put_count(store, found.is_some(), awb, place, sum)?;
     Ok(pieces_found(found))
@@ -154,13 +181,57 @@ pub(crate) fn balances_by(rows: &[CountRow]) -> Result<Balances, StoreFault>
     })
 }
 
-/// What the moves of a waybill add up to, inside a transaction or outside. A fault: the database
-/// call failed, or a balance is out of range. A fault outside changes nothing while the store is
-/// open.
-pub fn balances<S: TableStore>(store: &mut S, awb: &Awb) -> Result<Balances, StoreFault>
+/// The sum at a place that isn't built, by the rows of a waybill.
+fn sum_by(rows: &[CountRow], place: &Place) -> Tally
+    ensures { (counts : FinMap count_cmp Count) (book : List Move) (w : ℕ)
+        → map count_meant rows.now ≡ filter (counts_for (pos w)) (entries counts)
+        → AreCounts counts book
+        → is_built place.now ≡ false
+        → meant result ≡ running book w place.now }
+{
+    let code = place_code(place);
+    match at_place(rows, code) {
+        Some(sum) => sum,
+        None => Tally {
+            pieces: 0,
+            tenths: 0,
+        },
+    }
+}
+
+/// The sums at all places that aren't built, by the rows of a waybill.
+fn sums_by(rows: &[CountRow]) -> PlaceSums
+    ensures { (counts : FinMap count_cmp Count) (book : List Move) (w : ℕ)
+        → map count_meant rows.now ≡ filter (counts_for (pos w)) (entries counts)
+        → AreCounts counts book
+        → AreSumsOf result (running book w) }
+{
+    PlaceSums {
+        hand: sum_by(rows, &Place::Hand),
+        surplus: sum_by(rows, &Place::Surplus),
+        free: sum_by(rows, &Place::Free),
+        departed: sum_by(rows, &Place::Departed),
+        delivered: sum_by(rows, &Place::Delivered),
+        missing: sum_by(rows, &Place::Missing),
+        transferred: sum_by(rows, &Place::Transferred),
+    }
+}
+
+/// What the moves of a waybill add up to, inside a transaction or outside, and from then on what is
+/// known of its sums. A fault: the database call failed, or a balance is out of range. A fault
+/// outside changes nothing while the store is open.
+pub fn balances<S: TableStore>(
+    store: &mut S,
+    known: &mut KnownSums,
+    awb: &Awb,
+) -> Result<Balances, StoreFault>
     ensures value { (x : Seen) → IsShowing (S.view store.old) x → (S.view store.new).IsSound
         → (book : List Move) → AreCounts x.now.counts book
         → IfOk result (λ balances. balances ≡ balances_of book awb.now) }
+    ensures known { (x : Seen) → IsShowing (S.view store.old) x → (S.view store.new).IsSound
+        → (book : List Move) → AreCounts x.now.counts book → AreKnown known.old (running book)
+        → OnOk result (AreKnown known.new (running book)) }
+    ensures known_at_err { OnErr result (known.new ≡ known.old) }
     ensures same { ShowsStill (S.view store.old) (S.view store.new) result }
     ensures open { WasOpen (S.view store.old) (S.view store.new) result }
     ensures rests { (S.view store.new).IsSound → Rests (S.view store.old) (S.view store.new) }
@@ -168,5 +239,10 @@ pub fn balances<S: TableStore>(store: &mut S, awb: &Awb) -> Result<Balances, Sto
 {
     let number = number_of(awb);
     let rows = store.counts_of(number)?;
-    Ok(balances_by(&rows)?)
+    let balances = balances_by(&rows)?;
+    known.counts = Some(CountSums {
+        awb: *awb,
+        sums: sums_by(&rows),
+    });
+    Ok(balances)
 }

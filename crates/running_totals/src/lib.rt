@@ -4,6 +4,7 @@
 mod building;
 mod counting;
 mod fields;
+mod known;
 mod listing;
 mod loading;
 mod posting;
@@ -11,6 +12,7 @@ mod tally;
 
 pub use building::load;
 pub use counting::balances;
+pub use known::KnownSums;
 pub use listing::all_balances;
 pub use loading::{aboard, waybills_on};
 pub use posting::post_move;

@@ -1,7 +1,8 @@
 ghost use Rattle.std.specs.Prelude.{◌≡◌, ◌∷◌, [], ◌++◌, List, IfOk, OnOk};
 ghost use Rattle.row_schema.specs.Store.{Survives, IsShowing, inside};
 ghost use Rattle.row_schema.specs.Tables.{Tables};
-ghost use Rattle.row_codec.specs.Counts.{AreCounts, AreBuilds};
+ghost use Rattle.row_codec.specs.Counts.{AreCounts, AreBuilds, running};
+ghost use Rattle.running_totals.specs.Known.{AreKnown};
 ghost use Rattle.running_totals.specs.Sums.{Sums, come, gone, posting};
 ghost use Rattle.running_totals.specs.Stored.{meant};
 ghost use Rattle.running_totals.specs.Posted.{Keeps, Posted, WereThere};
@@ -9,6 +10,7 @@ ghost use Rattle.running_totals.specs.Posted.{Keeps, Posted, WereThere};
 use crate::building::post_build;
 use crate::counting::post_count;
 use crate::fields::{number_of, whole, written};
+use crate::known::KnownSums;
 use crate::tally::Tally;
 use awb_number::Awb;
 use row_codec::place_code;
@@ -17,30 +19,37 @@ use station_rows::{StoreFault, TableStore};
 use std::alloc::Global;
 
 /// Adds an amount to what a waybill has at a place, and returns the pieces that it had there before.
+/// What is known of the sums is known of those after it.
 fn post<S: TableStore>(
     alloc: Global,
     store: &mut S,
+    known: &mut KnownSums,
     awb: &Awb,
     place: &Place,
     by: Tally,
 ) -> Result<i64, StoreFault>
     ensures done { (before now : Tables) (sums : Sums) → Keeps (S.view store.old) before now sums
-        → OnOk result (Keeps (S.view store.new) before now
+        → AreKnown known.old sums → OnOk result (Keeps (S.view store.new) before now
         (posting awb.now place.now (meant by) sums)) }
     ensures before { (before now : Tables) (sums : Sums) → Keeps (S.view store.old) before now sums
-        → (S.view store.new).IsSound
+        → AreKnown known.old sums → (S.view store.new).IsSound
         → IfOk result (λ pieces. pieces ≡ (sums awb.now place.now).pieces) }
+    ensures known { (sums : Sums) → AreKnown known.old sums
+        → OnOk result (AreKnown known.new (posting awb.now place.now (meant by) sums)) }
     ensures survives { Survives (S.view store.old) (S.view store.new) }
 {
     let number = number_of(awb);
+    let sum = known.at(awb, place);
     if let Place::Built(flight) = place {
         let text = written(alloc, &flight.flight)?;
         let day = whole(flight.day.number());
-        let aboard = post_build(alloc, store, text.as_str(), day, number, by)?;
+        let aboard = post_build(alloc, store, text.as_str(), day, number, by, sum)?;
+        *known = known.posted(awb, place, by);
         Ok(aboard)
     } else {
         let code = place_code(place);
-        let there = post_count(store, number, code, by)?;
+        let there = post_count(store, number, code, by, sum)?;
+        *known = known.posted(awb, place, by);
         Ok(there)
     }
 }
@@ -67,24 +76,30 @@ fn gone(movement: &Move) -> Tally
 
 /// Takes what a move moves from the place that it leaves and brings it to the place that it comes
 /// to, in a transaction, and returns the pieces that the waybill had there before. A place of a
-/// waybill where nothing is left has no row. A fault: no transaction is open, a database call
-/// failed, memory ran out, or a sum is out of range.
+/// waybill where nothing is left has no row. What is known of the sums isn't read again, and is
+/// known of those after the move. A fault: no transaction is open, a database call failed, memory
+/// ran out, or a sum is out of range; then what was known counts no more.
 pub fn post_move<S: TableStore>(
     alloc: Global,
     store: &mut S,
+    known: &mut KnownSums,
     movement: &Move,
 ) -> Result<i64, StoreFault>
     ensures done { (before now : Tables) → IsShowing (S.view store.old) (inside before now)
         → (book : List Move) → AreCounts now.counts book → AreBuilds now.builds book
+        → AreKnown known.old (running book)
         → OnOk result (Posted (S.view store.new) before now (book ++ movement.now ∷ [])) }
     ensures before { (before now : Tables) → IsShowing (S.view store.old) (inside before now)
         → (book : List Move) → AreCounts now.counts book → AreBuilds now.builds book
+        → AreKnown known.old (running book)
         → (S.view store.new).IsSound → IfOk result (WereThere book movement.now) }
+    ensures known { (book : List Move) → AreKnown known.old (running book)
+        → OnOk result (AreKnown known.new (running (book ++ movement.now ∷ []))) }
     ensures survives { Survives (S.view store.old) (S.view store.new) }
 {
     let gone = gone(movement);
-    post(alloc, store, &movement.awb, &movement.from, gone)?;
+    post(alloc, store, known, &movement.awb, &movement.from, gone)?;
     let come = come(movement);
-    let pieces = post(alloc, store, &movement.awb, &movement.to, come)?;
+    let pieces = post(alloc, store, known, &movement.awb, &movement.to, come)?;
     Ok(pieces)
 }

@@ -1,6 +1,6 @@
 ghost use Rattle.std.specs.Prelude.{◌≡◌, ℤ, pos, ◌+ℤ◌, ◌-ℤ◌, option_map, IfOk};
 ghost use Rattle.cargo_rows.specs.Meant.{build_meant, count_meant};
-ghost use Rattle.row_codec.specs.Counts.{Running, is_nothing, running_in, running_on};
+ghost use Rattle.row_codec.specs.Counts.{Running, is_nothing, running_in, running_on, unless_nothing};
 ghost use Rattle.running_totals.specs.Sums.{plus};
 ghost use Rattle.running_totals.specs.Stored.{come_to, meant, pieces_found};
 
@@ -8,7 +8,7 @@ use shipment_machine::Amount;
 use station_rows::{BuildRow, CountRow, StoreFault};
 
 /// Pieces and tenths of a row: what came, less what left.
-#[derive(Clone, Copy)]
+#[derive(Clone, Copy, Debug, PartialEq, Eq)]
 pub(crate) struct Tally {
     pub pieces: i64,
     pub tenths: i64,
@@ -82,8 +82,15 @@ impl Tally {
         self.pieces == 0 && self.tenths == 0
     }
 
+    /// What stands in a row: there is none where nothing is left.
+    pub(crate) fn row(self) -> Option<Tally>
+        ensures { option_map meant result ≡ unless_nothing (meant self) }
+    {
+        if self.is_nothing() { None } else { Some(self) }
+    }
+
     /// Two together.
-    fn plus(self, other: Tally) -> Result<Tally, StoreFault>
+    pub(crate) fn plus(self, other: Tally) -> Result<Tally, StoreFault>
         ensures { IfOk result (λ sum. meant sum ≡ plus (meant self) (meant other)) }
     {
         let pieces = sum(self.pieces, other.pieces)?;

@@ -8,7 +8,7 @@ use Rattle.row_codec.specs.Meaning.{Means}
 use Rattle.state_store.specs.Store.{Seen, at_rest, inside, Survives}
 use Rattle.table_state.specs.declared.counted.Counted.{Counted}
 use Rattle.table_state.specs.Laws.{same_meaning}
-use Rattle.table_state.specs.Shown.{Stands, Knows, IsBoarded, Shows, Finds, IfGivenBack}
+use Rattle.table_state.specs.Shown.{Stands, Knows, IsCounted, Shows, Finds, IfGivenBack}
 
 -- what a view shows
 abbrev pub seen_in : View → row.Seen
@@ -50,13 +50,13 @@ may_find_on old new here counted confirmed before s was may sound found finds =
     (may.crash sound finds.tables finds.left)
 
 -- another number that is kept
-pub keeps_number : (v : View) (here : List ℕ) (counted : Counted) (confirmed : ℕ) (x : Seen) → Shows v here counted confirmed x → (later : Counted) → later.sizes ≡ counted.sizes → (v.IsSound → IsBoarded later.boarded x.now.cargo.book) → Shows v here later confirmed x
+pub keeps_number : (v : View) (here : List ℕ) (counted : Counted) (confirmed : ℕ) (x : Seen) → Shows v here counted confirmed x → (later : Counted) → later.sizes ≡ counted.sizes → (v.IsSound → IsCounted later x.now.cargo.book) → Shows v here later confirmed x
 keeps_number v here counted confirmed x was later same number sound =
     let k = was sound in
     record {
       holds = k.holds;
       knows = record { here_is = k.knows.here_is; sizes_are = same ∙ k.knows.sizes_are; confirmed_is = k.knows.confirmed_is };
-      boarded = number sound;
+      kept = number sound;
     }
 
 module _ (old new : View) (here : List ℕ) (counted : Counted) (confirmed : ℕ) where
@@ -80,7 +80,7 @@ module _ (old new : View) (here : List ℕ) (counted : Counted) (confirmed : ℕ
           found = λ t left. k.holds.found t (survives.crash sound t left);
         };
         knows = k.knows;
-        boarded = k.boarded;
+        kept = k.kept;
       }
 
   -- a read that was answered, and left all as it was
@@ -95,7 +95,7 @@ module _ (old new : View) (here : List ℕ) (counted : Counted) (confirmed : ℕ
           found = λ t left. k.holds.found t (survives.crash sound t left);
         };
         knows = k.knows;
-        boarded = k.boarded;
+        kept = k.kept;
       }
 
   pub told_before : (x : Seen) → Shows old here counted confirmed x → row.Survives old new → (new.IsSound → row.IsUnchanged old new) → new.IsSound → Means old.now (Some x.now)
@@ -116,7 +116,7 @@ module _ (old new : View) (here : List ℕ) (counted : Counted) (confirmed : ℕ
           found = λ t left. k.holds.found t (survives.crash sound t left);
         };
         knows = k.knows;
-        boarded = k.boarded;
+        kept = k.kept;
       }
 
   pub begins : (s : State) → Shows old here counted confirmed (at_rest s) → row.Survives old new → (new.IsSound → row.Shows old new old.now old.committed true) → Shows new here counted confirmed (inside s s)
@@ -136,7 +136,7 @@ module _ (old new : View) (here : List ℕ) (counted : Counted) (confirmed : ℕ
           found = λ t left. k.holds.found t (survives.crash sound t left);
         };
         knows = record { here_is = k.knows.here_is; sizes_are = k.knows.sizes_are; confirmed_is = k.knows.confirmed_is };
-        boarded = k.boarded;
+        kept = k.kept;
       }
 
   pub commits : (before s : State) → Shows old here counted confirmed (inside before s) → (new.IsSound → old.IsSound) → (new.IsSound → row.Shows old new old.now old.now false)
@@ -158,7 +158,7 @@ module _ (old new : View) (here : List ℕ) (counted : Counted) (confirmed : ℕ
           found = λ t left. subst (λ u. Means u (Some s)) (sym (settled t step.is_open sound left)) after;
         };
         knows = record { here_is = k.knows.here_is; sizes_are = k.knows.sizes_are; confirmed_is = k.knows.confirmed_is };
-        boarded = k.boarded;
+        kept = k.kept;
       }
 
   -- in a transaction the tables became others
@@ -166,9 +166,9 @@ module _ (old new : View) (here : List ℕ) (counted : Counted) (confirmed : ℕ
       → (new.IsSound → Displays new (row.inside old.committed (change old.now)))
       → (new.IsSound → Means old.now (Some s) → Means (change old.now) (Some after))
       → (Knows here counted.sizes confirmed (inside before s) → Knows here later.sizes confirmed_then (inside before after))
-      → (IsBoarded counted.boarded s.cargo.book → IsBoarded later.boarded after.cargo.book)
+      → (IsCounted counted s.cargo.book → IsCounted later after.cargo.book)
       → Shows new here later confirmed_then (inside before after)
-  reached change later confirmed_then before s after was survives shown means knows boarded sound =
+  reached change later confirmed_then before s after was survives shown means knows kept sound =
       let k = was (survives.sound sound) in
       let m = k.holds.stands (k.holds.inside refl) in
       let d = shown sound in
@@ -184,7 +184,7 @@ module _ (old new : View) (here : List ℕ) (counted : Counted) (confirmed : ℕ
           found = λ t left. k.holds.found t (survives.crash sound t left);
         };
         knows = knows k.knows;
-        boarded = boarded k.boarded;
+        kept = kept k.kept;
       }
 
   -- one change of the tables
@@ -192,7 +192,7 @@ module _ (old new : View) (here : List ℕ) (counted : Counted) (confirmed : ℕ
       → (IsShowing old (row.inside old.committed old.now) → IsShowing new (row.inside old.committed (change old.now)))
       → (new.IsSound → Means old.now (Some s) → Means (change old.now) (Some after))
       → (Knows here counted.sizes confirmed (inside before s) → Knows here later.sizes confirmed_then (inside before after))
-      → (IsBoarded counted.boarded s.cargo.book → IsBoarded later.boarded after.cargo.book)
+      → (IsCounted counted s.cargo.book → IsCounted later after.cargo.book)
       → Shows new here later confirmed_then (inside before after)
   writes_on change later confirmed_then before s after was survives done =
       reached change later confirmed_then before s after was survives (λ sound.

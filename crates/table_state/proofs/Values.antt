@@ -15,7 +15,7 @@ use Rattle.row_codec.specs.Stock.{holders_in}
 use Rattle.shipment_machine.specs.Book.{has_moves, balances_of, built, waybills_on}
 use Rattle.shipment_machine.specs.declared.amount.Amount.{Amount}
 use Rattle.shipment_machine.specs.declared.moves.Balances.{Balances}
-use Rattle.row_codec.specs.Counts.{AreCounts, AreBuilds}
+use Rattle.row_codec.specs.Counts.{AreCounts, AreBuilds, running}
 use Rattle.state_store.specs.declared.store.Load.{Load}
 use Rattle.shipment_machine.specs.declared.flight.FlightDate.{FlightDate}
 use Rattle.shipment_machine.specs.declared.moves.Move.{Move}
@@ -51,6 +51,8 @@ use Rattle.state_store.specs.Store.{Seen}
 use Rattle.state_store.specs.Told.{AreAllBalances, kept_of, loads_on}
 use Rattle.state_store.specs.declared.store.KeptReply.{KeptReply}
 use Rattle.state_store.specs.declared.store.WaybillBalances.{WaybillBalances}
+use Rattle.running_totals.specs.Known.{AreKnown}
+use Rattle.running_totals.specs.declared.known.KnownSums.{KnownSums}
 use Rattle.table_state.specs.declared.counted.Counted.{Counted}
 use Rattle.table_state.specs.Shown.{Shows}
 use Rattle.table_state.proofs.Lifting.{seen_in, told, told_before}
@@ -142,6 +144,19 @@ module _ (old new : View) (here : List ℕ) (counted : Counted) (confirmed : ℕ
     load_is w f load tells =
         let r = told old new here counted confirmed (λ t. (book : List Move) → AreBuilds t.builds book → load ≡ built book w f) x was survives tells up sound in
         r.0 (book_in old.now.moves) r.1.0.builds ∙ ap (λ book. built book w f) (book_told old.now x.now r.1)
+
+    -- what is known of sums, when those of a waybill were read
+    pub known_by_counts : (known later : KnownSums) → AreKnown known (running x.now.cargo.book) → (IsShowing old (seen_in old) → new.IsSound → (book : List Move) → AreCounts old.now.counts book → AreKnown known (running book) → AreKnown later (running book)) → AreKnown later (running x.now.cargo.book)
+    known_by_counts known later had tells =
+        let r = told old new here counted confirmed (λ t. (book : List Move) → AreCounts t.counts book → AreKnown known (running book) → AreKnown later (running book)) x was survives tells up sound in
+        let same = book_told old.now x.now r.1 in
+        subst (λ book. AreKnown later (running book)) same (r.0 (book_in old.now.moves) r.1.0.counts (subst (λ book. AreKnown known (running book)) (sym same) had))
+
+    pub known_by_builds : (known later : KnownSums) → AreKnown known (running x.now.cargo.book) → (IsShowing old (seen_in old) → new.IsSound → (book : List Move) → AreBuilds old.now.builds book → AreKnown known (running book) → AreKnown later (running book)) → AreKnown later (running x.now.cargo.book)
+    known_by_builds known later had tells =
+        let r = told old new here counted confirmed (λ t. (book : List Move) → AreBuilds t.builds book → AreKnown known (running book) → AreKnown later (running book)) x was survives tells up sound in
+        let same = book_told old.now x.now r.1 in
+        subst (λ book. AreKnown later (running book)) same (r.0 (book_in old.now.moves) r.1.0.builds (subst (λ book. AreKnown known (running book)) (sym same) had))
 
     pub loads_are : (f : FlightDate) (loads : List Load) → (IsShowing old (seen_in old) → new.IsSound → (book : List Move) → AreBuilds old.now.builds book → loads ≡ loads_on book f) → loads ≡ loads_on x.now.cargo.book f
     loads_are f loads tells =

@@ -5,7 +5,9 @@ use Rattle.shipment_machine.specs.declared.moves.Move.{Move}
 use Rattle.station_core.specs.Step.{State}
 use Rattle.row_schema.specs.Tables.{Tables}
 use Rattle.row_schema.specs.Store.{View, IsAtRest}
+use Rattle.row_codec.specs.Counts.{running}
 use Rattle.row_codec.specs.Meaning.{Means}
+use Rattle.running_totals.specs.Known.{AreKnown}
 use Rattle.state_store.specs.Store.{Seen}
 use Rattle.state_store.specs.Told.{sizes_of}
 use Rattle.state_store.specs.declared.store.Sizes.{Sizes}
@@ -40,10 +42,14 @@ IsBoarded boarded book = IfSome boarded (λ b. b.waybills ≡ length (waybills_o
 abbrev pub joins : ℤ → ℕ → Bool
 joins were pieces = not (int_lt (pos 0) were) && int_lt (pos 0) (were +ℤ pos pieces)
 
+-- what is kept beside the tables is true of a book
+abbrev pub IsCounted : Counted → List Move → Type 0
+IsCounted counted book = IsBoarded counted.boarded book × AreKnown counted.known (running book)
+
 pub record Tells (v : View) (here : List ℕ) (counted : Counted) (confirmed : ℕ) (x : Seen) : Type 0 where
   pub holds : Holds v x
   pub knows : Knows here counted.sizes confirmed x
-  pub boarded : IsBoarded counted.boarded x.now.cargo.book
+  pub kept : IsCounted counted x.now.cargo.book
 
 -- as long as the disk has returned what was written
 abbrev pub Shows : View → List ℕ → Counted → ℕ → Seen → Type 0

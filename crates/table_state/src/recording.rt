@@ -3,35 +3,41 @@ ghost use Rattle.std.specs.Prelude.{List, ◌++◌, ◌∷◌, [], IfOk, OnOk};
 ghost use Rattle.shipment_machine.specs.declared.moves.Move as cargo;
 ghost use Rattle.row_schema.specs.Store.{IsShowing, Survives, inside};
 ghost use Rattle.row_schema.specs.Tables.{Tables};
-ghost use Rattle.row_codec.specs.Counts.{AreCounts, AreBuilds};
+ghost use Rattle.row_codec.specs.Counts.{AreCounts, AreBuilds, running};
+ghost use Rattle.running_totals.specs.Known.{AreKnown};
 ghost use Rattle.running_totals.specs.Posted.{WereThere};
 ghost use Rattle.table_state.specs.Recorded.{Recorded};
 
 use row_codec::move_row;
-use running_totals::post_move;
+use running_totals::{KnownSums, post_move};
 use shipment_machine::Move;
 use station_rows::{StoreFault, TableStore};
 use std::alloc::Global;
 
 /// Writes a move under its number, and what it changes of the running counts, in a transaction, and
-/// returns the pieces that its waybill had before where the move comes to.
+/// returns the pieces that its waybill had before where the move comes to. What is known of sums is
+/// known of those after it.
 pub(crate) fn record_move<S: TableStore>(
     alloc: Global,
     store: &mut S,
+    known: &mut KnownSums,
     number: u32,
     movement: &Move,
 ) -> Result<i64, StoreFault>
     ensures done { (before now : Tables) → IsShowing (S.view store.old) (inside before now)
         → (book : List cargo.Move) → AreCounts now.counts book → AreBuilds now.builds book
-        → OnOk result (Recorded (S.view store.new) before now number movement.now
+        → AreKnown known.old (running book) → OnOk result (Recorded (S.view store.new) before now number movement.now
         (book ++ movement.now ∷ [])) }
     ensures before { (before now : Tables) → IsShowing (S.view store.old) (inside before now)
         → (book : List cargo.Move) → AreCounts now.counts book → AreBuilds now.builds book
+        → AreKnown known.old (running book)
         → (S.view store.new).IsSound → IfOk result (WereThere book movement.now) }
+    ensures known { (book : List cargo.Move) → AreKnown known.old (running book)
+        → OnOk result (AreKnown known.new (running (book ++ movement.now ∷ []))) }
     ensures survives { Survives (S.view store.old) (S.view store.new) }
 {
     let row = move_row(alloc, number, movement)?;
     store.insert_move(&row)?;
-    let pieces = post_move(alloc, store, movement)?;
+    let pieces = post_move(alloc, store, known, movement)?;
     Ok(pieces)
 }

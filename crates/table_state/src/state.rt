@@ -20,6 +20,7 @@ use row_codec::{
     awb_key, count_of, day_number, expected_by, flight_text, kept_by, message_row, outbound_by,
     waybill_by,
 };
+use running_totals::KnownSums;
 use shipment_machine::{
     Amount, Balances, Change, Declared, Expected, FlightDate, Move, Outbound, Part,
 };
@@ -44,7 +45,6 @@ pub struct TableState<S: TableStore> {
 impl<S: TableStore> TableState<S> {
     /// The state that the tables of a store mean, of a station at this airport with so many rows
     /// and confirmed messages.
-    #[tactic(auto, using(crate::proofs::NewState::shown))]
     pub fn over(
         alloc: Global,
         store: S,
@@ -66,6 +66,7 @@ impl<S: TableStore> TableState<S> {
             counted: Counted {
                 sizes,
                 boarded: None,
+                known: KnownSums::none(),
             },
             confirmed,
             missed: Missed::new(alloc),
@@ -188,7 +189,7 @@ impl<S: TableStore> StateStore for TableState<S> {
 
     #[tactic(auto, using(crate::proofs::Lifting::rests_on, crate::proofs::Lifting::survives_so))]
     fn balances(&mut self, awb: &Awb) -> Result<Balances, StoreFault> {
-        match running_totals::balances(&mut self.store, awb) {
+        match running_totals::balances(&mut self.store, &mut self.counted.known, awb) {
             Err(_) => Err(StoreFault),
             Ok(balances) => Ok(balances),
         }
@@ -196,7 +197,13 @@ impl<S: TableStore> StateStore for TableState<S> {
 
     #[tactic(auto, using(crate::proofs::Lifting::rests_on, crate::proofs::Lifting::survives_so))]
     fn load(&mut self, awb: &Awb, flight: &FlightDate) -> Result<Amount, StoreFault> {
-        match running_totals::load(self.alloc, &mut self.store, awb, flight) {
+        match running_totals::load(
+            self.alloc,
+            &mut self.store,
+            &mut self.counted.known,
+            awb,
+            flight,
+        ) {
             Err(_) => Err(StoreFault),
             Ok(load) => Ok(load),
         }
@@ -300,7 +307,13 @@ impl<S: TableStore> StateStore for TableState<S> {
         let Some(number) = self.counted.sizes.moves.checked_add(1) else {
             return Err(StoreFault);
         };
-        match record_move(self.alloc, &mut self.store, number, movement) {
+        match record_move(
+            self.alloc,
+            &mut self.store,
+            &mut self.counted.known,
+            number,
+            movement,
+        ) {
             Err(_) => Err(StoreFault),
             Ok(were) => {
                 self.counted.sizes.moves = number;

@@ -4,7 +4,7 @@ use Rattle.row_schema.specs.Tables.{BuildKey}
 use Rattle.row_codec.specs.Counts.{running_on}
 use Rattle.imp_fields.specs.Flight.{flight_text}
 use Rattle.running_totals.specs.Stored.{meant}
-use Rattle.running_totals.proofs.Amounts.{built_tally, built_nothing}
+use Rattle.running_totals.proofs.Amounts.{built_tally, built_nothing, carried_told, carried_none}
 use Rattle.running_totals.proofs.building.load.Goals as goal
 
 pub returns-in-Some-clause-value : goal.returns-in-Some-clause-value
@@ -13,9 +13,9 @@ returns-in-Some-clause-value g c x shows sound book are =
     let day_fits : FitsSigned w64 c.whole-day.result = search rules in
     let key : ◌≡◌ {A = BuildKey} (c.as_str.result.now, (to_z w64 (of_z w64 c.whole-day.result), to_z w64 (of_z w64 c.number_of-number.result))) (flight_text c.args.flight.now.flight, (pos c.args.flight.now.day, pos c.args.awb.now)) =
     λ i. ((c.as_str.ensures.value ∙ c.in_ok-text.ensures.value) i, ((to_z-of_z day_fits ∙ c.whole-day.ensures ∙ ap pos c.number.ensures.value) i, (to_z-of_z number_fits ∙ c.number_of-number.ensures) i)) in
-    built_tally x.now.builds book are c.args.awb.now c.args.flight.now c.written.ensures.designator c.in-Some.tally c.in_ok-amount-in-Some.field-0
-    (sym (ap (option_map meant) c.in-Some.is) ∙ c.in_ok-tally.ensures.read x shows sound ∙ ap (λ (k : BuildKey). option_map running_on (get x.now.builds k)) key)
-    c.in_ok-amount-in-Some.ensures.pieces c.in_ok-amount-in-Some.ensures.tenths
+    built_tally x.now.builds book are c.args.awb.now c.args.flight.now c.written.ensures.designator c.in-Some.sum c.in_ok-load-in-Some.load
+    (sym (ap (option_map meant) c.in-Some.is) ∙ c.in_ok-sum.ensures.read x shows sound ∙ ap (λ (k : BuildKey). option_map running_on (get x.now.builds k)) key)
+    c.in_ok-load-in-Some.ensures.pieces c.in_ok-load-in-Some.ensures.tenths
 
 pub returns-clause-value : goal.returns-clause-value
 returns-clause-value g c x shows sound book are =
@@ -24,4 +24,28 @@ returns-clause-value g c x shows sound book are =
     let key : ◌≡◌ {A = BuildKey} (c.as_str.result.now, (to_z w64 (of_z w64 c.whole-day.result), to_z w64 (of_z w64 c.number_of-number.result))) (flight_text c.args.flight.now.flight, (pos c.args.flight.now.day, pos c.args.awb.now)) =
     λ i. ((c.as_str.ensures.value ∙ c.in_ok-text.ensures.value) i, ((to_z-of_z day_fits ∙ c.whole-day.ensures ∙ ap pos c.number.ensures.value) i, (to_z-of_z number_fits ∙ c.number_of-number.ensures) i)) in
     built_nothing x.now.builds book are c.args.awb.now c.args.flight.now c.written.ensures.designator
-    (sym (ap (option_map meant) c.in-None.is) ∙ c.in_ok-tally.ensures.read x shows sound ∙ ap (λ (k : BuildKey). option_map running_on (get x.now.builds k)) key)
+    (sym (ap (option_map meant) c.in-None.is) ∙ c.in_ok-sum.ensures.read x shows sound ∙ ap (λ (k : BuildKey). option_map running_on (get x.now.builds k)) key)
+
+pub returns-in-Some-clause-known : goal.returns-in-Some-clause-known
+returns-in-Some-clause-known g c x shows sound book are was =
+    let number_fits : FitsSigned w64 c.number_of-number.result = search rules in
+    let day_fits : FitsSigned w64 c.whole-day.result = search rules in
+    let key : ◌≡◌ {A = BuildKey} (c.as_str.result.now, (to_z w64 (of_z w64 c.whole-day.result), to_z w64 (of_z w64 c.number_of-number.result))) (flight_text c.args.flight.now.flight, (pos c.args.flight.now.day, pos c.args.awb.now)) =
+    λ i. ((c.as_str.ensures.value ∙ c.in_ok-text.ensures.value) i, ((to_z-of_z day_fits ∙ c.whole-day.ensures ∙ ap pos c.number.ensures.value) i, (to_z-of_z number_fits ∙ c.number_of-number.ensures) i)) in
+    record {
+      counts = was.counts;
+      build = carried_told x.now.builds book are c.args.awb.now c.args.flight.now c.written.ensures.designator c.in-Some.sum
+          (sym (ap (option_map meant) c.in-Some.is) ∙ c.in_ok-sum.ensures.read x shows sound ∙ ap (λ (k : BuildKey). option_map running_on (get x.now.builds k)) key);
+    }
+
+pub returns-clause-known : goal.returns-clause-known
+returns-clause-known g c x shows sound book are was =
+    let number_fits : FitsSigned w64 c.number_of-number.result = search rules in
+    let day_fits : FitsSigned w64 c.whole-day.result = search rules in
+    let key : ◌≡◌ {A = BuildKey} (c.as_str.result.now, (to_z w64 (of_z w64 c.whole-day.result), to_z w64 (of_z w64 c.number_of-number.result))) (flight_text c.args.flight.now.flight, (pos c.args.flight.now.day, pos c.args.awb.now)) =
+    λ i. ((c.as_str.ensures.value ∙ c.in_ok-text.ensures.value) i, ((to_z-of_z day_fits ∙ c.whole-day.ensures ∙ ap pos c.number.ensures.value) i, (to_z-of_z number_fits ∙ c.number_of-number.ensures) i)) in
+    record {
+      counts = was.counts;
+      build = carried_none x.now.builds book are c.args.awb.now c.args.flight.now c.written.ensures.designator
+          (sym (ap (option_map meant) c.in-None.is) ∙ c.in_ok-sum.ensures.read x shows sound ∙ ap (λ (k : BuildKey). option_map running_on (get x.now.builds k)) key);
+    }

@@ -1,9 +1,12 @@
-use Rattle.table_state.proofs.Lifting.{seen_in, reads_on}
-use Rattle.table_state.proofs.Values.{load_is}
+use Rattle.std.proofs.Common.{refl}
+use Rattle.table_state.proofs.Lifting.{seen_in, reads_on, keeps_number}
+use Rattle.table_state.proofs.Values.{load_is, known_by_builds}
 use Rattle.table_state.proofs.state.TableStateStateStore.load.Goals as goal
 
 pub returns-in-Ok-clause-value : goal.returns-in-Ok-clause-value
 returns-in-Ok-clause-value g c = λ x shown sound. load_is _ _ _ _ _ x shown c.in-Ok.ensures.survives c.in-Ok.ensures.open sound c.args.awb.now c.args.flight.now c.in-Ok.load (c.in-Ok.ensures.value (seen_in (g.S.TableStore.view c.args.self.now.store)))
 
 pub returns-in-Ok-clause-same : goal.returns-in-Ok-clause-same
-returns-in-Ok-clause-same g c = λ x shown. reads_on _ _ _ _ _ x shown c.in-Ok.ensures.survives (c.in-Ok.ensures.same (seen_in (g.S.TableStore.view c.args.self.now.store))) c.in-Ok.ensures.open
+returns-in-Ok-clause-same g c = λ x shown.
+    let now = reads_on _ _ _ _ _ x shown c.in-Ok.ensures.survives (c.in-Ok.ensures.same (seen_in (g.S.TableStore.view c.args.self.now.store))) c.in-Ok.ensures.open in
+    keeps_number _ _ _ _ x now _ refl (λ sound. ((now sound).kept.0, known_by_builds _ _ _ _ _ x shown c.in-Ok.ensures.survives c.in-Ok.ensures.open sound _ _ (now sound).kept.1 (c.in-Ok.ensures.known (seen_in (g.S.TableStore.view c.args.self.now.store)))))

@@ -1,0 +1,11 @@
+use Rattle.std.proofs.Common.{◌≡◌, subst, option_map, IfOk, to_z-of_z}
+use Rattle.std.specs.FinMap.{get}
+use Rattle.row_schema.specs.Tables.{BuildKey}
+use Rattle.row_codec.specs.Counts.{running_on}
+use Rattle.running_totals.specs.Stored.{meant}
+use Rattle.running_totals.proofs.building.carried.Goals as goal
+
+pub returns-clause-read : goal.returns-clause-read
+returns-clause-read g c x shows known sound =
+    subst (λ (k : BuildKey). IfOk c.at_flight.result (λ found. option_map meant found ≡ option_map running_on (get x.now.builds k))) (λ i. (c.args.flight.now, (to_z-of_z c.ranges.day i, to_z-of_z c.ranges.awb i)))
+    (c.at_flight.ensures.read x shows sound)

@@ -1,0 +1,208 @@
+//! What is known of the sums of waybills, since it was read or written a moment before.
+ghost use Rattle.std.specs.Prelude.{◌≡◌, ◌==◌, ◌&&◌, ℕ, IfSome, IfOk};
+ghost use Rattle.shipment_machine.specs.Places.{same_place};
+ghost use Rattle.shipment_machine.specs.declared.moves.Place.TheVariants.{Built};
+ghost use Rattle.row_codec.specs.Counts.{unless_nothing};
+ghost use Rattle.running_totals.specs.Known.{AreKnown, AreSumsOf, sum_at, with_sum};
+ghost use Rattle.running_totals.specs.Stored.{meant};
+ghost use Rattle.running_totals.specs.Sums.{Sums, posting};
+
+use crate::tally::Tally;
+use awb_number::Awb;
+use shipment_machine::{FlightDate, Place};
+
+/// What a waybill has at each place but the built ones: what came, less what left.
+#[derive(Clone, Copy, Debug, PartialEq, Eq)]
+pub(crate) struct PlaceSums {
+    pub(crate) hand: Tally,
+    pub(crate) surplus: Tally,
+    pub(crate) free: Tally,
+    pub(crate) departed: Tally,
+    pub(crate) delivered: Tally,
+    pub(crate) missing: Tally,
+    pub(crate) transferred: Tally,
+}
+
+impl PlaceSums {
+    /// The sum at a place, if it isn't a built one.
+    fn at(&self, place: &Place) -> Option<Tally>
+        ensures { result ≡ sum_at self.now place.now }
+    {
+        match place {
+            Place::Hand => Some(self.hand),
+            Place::Surplus => Some(self.surplus),
+            Place::Free => Some(self.free),
+            Place::Built(_) => None,
+            Place::Departed => Some(self.departed),
+            Place::Delivered => Some(self.delivered),
+            Place::Missing => Some(self.missing),
+            Place::Transferred => Some(self.transferred),
+        }
+    }
+
+    /// These, with another sum at a place that isn't a built one.
+    fn with(self, place: &Place, sum: Tally) -> PlaceSums
+        ensures { result ≡ with_sum self place.now sum }
+    {
+        match place {
+            Place::Hand => PlaceSums { hand: sum, ..self },
+            Place::Surplus => PlaceSums {
+                surplus: sum,
+                ..self
+            },
+            Place::Free => PlaceSums { free: sum, ..self },
+            Place::Built(_) => self,
+            Place::Departed => PlaceSums {
+                departed: sum,
+                ..self
+            },
+            Place::Delivered => PlaceSums {
+                delivered: sum,
+                ..self
+            },
+            Place::Missing => PlaceSums {
+                missing: sum,
+                ..self
+            },
+            Place::Transferred => PlaceSums {
+                transferred: sum,
+                ..self
+            },
+        }
+    }
+
+    /// These, with an amount more at a place. `None`: the sum is out of range.
+    fn posted(self, place: &Place, by: Tally) -> Option<PlaceSums>
+        ensures { (sums : Sums) (w : ℕ) → AreSumsOf self (sums w)
+            → IfSome result (λ after. AreSumsOf after (posting w place.now (meant by) sums w)) }
+    {
+        let Some(sum) = self.at(place) else {
+            return Some(self);
+        };
+        match sum.plus(by) {
+            Ok(sum) => Some(self.with(place, sum)),
+            Err(_) => None,
+        }
+    }
+}
+
+/// The sums of a waybill at the places that aren't built.
+#[derive(Clone, Copy, Debug, PartialEq, Eq)]
+pub(crate) struct CountSums {
+    pub(crate) awb: Awb,
+    pub(crate) sums: PlaceSums,
+}
+
+/// The sum of a waybill on a flight.
+#[derive(Clone, Copy, Debug, PartialEq, Eq)]
+pub(crate) struct BuildSum {
+    pub(crate) awb: Awb,
+    pub(crate) flight: FlightDate,
+    pub(crate) sum: Tally,
+}
+
+impl BuildSum {
+    /// Whether it is the sum of a waybill at a place.
+    fn is_at(&self, awb: &Awb, place: &Place) -> bool
+        ensures { result ≡ ((awb.now == self.now.awb) &&
+            same_place (Built self.now.flight) place.now) }
+    {
+        *awb == self.awb && Place::Built(self.flight).is_same(place)
+    }
+}
+
+/// The sums that were read last: of a waybill at all places but the built ones, and of one on a
+/// flight. What is written after them is told, so that it needn't be read again.
+#[derive(Clone, Copy, Debug, PartialEq, Eq)]
+pub struct KnownSums {
+    pub(crate) counts: Option<CountSums>,
+    pub(crate) build: Option<BuildSum>,
+}
+
+/// The sums of places after an amount more of a waybill at one, as far as they are known.
+fn counts_after(counts: Option<CountSums>, awb: &Awb, place: &Place, by: Tally) -> Option<CountSums>
+    ensures { (sums : Sums) → IfSome counts (λ c. AreSumsOf c.sums (sums c.awb))
+        → IfSome result (λ c. AreSumsOf c.sums
+        (posting awb.now place.now (meant by) sums c.awb)) }
+{
+    let kept = counts?;
+    if kept.awb != *awb {
+        return Some(kept);
+    }
+    Some(CountSums {
+        awb: kept.awb,
+        sums: kept.sums.posted(place, by)?,
+    })
+}
+
+/// The sum on a flight after an amount more of a waybill at a place, if it is known.
+fn build_after(build: Option<BuildSum>, awb: &Awb, place: &Place, by: Tally) -> Option<BuildSum>
+    ensures { (sums : Sums) → IfSome build (λ b. meant b.sum ≡ sums b.awb (Built b.flight))
+        → IfSome result (λ b. meant b.sum
+        ≡ posting awb.now place.now (meant by) sums b.awb (Built b.flight)) }
+{
+    let kept = build?;
+    if !kept.is_at(awb, place) {
+        return Some(kept);
+    }
+    match kept.sum.plus(by) {
+        Ok(sum) => Some(BuildSum { sum, ..kept }),
+        Err(_) => None,
+    }
+}
+
+impl KnownSums {
+    /// Nothing is known yet.
+    pub fn none() -> KnownSums
+        ensures { (sums : Sums) → AreKnown result sums }
+    {
+        KnownSums {
+            counts: None,
+            build: None,
+        }
+    }
+
+    /// The sum of a waybill at a place that isn't built, if it is known.
+    fn count_at(&self, awb: &Awb, place: &Place) -> Option<Tally>
+        ensures { (sums : Sums) → AreKnown self.now sums
+            → IfSome result (λ sum. meant sum ≡ sums awb.now place.now) }
+    {
+        match self.counts {
+            Some(kept) if kept.awb == *awb => kept.sums.at(place),
+            _ => None,
+        }
+    }
+
+    /// The sum of a waybill on a flight, if it is known.
+    fn build_at(&self, awb: &Awb, place: &Place) -> Option<Tally>
+        ensures { (sums : Sums) → AreKnown self.now sums
+            → IfSome result (λ sum. meant sum ≡ sums awb.now place.now) }
+    {
+        match self.build {
+            Some(kept) if kept.is_at(awb, place) => Some(kept.sum),
+            _ => None,
+        }
+    }
+
+    /// The sum of a waybill at a place, if it is known.
+    pub(crate) fn at(&self, awb: &Awb, place: &Place) -> Option<Tally>
+        ensures { (sums : Sums) → AreKnown self.now sums
+            → IfSome result (λ sum. meant sum ≡ sums awb.now place.now) }
+    {
+        match place {
+            Place::Built(_) => self.build_at(awb, place),
+            _ => self.count_at(awb, place),
+        }
+    }
+
+    /// What is known after an amount more of a waybill at a place.
+    pub(crate) fn posted(self, awb: &Awb, place: &Place, by: Tally) -> KnownSums
+        ensures { (sums : Sums) → AreKnown self sums
+            → AreKnown result (posting awb.now place.now (meant by) sums) }
+    {
+        KnownSums {
+            counts: counts_after(self.counts, awb, place, by),
+            build: build_after(self.build, awb, place, by),
+        }
+    }
+}

@@ -1,0 +1,7 @@
+use Rattle.row_codec.specs.Counts.{running}
+use Rattle.table_state.proofs.NewState.{shown}
+use Rattle.table_state.proofs.state.TableState.over.Goals as goal
+
+pub returns-clause-shows : goal.returns-clause-shows
+returns-clause-shows g c t s means knows has =
+    shown (g.S.TableStore.view c.args.store) t s c.args.here _ c.args.confirmed means knows tt (c.none.ensures (running s.cargo.book)) has (g.met.S.TableStore.settled c.args.store)
