@@ -12,3 +12,9 @@ returns-in-Err-default-Occupied-clause-leaves g c = λ vacant sound found finds.
 pub returns-in-Err-default-Store-clause-leaves : goal.returns-in-Err-default-Store-clause-leaves
 returns-in-Err-default-Store-clause-leaves g c = λ vacant sound found finds.
     made_or_before _ _ c.args.here _ (opened_lawful c.args.here) (λ f left. c.in-Err-default-Store.ensures.leaves vacant sound f left) found finds
+
+pub returns-in-Ok-clause-sound : goal.returns-in-Ok-clause-sound
+returns-in-Ok-clause-sound g c = rw c.over-in-Ok.ensures (λ sound. c.in-Ok.ensures.sound (c.over.ensures.sound sound))
+
+pub returns-in-Ok-clause-step_at_ok : goal.returns-in-Ok-clause-step_at_ok
+returns-in-Ok-clause-step_at_ok g c = rw (c.over-in-Ok.ensures, c.over.ensures.same) c.in-Ok.ensures.step_at_ok
