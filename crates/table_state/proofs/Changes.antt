@@ -51,7 +51,7 @@ use Rattle.stock_tables.specs.Stocked.{Stocked, restocked, using_up, Restocked}
 use Rattle.table_state.specs.Recorded.{Recorded}
 use Rattle.table_state.specs.Put.{put_over, putting_waybill}
 use Rattle.table_state.specs.declared.counted.Counted.{Counted}
-use Rattle.table_state.specs.Shown.{Knows, IsBoarded, Tells, Shows}
+use Rattle.table_state.specs.Shown.{Knows, AreBoarded, Tells, Shows}
 use Rattle.table_state.proofs.Lifting.{writes_on, reached}
 
 put_means : (t : Tables) (s : State) (text : List ℕ) (w : ℕ) (d : Declared) (new : table.Waybill) → new ≡ waybill_row w d → is_waybill_row (waybill_row w d) ≡ true → Means t (Some s)
@@ -119,7 +119,7 @@ module _ (old new : View) (here : List ℕ) (counted : Counted) (confirmed : ℕ
         here_is = k.here_is;
         sizes_are = sizes_later ∙ (λ i. record { moves = (k.sizes_are i).moves; lines = (one_more ∙ sym (length-append s.cargo.trail ((w, line) ∷ []))) i; messages = (k.sizes_are i).messages });
         confirmed_is = k.confirmed_is;
-      }) (λ b. (subst (λ o. IsBoarded o s.cargo.book) (sym same_boarded) b.0, subst (λ o. AreKnown o (running s.cargo.book)) (sym same_known) b.1)) sound
+      }) (λ b. (subst (λ o. AreBoarded o s.cargo.book) (sym same_boarded) b.0, subst (λ o. AreKnown o (running s.cargo.book)) (sym same_known) b.1)) sound
 
   pub adds_message_on : (n : ℕ) (text : List ℕ) (row_is : table.Message) → row_is ≡ message_row n text → IsTrue (is_message_row (message_row n text)) → n ≡ counted.sizes.messages + 1 → (later : Counted) → later.sizes ≡ record { moves = counted.sizes.moves; lines = counted.sizes.lines; messages = n } → later.boarded ≡ counted.boarded → later.known ≡ counted.known
       → (IsShowing old (row.inside old.committed old.now) → IsShowing new (row.inside old.committed (with_message row_is old.now)))
@@ -133,7 +133,7 @@ module _ (old new : View) (here : List ℕ) (counted : Counted) (confirmed : ℕ
         here_is = k.here_is;
         sizes_are = sizes_later ∙ (λ i. record { moves = (k.sizes_are i).moves; lines = (k.sizes_are i).lines; messages = (one_more ∙ sym (length-append s.cargo.outbox (text ∷ []))) i });
         confirmed_is = k.confirmed_is;
-      }) (λ b. (subst (λ o. IsBoarded o s.cargo.book) (sym same_boarded) b.0, subst (λ o. AreKnown o (running s.cargo.book)) (sym same_known) b.1)) sound
+      }) (λ b. (subst (λ o. AreBoarded o s.cargo.book) (sym same_boarded) b.0, subst (λ o. AreKnown o (running s.cargo.book)) (sym same_known) b.1)) sound
 
   pub confirms_on : (text : List ℕ) (number : ℤ) (upto : ℕ) → number ≡ pos upto → IsTrue (is_count (pos upto))
       → (IsShowing old (row.inside old.committed old.now) → IsShowing new (row.inside old.committed (confirming number old.now)))
@@ -216,7 +216,7 @@ module _ (t : Tables) (s : State) (m : Move) (book : List table.Move) (counts : 
 
 module _ (old new : View) (here : List ℕ) (counted : Counted) (confirmed : ℕ) (before s : State) (was : Shows old here counted confirmed (inside before s)) (survives : row.Survives old new) where
   pub moves_on : (n : ℕ) (m : Move) → n ≡ counted.sizes.moves + 1 → (later : Counted) → later.sizes ≡ record { moves = n; lines = counted.sizes.lines; messages = counted.sizes.messages }
-      → (were : ℤ) → ((book : List Move) → IsBoarded counted.boarded book → WereThere book m were → IsBoarded later.boarded (book ++ m ∷ []))
+      → (were : ℤ) → ((book : List Move) → AreBoarded counted.boarded book → WereThere book m were → AreBoarded later.boarded (book ++ m ∷ []))
       → ((book : List Move) → AreKnown counted.known (running book) → AreKnown later.known (running (book ++ m ∷ [])))
       → (IsShowing old (row.inside old.committed old.now) → (book : List Move) → AreCounts old.now.counts book → AreBuilds old.now.builds book → AreKnown counted.known (running book) → new.IsSound → WereThere book m were)
       → (IsShowing old (row.inside old.committed old.now) → (book : List Move) → AreCounts old.now.counts book → AreBuilds old.now.builds book → AreKnown counted.known (running book) → Recorded new old.committed old.now n m (book ++ m ∷ []))

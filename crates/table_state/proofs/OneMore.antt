@@ -1,8 +1,8 @@
 -- How many waybills are on a flight when one more move is in the book.
-use Rattle.std.proofs.Common.{◌≡◌, ℕ, suc, ◌+◌, ◌-◌, ℤ, pos, neg_ℤ, ◌+ℤ◌, int_lt, nat_lt, ◌==◌, Bool, true, false, not, cond, ◌&&◌, ◌||◌, Option, Some, List, [], ◌∷◌, ◌++◌, length, refl, sym, ap, ap₂, subst, ◌∙◌, arith, true≢false}
+use Rattle.std.proofs.Common.{◌≡◌, ℕ, ◌<◌, ◌≤◌, length, get_or, set, get_or-set_same, get_or-set_other, length-set, below_more, All, suc, ◌+◌, ℤ, pos, neg_ℤ, ◌+ℤ◌, int_lt, nat_lt, ◌==◌, Bool, true, false, cond, ◌&&◌, ◌||◌, Option, Some, List, [], ◌∷◌, ◌++◌, refl, sym, ap, ap₂, subst, ◌∙◌, arith, true≢false}
 use Rattle.std.proofs.lemmas.Int.{ints}
 use Rattle.std.proofs.lemmas.Bool.Decides.{nat_tests}
-use Rattle.shipment_machine.specs.Book.{pieces_of, balance, brings, takes, moved_in, moved_out, same_place, built, put_rising, waybills_on}
+use Rattle.shipment_machine.specs.Book.{pieces_of, balance, moved_in, moved_out, same_place, put_rising, waybills_on}
 use Rattle.shipment_machine.specs.Numbers.{is_in}
 use Rattle.shipment_machine.specs.declared.flight.FlightDate.{FlightDate}
 use Rattle.shipment_machine.specs.declared.moves.Move.{Move}
@@ -120,3 +120,20 @@ module _ (book : List Move) (m : Move) (f : FlightDate) (off : same_place (Built
 -- the number of one flight is that of another that compares the same
 pub of_same : (boarded : Option Boarded) (b : Boarded) (f : FlightDate) → boarded ≡ Some b → same_flight_date b.flight f ≡ true → (book : List Move) → IsBoarded boarded book → b.waybills ≡ length (waybills_on book f)
 of_same boarded b f is same book known = subst (λ o. IsBoarded o book) is known ∙ ap (λ (g : FlightDate). length (waybills_on book g)) (same-is b.flight f same)
+
+-- the numbers of so many flights are those after a move, and the others are as before
+pub record PostedTo (m : Move) (were : ℤ) (before now : List (Option Boarded)) (n : ℕ) : Type 0 where
+  pub long : length now ≡ length before
+  pub done : (book : List Move) → All (λ b. IsBoarded b book) before → WereThere book m were → (k : ℕ) → k < n → (d : Option Boarded) → IsBoarded (get_or now k d) (book ++ m ∷ [])
+  pub left : (k : ℕ) (d : Option Boarded) → n ≤ k → get_or now k d ≡ get_or before k d
+
+pub posted_more : (m : Move) (were : ℤ) (before now : List (Option Boarded)) (n : ℕ) (old after : Option Boarded) → PostedTo m were before now n → n < length now
+    → ((book : List Move) → IsBoarded (get_or now n old) book → WereThere book m were → IsBoarded after (book ++ m ∷ [])) → PostedTo m were before (set now n after) (n + 1)
+posted_more m were before now n old after was short next = record {
+  long = length-set now n after ∙ was.long;
+  done = λ book known there. below_more (λ k. (d : Option Boarded) → IsBoarded (get_or (set now n after) k d) (book ++ m ∷ [])) n
+      (λ k less d. subst (λ b. IsBoarded b (book ++ m ∷ [])) (sym (get_or-set_other now n k after d (omega arith))) (was.done book known there k less d))
+      (λ d. subst (λ b. IsBoarded b (book ++ m ∷ [])) (sym (get_or-set_same now n after d short))
+      (next book (subst (λ b. IsBoarded b book) (sym (was.left n old (omega arith))) (known n old (subst (λ z. n < z) was.long short))) there));
+  left = λ k d far. get_or-set_other now n k after d (omega arith) ∙ was.left k d (omega arith);
+}

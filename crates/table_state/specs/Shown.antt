@@ -1,5 +1,5 @@
 -- What a store of tables shows of a state.
-use Rattle.std.specs.Prelude.{◌≡◌, ℕ, ℤ, pos, ◌+ℤ◌, int_lt, Bool, true, false, not, ◌&&◌, List, length, Option, Some, IfSome}
+use Rattle.std.specs.Prelude.{◌≡◌, ℕ, ℤ, pos, ◌+ℤ◌, int_lt, Bool, true, false, not, ◌&&◌, List, length, All, Option, Some, IfSome}
 use Rattle.shipment_machine.specs.Book.{waybills_on}
 use Rattle.shipment_machine.specs.declared.moves.Move.{Move}
 use Rattle.station_core.specs.Step.{State}
@@ -12,6 +12,7 @@ use Rattle.state_store.specs.Store.{Seen}
 use Rattle.state_store.specs.Told.{sizes_of}
 use Rattle.state_store.specs.declared.store.Sizes.{Sizes}
 use Rattle.table_state.specs.declared.counted.Boarded.{Boarded}
+use Rattle.table_state.specs.declared.counted.Boardings.{Boardings}
 use Rattle.table_state.specs.declared.counted.Counted.{Counted}
 
 -- the tables mean what is shown; between two transactions they are those of the last commit
@@ -38,13 +39,17 @@ pub record Knows (here : List ℕ) (sizes : Sizes) (confirmed : ℕ) (x : Seen) 
 abbrev pub IsBoarded : Option Boarded → List Move → Type 0
 IsBoarded boarded book = IfSome boarded (λ b. b.waybills ≡ length (waybills_on book b.flight))
 
+-- each number that is kept is that of its flight
+abbrev pub AreBoarded : Boardings → List Move → Type 0
+AreBoarded kept book = All (λ boarded. IsBoarded boarded book) kept.flights
+
 -- whether pieces that come to a place where there were so many are the first there
 abbrev pub joins : ℤ → ℕ → Bool
 joins were pieces = not (int_lt (pos 0) were) && int_lt (pos 0) (were +ℤ pos pieces)
 
 -- what is kept beside the tables is true of a book
 abbrev pub IsCounted : Counted → List Move → Type 0
-IsCounted counted book = IsBoarded counted.boarded book × AreKnown counted.known (running book)
+IsCounted counted book = AreBoarded counted.boarded book × AreKnown counted.known (running book)
 
 pub record Tells (v : View) (here : List ℕ) (counted : Counted) (confirmed : ℕ) (x : Seen) : Type 0 where
   pub holds : Holds v x

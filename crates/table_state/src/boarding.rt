@@ -1,12 +1,12 @@
 //! How many waybills are on a flight, and what a move makes of it.
-ghost use Rattle.std.specs.Prelude.{◌≡◌, ◌∷◌, [], ◌++◌, length, List, IfSome};
+ghost use Rattle.std.specs.Prelude.{◌≡◌, ◌∷◌, [], ◌++◌, length, List, Some, IfSome};
 ghost use Rattle.shipment_machine.specs.Book.{same_place, waybills_on};
 ghost use Rattle.shipment_machine.specs.declared.moves.Move as cargo;
 ghost use Rattle.shipment_machine.specs.declared.moves.Place.TheVariants.{Built};
 ghost use Rattle.running_totals.specs.Posted.{WereThere};
-ghost use Rattle.table_state.specs.Shown.{IsBoarded, joins};
+ghost use Rattle.table_state.specs.Shown.{IsBoarded, AreBoarded, joins};
 
-use crate::counted::Boarded;
+use crate::counted::{Boarded, Boardings};
 use shipment_machine::{FlightDate, Move, Place};
 
 /// Whether a place is on a flight.
@@ -19,9 +19,9 @@ fn is_on(flight: &FlightDate, place: &Place) -> bool
     }
 }
 
-/// The number that is kept of a flight.
+/// The number that is kept, if it is of this flight.
 #[tactic(auto, using(crate::proofs::OneMore::of_same))]
-pub(crate) fn number_on(boarded: Option<Boarded>, flight: &FlightDate) -> Option<usize>
+fn number_of(boarded: Option<Boarded>, flight: &FlightDate) -> Option<usize>
     ensures { IfSome result (λ number. (book : List cargo.Move) → IsBoarded boarded book
         → number ≡ length (waybills_on book flight.now)) }
 {
@@ -40,7 +40,7 @@ fn joins(movement: &Move, were: i64) -> bool
 
 /// What is kept after a move, where so many pieces of its waybill were before at the place that it
 /// comes to. Nothing is kept of a flight that it leaves.
-pub(crate) fn after_move(boarded: Option<Boarded>, movement: &Move, were: i64) -> Option<Boarded>
+fn after_move(boarded: Option<Boarded>, movement: &Move, were: i64) -> Option<Boarded>
     ensures { (book : List cargo.Move) → IsBoarded boarded book → WereThere book movement.now were
         → IsBoarded result (book ++ movement.now ∷ []) }
 {
@@ -53,4 +53,51 @@ pub(crate) fn after_move(boarded: Option<Boarded>, movement: &Move, were: i64) -
         return Some(Boarded { waybills, ..kept });
     }
     Some(kept)
+}
+
+impl Boardings {
+    /// Nothing is known of a flight.
+    pub(crate) fn none() -> Boardings
+        ensures { (book : List cargo.Move) → AreBoarded result book }
+    {
+        Boardings {
+            flights: [None; 32],
+            next: 0,
+        }
+    }
+
+    /// The number that is kept of a flight.
+    pub(crate) fn number_on(&self, flight: &FlightDate) -> Option<usize>
+        ensures { IfSome result (λ number. (book : List cargo.Move) → AreBoarded self.now book
+            → number ≡ length (waybills_on book flight.now)) }
+    {
+        for kept in self.flights.iter() {
+            if let Some(number) = number_of(*kept, flight) {
+                return Some(number);
+            }
+        }
+        None
+    }
+
+    /// Keeps the number of a further flight.
+    pub(crate) fn keep(&mut self, boarded: Boarded)
+        ensures { (book : List cargo.Move) → AreBoarded self.old book
+            → IsBoarded (Some boarded) book → AreBoarded self.new book }
+    {
+        let place = self.next % self.flights.len();
+        self.flights[place] = Some(boarded);
+        self.next = place + 1;
+    }
+
+    /// The numbers after a move, where so many pieces of its waybill were before at the place that
+    /// it comes to.
+    pub(crate) fn post(&mut self, movement: &Move, were: i64)
+        ensures { (book : List cargo.Move) → AreBoarded self.old book
+            → WereThere book movement.now were
+            → AreBoarded self.new (book ++ movement.now ∷ []) }
+    {
+        for kept in self.flights.iter_mut() {
+            *kept = after_move(*kept, movement, were);
+        }
+    }
 }

@@ -12,12 +12,21 @@ pub(crate) struct Boarded {
     pub(crate) waybills: usize,
 }
 
-/// How many rows there are that are numbered, which all have a number, how many waybills are on the
-/// flight that was asked for last, where this is known, and what is known of sums.
+/// How many waybills are on the flights that were asked for last, as many as are built up at one
+/// time.
+#[derive(Clone, Copy, Debug, PartialEq, Eq)]
+pub(crate) struct Boardings {
+    pub(crate) flights: [Option<Boarded>; 32],
+    // Where the next flight goes, in the place of the one that was asked for longest ago.
+    pub(crate) next: usize,
+}
+
+/// How many rows there are that are numbered, which all have a number, how many waybills are on
+/// flights, where this is known, and what is known of sums.
 #[derive(Clone, Copy, Debug, PartialEq, Eq)]
 pub(crate) struct Counted {
     pub(crate) sizes: Sizes,
-    pub(crate) boarded: Option<Boarded>,
+    pub(crate) boarded: Boardings,
     pub(crate) known: KnownSums,
     ghost fit: { (sizes.moves ≤ 4_294_967_295) × (sizes.lines ≤ 4_294_967_295) × (sizes.messages ≤ 4_294_967_295) },
 }

@@ -7,8 +7,7 @@ ghost use Rattle.state_store.specs.Store.{at_rest};
 ghost use Rattle.table_state.specs.Laws.{finds_what_it_shows, all_numbered};
 ghost use Rattle.table_state.specs.Shown.{Shows, Finds, HasThese, Knows};
 
-use crate::boarding::{after_move, number_on};
-use crate::counted::{Boarded, Counted};
+use crate::counted::{Boarded, Boardings, Counted};
 use crate::handing::{Telling, ended};
 use crate::missed::Missed;
 use crate::noted::{flights_noted, waybills_expected};
@@ -65,7 +64,7 @@ impl<S: TableStore> TableState<S> {
             here,
             counted: Counted {
                 sizes,
-                boarded: None,
+                boarded: Boardings::none(),
                 known: KnownSums::none(),
             },
             confirmed,
@@ -219,13 +218,13 @@ impl<S: TableStore> StateStore for TableState<S> {
 
     #[tactic(auto, using(crate::proofs::Lifting::rests_on, crate::proofs::Lifting::survives_so))]
     fn waybills_on(&mut self, flight: &FlightDate) -> Result<usize, StoreFault> {
-        if let Some(number) = number_on(self.counted.boarded, flight) {
+        if let Some(number) = self.counted.boarded.number_on(flight) {
             return Ok(number);
         }
         match running_totals::waybills_on(self.alloc, &mut self.store, flight) {
             Err(_) => Err(StoreFault),
             Ok(waybills) => {
-                self.counted.boarded = Some(Boarded {
+                self.counted.boarded.keep(Boarded {
                     flight: *flight,
                     waybills,
                 });
@@ -317,7 +316,7 @@ impl<S: TableStore> StateStore for TableState<S> {
             Err(_) => Err(StoreFault),
             Ok(were) => {
                 self.counted.sizes.moves = number;
-                self.counted.boarded = after_move(self.counted.boarded, movement, were);
+                self.counted.boarded.post(movement, were);
                 Ok(())
             }
         }

@@ -13,4 +13,4 @@ pub returns-in-Ok-clause-same : goal.returns-in-Ok-clause-same
 returns-in-Ok-clause-same g c = λ x shown.
     let now = reads_on _ _ _ _ _ x shown c.in-Ok.ensures.survives (c.in-Ok.ensures.same (seen_in (g.S.TableStore.view c.args.self.now.store))) c.in-Ok.ensures.open in
     keeps_number _ _ _ _ x now _ refl
-    (λ sound. (waybills_are _ _ _ _ _ x shown c.in-Ok.ensures.survives c.in-Ok.ensures.open sound c.args.flight.now c.in-Ok.waybills (c.in-Ok.ensures.value (seen_in (g.S.TableStore.view c.args.self.now.store))), (now sound).kept.1))
+    (λ sound. (c.keep.ensures x.now.cargo.book (now sound).kept.0 (waybills_are _ _ _ _ _ x shown c.in-Ok.ensures.survives c.in-Ok.ensures.open sound c.args.flight.now c.in-Ok.waybills (c.in-Ok.ensures.value (seen_in (g.S.TableStore.view c.args.self.now.store)))), (now sound).kept.1))
