@@ -4,3 +4,4 @@ pub mod Holder
 pub mod Plain
 pub mod Runs
 pub mod Stock
+pub mod Refusing

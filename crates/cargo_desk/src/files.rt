@@ -1,7 +1,10 @@
 //! The file of a station.
 
 use cli_call::DeskFault;
-use sqlite::{Connection, Error, ErrorCode, File, FileStore, Options, Unknown};
+use cli_run::is_opening;
+use cli_words::Line;
+use declared_tables::has_station;
+use sqlite::{Alter, Connection, Error, ErrorCode, File, FileStore, Options, Unknown};
 use sqlite_pager::Pager;
 use sqlite_pool::probe_blank;
 use sqlite_store::Unopened;
@@ -16,6 +19,10 @@ use stock_list::RunFault;
 /// that it changed as a whole.
 const PAGE_LEN: usize = 1024;
 
+/// What is said of a file whose tables aren't declared as `init` declares them.
+const NOT_AS_INIT: &str =
+    "init declares the tables otherwise, so the promises about a power failure aren't proved for this file; copy its rows into a new one";
+
 /// Why a file isn't opened.
 #[derive(Clone, Copy, Debug, PartialEq, Eq)]
 pub enum FileFault {
@@ -26,7 +33,7 @@ pub enum FileFault {
     /// Memory ran out.
     Memory,
     /// It can't be read or written, or it is no database.
-    Store,
+    Store(ErrorCode),
 }
 
 impl FileFault {
@@ -35,7 +42,7 @@ impl FileFault {
         match self {
             FileFault::NoStation => DeskFault::Attach(AttachFault::NoStation),
             FileFault::Memory => DeskFault::Run(RunFault::Memory),
-            FileFault::Busy | FileFault::Store => DeskFault::Run(RunFault::Store),
+            FileFault::Busy | FileFault::Store(_) => DeskFault::Run(RunFault::Store),
         }
     }
 }
@@ -46,7 +53,8 @@ fn open(rt: &HostRuntime, path: &str) -> Result<Connection<FileStore<File>>, Fil
         Ok(conn) => Ok(conn),
         Err(Error::SqliteFailure(ErrorCode::OutOfMemory)) => Err(FileFault::Memory),
         Err(Error::SqliteFailure(ErrorCode::DatabaseBusy)) => Err(FileFault::Busy),
-        Err(_) => Err(FileFault::Store),
+        Err(Error::SqliteFailure(code)) => Err(FileFault::Store(code)),
+        Err(_) => Err(FileFault::Store(ErrorCode::NotADatabase)),
     }
 }
 
@@ -72,7 +80,7 @@ fn is_blank(rt: &HostRuntime, path: &str) -> io::Result<bool> {
 fn options(rt: &HostRuntime) -> Result<Options, FileFault> {
     match RandomState::new(rt) {
         Ok(state) => Ok(Options::new(state.hash_one(&0u8))),
-        Err(_) => Err(FileFault::Store),
+        Err(_) => Err(FileFault::Store(ErrorCode::SystemIoFailure)),
     }
 }
 
@@ -84,14 +92,14 @@ fn lay_first_page(rt: &HostRuntime, path: &str) -> Result<(), FileFault> {
         Ok(files) => files,
         Err(sqlite_std_file::OpenError::OutOfMemory) => return Err(FileFault::Memory),
         Err(sqlite_std_file::OpenError::Busy) => return Err(FileFault::Busy),
-        Err(_) => return Err(FileFault::Store),
+        Err(_) => return Err(FileFault::Store(ErrorCode::CannotOpen)),
     };
     let size = PageSize::new(PAGE_LEN).unwrap();
     match probe_blank(alloc, &mut files, size, false) {
         Ok(true) => {}
         Ok(false) => return Ok(()),
         Err(sqlite_wal::Error::OutOfMemory) => return Err(FileFault::Memory),
-        Err(_) => return Err(FileFault::Store),
+        Err(_) => return Err(FileFault::Store(ErrorCode::SystemIoFailure)),
     }
     let Ok(pager) = Pager::new(alloc, files, size, options(rt)?) else {
         return Err(FileFault::Memory);
@@ -102,7 +110,10 @@ fn lay_first_page(rt: &HostRuntime, path: &str) -> Result<(), FileFault> {
     match fresh.create() {
         Ok(_store) => Ok(()),
         Err((sqlite_store::OpenError::OutOfMemory, _files)) => Err(FileFault::Memory),
-        Err(_) => Err(FileFault::Store),
+        Err((sqlite_store::OpenError::Full, _files)) => {
+            Err(FileFault::Store(ErrorCode::DiskFull))
+        }
+        Err(_) => Err(FileFault::Store(ErrorCode::SystemIoFailure)),
     }
 }
 
@@ -120,6 +131,35 @@ pub fn open_file(rt: &HostRuntime, path: &str) -> Result<Connection<FileStore<Fi
     match is_blank(rt, path) {
         Ok(true) => Err(FileFault::NoStation),
         Ok(false) => open(rt, path),
-        Err(_) => Err(FileFault::Store),
+        Err(_) => Err(FileFault::Store(ErrorCode::CannotOpen)),
     }
+}
+
+/// Tells why a file isn't opened, behind the line of its fault. The library keeps no reason of the
+/// system's, so that the file is opened once more to have it.
+pub fn tell_unopened(rt: &HostRuntime, path: &str, fault: FileFault) {
+    let _told = match fault {
+        FileFault::NoStation | FileFault::Memory => Ok(()),
+        FileFault::Busy => eprint!(rt;
+            "{path}: another program has this file; wait until that ends, or ask it over HTTP\n"
+        ),
+        FileFault::Store(ErrorCode::CannotOpen) => match fs::File::open(rt, path) {
+            Ok(_) => eprint!(rt; "{path}: it can't be opened for reading and writing\n"),
+            Err(error) => eprint!(rt; "{path}: {error}\n"),
+        },
+        FileFault::Store(code) => eprint!(rt; "{path}: {code}\n"),
+    };
+}
+
+/// Whether a line runs over a file that was found and whose tables aren't declared as `init`
+/// declares them. `VACUUM` moves them, and a table of another program may stand beside them. A
+/// station works in such a file, but what is proved of a power failure isn't proved of it.
+pub fn is_undeclared<S: Alter>(line: &Line<'_>, conn: &Connection<S>) -> bool {
+    line.db.is_some() && !is_opening(line) && !has_station(conn)
+}
+
+/// Tells that the tables of a line's file aren't declared as `init` declares them.
+pub fn tell_undeclared(rt: &HostRuntime, line: &Line<'_>) {
+    let path = line.db.unwrap_or("");
+    let _told = eprint!(rt; "{path}: {NOT_AS_INIT}\n");
 }

@@ -9,8 +9,8 @@ use cli_call::{DeskFault, version_line};
 use cli_words::{Line, LineCommand, WordsFault, parse_words, usage_fault};
 use desk_clock::{Zone, moment_now};
 use desk_server::listen;
-use imp_fields::Moment;
 use service::Service;
+use station_days::Moment;
 use std::fs::File;
 use std::io::ErrorKind;
 use std::process::ExitCode;
@@ -54,7 +54,11 @@ fn run_at(rt: &HostRuntime, line: &Line<'_>, at: Moment) -> u8 {
     };
     match File::open(rt, path) {
         Ok(reader) => run_over(rt, line, Task::Run { reader, at }),
-        Err(_) => faulted(rt, RunFault::Read),
+        Err(error) => {
+            let status = faulted(rt, RunFault::Read);
+            let _told = eprint!(rt; "{path}: {error}\n");
+            status
+        }
     }
 }
 
@@ -69,7 +73,11 @@ fn serve_at(rt: &HostRuntime, line: &Line<'_>, zone: &Zone, port: u16, count: Op
             });
             run_over(rt, line, task)
         }
-        Err(_) => faulted(rt, RunFault::Read),
+        Err(error) => {
+            let status = faulted(rt, RunFault::Read);
+            let _told = eprint!(rt; "port {port}: {error}\n");
+            status
+        }
     }
 }
 

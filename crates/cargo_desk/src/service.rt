@@ -2,6 +2,7 @@
 ghost use Rattle.std.specs.Prelude.{◌≡◌};
 ghost use Rattle.cargo_desk.specs.Service.{server_fault};
 
+use crate::files::{is_undeclared, tell_undeclared};
 use cli_call::{DeskFault, end, open_station};
 use cli_words::Line;
 use desk_clock::Zone;
@@ -59,8 +60,12 @@ pub fn serve_line<S: Alter>(
     service: Service<'_>,
 ) -> (u8, Connection<S>) {
     let mut errors = Counted::new(rt.stderr());
+    let undeclared = is_undeclared(line, &conn);
     match open_station(rt.alloc(), line, conn) {
         Ok(mut station) => {
+            if undeclared {
+                tell_undeclared(rt, line);
+            }
             let ended = run_service(rt, &mut station, service);
             (end(&mut errors, ended), station.release())
         }

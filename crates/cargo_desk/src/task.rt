@@ -1,14 +1,14 @@
 //! A line over its store: memory, or a file.
 
-use crate::files::{FileFault, make_file, open_file};
+use crate::files::{is_undeclared, make_file, open_file, tell_undeclared, tell_unopened};
 use crate::service::{Service, serve_line};
 use cli_call::{DeskFault, end, run_line};
 use cli_run::{Feed, Tied, is_opening, tie};
 use cli_words::{Line, LineCommand};
-use imp_fields::Moment;
 use memory_files::open_pages;
 use sqlite::{Alter, Connection};
 use station_core::Counted;
+use station_days::Moment;
 use std::io::{Read, Write};
 use stock_list::RunFault;
 
@@ -91,6 +91,26 @@ fn run_gathered<S: Alter, R: Read + Drop>(
     (status, conn)
 }
 
+/// Runs a line's command over a connection: a stock list over a file row by row, any other command
+/// gathered.
+fn run_command<S: Alter, R: Read + Drop>(
+    rt: &HostRuntime,
+    line: &Line<'_>,
+    conn: Connection<S>,
+    reader: R,
+    at: Moment,
+) -> (u8, Connection<S>) {
+    let (status, conn) = if line.db.is_some() && matches!(&line.command, LineCommand::Stock) {
+        run_direct(rt, line, conn, reader, at)
+    } else {
+        run_gathered(rt, line, conn, reader, at)
+    };
+    if status <= 1 && is_undeclared(line, &conn) {
+        tell_undeclared(rt, line);
+    }
+    (status, conn)
+}
+
 /// Does a line's task over a connection, which comes back.
 fn run_task<S: Alter, R: Read + Drop>(
     rt: &HostRuntime,
@@ -99,13 +119,7 @@ fn run_task<S: Alter, R: Read + Drop>(
     task: Task<'_, R>,
 ) -> (u8, Connection<S>) {
     match task {
-        Task::Run { reader, at } => {
-            if line.db.is_some() && matches!(&line.command, LineCommand::Stock) {
-                run_direct(rt, line, conn, reader, at)
-            } else {
-                run_gathered(rt, line, conn, reader, at)
-            }
-        }
+        Task::Run { reader, at } => run_command(rt, line, conn, reader, at),
         Task::Serve(service) => serve_line(rt, line, conn, service),
     }
 }
@@ -119,18 +133,6 @@ fn run_in_memory<R: Read + Drop>(rt: &HostRuntime, line: &Line<'_>, task: Task<'
         }
         Err(_) => faulted(rt, RunFault::Memory),
     }
-}
-
-/// Ends a call whose file isn't opened. Behind the line of its fault it is told where another
-/// program has the file.
-fn end_unopened(rt: &HostRuntime, path: &str, fault: FileFault) -> u8 {
-    let status = end_call(rt, Err(fault.ended()));
-    if fault == FileFault::Busy {
-        let _told = eprint!(rt;
-            "{path}: another program has this file; wait until that ends, or ask it over HTTP\n"
-        );
-    }
-    status
 }
 
 /// Does a line's task over a file, which is closed behind a run: its log is copied into it.
@@ -147,7 +149,11 @@ fn run_in_file<R: Read + Drop>(
     };
     let conn = match opened {
         Ok(conn) => conn,
-        Err(fault) => return end_unopened(rt, path, fault),
+        Err(fault) => {
+            let status = end_call(rt, Err(fault.ended()));
+            tell_unopened(rt, path, fault);
+            return status;
+        }
     };
     let (status, conn) = run_task(rt, line, conn, task);
     if status <= 1 && conn.close().is_err() {

@@ -5,7 +5,8 @@ use Rattle.sqlite_trees.specs.declared.store.Store.{Ghosts}
 use Rattle.station_core.specs.Step.{State}
 use Rattle.station_tables.specs.declared.fault.AttachFault.{AttachFault}
 use Rattle.station_tables.specs.declared.station.Station.{Station}
-use Rattle.cli_call.specs.Opened.{HasMade, HasOpened}
+use Rattle.station_tables.specs.Called.{HasMade}
+use Rattle.cli_call.specs.Opened.{HasOpened}
 
 pub made_new : {S : Type 0} (g : Ghosts S) (keeps : Station S g → State → Type 0) (is_sound : Station S g → Type 0) (is_broken : Station S g → Bool) (is_new : Bool)
     (conn : Held S) (made_at here : List ℕ) (opened : Result (Station S g) (Held S × AttachFault)) → is_new ≡ true → made_at ≡ here

@@ -1,13 +1,13 @@
 -- How a call of the program ends.
 use Rattle.std.specs.Prelude.{◌≡◌, ℕ, Bool, true, false, List, ◌++◌, codes, Result, Ok, Err, IfErr, OnOk}
 use Rattle.std.specs.Fmt.{signed_decimal}
-use Rattle.lawful_tables.specs.Names.{name_text}
+use Rattle.table_audits.specs.Names.{name_text}
 use Rattle.station_core.specs.Given.{Given}
 use Rattle.stock_list.specs.declared.answer.RunFault.{RunFault}
 use Rattle.stock_list.specs.declared.answer.RunFault.TheVariants as run
 use Rattle.station_tables.specs.declared.fault.AttachFault.{AttachFault}
 use Rattle.station_tables.specs.declared.fault.AttachFault.TheVariants as attach
-use Rattle.cli_run.specs.Sent.{HasSent}
+use Rattle.cli_run.specs.Sent.{SendsLine}
 use Rattle.cli_call.specs.declared.ended.DeskFault.{DeskFault}
 use Rattle.cli_call.specs.declared.ended.DeskFault.TheVariants as fault
 
@@ -33,9 +33,9 @@ fault_line fault.Clock = codes "fault clock\n"
 fault_line (fault.Run e) = run_line e
 fault_line (fault.Attach e) = attach_line e
 
--- its line went out, or a beginning of it
+-- its line went out; or a beginning of it, where the writer failed or took no byte
 abbrev pub HasTold : DeskFault → Given → Given → Type 0
-HasTold e old new = HasSent (fault_line e) old new
+HasTold e old new = SendsLine (fault_line e) old new
 
 -- how a call ends where its run does
 abbrev pub run_ended : Result Bool RunFault → Result Bool DeskFault

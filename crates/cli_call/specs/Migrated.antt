@@ -1,61 +1,15 @@
 -- A file of version 1 that gets the tables of version 2.
-use Rattle.std.specs.Prelude.{◌≡◌, ◌≢◌, ◌⊎◌, ℕ, Bool, true, false, Result, Ok, Err, IfOk, IfErr, OnErr, OnOk, List, ◌++◌, codes}
-use Rattle.sqlite.specs.Held.{Held, state}
-use Rattle.sqlite.specs.State.{HasCleanDisk, Survives}
-use Rattle.sqlite.specs.Tree.{Trees}
+use Rattle.std.specs.Prelude.{◌≡◌, ℕ, Bool, true, Result, Ok, Err, IfOk, IfErr, OnErr, OnOk, List, ◌++◌, codes}
+use Rattle.sqlite.specs.Held.{Held}
 use Rattle.sqlite_trees.specs.declared.store.Store.{Ghosts}
-use Rattle.row_laws.specs.Calls.{IsUndone}
-use Rattle.row_schema.specs.Connection.{connection_view}
-use Rattle.row_schema.specs.Own.{IsOldOwn, LiesInOrder}
-use Rattle.table_load.specs.declared.station.FileVersion.TheVariants.{First}
 use Rattle.station_core.specs.Ends.{HasCause}
 use Rattle.station_core.specs.Given.{Given}
-use Rattle.station_core.specs.Step.{State}
 use Rattle.station_tables.specs.declared.fault.AttachFault.{AttachFault}
-use Rattle.station_tables.specs.declared.fault.AttachFault.TheVariants as fault
-use Rattle.station_tables.specs.Attached.{IsBreakdown, IsOldStateIn, RefusesAs}
-use Rattle.station_tables.specs.Migrated as tables
+use Rattle.station_tables.specs.Called.{HasMoved}
 use Rattle.stock_list.specs.declared.answer.RunFault.{RunFault}
 use Rattle.stock_list.specs.declared.answer.RunFault.TheVariants as run
 use Rattle.cli_run.specs.Sent.{HasSent}
 use Rattle.cli_call.specs.Ended.{HasNoStation, HasToldEnd}
-
--- A connection with the tables of version 1 got those of version 2, or it didn't: what `migrate`
--- says of it.
-pub record HasMoved {S : Type 0} (g : Ghosts S) (conn : Held S)
-    (migrated : Result (Held S) (Held S × AttachFault)) : Type 0 where
-  pub inside : (connection_view g conn).in_transaction ≡ true → migrated ≡ Err (conn, fault.Store)
-  pub clean : IfOk migrated (λ new. HasCleanDisk (state g new) → HasCleanDisk (state g conn))
-  pub was : IfOk migrated (λ new. HasCleanDisk (state g new)
-      → (s : State) × IsOldStateIn (state g conn).now s)
-  -- the tables are those of version 2, and mean the state that those of version 1 meant
-  pub moved : IfOk migrated (λ new. HasCleanDisk (state g new)
-      → IsOldOwn (state g conn).now.trees → LiesInOrder g
-      → tables.HasMigrated (state g conn).now (state g new))
-  -- A fault names what is so. Where the tables are lawful ones of version 1, the store failed or
-  -- memory was out.
-  pub refused : IfErr migrated (λ e. HasCleanDisk (state g e.0)
-      → RefusesAs First (state g conn).now e.1)
-  pub fit : IfErr migrated (λ e. HasCleanDisk (state g e.0)
-      → (s : State) → IsOldStateIn (state g conn).now s → IsBreakdown e.1)
-  pub never : IfErr migrated (λ e. e.1 ≢ fault.Occupied)
-  -- a crash leaves what it left before, or the tables of version 2 with the state that those of
-  -- version 1 meant
-  pub leaves : IfErr migrated (λ e. HasCleanDisk (state g e.0)
-      → IsOldOwn (state g conn).now.trees → LiesInOrder g → (db : Trees)
-      → (state g e.0).may_leave db
-      → (state g conn).may_leave db ⊎ tables.IsMigrated (state g conn).now db)
-  -- no transaction is open then, and while the connection is open it shows the last commit
-  pub undone : (connection_view g conn).in_transaction ≡ false
-      → IfErr migrated (λ e. HasCleanDisk (state g e.0)
-      → IsOldOwn (state g conn).now.trees → LiesInOrder g
-      → IsUndone (state g conn) (state g e.0))
-  pub unmoved : (connection_view g conn).in_transaction ≡ false
-      → IfErr migrated (λ e. HasCleanDisk (state g e.0) → e.1 ≢ fault.Store
-      → IsUndone (state g conn) (state g e.0))
-  -- only where the store fails is anything written
-  pub spares : IfErr migrated (λ e. e.1 ≢ fault.Store
-      → Survives (state g conn) (state g e.0) (λ _. ⊥))
 
 -- the line that tells the version of the file
 abbrev pub moved_line : List ℕ

@@ -1,7 +1,7 @@
 //! How a call ends.
 ghost use Rattle.std.specs.Prelude.{◌≡◌, ◌++◌, ◌∷◌, [], IfErr, OnOk};
 ghost use Rattle.cli_call.specs.Ended.{attach_status, run_ended, run_line, status_of, HasNoStation, HasTold, HasToldEnd};
-ghost use Rattle.cli_run.specs.Sent.{HasSent};
+ghost use Rattle.cli_run.specs.Sent.{SendsLine};
 
 use cli_run::{send_part, send_word};
 use itoa::Buffer;
@@ -43,18 +43,26 @@ fn run_line(fault: RunFault) -> &'static str
     }
 }
 
-/// Writes a line, or a beginning of it.
+/// Writes a line: all of it, or as much as the writer takes before it fails. There is nowhere left
+/// to report that failure.
 fn tell_line<E: ByteOut>(errors: &mut E, line: &str)
-    ensures { HasSent line.now (E.taken errors.old) (E.taken errors.new) }
+    ensures { SendsLine line.now (E.taken errors.old) (E.taken errors.new) }
 {
-    let _told = send_part(errors, line.as_bytes());
+    match send_part(errors, line.as_bytes()) {
+        Ok(()) => {}
+        Err(_unreported) => {}
+    }
 }
 
-/// Writes a line of a head and a word, or a beginning of it.
+/// Writes a line of a head and a word: all of it, or as much as the writer takes before it fails.
 fn tell_word<E: ByteOut>(errors: &mut E, head: &str, word: &str)
-    ensures { HasSent (head.now ++ word.now ++ 10 ∷ []) (E.taken errors.old) (E.taken errors.new) }
+    ensures { SendsLine (head.now ++ word.now ++ 10 ∷ []) (E.taken errors.old)
+        (E.taken errors.new) }
 {
-    let _told = send_word(errors, head, word.as_bytes());
+    match send_word(errors, head, word.as_bytes()) {
+        Ok(()) => {}
+        Err(_unreported) => {}
+    }
 }
 
 /// Tells why there is no station.

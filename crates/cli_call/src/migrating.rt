@@ -1,5 +1,5 @@
 //! The migration of a file.
-ghost use Rattle.cli_call.specs.Migrated.{HasEndedMigration, HasMigrated, HasMoved, HasToldMoved, HasToldVersion};
+ghost use Rattle.cli_call.specs.Migrated.{HasEndedMigration, HasMigrated, HasToldMoved, HasToldVersion};
 
 use crate::ended::{end_run, refuse_line};
 use cli_run::send_part;
@@ -8,16 +8,6 @@ use station_core::ByteOut;
 use station_tables::{AttachFault, migrate};
 use std::alloc::Global;
 use stock_list::RunFault;
-
-/// Makes the tables of version 1 that a connection has those of version 2.
-fn move_tables<S: Alter>(
-    alloc: Global,
-    conn: Connection<S>,
-) -> Result<Connection<S>, (Connection<S>, AttachFault)>
-    ensures { HasMoved S.Store conn result }
-{
-    migrate(alloc, conn)
-}
 
 /// Writes the line of a file that is of version 2 now.
 fn tell_version<W: ByteOut>(output: &mut W) -> Result<bool, RunFault>
@@ -73,6 +63,6 @@ pub(crate) fn run_migrate<S: Alter, I, W: ByteOut, E: ByteOut>(
     ensures { HasMigrated S.Store W.taken E.taken conn reader.old reader.new
         output.old output.new errors.old errors.new result }
 {
-    let migrated = move_tables(alloc, conn);
+    let migrated = migrate(alloc, conn);
     end_migration(migrated, reader, output, errors)
 }

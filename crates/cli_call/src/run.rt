@@ -1,27 +1,19 @@
 //! A line over a connection.
 ghost use Rattle.cli_run.specs.Place.{is_migration};
-ghost use Rattle.cli_call.specs.Ran.{HasCalled, HasCalledStation, HasEndedCall, HasReleased, HasRunLine};
+ghost use Rattle.cli_call.specs.Ran.{HasCalled, HasCalledStation, HasEndedCall, HasRunLine};
 
 use crate::ended::{end_run, refuse_line};
 use crate::migrating::run_migrate;
 use crate::opening::open_station;
 use cli_run::{is_migration, run_over};
 use cli_words::Line;
-use imp_fields::Moment;
 use sqlite::{Alter, Connection};
 use station_core::{ByteIn, ByteOut, Keeper};
+use station_days::Moment;
 use station_tables::{AttachFault, Station};
 use std::alloc::Global;
 use std::io::Read;
 use stock_list::Watched;
-
-/// Gives the connection of a station back.
-fn give_back<S: Alter>(station: Station<S>) -> Connection<S>
-    ensures { HasReleased ⟦<Station<S> as Keeper>⟧.keeps ⟦<Station<S> as Keeper>⟧.is_sound
-        ⟦<Station<S> as Keeper>⟧.may_find station result }
-{
-    station.release()
-}
 
 /// Runs a line's command over its station, which tells why an input can't be read; reports how it
 /// ended, and gives the connection back.
@@ -34,14 +26,14 @@ fn run_station<S: Alter, I: Watched + Read, W: ByteOut, E: ByteOut>(
     errors: &mut E,
     at: Moment,
 ) -> (u8, Connection<S>)
-    ensures { HasRunLine line.now ⟦<Station<S> as Keeper>⟧.keeps ⟦<Station<S> as Keeper>⟧.is_sound
-        ⟦<Station<S> as Keeper>⟧.is_broken ⟦<Station<S> as Keeper>⟧.may_find at
+    ensures { HasRunLine line.now ⟦<Station<S> as Keeper>⟧.keeps ⟦<Station<S> as Keeper>⟧.is_clean
+        ⟦<Station<S> as Keeper>⟧.is_sound ⟦<Station<S> as Keeper>⟧.is_broken ⟦<Station<S> as Keeper>⟧.may_find at
         station (I.remaining reader.old) (I.given reader.old) (I.given reader.new)
         (W.taken output.old) (W.taken output.new) E.taken errors.old errors.new result }
 {
     let ended = run_over(alloc, &mut station, line, reader, output, errors, at);
     let status = end_run(errors, ended);
-    (status, give_back(station))
+    (status, station.release())
 }
 
 /// Runs a line over its station, or reports why there is none.
@@ -54,8 +46,8 @@ fn run_opened<S: Alter, I: Watched + Read, W: ByteOut, E: ByteOut>(
     errors: &mut E,
     at: Moment,
 ) -> (u8, Connection<S>)
-    ensures { HasEndedCall line.now ⟦<Station<S> as Keeper>⟧.keeps ⟦<Station<S> as Keeper>⟧.is_sound
-        ⟦<Station<S> as Keeper>⟧.is_broken ⟦<Station<S> as Keeper>⟧.may_find at
+    ensures { HasEndedCall line.now ⟦<Station<S> as Keeper>⟧.keeps ⟦<Station<S> as Keeper>⟧.is_clean
+        ⟦<Station<S> as Keeper>⟧.is_sound ⟦<Station<S> as Keeper>⟧.is_broken ⟦<Station<S> as Keeper>⟧.may_find at
         I.remaining I.given W.taken E.taken opened reader.old reader.new output.old output.new
         errors.old errors.new result }
 {
@@ -76,8 +68,8 @@ fn call_station<S: Alter, I: Watched + Read, W: ByteOut, E: ByteOut>(
     at: Moment,
 ) -> (u8, Connection<S>)
     ensures { HasCalledStation S.Store line.now ⟦<Station<S> as Keeper>⟧.keeps
-        ⟦<Station<S> as Keeper>⟧.is_sound ⟦<Station<S> as Keeper>⟧.is_broken
-        ⟦<Station<S> as Keeper>⟧.may_find at I.remaining I.given W.taken E.taken conn
+        ⟦<Station<S> as Keeper>⟧.is_clean ⟦<Station<S> as Keeper>⟧.is_sound
+        ⟦<Station<S> as Keeper>⟧.is_broken ⟦<Station<S> as Keeper>⟧.may_find at I.remaining I.given W.taken E.taken conn
         reader.old reader.new output.old output.new errors.old errors.new result }
 {
     let opened = open_station(alloc, line, conn);
@@ -100,10 +92,10 @@ pub fn run_line<S: Alter, I: Watched + Read, W: ByteOut, E: ByteOut>(
     at: Moment,
 ) -> (u8, Connection<S>)
     ensures { HasCalled S.Store (is_migration line.now.command) line.now
-        ⟦<Station<S> as Keeper>⟧.keeps ⟦<Station<S> as Keeper>⟧.is_sound
-        ⟦<Station<S> as Keeper>⟧.is_broken ⟦<Station<S> as Keeper>⟧.may_find at
-        I.remaining I.given W.taken E.taken conn reader.old reader.new
-        output.old output.new errors.old errors.new result }
+        ⟦<Station<S> as Keeper>⟧.keeps ⟦<Station<S> as Keeper>⟧.is_clean
+        ⟦<Station<S> as Keeper>⟧.is_sound ⟦<Station<S> as Keeper>⟧.is_broken
+        ⟦<Station<S> as Keeper>⟧.may_find at I.remaining I.given W.taken E.taken conn
+        reader.old reader.new output.old output.new errors.old errors.new result }
 {
     if is_migration(line) {
         run_migrate(alloc, conn, reader, output, errors)

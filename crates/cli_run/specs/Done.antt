@@ -1,23 +1,24 @@
 -- What a run of a command leaves, by the command.
 use Rattle.std.specs.Prelude.{◌≡◌, ◌<◌, ◌⊎◌, ℕ, Bool, true, false, Option, Some, None, Result, Ok, Err, OnOk, OnErr, IfOk, IfErr, IfSome, List, ◌++◌, codes}
-use Rattle.imp_fields.specs.Date.{LocalMinute}
+use Rattle.station_days.specs.Date.{LocalMinute}
 use Rattle.station_core.specs.Ends.{HasCause}
 use Rattle.station_core.specs.Given.{Given}
 use Rattle.station_core.specs.Keeping.{OnlyReads}
 use Rattle.station_core.specs.Step.{State}
-use Rattle.reports.specs.Reports.{pending_report}
+use Rattle.reports.specs.Reports.{IsReport}
+use Rattle.reports.specs.declared.report.Report.TheVariants as report
 use Rattle.stock_list.specs.declared.answer.RunFault.{RunFault}
 use Rattle.stock_list.specs.declared.answer.RunFault.TheVariants as fault
 use Rattle.stock_list.specs.Ended.{rows_read, AreFirst, HasStopped, IsShutAfter, IsUntroubled}
 use Rattle.stock_list.specs.Ended.{HasRun as HasRunRows}
 use Rattle.stock_list.specs.Lines.{Row, stock_rows}
 use Rattle.stock_list.specs.Shut.{HasRunShut as HasRunRowsShut}
-use Rattle.cli_line.specs.declared.asked.Asked.{Asked}
-use Rattle.cli_line.specs.Asked.{IsTelegramAsked, IsCommandAsked}
-use Rattle.cli_line.specs.Came.{HasFailed}
-use Rattle.cli_line.specs.Ended.{HasRun}
-use Rattle.cli_line.specs.Shut.{HasRunShut}
-use Rattle.cli_line.specs.Report.{IsReport, HasReported}
+use Rattle.cli_run.specs.declared.asked.Asked.{Asked}
+use Rattle.cli_run.specs.Asked.{IsTelegramAsked, IsCommandAsked}
+use Rattle.cli_run.specs.Came.{HasFailed}
+use Rattle.cli_run.specs.Ended.{HasRun}
+use Rattle.cli_run.specs.Shut.{HasRunShut}
+use Rattle.cli_run.specs.Report.{HasReported, StopsReport}
 use Rattle.cli_words.specs.declared.line.LineCommand.{LineCommand}
 use Rattle.cli_words.specs.declared.line.LineCommand.TheVariants as command
 use Rattle.cli_run.specs.Looked.{holder_found, waybill_found, HasLookedUp}
@@ -81,11 +82,12 @@ pub record HasAnsweredAsked {K : Type 0} (IsAsked : List ℕ → Asked → Type 
 
 -- The report went out, or a beginning of it, and nothing changed. A station that has to be opened
 -- again returns nothing.
-pub record HasToldReport {K : Type 0} (IsText : State → List ℕ → Type 0) (keeps : K → State → Type 0) (is_sound : K → Type 0) (is_broken : K → Bool)
+pub record HasToldReport {K : Type 0} (IsText : State → List ℕ → Type 0) (keeps : K → State → Type 0) (is_clean is_sound : K → Type 0) (is_broken : K → Bool)
     (may_find : K → Option State → Type 0) (old new : K) (sent_old sent_new : Given) (ended : Result (Unit {0}) RunFault) : Type 0 where
-  pub reads : OnlyReads keeps is_sound is_broken may_find old new
+  pub reads : OnlyReads keeps is_clean is_sound is_broken may_find old new
   pub reopen : is_broken old ≡ true → (ended ≡ Err fault.Store) × (new ≡ old)
       × (sent_new ≡ sent_old)
+  pub writes : StopsReport sent_old sent_new ended
   -- one text is the report that went out
   pub told : (s : State) → keeps old s → is_sound new
       → OnOk ended ((text : List ℕ) × IsText s text × HasReported text sent_old sent_new ended)
@@ -94,11 +96,11 @@ pub record HasToldReport {K : Type 0} (IsText : State → List ℕ → Type 0) (
       → HasReported text sent_old sent_new ended
 
 -- the same, where the run returns whether all was accepted: a report refuses nothing
-pub record HasReportedGood {K : Type 0} (IsText : State → List ℕ → Type 0) (keeps : K → State → Type 0) (is_sound : K → Type 0) (is_broken : K → Bool)
+pub record HasReportedGood {K : Type 0} (IsText : State → List ℕ → Type 0) (keeps : K → State → Type 0) (is_clean is_sound : K → Type 0) (is_broken : K → Bool)
     (may_find : K → Option State → Type 0) (old new : K) (sent_old sent_new : Given) (result : Result Bool RunFault) : Type 0 where
   pub ended : Result (Unit {0}) RunFault
   pub good : result ≡ good_of ended
-  pub told : HasToldReport IsText keeps is_sound is_broken may_find old new sent_old sent_new ended
+  pub told : HasToldReport IsText keeps is_clean is_sound is_broken may_find old new sent_old sent_new ended
 
 -- nothing was done or written
 pub record HasIdled {K : Type 0} (old new : K) (sent_old sent_new : Given) (result : Result Bool RunFault) : Type 0 where
@@ -106,32 +108,29 @@ pub record HasIdled {K : Type 0} (old new : K) (sent_old sent_new : Given) (resu
   pub nothing : sent_new ≡ sent_old
   pub good : result ≡ Ok true
 
-abbrev pub IsPending : State → List ℕ → Type 0
-IsPending s text = text ≡ pending_report s.cargo
-
 -- What a run of each command leaves of its keeper, its reader and its writer, and what it returns.
 -- The service and the migration of a file don't run here.
 abbrev pub HasDone : {K : Type 0} → LineCommand → List ℕ → (K → State → Type 0) → (K → Type 0)
-    → (K → Bool) → (K → Option State → Type 0) → LocalMinute → K → K
+    → (K → Type 0) → (K → Bool) → (K → Option State → Type 0) → LocalMinute → K → K
     → Option (List ℕ) → Given → Given → Given → Given → Result Bool RunFault → Type 0
-HasDone command.Init here keeps is_sound is_broken may_find at old new left read_old read_new sent_old sent_new r = HasToldMade here old new sent_old sent_new r
-HasDone command.Migrate here keeps is_sound is_broken may_find at old new left
+HasDone command.Init here keeps is_clean is_sound is_broken may_find at old new left read_old read_new sent_old sent_new r = HasToldMade here old new sent_old sent_new r
+HasDone command.Migrate here keeps is_clean is_sound is_broken may_find at old new left
     read_old read_new sent_old sent_new r =
     HasIdled old new sent_old sent_new r
-HasDone command.Stock here keeps is_sound is_broken may_find at old new left read_old read_new sent_old sent_new r =
+HasDone command.Stock here keeps is_clean is_sound is_broken may_find at old new left read_old read_new sent_old sent_new r =
     HasAnsweredRows keeps is_sound is_broken may_find left at old new read_new sent_old sent_new r
-HasDone (command.Take path) here keeps is_sound is_broken may_find at old new left read_old read_new sent_old sent_new r =
+HasDone (command.Take path) here keeps is_clean is_sound is_broken may_find at old new left read_old read_new sent_old sent_new r =
     HasAnsweredAsked IsTelegramAsked keeps is_sound is_broken may_find at old new read_old read_new sent_old sent_new r
-HasDone (command.Act verb key) here keeps is_sound is_broken may_find at old new left read_old read_new sent_old sent_new r =
+HasDone (command.Act verb key) here keeps is_clean is_sound is_broken may_find at old new left read_old read_new sent_old sent_new r =
     HasAnsweredAsked (IsCommandAsked verb key) keeps is_sound is_broken may_find at old new read_old read_new sent_old sent_new r
-HasDone command.Outbox here keeps is_sound is_broken may_find at old new left read_old read_new sent_old sent_new r =
-    HasReportedGood IsPending keeps is_sound is_broken may_find old new sent_old sent_new r
-HasDone (command.Report name) here keeps is_sound is_broken may_find at old new left read_old read_new sent_old sent_new r =
-    HasReportedGood (λ s. IsReport s name) keeps is_sound is_broken may_find old new sent_old sent_new r
-HasDone (command.Waybill w) here keeps is_sound is_broken may_find at old new left
+HasDone command.Outbox here keeps is_clean is_sound is_broken may_find at old new left read_old read_new sent_old sent_new r =
+    HasReportedGood (λ s. IsReport s report.Pending) keeps is_clean is_sound is_broken may_find old new sent_old sent_new r
+HasDone (command.Report name) here keeps is_clean is_sound is_broken may_find at old new left read_old read_new sent_old sent_new r =
+    HasReportedGood (λ s. IsReport s name) keeps is_clean is_sound is_broken may_find old new sent_old sent_new r
+HasDone (command.Waybill w) here keeps is_clean is_sound is_broken may_find at old new left
     read_old read_new sent_old sent_new r =
-    HasLookedUp (waybill_found w) keeps is_sound is_broken may_find old new sent_old sent_new r
-HasDone (command.Holder w) here keeps is_sound is_broken may_find at old new left
+    HasLookedUp (waybill_found w) keeps is_clean is_sound is_broken may_find old new sent_old sent_new r
+HasDone (command.Holder w) here keeps is_clean is_sound is_broken may_find at old new left
     read_old read_new sent_old sent_new r =
-    HasLookedUp (holder_found w) keeps is_sound is_broken may_find old new sent_old sent_new r
-HasDone (command.Serve port count) here keeps is_sound is_broken may_find at old new left read_old read_new sent_old sent_new r = HasIdled old new sent_old sent_new r
+    HasLookedUp (holder_found w) keeps is_clean is_sound is_broken may_find old new sent_old sent_new r
+HasDone (command.Serve port count) here keeps is_clean is_sound is_broken may_find at old new left read_old read_new sent_old sent_new r = HasIdled old new sent_old sent_new r

@@ -1,6 +1,12 @@
+pub mod Asked
+pub mod Came
 pub mod Done
+pub mod Ended
+pub mod Explained
 pub mod Feed
 pub mod Looked
 pub mod Place
 pub mod Reasons
+pub mod Report
 pub mod Sent
+pub mod Shut

@@ -25,20 +25,23 @@ found_line (Some d) = compact_text d ++ 10 ∷ []
 found_line None = codes "unknown\n"
 
 -- The line went out, and nothing is refused where there is an object; or a beginning of the line,
--- where the writer failed or took no byte, or the keeper failed, or memory ran out.
+-- where the writer failed or took no byte. Where the keeper failed or memory ran out, nothing was
+-- written.
 abbrev pub HasToldFound : Option Data → Given → Given → Result Bool RunFault → Type 0
 HasToldFound found old new (Ok good) =
     (good ≡ is_some found) × (new.bytes ≡ old.bytes ++ found_line found)
-HasToldFound found old new (Err e) =
-    ((sent : ℕ) × (new.bytes ≡ old.bytes ++ take sent (found_line found)))
-    × (e ≡ fault.Write → HasCause old new) × (e ≡ fault.Read → ⊥)
+HasToldFound found old new (Err fault.Write) =
+    ((sent : ℕ) × (new.bytes ≡ old.bytes ++ take sent (found_line found))) × HasCause old new
+HasToldFound found old new (Err fault.Read) = ⊥
+HasToldFound found old new (Err fault.Memory) = new ≡ old
+HasToldFound found old new (Err fault.Store) = new ≡ old
 
 -- The line of what the station has went out, or a beginning of it, and nothing changed. A station
 -- that has to be opened again returns nothing.
 pub record HasLookedUp {K : Type 0} (found : State → Option Data) (keeps : K → State → Type 0)
-    (is_sound : K → Type 0) (is_broken : K → Bool) (may_find : K → Option State → Type 0)
+    (is_clean is_sound : K → Type 0) (is_broken : K → Bool) (may_find : K → Option State → Type 0)
     (old new : K) (sent_old sent_new : Given) (result : Result Bool RunFault) : Type 0 where
-  pub reads : OnlyReads keeps is_sound is_broken may_find old new
+  pub reads : OnlyReads keeps is_clean is_sound is_broken may_find old new
   pub reopen :
       is_broken old ≡ true → (result ≡ Err fault.Store) × (new ≡ old) × (sent_new ≡ sent_old)
   pub told :

@@ -1,13 +1,13 @@
 -- What a run of a command leaves on standard error, by the command.
 use Rattle.std.specs.Prelude.{◌≡◌, Bool, true, Option, Result, Ok, List, ℕ}
-use Rattle.imp_fields.specs.Date.{LocalMinute}
+use Rattle.station_days.specs.Date.{LocalMinute}
 use Rattle.station_core.specs.Given.{Given}
 use Rattle.station_core.specs.Step.{State}
 use Rattle.stock_list.specs.declared.answer.RunFault.{RunFault}
 use Rattle.stock_list.specs.Reasons.{HasToldRows}
-use Rattle.cli_line.specs.declared.asked.Asked.{Asked}
-use Rattle.cli_line.specs.Asked.{IsTelegramAsked, IsCommandAsked}
-use Rattle.cli_line.specs.Reasons.{HasExplainedRun}
+use Rattle.cli_run.specs.declared.asked.Asked.{Asked}
+use Rattle.cli_run.specs.Asked.{IsTelegramAsked, IsCommandAsked}
+use Rattle.cli_run.specs.Explained.{HasExplainedRun}
 use Rattle.cli_words.specs.declared.line.LineCommand.{LineCommand}
 use Rattle.cli_words.specs.declared.line.LineCommand.TheVariants as command
 

@@ -89,9 +89,11 @@ pub(crate) fn do_waybill<K: Keeper, W: ByteOut>(
     number: &Awb,
     output: &mut W,
 ) -> Result<bool, RunFault>
+    ensures clean { K.is_clean keeper.new → K.is_clean keeper.old }
+    ensures still { K.is_sound keeper.old → K.is_clean keeper.new → K.is_sound keeper.new }
     ensures sound { K.is_sound keeper.new → K.is_sound keeper.old }
     ensures works { K.is_broken keeper.old ≡ false → OnOk result (K.is_broken keeper.new ≡ false) }
-    ensures looked { HasLookedUp (waybill_found number.now) K.keeps K.is_sound K.is_broken
+    ensures looked { HasLookedUp (waybill_found number.now) K.keeps K.is_clean K.is_sound K.is_broken
         K.may_find keeper.old keeper.new (W.taken output.old) (W.taken output.new) result }
 {
     match keeper.waybill(number) {
@@ -107,9 +109,11 @@ pub(crate) fn do_holder<K: Keeper, W: ByteOut>(
     number: &Awb,
     output: &mut W,
 ) -> Result<bool, RunFault>
+    ensures clean { K.is_clean keeper.new → K.is_clean keeper.old }
+    ensures still { K.is_sound keeper.old → K.is_clean keeper.new → K.is_sound keeper.new }
     ensures sound { K.is_sound keeper.new → K.is_sound keeper.old }
     ensures works { K.is_broken keeper.old ≡ false → OnOk result (K.is_broken keeper.new ≡ false) }
-    ensures looked { HasLookedUp (holder_found number.now) K.keeps K.is_sound K.is_broken
+    ensures looked { HasLookedUp (holder_found number.now) K.keeps K.is_clean K.is_sound K.is_broken
         K.may_find keeper.old keeper.new (W.taken output.old) (W.taken output.new) result }
 {
     match keeper.holder(number) {

@@ -1,12 +1,64 @@
 //! The commands that report what a station keeps.
-ghost use Rattle.std.specs.Prelude.{◌≡◌, false, OnOk};
-ghost use Rattle.cli_run.specs.Done.{good_of, HasReportedGood, HasToldReport, IsPending};
-ghost use Rattle.cli_line.specs.Report.{IsReport};
+ghost use Rattle.std.specs.Prelude.{◌≡◌, true, false, Err, OnOk, List, ℕ};
+ghost use Rattle.station_core.specs.Keeping.{OnlyReads};
+ghost use Rattle.station_core.specs.Step.{State};
+ghost use Rattle.reports.specs.Reports.{IsReport};
+ghost use Rattle.cli_run.specs.Done.{good_of, HasReportedGood, HasToldReport};
+ghost use Rattle.cli_run.specs.Report.{cause_fault, run_ended, HasReported, StopsReport};
 
-use cli_line::{ReportName, run_outbox, run_report};
+use reports::{Report, ReportCause, ReportFault, write_report};
 use station_core::{ByteOut, Keeper};
 use std::alloc::Global;
-use stock_list::RunFault;
+use stock_list::{RunFault, keeper_fault};
+
+/// Why a run ends where a report does.
+fn cause_fault(cause: ReportCause) -> RunFault
+    ensures { result ≡ cause_fault cause }
+{
+    match cause {
+        ReportCause::Write => RunFault::Write,
+        ReportCause::Act(fault) => keeper_fault(fault),
+    }
+}
+
+/// What a run returns where a report has ended.
+fn run_ended(ended: Result<(), ReportFault>) -> Result<(), RunFault>
+    ensures { result ≡ run_ended ended }
+{
+    match ended {
+        Ok(()) => Ok(()),
+        Err(fault) => Err(cause_fault(fault.cause)),
+    }
+}
+
+/// Writes a report.
+///
+/// Returns [`RunFault::Write`] where the writer fails or takes no byte, [`RunFault::Memory`] when
+/// out of memory, and [`RunFault::Store`] where the store fails, or failed before. A beginning of
+/// the report was written, and nothing has changed.
+fn run_report<K: Keeper, W: ByteOut>(
+    alloc: Global,
+    keeper: &mut K,
+    report: Report,
+    writer: &mut W,
+) -> Result<(), RunFault>
+    ensures reads { OnlyReads K.keeps K.is_clean K.is_sound K.is_broken K.may_find
+        keeper.old keeper.new }
+    ensures reopen { K.is_broken keeper.old ≡ true → (result ≡ Err RunFault.Store)
+        × (keeper.new ≡ keeper.old) × (W.taken writer.new ≡ W.taken writer.old) }
+    ensures writes { StopsReport (W.taken writer.old) (W.taken writer.new) result }
+
+    // A text is the report that went out.
+    ensures told { (s : State) → K.keeps keeper.old s → K.is_sound keeper.new
+        → OnOk result ((text : List ℕ) × IsReport s report text
+        × HasReported text (W.taken writer.old) (W.taken writer.new) result) }
+    // Of each text that is the report, it went out, or a beginning of it.
+    ensures each { (s : State) → K.keeps keeper.old s → K.is_sound keeper.new → (text : List ℕ)
+        → IsReport s report text
+        → HasReported text (W.taken writer.old) (W.taken writer.new) result }
+{
+    run_ended(write_report(alloc, keeper, report, writer, &[]))
+}
 
 /// What went out is no refusal.
 pub(crate) fn good_of(ended: Result<(), RunFault>) -> Result<bool, RunFault>
@@ -18,56 +70,32 @@ pub(crate) fn good_of(ended: Result<(), RunFault>) -> Result<bool, RunFault>
     }
 }
 
-/// Writes the report of a name.
+/// Writes a report.
 fn send_report<K: Keeper, W: ByteOut>(
     alloc: Global,
     keeper: &mut K,
-    name: ReportName,
+    report: Report,
     output: &mut W,
 ) -> Result<(), RunFault>
-    ensures { HasToldReport (λ s. IsReport s name) K.keeps K.is_sound K.is_broken K.may_find
-        keeper.old keeper.new (W.taken output.old) (W.taken output.new) result }
+    ensures { HasToldReport (λ s. IsReport s report) K.keeps K.is_clean K.is_sound K.is_broken
+        K.may_find keeper.old keeper.new (W.taken output.old) (W.taken output.new) result }
 {
-    run_report(alloc, keeper, name, output)
+    run_report(alloc, keeper, report, output)
 }
 
-/// Writes the pending report.
-fn send_outbox<K: Keeper, W: ByteOut>(
-    alloc: Global,
-    keeper: &mut K,
-    output: &mut W,
-) -> Result<(), RunFault>
-    ensures { HasToldReport IsPending K.keeps K.is_sound K.is_broken K.may_find keeper.old
-        keeper.new (W.taken output.old) (W.taken output.new) result }
-{
-    run_outbox(alloc, keeper, output)
-}
-
-/// `report NAME`: the report of a name.
+/// `report NAME`, or `outbox`: a report.
 pub(crate) fn do_report<K: Keeper, W: ByteOut>(
     alloc: Global,
     keeper: &mut K,
-    name: ReportName,
+    report: Report,
     output: &mut W,
 ) -> Result<bool, RunFault>
+    ensures clean { K.is_clean keeper.new → K.is_clean keeper.old }
+    ensures still { K.is_sound keeper.old → K.is_clean keeper.new → K.is_sound keeper.new }
     ensures sound { K.is_sound keeper.new → K.is_sound keeper.old }
     ensures works { K.is_broken keeper.old ≡ false → OnOk result (K.is_broken keeper.new ≡ false) }
-    ensures reported { HasReportedGood (λ s. IsReport s name) K.keeps K.is_sound K.is_broken
-        K.may_find keeper.old keeper.new (W.taken output.old) (W.taken output.new) result }
+    ensures reported { HasReportedGood (λ s. IsReport s report) K.keeps K.is_clean K.is_sound
+        K.is_broken K.may_find keeper.old keeper.new (W.taken output.old) (W.taken output.new) result }
 {
-    good_of(send_report(alloc, keeper, name, output))
-}
-
-/// `outbox`: the pending report.
-pub(crate) fn do_outbox<K: Keeper, W: ByteOut>(
-    alloc: Global,
-    keeper: &mut K,
-    output: &mut W,
-) -> Result<bool, RunFault>
-    ensures sound { K.is_sound keeper.new → K.is_sound keeper.old }
-    ensures works { K.is_broken keeper.old ≡ false → OnOk result (K.is_broken keeper.new ≡ false) }
-    ensures reported { HasReportedGood IsPending K.keeps K.is_sound K.is_broken K.may_find
-        keeper.old keeper.new (W.taken output.old) (W.taken output.new) result }
-{
-    good_of(send_outbox(alloc, keeper, output))
+    good_of(send_report(alloc, keeper, report, output))
 }

@@ -1,19 +1,21 @@
 //! A command over its station.
 ghost use Rattle.std.specs.Prelude.{◌≡◌, false, OnOk};
-ghost use Rattle.cli_line.specs.Asked.{IsCommandAsked, IsTelegramAsked};
+ghost use Rattle.cli_run.specs.Asked.{IsCommandAsked, IsTelegramAsked};
 ghost use Rattle.cli_run.specs.Done.{HasAnsweredAsked, HasAnsweredRows, HasDone, HasToldMade};
 ghost use Rattle.cli_run.specs.Place.{here_of};
 ghost use Rattle.cli_run.specs.Reasons.{HasExplainedAsked, HasExplainedRows, HasGivenReasons};
 
 use crate::look::{do_holder, do_waybill};
 use crate::place::airport_of_line;
-use crate::report::{do_outbox, do_report};
+use crate::report::do_report;
 use crate::sent::send_word;
-use cli_line::{run_act, run_take};
+use crate::{run_act, run_take};
 use cli_words::{Line, LineCommand};
 use desk_commands::Verb;
-use imp_fields::{Airport, Moment};
+use imp_fields::Airport;
+use reports::Report;
 use station_core::{ByteIn, ByteOut, Keeper, Key};
+use station_days::Moment;
 use std::alloc::Global;
 use std::io::Read;
 use stock_list::{RunFault, Watched, run_stock};
@@ -42,6 +44,8 @@ fn do_stock<K: Keeper, I: Watched + Read, W: ByteOut, E: ByteOut>(
     errors: &mut E,
     at: Moment,
 ) -> Result<bool, RunFault>
+    ensures clean { K.is_clean keeper.new → K.is_clean keeper.old }
+    ensures still { K.is_sound keeper.old → K.is_clean keeper.new → K.is_sound keeper.new }
     ensures sound { K.is_sound keeper.new → K.is_sound keeper.old }
     ensures works { K.is_broken keeper.old ≡ false → OnOk result (K.is_broken keeper.new ≡ false) }
     ensures answered { HasAnsweredRows K.keeps K.is_sound K.is_broken K.may_find
@@ -62,6 +66,8 @@ fn do_take<K: Keeper, I: ByteIn, W: ByteOut, E: ByteOut>(
     errors: &mut E,
     at: Moment,
 ) -> Result<bool, RunFault>
+    ensures clean { K.is_clean keeper.new → K.is_clean keeper.old }
+    ensures still { K.is_sound keeper.old → K.is_clean keeper.new → K.is_sound keeper.new }
     ensures sound { K.is_sound keeper.new → K.is_sound keeper.old }
     ensures works { K.is_broken keeper.old ≡ false → OnOk result (K.is_broken keeper.new ≡ false) }
     ensures answered { HasAnsweredAsked IsTelegramAsked K.keeps K.is_sound K.is_broken K.may_find at
@@ -85,6 +91,8 @@ fn do_act<K: Keeper, I: ByteIn, W: ByteOut, E: ByteOut>(
     errors: &mut E,
     at: Moment,
 ) -> Result<bool, RunFault>
+    ensures clean { K.is_clean keeper.new → K.is_clean keeper.old }
+    ensures still { K.is_sound keeper.old → K.is_clean keeper.new → K.is_sound keeper.new }
     ensures sound { K.is_sound keeper.new → K.is_sound keeper.old }
     ensures works { K.is_broken keeper.old ≡ false → OnOk result (K.is_broken keeper.new ≡ false) }
     ensures answered { HasAnsweredAsked (IsCommandAsked verb key) K.keeps K.is_sound K.is_broken
@@ -113,9 +121,11 @@ pub fn run_over<K: Keeper, I: Watched + Read, W: ByteOut, E: ByteOut>(
     errors: &mut E,
     at: Moment,
 ) -> Result<bool, RunFault>
+    ensures clean { K.is_clean keeper.new → K.is_clean keeper.old }
+    ensures still { K.is_sound keeper.old → K.is_clean keeper.new → K.is_sound keeper.new }
     ensures sound { K.is_sound keeper.new → K.is_sound keeper.old }
     ensures works { K.is_broken keeper.old ≡ false → OnOk result (K.is_broken keeper.new ≡ false) }
-    ensures done { HasDone line.now.command (here_of line.now.station) K.keeps K.is_sound
+    ensures done { HasDone line.now.command (here_of line.now.station) K.keeps K.is_clean K.is_sound
         K.is_broken K.may_find at keeper.old keeper.new
         (I.remaining reader.old) (I.given reader.old) (I.given reader.new) (W.taken output.old)
         (W.taken output.new) result }
@@ -130,8 +140,8 @@ pub fn run_over<K: Keeper, I: Watched + Read, W: ByteOut, E: ByteOut>(
         LineCommand::Act { verb, key } => {
             do_act(alloc, keeper, verb, key, reader, output, errors, at)
         }
-        LineCommand::Outbox => do_outbox(alloc, keeper, output),
-        LineCommand::Report(name) => do_report(alloc, keeper, name, output),
+        LineCommand::Outbox => do_report(alloc, keeper, Report::Pending, output),
+        LineCommand::Report(report) => do_report(alloc, keeper, report, output),
         LineCommand::Waybill(number) => do_waybill(alloc, keeper, &number, output),
         LineCommand::Holder(number) => do_holder(alloc, keeper, &number, output),
         LineCommand::Serve { .. } | LineCommand::Migrate => Ok(true),

@@ -1,4 +1,4 @@
-//! An output that goes out before its input is read, and before anything is told behind it.
+//! An output that is flushed before its input is read, and before anything goes to standard error.
 
 use std::alloc::{AllocError, Global};
 use std::cell::RefCell;
@@ -6,26 +6,25 @@ use std::io;
 use std::io::{BufWriter, ErrorKind, Read, Write};
 use std::rc::Rc;
 
-/// What was written and hasn't gone out.
+/// The buffer: what was written and not yet flushed.
 type Gathered<W> = Rc<RefCell<BufWriter<W>>>;
 
-/// The output of a command. What is written is gathered, and goes out when the buffer is full, the
-/// tied input is read, or it is flushed.
+/// The output of a command. It is buffered. The buffer is written when it is full, before each read
+/// of the tied input, before each write of the tied errors, and by `flush`.
 #[derive(Drop)]
 pub struct TiedOutput<W: Write + Drop> {
     gathered: Gathered<W>,
 }
 
-/// The input of a command. Before each read, which may wait, what was written to the tied output
-/// goes out.
+/// The input of a command. Flushes the tied output before each read, which may wait.
 #[derive(Drop)]
 pub struct TiedInput<R, W: Write + Drop> {
     reader: R,
     gathered: Gathered<W>,
 }
 
-/// What is told of a command, as on standard error. Before each write what was written to the tied
-/// output goes out, so that what is told of a line stands behind it.
+/// The errors of a command, such as standard error. Flushes the tied output before each write, so
+/// that the reason for a line follows it.
 #[derive(Drop)]
 pub struct TiedErrors<E, W: Write + Drop> {
     errors: E,
@@ -40,8 +39,8 @@ pub struct Tied<R, W: Write + Drop, E> {
     pub errors: TiedErrors<E, W>,
 }
 
-/// Ties an output to an input and to errors, so that who writes the input and reads the output has
-/// each answer before the next question, and before what is told of it.
+/// Ties an output to an input and to errors, so that whoever writes the input and reads the output
+/// has each answer before the next read, and before its reason.
 ///
 /// Returns [`AllocError`] when out of memory.
 pub fn tie<R: Read + Drop, W: Write + Drop, E: Write + Drop>(
@@ -69,13 +68,13 @@ pub fn tie<R: Read + Drop, W: Write + Drop, E: Write + Drop>(
     })
 }
 
-/// The error of a buffer that is in use. It never is, since each use ends within its call.
+/// The error of a buffer that is in use. It never occurs: each use ends within its call.
 fn in_use() -> io::Error {
     ErrorKind::Other.into()
 }
 
-/// Lets what was gathered go out. A failure is told by the next write, or by the last flush: what
-/// didn't go out is still there.
+/// Flushes the buffer. A failure is reported by the next write or the final flush; unwritten bytes
+/// stay in the buffer.
 fn let_out<W: Write + Drop>(gathered: &Gathered<W>) {
     if let Ok(mut gathered) = gathered.try_borrow_mut() {
         let _told_later = gathered.flush();

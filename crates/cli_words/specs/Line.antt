@@ -4,7 +4,7 @@ use Rattle.std.specs.Str.Parse.{ParsesUnsigned}
 use Rattle.awb_number.specs.Number.{number_of}
 use Rattle.imp_fields.specs.Airport.{airport_of}
 use Rattle.desk_commands.specs.Verb.{word}
-use Rattle.cli_line.specs.Report.{report_called}
+use Rattle.reports.specs.Reports.{report_called}
 use Rattle.cli_words.specs.declared.line.Line.{Line}
 use Rattle.cli_words.specs.declared.line.LineCommand.{LineCommand}
 use Rattle.cli_words.specs.declared.line.LineCommand.TheVariants as command

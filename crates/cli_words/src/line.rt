@@ -1,7 +1,7 @@
 use awb_number::Awb;
-use cli_line::ReportName;
 use desk_commands::Verb;
 use imp_fields::Airport;
+use reports::Report;
 use station_core::Key;
 
 /// What a call asks.
@@ -32,7 +32,7 @@ pub enum LineCommand<'a> {
     /// Tell the pending messages.
     Outbox,
     /// Tell a report.
-    Report(ReportName),
+    Report(Report),
     /// Tell what is known of a waybill.
     Waybill(Awb),
     /// Tell who holds a number.

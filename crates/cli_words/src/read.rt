@@ -8,9 +8,9 @@ use crate::line::{Line, LineCommand};
 use crate::number::{read_count, read_port};
 use crate::words::{Request, Words, sort_words};
 use awb_number::{Awb, AwbFault};
-use cli_line::ReportName;
 use desk_commands::Verb;
 use imp_fields::Airport;
+use reports::Report;
 use station_core::Key;
 use std::alloc::Global;
 use std::convert::AsStr;
@@ -111,7 +111,7 @@ fn read_command<'a>(
         Request::Take(file) => Ok(LineCommand::Take(file)),
         Request::Act { verb, key } => read_act(verb, key),
         Request::Outbox => Ok(LineCommand::Outbox),
-        Request::Report(name) => match ReportName::read(name.as_bytes()) {
+        Request::Report(name) => match Report::read(name.as_bytes()) {
             Some(report) => Ok(LineCommand::Report(report)),
             None => Err(BadValue::ReportName(name)),
         },

@@ -3,10 +3,10 @@ ghost use Rattle.jiff_core.specs.declared.civil.datetime.DateTime.{DateTime as A
 ghost use Rattle.jiff_tz.specs.PosixReader.{read_whole};
 ghost use Rattle.desk_clock.specs.Clock.{FollowsRule, Shows, IsMinuteOf, IsWithinDays};
 
-use imp_fields::Moment;
 use jiff::Timestamp;
 use jiff::civil::DateTime;
 use jiff::tz::TimeZone;
+use station_days::Moment;
 use std::time::Clock;
 
 /// The first and the last day that count: 2000-01-01 and 2099-12-31, in days since 1970-01-01.

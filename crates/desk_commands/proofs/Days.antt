@@ -7,12 +7,12 @@ use Rattle.std.proofs.lemmas.Bool.{and_parts, and_from, le-leb, leb-true}
 use Rattle.jiff_core.specs.Calendar.{days_in_month, is_leap_year}
 use Rattle.awb_number.proofs.Padded.{digits-padded, decimal_value-padded}
 use Rattle.imp_fields.proofs.SameFlight.{bytes_eq-true, bytes_eq-refl}
-use Rattle.imp_fields.proofs.DateLaws.{year_high}
-use Rattle.imp_fields.proofs.DateOnLaws.{IsDateAfter, date_of_moment, date_names_day}
+use Rattle.station_days.proofs.DateLaws.{year_high}
+use Rattle.station_days.proofs.DateOnLaws.{IsDateAfter, date_of_moment, date_names_day}
 use Rattle.desk_commands.proofs.Steps.{some_is, passed, passes, go_on}
 use Rattle.awb_number.specs.Digits.{padded, decimal_value}
-use Rattle.imp_fields.specs.Steps.{◌>>=◌}
-use Rattle.imp_fields.specs.Date.{CalendarDay, IsCalendarDay, IsMomentDay, is_moment_day, day_in_year, year_of, date_on, days_after}
+use Rattle.station_days.specs.Steps.{◌>>=◌}
+use Rattle.station_days.specs.Date.{CalendarDay, IsCalendarDay, IsMomentDay, is_moment_day, day_in_year, year_of, date_on, days_after}
 use Rattle.desk_commands.specs.Day.{day_line, date_in, date_part, has_digits, is_calendar_day, named_day, if_written, year_part, day_of}
 
 -- ---- the day of a text

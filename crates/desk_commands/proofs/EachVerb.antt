@@ -2,7 +2,7 @@
 use Rattle.std.proofs.Common.{◌≡◌, List, [], ◌∷◌, length, Some, None, refl, take, subst}
 use Rattle.awb_number.specs.Number.{prefix_of, serial_of}
 use Rattle.agent_stock.specs.declared.stock.Order.TheVariants.{TakeIn, Issue, GiveBack, Void}
-use Rattle.shipment_machine.specs.declared.command.DeskCommand.TheVariants.{Book, Receive, Manifest, Offload, Depart, CheckIn, Notify, Deliver, Transfer, Missing, Found, Confirm}
+use Rattle.shipment_machine.specs.declared.command.DeskCommand.TheVariants.{Book, Receive, Withdraw, Manifest, Offload, Reroute, Depart, CheckIn, Notify, Deliver, Transfer, Missing, Found, Confirm}
 use Rattle.desk_commands.specs.declared.command.Command.{Command}
 use Rattle.desk_commands.specs.declared.command.Command.TheVariants.{Stock, Cargo}
 use Rattle.desk_commands.specs.declared.verb.Verb.{Verb}
@@ -27,8 +27,10 @@ fits (Stock (GiveBack run agent)) h = (free_padded 3 (prefix_of run.first), (fre
 fits (Stock (Void run)) h = (free_padded 3 (prefix_of run.first), (free_padded 7 (serial_of run.first), (count_fits run.count h.1, tt)))
 fits (Cargo (Book w o d p t g)) h = (free_number w, (free_airport o h.1, (free_airport d h.2, (pieces_fit p h.3, (tenths_fit t h.4, (free_goods g h.5, tt))))))
 fits (Cargo (Receive w p t n)) h = (free_number w, (pieces_fit p h.1, (tenths_fit t h.2, (free_name n h.3, tt))))
+fits (Cargo (Withdraw w p n)) h = (free_number w, (pieces_fit p h.1, (free_name n h.2, tt)))
 fits (Cargo (Manifest w f u p)) h = (free_number w, (h.1.0, (free_day f.day, (free_airport u h.2, (pieces_fit p h.3, tt)))))
 fits (Cargo (Offload w f p)) h = (free_number w, (h.1.0, (free_day f.day, (pieces_fit p h.2, tt))))
+fits (Cargo (Reroute f u)) h = (h.0.0, (free_day f.day, (free_airport u h.1, tt)))
 fits (Cargo (Depart f)) h = (h.0, (free_day f.day, tt))
 fits (Cargo (CheckIn w f k)) h = (free_number w, (h.1.0, (free_day f.day, (counted_fit k h.2, tt))))
 fits (Cargo (Notify w n)) h = (free_number w, (free_name n h.1, tt))
@@ -61,12 +63,18 @@ made_again (Cargo (Book w o d p t g)) h =
 made_again (Cargo (Receive w p t n)) h =
     again4 (awb_in (number w)) (pieces_in (Number p)) (tenths_in (Number t)) (name_in (Text n)) (λ w p t n. Cargo (Receive w p t n)) w p t n
     (awb_again w h.0) (pieces_again p h.1) (tenths_again t h.2) (name_again n h.3)
+made_again (Cargo (Withdraw w p n)) h =
+    again3 (awb_in (number w)) (pieces_in (Number p)) (name_in (Text n)) (λ w p n. Cargo (Withdraw w p n)) w p n
+    (awb_again w h.0) (pieces_again p h.1) (name_again n h.2)
 made_again (Cargo (Manifest w f u p)) h =
     again4 (awb_in (number w)) (flight_date_in (flight f) (day f)) (airport_in (Text u)) (pieces_in (Number p)) (λ w f u p. Cargo (Manifest w f u p)) w f u p
     (awb_again w h.0) (flight_date_again f h.1) (airport_again u h.2) (pieces_again p h.3)
 made_again (Cargo (Offload w f p)) h =
     again3 (awb_in (number w)) (flight_date_in (flight f) (day f)) (pieces_in (Number p)) (λ w f p. Cargo (Offload w f p)) w f p
     (awb_again w h.0) (flight_date_again f h.1) (pieces_again p h.2)
+made_again (Cargo (Reroute f u)) h =
+    again2 (flight_date_in (flight f) (day f)) (airport_in (Text u)) (λ f u. Cargo (Reroute f u)) f u
+    (flight_date_again f h.0) (airport_again u h.1)
 made_again (Cargo (Depart f)) h =
     again1 (flight_date_in (flight f) (day f)) (λ f. Cargo (Depart f)) f
     (flight_date_again f h)
@@ -133,6 +141,12 @@ made_of verb.Receive a b c d e f cmd ha hb hc hd h =
     let x3 = tenths_is c r.c r.is_c in
     let x4 = name_is d r.d r.is_d in
     subst (IsMadeOf verb.Receive (a ∷ b ∷ c ∷ d ∷ e ∷ f ∷ [])) r.same (record { in_range = (x1.0, x2.0, x3.0, x4.0); verb_is = refl; front = λ i. x1.1 i ∷ x2.1 i ∷ x3.1 i ∷ x4.1 i ∷ [] })
+made_of verb.Withdraw a b c d e f cmd ha hb hc hd h =
+    let r = made3 (awb_in a) (pieces_in b) (name_in c) (λ y1 y2 y3. Cargo (Withdraw y1 y2 y3)) cmd h in
+    let x1 = awb_is a r.a r.is_a in
+    let x2 = pieces_is b r.b r.is_b in
+    let x3 = name_is c r.c r.is_c in
+    subst (IsMadeOf verb.Withdraw (a ∷ b ∷ c ∷ d ∷ e ∷ f ∷ [])) r.same (record { in_range = (x1.0, x2.0, x3.0); verb_is = refl; front = λ i. x1.1 i ∷ x2.1 i ∷ x3.1 i ∷ [] })
 made_of verb.Manifest a b c d e f cmd ha hb hc hd h =
     let r = made4 (awb_in a) (flight_date_in b c) (airport_in d) (pieces_in e) (λ y1 y2 y3 y4. Cargo (Manifest y1 y2 y3 y4)) cmd h in
     let x1 = awb_is a r.a r.is_a in
@@ -146,6 +160,11 @@ made_of verb.Offload a b c d e f cmd ha hb hc hd h =
     let x2 = flight_date_is b c r.b r.is_b in
     let x3 = pieces_is d r.c r.is_c in
     subst (IsMadeOf verb.Offload (a ∷ b ∷ c ∷ d ∷ e ∷ f ∷ [])) r.same (record { in_range = (x1.0, date_range b c r.b hb x2, x3.0); verb_is = refl; front = λ i. x1.1 i ∷ x2.flight_is i ∷ x2.date_is i ∷ x3.1 i ∷ [] })
+made_of verb.Reroute a b c d e f cmd ha hb hc hd h =
+    let r = made2 (flight_date_in a b) (airport_in c) (λ y1 y2. Cargo (Reroute y1 y2)) cmd h in
+    let x1 = flight_date_is a b r.a r.is_a in
+    let x2 = airport_is c r.b r.is_b in
+    subst (IsMadeOf verb.Reroute (a ∷ b ∷ c ∷ d ∷ e ∷ f ∷ [])) r.same (record { in_range = (date_range a b r.a ha x1, x2.0); verb_is = refl; front = λ i. x1.flight_is i ∷ x1.date_is i ∷ x2.1 i ∷ [] })
 made_of verb.Depart a b c d e f cmd ha hb hc hd h =
     let r = made1 (flight_date_in a b) (λ y1. Cargo (Depart y1)) cmd h in
     let x1 = flight_date_is a b r.a r.is_a in

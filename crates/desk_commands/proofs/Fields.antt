@@ -14,10 +14,10 @@ use Rattle.awb_number.proofs.Padded.{digits-padded, decimal_value-padded, padded
 use Rattle.imp_fields.specs.Airport.{is_airport}
 use Rattle.imp_fields.specs.Flight.{is_carrier}
 use Rattle.imp_fields.specs.Amount.{IsPieces, IsTenths}
-use Rattle.imp_fields.specs.Date.{IsMomentDay}
+use Rattle.station_days.specs.Date.{IsMomentDay}
 use Rattle.imp_fields.specs.Flight.{Designator}
 use Rattle.imp_fields.specs.Name.{is_name, is_goods}
-use Rattle.imp_fields.specs.Steps.{◌>>=◌, where_true}
+use Rattle.station_days.specs.Steps.{◌>>=◌, where_true}
 use Rattle.agent_stock.specs.Code.{is_agent_code}
 use Rattle.agent_stock.specs.declared.stock.Run.{Run}
 use Rattle.shipment_machine.specs.Amount.{IsCount}

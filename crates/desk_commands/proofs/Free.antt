@@ -9,7 +9,7 @@ use Rattle.awb_number.specs.Number.{number_text, prefix_of, serial_of, check_dig
 use Rattle.awb_number.proofs.Padded.{digits-padded}
 use Rattle.imp_fields.specs.Airport.{is_airport}
 use Rattle.imp_fields.specs.Characters.{is_printable}
-use Rattle.imp_fields.specs.Date.{year_of, date_on}
+use Rattle.station_days.specs.Date.{year_of, date_on}
 use Rattle.imp_fields.specs.Flight.{Designator, IsDesignator, flight_text, is_carrier}
 use Rattle.imp_fields.specs.Name.{is_name, is_goods}
 use Rattle.imp_fields.proofs.FieldLaws.{flight_code}

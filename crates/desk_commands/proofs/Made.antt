@@ -2,7 +2,7 @@
 use Rattle.std.proofs.Common.{◌≡◌, ◌<◌, List, [], ◌∷◌, Option, Some, None, refl, subst}
 use Rattle.std.specs.Prelude.{⊤, IfSome}
 use Rattle.imp_fields.specs.Flight.{IsDesignator}
-use Rattle.imp_fields.specs.Steps.{◌>>=◌}
+use Rattle.station_days.specs.Steps.{◌>>=◌}
 use Rattle.shipment_machine.specs.declared.flight.FlightDate.{FlightDate}
 use Rattle.desk_commands.specs.declared.field_value.FieldValue.{FieldValue}
 use Rattle.desk_commands.specs.declared.field_value.FieldValue.TheVariants.{Text, Number, Flight, Absent}

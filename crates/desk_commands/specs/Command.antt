@@ -6,10 +6,10 @@ use Rattle.awb_number.specs.Digits.{padded}
 use Rattle.awb_number.specs.Number.{IsNumber, number_text, prefix_of, serial_of}
 use Rattle.imp_fields.specs.Airport.{is_airport}
 use Rattle.imp_fields.specs.Amount.{IsPieces, IsTenths}
-use Rattle.imp_fields.specs.Date.{IsMomentDay}
+use Rattle.station_days.specs.Date.{IsMomentDay}
 use Rattle.imp_fields.specs.Flight.{IsDesignator, is_carrier}
 use Rattle.imp_fields.specs.Name.{is_name, is_goods}
-use Rattle.imp_fields.specs.Steps.{◌>>=◌}
+use Rattle.station_days.specs.Steps.{◌>>=◌}
 use Rattle.agent_stock.specs.Code.{is_agent_code}
 use Rattle.agent_stock.specs.Count.{IsRunCount}
 use Rattle.shipment_machine.specs.Amount.{IsCount}
@@ -19,7 +19,7 @@ use Rattle.agent_stock.specs.declared.stock.Order.{Order}
 use Rattle.agent_stock.specs.declared.stock.Order.TheVariants.{TakeIn, Issue, GiveBack, Void}
 use Rattle.shipment_machine.specs.declared.flight.FlightDate.{FlightDate}
 use Rattle.shipment_machine.specs.declared.command.DeskCommand.{DeskCommand}
-use Rattle.shipment_machine.specs.declared.command.DeskCommand.TheVariants.{Book, Receive, Manifest, Offload, Depart, CheckIn, Notify, Deliver, Transfer, Missing, Found, Confirm}
+use Rattle.shipment_machine.specs.declared.command.DeskCommand.TheVariants.{Book, Receive, Withdraw, Manifest, Offload, Reroute, Depart, CheckIn, Notify, Deliver, Transfer, Missing, Found, Confirm}
 use Rattle.desk_commands.specs.declared.command.Command.{Command}
 use Rattle.desk_commands.specs.declared.command.Command.TheVariants.{Stock, Cargo}
 use Rattle.desk_commands.specs.declared.verb.Verb.{Verb}
@@ -40,8 +40,10 @@ order_verb (Void run) = verb.Void
 abbrev pub desk_verb : DeskCommand → Verb
 desk_verb (Book w origin destination pieces tenths goods) = verb.Book
 desk_verb (Receive w pieces tenths name) = verb.Receive
+desk_verb (Withdraw w pieces name) = verb.Withdraw
 desk_verb (Manifest w flight unload pieces) = verb.Manifest
 desk_verb (Offload w flight pieces) = verb.Offload
+desk_verb (Reroute flight unload) = verb.Reroute
 desk_verb (Depart flight) = verb.Depart
 desk_verb (CheckIn w flight counted) = verb.CheckIn
 desk_verb (Notify w name) = verb.Notify
@@ -93,9 +95,11 @@ desk_values (Book w origin destination pieces tenths goods) =
     number w ∷ Text origin ∷ Text destination ∷ Number pieces ∷ Number tenths ∷ Text goods ∷ []
 desk_values (Receive w pieces tenths name) =
     number w ∷ Number pieces ∷ Number tenths ∷ Text name ∷ []
+desk_values (Withdraw w pieces name) = number w ∷ Number pieces ∷ Text name ∷ []
 desk_values (Manifest w f unload pieces) =
     number w ∷ flight f ∷ day f ∷ Text unload ∷ Number pieces ∷ []
 desk_values (Offload w f pieces) = number w ∷ flight f ∷ day f ∷ Number pieces ∷ []
+desk_values (Reroute f unload) = flight f ∷ day f ∷ Text unload ∷ []
 desk_values (Depart f) = flight f ∷ day f ∷ []
 desk_values (CheckIn w f counted) = number w ∷ flight f ∷ day f ∷ Number counted ∷ []
 desk_values (Notify w name) = number w ∷ Text name ∷ []
@@ -134,9 +138,11 @@ IsDeskCommand (Book w origin destination pieces tenths goods) =
     × IsTrue (is_goods goods)
 IsDeskCommand (Receive w pieces tenths name) =
     IsNumber w × IsPieces pieces × IsTenths tenths × IsTrue (is_name name)
+IsDeskCommand (Withdraw w pieces name) = IsNumber w × IsPieces pieces × IsTrue (is_name name)
 IsDeskCommand (Manifest w flight unload pieces) =
     IsNumber w × IsFlightDate flight × IsAirport unload × IsPieces pieces
 IsDeskCommand (Offload w flight pieces) = IsNumber w × IsFlightDate flight × IsPieces pieces
+IsDeskCommand (Reroute flight unload) = IsFlightDate flight × IsAirport unload
 IsDeskCommand (Depart flight) = IsFlightDate flight
 IsDeskCommand (CheckIn w flight counted) = IsNumber w × IsFlightDate flight × IsCount counted
 IsDeskCommand (Notify w name) = IsNumber w × IsTrue (is_name name)
@@ -215,6 +221,11 @@ command_in verb.Receive awb pieces tenths name _ _ = do
   t ← tenths_in tenths
   n ← name_in name
   Some (Cargo (Receive w p t n))
+command_in verb.Withdraw awb pieces name _ _ _ = do
+  w ← awb_in awb
+  p ← pieces_in pieces
+  n ← name_in name
+  Some (Cargo (Withdraw w p n))
 command_in verb.Manifest awb flight day unload pieces _ = do
   w ← awb_in awb
   f ← flight_date_in flight day
@@ -226,6 +237,10 @@ command_in verb.Offload awb flight day pieces _ _ = do
   f ← flight_date_in flight day
   p ← pieces_in pieces
   Some (Cargo (Offload w f p))
+command_in verb.Reroute flight day unload _ _ _ = do
+  f ← flight_date_in flight day
+  u ← airport_in unload
+  Some (Cargo (Reroute f u))
 command_in verb.Depart flight day _ _ _ _ = do
   f ← flight_date_in flight day
   Some (Cargo (Depart f))

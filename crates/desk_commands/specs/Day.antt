@@ -3,9 +3,9 @@ use Rattle.std.specs.Prelude.{ℕ, Bool, ◌&&◌, ◌==◌, nat_le, List, lengt
 use Rattle.std.specs.List.{list_all}
 use Rattle.std.specs.Str.{bytes_eq}
 use Rattle.awb_number.specs.Digits.{is_digit, decimal_value}
-use Rattle.imp_fields.specs.Steps.{◌>>=◌, where_true}
-use Rattle.imp_fields.specs.Date.{CalendarDay, day_in_year, is_moment_day}
-unfoldable pub use Rattle.imp_fields.specs.Date.{day_line}
+use Rattle.station_days.specs.Steps.{◌>>=◌, where_true}
+use Rattle.station_days.specs.Date.{CalendarDay, day_in_year, is_moment_day}
+unfoldable pub use Rattle.station_days.specs.Date.{day_line}
 
 -- the digits of the year, the month and the day
 abbrev pub year_part : List ℕ → List ℕ

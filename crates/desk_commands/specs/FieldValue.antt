@@ -7,7 +7,7 @@ use Rattle.awb_number.specs.Number.{key_of, number_of}
 use Rattle.imp_fields.specs.Airport.{airport_of}
 use Rattle.imp_fields.specs.Flight.{Designator, flight_text}
 use Rattle.imp_fields.specs.Name.{is_name, is_goods}
-use Rattle.imp_fields.specs.Steps.{◌>>=◌, where_true}
+use Rattle.station_days.specs.Steps.{◌>>=◌, where_true}
 use Rattle.agent_stock.specs.Code.{is_agent_code}
 use Rattle.agent_stock.specs.declared.stock.Run.{Run}
 use Rattle.shipment_machine.specs.Airline.{airline_of}

@@ -3,7 +3,7 @@ use Rattle.std.specs.Prelude.{◌≡◌, ℕ, zero, suc, ◌==◌, Bool, ◌&&�
 use Rattle.std.specs.List.{slice_split, list_all}
 use Rattle.std.specs.Str.{bytes_eq}
 use Rattle.awb_number.specs.Digits.{is_digit, decimal_value}
-use Rattle.imp_fields.specs.Steps.{◌>>=◌, where_true}
+use Rattle.station_days.specs.Steps.{◌>>=◌, where_true}
 use Rattle.imp_fields.specs.Flight.{flight_of, flight_text, Designator}
 use Rattle.desk_commands.specs.declared.verb.Field.{Field}
 use Rattle.desk_commands.specs.declared.verb.Kind.{Kind}

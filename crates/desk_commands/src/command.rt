@@ -37,8 +37,10 @@ pub(crate) fn command_of(verb: Verb, values: &[FieldValue<'_>; 6]) -> Option<Com
         Verb::Void => void(values),
         Verb::Book => book(values),
         Verb::Receive => receive(values),
+        Verb::Withdraw => withdraw(values),
         Verb::Manifest => manifest(values),
         Verb::Offload => offload(values),
+        Verb::Reroute => reroute(values),
         Verb::Depart => depart(values),
         Verb::CheckIn => check_in(values),
         Verb::Notify => notify(values),
@@ -98,6 +100,7 @@ fn desk_text(alloc: Global, command: &DeskCommand) -> Result<String, AllocError>
             tenths,
             name,
         } => receive_text(alloc, awb, *pieces, *tenths, name),
+        DeskCommand::Withdraw { awb, pieces, name } => withdraw_text(alloc, awb, *pieces, name),
         DeskCommand::Manifest {
             awb,
             flight,
@@ -109,6 +112,7 @@ fn desk_text(alloc: Global, command: &DeskCommand) -> Result<String, AllocError>
             flight,
             pieces,
         } => offload_text(alloc, awb, flight, *pieces),
+        DeskCommand::Reroute { flight, unload } => reroute_text(alloc, flight, unload),
         DeskCommand::Depart { flight } => depart_text(alloc, flight),
         DeskCommand::CheckIn {
             awb,
@@ -333,6 +337,32 @@ fn receive_text(
     format!(in alloc; "receive\n{awb}\n{pieces}\n{tenths}\n{name}")
 }
 
+fn withdraw(values: &[FieldValue<'_>; 6]) -> Option<Command>
+    ensures { result ≡ command_of Verb.Withdraw values.now }
+{
+    let [awb, pieces, name, ..] = values;
+    Some(Command::Cargo(DeskCommand::Withdraw {
+        awb: awb.awb()?,
+        pieces: pieces.pieces()?,
+        name: name.name()?,
+    }))
+}
+
+fn withdraw_text(
+    alloc: Global,
+    awb: &Awb,
+    pieces: Pieces,
+    name: &Name,
+) -> Result<String, AllocError>
+    ensures { WritesDesk result (DeskCommand.Withdraw awb.now pieces name.now) }
+{
+    let number = number_bytes(awb);
+    let awb = ascii_text(&number);
+    let pieces = pieces.number();
+    let name = name_text(name);
+    format!(in alloc; "withdraw\n{awb}\n{pieces}\n{name}")
+}
+
 fn manifest(values: &[FieldValue<'_>; 6]) -> Option<Command>
     ensures { result ≡ command_of Verb.Manifest values.now }
 {
@@ -387,6 +417,25 @@ fn offload_text(
     let pieces = pieces.number();
     let flight = flight_lines(alloc, flight)?;
     format!(in alloc; "offload\n{awb}\n{flight}\n{pieces}")
+}
+
+fn reroute(values: &[FieldValue<'_>; 6]) -> Option<Command>
+    ensures { result ≡ command_of Verb.Reroute values.now }
+{
+    let [flight, day, unload, ..] = values;
+    Some(Command::Cargo(DeskCommand::Reroute {
+        flight: flight_date(flight, day)?,
+        unload: unload.airport()?,
+    }))
+}
+
+fn reroute_text(alloc: Global, flight: &FlightDate, unload: &Airport) -> Result<String, AllocError>
+    ensures { WritesDesk result (DeskCommand.Reroute flight.now unload.now) }
+{
+    let unload = airport_bytes(unload);
+    let unload = ascii_text(&unload);
+    let flight = flight_lines(alloc, flight)?;
+    format!(in alloc; "reroute\n{flight}\n{unload}")
 }
 
 fn depart(values: &[FieldValue<'_>; 6]) -> Option<Command>

@@ -3,11 +3,11 @@
 ghost use Rattle.std.specs.Prelude.{◌≡◌, ◌≤◌, option_map, IfSome};
 ghost use Rattle.std.specs.Str.{IsAscii};
 ghost use Rattle.awb_number.specs.Digits.{decimal_value};
-ghost use Rattle.imp_fields.specs.Steps.{where_true};
+ghost use Rattle.station_days.specs.Steps.{where_true};
 ghost use Rattle.desk_commands.specs.Day.{is_calendar_day, day_line, date_in, year_part, if_written, day_of};
 
 use awb_number::decimal;
-use imp_fields::{DayMonth, LocalDay, day_in_year};
+use station_days::{DayMonth, LocalDay, day_in_year};
 
 /// A day as `2026-01-12`, as texts of commands and of refusals have it.
 pub fn day_text(day: LocalDay) -> [u8; 10]

@@ -9,8 +9,9 @@ use crate::day::read_day;
 use crate::text::Text;
 use agent_stock::{AgentCode, Run, RunCount};
 use awb_number::{Awb, decimal};
-use imp_fields::{Airport, Flight, Goods, LocalDay, Name, Pieces, Tenths};
+use imp_fields::{Airport, Flight, Goods, Name, Pieces, Tenths};
 use shipment_machine::{Airline, FlightDate, PieceCount};
+use station_days::LocalDay;
 
 /// What a field holds.
 #[derive(Drop)]

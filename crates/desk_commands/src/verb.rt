@@ -19,8 +19,10 @@ pub enum Verb {
     Void,
     Book,
     Receive,
+    Withdraw,
     Manifest,
     Offload,
+    Reroute,
     Depart,
     CheckIn,
     Notify,
@@ -32,15 +34,17 @@ pub enum Verb {
 }
 
 /// Each verb, in the order in which a desk names them.
-pub const VERBS: [Verb; 16] = [
+pub const VERBS: [Verb; 18] = [
     Verb::TakeIn,
     Verb::Issue,
     Verb::Return,
     Verb::Void,
     Verb::Book,
     Verb::Receive,
+    Verb::Withdraw,
     Verb::Manifest,
     Verb::Offload,
+    Verb::Reroute,
     Verb::Depart,
     Verb::CheckIn,
     Verb::Notify,
@@ -71,8 +75,10 @@ impl Verb {
             Verb::Void => "void",
             Verb::Book => "book",
             Verb::Receive => "receive",
+            Verb::Withdraw => "withdraw",
             Verb::Manifest => "manifest",
             Verb::Offload => "offload",
+            Verb::Reroute => "reroute",
             Verb::Depart => "depart",
             Verb::CheckIn => "check-in",
             Verb::Notify => "notify",
@@ -94,8 +100,10 @@ impl Verb {
             Verb::Void => VOID,
             Verb::Book => BOOK,
             Verb::Receive => RECEIVE,
+            Verb::Withdraw => WITHDRAW,
             Verb::Manifest => MANIFEST,
             Verb::Offload => OFFLOAD,
+            Verb::Reroute => REROUTE,
             Verb::Depart => DEPART,
             Verb::CheckIn => CHECK_IN,
             Verb::Notify => NOTIFY,
@@ -116,8 +124,10 @@ impl Verb {
             Verb::Issue | Verb::Return => &[Prefix, Serial, Count, Agent],
             Verb::Book => &[Awb, Origin, Destination, Pieces, Tenths, Goods],
             Verb::Receive => &[Awb, Pieces, Tenths, Name],
+            Verb::Withdraw => &[Awb, Pieces, Name],
             Verb::Manifest => &[Awb, Flight, Date, Unload, Pieces],
             Verb::Offload => &[Awb, Flight, Date, Pieces],
+            Verb::Reroute => &[Flight, Date, Unload],
             Verb::Depart => &[Flight, Date],
             Verb::CheckIn => &[Awb, Flight, Date, Counted],
             Verb::Notify => &[Awb, Name],
@@ -300,6 +310,15 @@ Refused: 201 unknown waybill
          205 more taken over than declared
          217 past 9,999 pieces or 999,999 tenths";
 
+const WITHDRAW: &str = "\
+Free pieces go back to who brought them
+Fields: awb, pieces, name
+Body: {\"awb\":\"020-12345675\",\"pieces\":4,\"name\":\"ACME\"}
+Refused: 201 unknown waybill
+         204 its origin isn't here
+         206 not enough free pieces
+         223 more than was taken over";
+
 const MANIFEST: &str = "\
 Pieces are built on a flight
 Fields: awb, flight, date, unload, pieces
@@ -318,6 +337,15 @@ Body: {\"awb\":\"020-12345675\",\"flight\":\"LH400\",\"date\":\"2026-01-12\",\"p
 Refused: 201 unknown waybill
          208 the flight is closed
          207 not enough of it on that flight";
+
+const REROUTE: &str = "\
+A flight with nothing on it unloads elsewhere
+Fields: flight, date, unload
+Body: {\"flight\":\"LH400\",\"date\":\"2026-01-12\",\"unload\":\"ORD\"}
+Refused: 221 nothing was built on that flight yet
+         208 the flight is closed
+         204 the flight would be unloaded here
+         222 something is built on the flight";
 
 const DEPART: &str = "\
 A flight leaves with all that is built on it

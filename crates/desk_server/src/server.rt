@@ -3,8 +3,8 @@
 use crate::timed::{Timed, Waits};
 use desk_clock::{Zone, moment_now};
 use http_desk::{ServeFault, Served, serve_one};
-use imp_fields::Moment;
 use station_core::{Counted, Keeper};
+use station_days::Moment;
 use std::alloc::Global;
 use std::io;
 use std::io::{ErrorKind, Read};

@@ -13,7 +13,7 @@ use Rattle.imp_fields.specs.Characters.{is_printable, is_blank}
 use Rattle.imp_fields.specs.Amount.{IsPieces}
 use Rattle.imp_fields.specs.Quantity.{is_unread, quantity_text, weight_text, total_text, code_letter}
 use Rattle.imp_fields.specs.Flight.{Designator, IsDesignator, flight_text}
-use Rattle.imp_fields.specs.Date.{CalendarDay, IsCalendarDay, date_text}
+use Rattle.station_days.specs.Date.{CalendarDay, IsCalendarDay, date_text}
 use Rattle.imp_fields.specs.Airport.{is_airport}
 use Rattle.imp_fields.specs.Name.{is_goods, ends_in_blank}
 use Rattle.imp_fields.specs.Consignment.{goods_text}

@@ -17,11 +17,11 @@ use Rattle.imp_fields.specs.declared.fault.TextFault.{TextFault}
 use Rattle.imp_fields.proofs.FaultLaws.{AllNone, unless_true-holds, err_of-ok, first_fault-all_none}
 use Rattle.ffm_text.specs.Ffm.{field, date_in, last_point, is_cargo_line, ordered_fault, cargo_fault, cargo_faults, flight_line_of, has_last_line, ffm_line_faults, ffm_fault, FlightLine, Unloaded, IsCargo}
 use Rattle.imp_fields.specs.Flight.{Designator, flight_of}
-use Rattle.imp_fields.specs.Date.{CalendarDay}
+use Rattle.station_days.specs.Date.{CalendarDay}
 use Rattle.ffm_text.proofs.Laws.{cargo_has_no_fault}
 use Rattle.std.proofs.lemmas.List.{append-nil, map-append, length-map, length-take-le, take-append-drop, take_all}
 use Rattle.std.proofs.Math.Seq.{drop-cons}
-use Rattle.imp_fields.specs.Steps.{or_else}
+use Rattle.station_days.specs.Steps.{or_else}
 use Rattle.imp_fields.specs.Message.{is_head, err_of, fault_in}
 use Rattle.imp_fields.specs.declared.token.Token.{Token}
 use Rattle.ffm_text.specs.Scan.{texts_of}

@@ -12,7 +12,7 @@ use Rattle.imp_fields.specs.Characters.{fields}
 use Rattle.imp_fields.specs.Amount.{IsPieces, count_of}
 use Rattle.imp_fields.specs.Flight.{Designator, IsDesignator, flight_of, flight_text}
 use Rattle.imp_fields.specs.Airport.{is_airport, airport_of}
-use Rattle.imp_fields.specs.Date.{CalendarDay, IsCalendarDay, date_text}
+use Rattle.station_days.specs.Date.{CalendarDay, IsCalendarDay, date_text}
 use Rattle.imp_fields.specs.Checks.{◌>>=◌, need}
 use Rattle.imp_fields.specs.Consignment.{consignment_text, shipment_written}
 use Rattle.imp_fields.specs.declared.fault.Why.{Why}

@@ -8,7 +8,7 @@ use Rattle.imp_fields.specs.Amount.{count_of}
 use Rattle.imp_fields.specs.Quantity.{written_code}
 use Rattle.imp_fields.specs.Flight.{Designator, flight_of, flight_text}
 use Rattle.imp_fields.specs.Airport.{is_airport, airport_of}
-use Rattle.imp_fields.specs.Date.{CalendarDay, optional_time_of, two_digits_of, month_of, date_text}
+use Rattle.station_days.specs.Date.{CalendarDay, optional_time_of, two_digits_of, month_of, date_text}
 use Rattle.imp_fields.specs.Consignment.{Shipment, WrittenLine, consignment_of, consignment_text, shipment_written, shipment_of, HasSpans}
 use Rattle.imp_fields.specs.Message.{is_head, unless_true, err_of, fault_in}
 use Rattle.imp_fields.specs.Checks.{◌>>=◌, need}

@@ -5,7 +5,7 @@ use Rattle.imp_fields.specs.Amount.{IsPieces, IsBookTenths}
 use Rattle.imp_fields.specs.Airport.{is_airport}
 use Rattle.imp_fields.specs.Name.{is_goods}
 use Rattle.imp_fields.specs.Flight.{Designator, IsDesignator}
-use Rattle.imp_fields.specs.Date.{CalendarDay, IsCalendarDay}
+use Rattle.station_days.specs.Date.{CalendarDay, IsCalendarDay}
 use Rattle.imp_fields.specs.Quantity.{quantity_text}
 use Rattle.imp_fields.specs.Consignment.{consignment_text}
 use Rattle.ffm_text.specs.declared.Load.{Load}

@@ -4,7 +4,8 @@ ghost use Rattle.std.specs.Prelude.{◌≡◌, Ok, Err, Some, None, IfOk, IfErr,
 ghost use Rattle.imp_fields.specs.Airport.{airport_of};
 ghost use Rattle.ffm_text.specs.Ffm.{field, date_in, flight_line_of, part_of};
 
-use imp_fields::{Airport, DayMonth, DayTime, Flight, PartNumber, Why, cut_at_slash, first_field};
+use imp_fields::{Airport, Flight, PartNumber, Why, cut_at_slash, first_field};
+use station_days::{DayMonth, DayTime};
 
 /// What a flight line says.
 #[derive(Clone, Copy, Debug)]

@@ -4,7 +4,8 @@ ghost use Rattle.std.specs.Prelude.{◌≤◌, All, length};
 ghost use Rattle.ffm_text.specs.Written.{IsLoad, AreWritten};
 
 use crate::Load;
-use imp_fields::{Airport, DayMonth, Flight};
+use imp_fields::{Airport, Flight};
+use station_days::DayMonth;
 
 fn load_known(load: &Load)
     ensures { IsLoad load.now }

@@ -13,8 +13,9 @@ mod reading;
 mod writing;
 
 use awb_number::Awb;
-use imp_fields::{Airport, BookTenths, Consignment, DayMonth, Flight, Goods, PartNumber, Pieces};
+use imp_fields::{Airport, BookTenths, Consignment, Flight, Goods, PartNumber, Pieces};
 pub use reading::read;
+use station_days::DayMonth;
 pub use writing::write_ffm;
 
 /// A consignment line of a manifest, and the point at which its goods are unloaded. The source of the line's tokens is

@@ -1,10 +1,11 @@
 //! Points of unloading: `JFK`, `JFK/NIL` or `JFK/13JAN1430`.
 
 ghost use Rattle.std.specs.Prelude.{◌≡◌, is_some, length, slice_index, slice_range, ◌&&◌, ◌==◌};
-ghost use Rattle.imp_fields.specs.Date.{month_of, two_digits_of};
+ghost use Rattle.station_days.specs.Date.{month_of, two_digits_of};
 ghost use Rattle.ffm_text.specs.Ffm.{is_remark, may_follow_point, unloading_point};
 
-use imp_fields::{Airport, DayMonth};
+use imp_fields::Airport;
+use station_days::DayMonth;
 
 /// Whether a line begins like a line that is never a point of unloading.
 fn is_remark(line: &[u8]) -> bool

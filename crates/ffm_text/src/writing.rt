@@ -6,13 +6,14 @@ ghost use Rattle.imp_fields.specs.Message.{sent_text};
 ghost use Rattle.imp_fields.specs.Consignment.{goods_text, consignment_text};
 ghost use Rattle.ffm_text.specs.Ffm.{IsFfm, cargo_of, flight_line_text, ffm_lines, manifest_written};
 ghost use Rattle.imp_fields.specs.Flight.{Designator};
-ghost use Rattle.imp_fields.specs.Date.{CalendarDay};
+ghost use Rattle.station_days.specs.Date.{CalendarDay};
 ghost use Rattle.ffm_text.specs.declared.Load.{Load};
 ghost use Rattle.ffm_text.specs.Written.{AreWritten, Begins, line_text, load_line, route_text, amount_text};
 
 use crate::Load;
 use crate::known::written_known;
-use imp_fields::{Airport, DayMonth, Flight, Goods, ShipmentCode, put_quantity};
+use imp_fields::{Airport, Flight, Goods, ShipmentCode, put_quantity};
+use station_days::DayMonth;
 use std::alloc::AllocError;
 
 /// Appends a text.

@@ -16,13 +16,13 @@ use Rattle.raw_rows.specs.Raw.{found, rows_of}
 use Rattle.station_rows.specs.Meant.{station_shown}
 use Rattle.table_load.specs.Verdict.{station_name, station_columns, station_found, station_of, found_in_rows, damaged, other_version, one_row, version_number, row_of_version}
 use Rattle.table_load.proofs.Declared.{old_waybill_typed, waybill_typed, stock_typed, flight_typed, moves_typed, expected_typed, part_typed, trail_typed, outbox_typed, kept_key_typed, kept_text_typed, counts_typed, build_typed, old_waybill_old, stock_old, flight_old, moves_old, expected_old, part_old, trail_old, outbox_old, kept_key_old, kept_text_old, counts_old, build_old}
-use Rattle.lawful_tables.specs.declared.name.TableName.{TableName}
-use Rattle.lawful_tables.specs.declared.name.TableName.TheVariants as table
-use Rattle.lawful_tables.specs.Lawful.{IsLawfulTable}
+use Rattle.table_audits.specs.declared.name.TableName.{TableName}
+use Rattle.table_audits.specs.declared.name.TableName.TheVariants as table
+use Rattle.table_audits.specs.Lawful.{IsLawfulTable}
 use Rattle.row_laws.specs.Columns.{AreListed}
 use Rattle.table_load.specs.declared.station.FileVersion.{FileVersion}
 use Rattle.table_load.specs.declared.station.FileVersion.TheVariants.{First, Second}
-use Rattle.found_station.specs.Reading.{Reading, read_as}
+use Rattle.table_load.specs.Reading.{Reading, read_as}
 use Rattle.file_audit.specs.Good.{IsStationOf}
 
 -- ---- lawful table by table, so lawful

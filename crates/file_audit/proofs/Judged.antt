@@ -1,7 +1,7 @@
 -- One table after another: what a test says of the tables so far.
 use Rattle.std.proofs.Common.{◌≡◌, ◌∙◌, ℕ, ℤ, Bool, true, false, List, [], ◌∷◌, sym, ap, ap₂, inl, Result, Ok, Err}
 use Rattle.std.specs.Prelude.{◌↔◌, IsTrue, IfOk}
-use Rattle.found_station.specs.Reading.{Reading, station_read}
+use Rattle.table_load.specs.Reading.{Reading, station_read}
 use Rattle.sqlite.specs.State.{State, IsUnchanged}
 use Rattle.sqlite.specs.declared.error.Error.{Error}
 use Rattle.row_laws.specs.Calls.{Reads}
@@ -10,9 +10,9 @@ use Rattle.row_schema.specs.Tables.{Tables}
 use Rattle.row_codec.specs.Meaning.{airport_in, confirmed_in}
 use Rattle.row_codec.specs.Numbers.{natural}
 use Rattle.table_load.specs.Verdict.{no_station, damaged, other_version, one_row, new_row}
-use Rattle.lawful_tables.specs.declared.name.TableName.{TableName}
-use Rattle.lawful_tables.specs.declared.name.TableName.TheVariants.{Station, Waybill, Waybill2, Stock, Flight, Moves, Expected, Part, Trail, Outbox, KeptKey, KeptText, Counts, Build}
-use Rattle.lawful_tables.specs.Lawful.{IsLawfulTable}
+use Rattle.table_audits.specs.declared.name.TableName.{TableName}
+use Rattle.table_audits.specs.declared.name.TableName.TheVariants.{Station, Waybill, Waybill2, Stock, Flight, Moves, Expected, Part, Trail, Outbox, KeptKey, KeptText, Counts, Build}
+use Rattle.table_audits.specs.Lawful.{IsLawfulTable}
 use Rattle.file_audit.specs.declared.unfit.Unfit.{Unfit}
 use Rattle.file_audit.specs.declared.unfit.Unfit.TheVariants as unfit
 use Rattle.file_audit.specs.Good.{HoldsStation, IsHeld, before, AreGood, IsStationOf, IsFirstBad}

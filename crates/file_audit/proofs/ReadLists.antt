@@ -18,9 +18,9 @@ use Rattle.table_load.specs.Held.{by_key, by_number, old_waybill_name, old_waybi
 use Rattle.table_load.proofs.Orders.{old_waybill_agrees, waybill_agrees, stock_agrees, flight_agrees, moves_agrees, expected_agrees, part_agrees, trail_agrees, outbox_agrees, kept_key_agrees, kept_text_agrees, counts_agrees, build_agrees}
 use Rattle.table_load.specs.declared.station.FileVersion.{FileVersion}
 use Rattle.table_load.specs.declared.station.FileVersion.TheVariants.{First, Second}
-use Rattle.found_station.specs.Reading.{Reading, HoldsOldWaybills, HoldsWaybills}
-use Rattle.found_station.specs.All.{AreTables}
-use Rattle.found_station.specs.declared.all.FoundTables.{FoundTables}
+use Rattle.table_load.specs.Reading.{Reading, HoldsOldWaybills, HoldsWaybills}
+use Rattle.table_load.specs.All.{AreTables}
+use Rattle.table_load.specs.declared.all.FoundTables.{FoundTables}
 use Rattle.table_audits.specs.Order.{RisesByNumber}
 use Rattle.file_audit.specs.Made.{entries_of}
 use Rattle.file_audit.proofs.Entries.{same_entries}

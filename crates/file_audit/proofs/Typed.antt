@@ -13,12 +13,12 @@ use Rattle.row_codec.specs.Moves.{book_in}
 use Rattle.table_load.specs.Held.{HasOldWaybillTexts, HasCountsTexts}
 use Rattle.table_load.specs.Verdict.{new_row}
 use Rattle.table_load.proofs.Declared.{station_typed, old_waybill_typed, waybill_typed, stock_typed, flight_typed, moves_typed, expected_typed, part_typed, trail_typed, outbox_typed, kept_key_typed, kept_text_typed, counts_typed, build_typed}
-use Rattle.lawful_tables.specs.declared.name.TableName.{TableName}
-use Rattle.lawful_tables.specs.declared.name.TableName.TheVariants as table
-use Rattle.lawful_tables.specs.Lawful.{IsLawfulTable}
+use Rattle.table_audits.specs.declared.name.TableName.{TableName}
+use Rattle.table_audits.specs.declared.name.TableName.TheVariants as table
+use Rattle.table_audits.specs.Lawful.{IsLawfulTable}
 use Rattle.imp_fields.specs.Airport.{is_airport}
 use Rattle.table_load.specs.declared.station.FileVersion.TheVariants.{Second}
-use Rattle.found_station.specs.Reading.{read_as}
+use Rattle.table_load.specs.Reading.{read_as}
 use Rattle.file_audit.specs.Good.{HoldsStation, IsHeld, IsGood, IsStationOf}
 use Rattle.file_audit.proofs.RowTexts.{waybill_texts, stock_texts, flight_texts, moves_texts, expected_texts, part_texts, trail_texts, outbox_texts, kept_key_texts, kept_text_texts, build_texts}
 

@@ -3,13 +3,13 @@
 use Rattle.std.specs.Prelude.{◌≡◌, ℕ, ℤ, List, [], ◌∷◌}
 use Rattle.std.specs.List.{AllByRecursion}
 use Rattle.std.specs.FinMap.{entries}
-use Rattle.found_station.specs.Reading.{Reading, station_read, HoldsOldWaybills, HoldsWaybills}
+use Rattle.table_load.specs.Reading.{Reading, station_read, HoldsOldWaybills, HoldsWaybills}
 use Rattle.row_schema.specs.Tables.{Tables}
 use Rattle.table_load.specs.Held.{HoldsStock, HoldsFlight, HoldsMoves, HoldsExpected, HoldsPart, HoldsTrail, HoldsOutbox, HoldsKeptKey, HoldsKeptText, HoldsCounts, HoldsBuild}
 use Rattle.table_load.specs.Verdict.{one_row, new_row}
-use Rattle.lawful_tables.specs.declared.name.TableName.{TableName}
-use Rattle.lawful_tables.specs.declared.name.TableName.TheVariants.{Station, Waybill, Waybill2, Stock, Flight, Moves, Expected, Part, Trail, Outbox, KeptKey, KeptText, Counts, Build}
-use Rattle.lawful_tables.specs.Lawful.{IsLawfulTable}
+use Rattle.table_audits.specs.declared.name.TableName.{TableName}
+use Rattle.table_audits.specs.declared.name.TableName.TheVariants.{Station, Waybill, Waybill2, Stock, Flight, Moves, Expected, Part, Trail, Outbox, KeptKey, KeptText, Counts, Build}
+use Rattle.table_audits.specs.Lawful.{IsLawfulTable}
 
 -- the table `station` has one row, of the version as which it is read, and these tables have it as
 -- version 2 has it

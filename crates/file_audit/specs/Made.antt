@@ -2,22 +2,22 @@
 use Rattle.std.specs.Prelude.{ℕ, ℤ, List, [], ◌∷◌, map, Option, Some, None, Vec, Result, Ok, Err, ⊤}
 use Rattle.std.specs.declared.alloc.Global.{Global}
 use Rattle.std.specs.FinMap.{entries, from_entries}
-use Rattle.found_station.specs.Reading.{Reading}
+use Rattle.table_load.specs.Reading.{Reading}
 use Rattle.row_schema.specs.Tables.{Tables}
 use Rattle.cargo_rows.specs.Meant.{waybill_meant, move_meant, count_meant, build_meant}
 use Rattle.text_rows.specs.Meant.{trail_meant, message_meant}
 use Rattle.station_rows.specs.Meant.{stock_meant}
 use Rattle.table_load.specs.Held.{old_waybill_entry, flight_entry, expected_entry, part_entry, kept_key_entry, kept_text_entry}
 use Rattle.table_load.specs.Verdict.{new_row}
-use Rattle.found_station.specs.declared.all.FoundTables.{FoundTables}
-use Rattle.lawful_tables.specs.declared.name.TableName.{TableName}
-use Rattle.lawful_tables.specs.declared.name.TableName.TheVariants.{Expected}
+use Rattle.table_load.specs.declared.all.FoundTables.{FoundTables}
+use Rattle.table_audits.specs.declared.name.TableName.{TableName}
+use Rattle.table_audits.specs.declared.name.TableName.TheVariants.{Expected}
 use Rattle.row_codec.specs.Counts.{running}
 use Rattle.row_codec.specs.Moves.{book_in}
-use Rattle.book_audits.specs.declared.tally.NoRoom.{NoRoom}
-use Rattle.book_audits.specs.declared.sums.BookSums.{BookSums}
-use Rattle.book_audits.specs.Sums.{AreSums}
-use Rattle.move_audits.specs.Audited.{flights_of}
+use Rattle.table_audits.specs.declared.tally.NoRoom.{NoRoom}
+use Rattle.table_audits.specs.declared.sums.BookSums.{BookSums}
+use Rattle.table_audits.specs.Sums.{AreSums}
+use Rattle.table_audits.specs.Audited.{flights_of}
 use Rattle.file_audit.specs.Good.{before, AreGood, IsStationOf, IsFirstBad}
 
 -- the rows of a table that was read; a table that isn't held has none

@@ -1,27 +1,27 @@
 ghost use Rattle.std.specs.Prelude.{◌≡◌, ◌↔◌, map, IfOk, IfSome, IsSome, IsTrue};
 ghost use Rattle.std.specs.List.{list_all};
 ghost use Rattle.std.specs.FinMap.{entries};
-ghost use Rattle.found_station.specs.Reading.{Reading};
+ghost use Rattle.table_load.specs.Reading.{Reading};
 ghost use Rattle.row_schema.specs.Tables.{Tables};
 ghost use Rattle.cargo_rows.specs.Meant.{waybill_meant, move_meant};
 ghost use Rattle.row_codec.specs.Counts.{running};
 ghost use Rattle.row_codec.specs.Flights.{is_flight_row};
 ghost use Rattle.row_codec.specs.Moves.{book_in};
 ghost use Rattle.table_load.specs.Held.{flight_entry};
-ghost use Rattle.found_station.specs.All.{AreTables};
-ghost use Rattle.lawful_tables.specs.Lawful.{AreMoves};
-ghost use Rattle.lawful_tables.specs.declared.name.TableName.TheVariants as table;
+ghost use Rattle.table_load.specs.All.{AreTables};
+ghost use Rattle.table_audits.specs.Lawful.{AreMoves};
+ghost use Rattle.table_audits.specs.declared.name.TableName.TheVariants as table;
 ghost use Rattle.table_audits.specs.Order.{RisesByNumber};
-ghost use Rattle.book_audits.specs.Sums.{AreSums};
-ghost use Rattle.move_audits.specs.Audited.{flights_of};
+ghost use Rattle.table_audits.specs.Sums.{AreSums};
+ghost use Rattle.table_audits.specs.Audited.{flights_of};
 ghost use Rattle.file_audit.specs.Good.{before, AreGood, IsHeld};
 
-use book_audits::{BookSums, NoRoom, are_balances_lawful, sums_of};
-use found_station::FoundTables;
-use move_audits::{are_departures_lawful, postings_of};
 use station_rows::{MoveRow, WaybillRow};
 use std::alloc::Global;
-use table_load::FlightEntry;
+use table_audits::{
+    BookSums, NoRoom, are_balances_lawful, are_departures_lawful, postings_of, sums_of,
+};
+use table_load::{FlightEntry, FoundTables};
 
 /// What the moves of a book come to. `None`: the book isn't lawful.
 fn lawful_sums(

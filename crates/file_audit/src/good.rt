@@ -1,25 +1,24 @@
 ghost use Rattle.std.specs.Prelude.{◌≡◌, ◌↔◌, IsTrue, IsSome};
 ghost use Rattle.std.specs.FinMap.{entries};
-ghost use Rattle.found_station.specs.Reading.{Reading};
+ghost use Rattle.table_load.specs.Reading.{Reading};
 ghost use Rattle.row_schema.specs.Tables.{Tables};
 ghost use Rattle.row_codec.specs.Counts.{running};
 ghost use Rattle.row_codec.specs.Meaning.{airport_in, confirmed_in};
 ghost use Rattle.row_codec.specs.Moves.{book_in};
 ghost use Rattle.row_codec.specs.Numbers.{natural};
-ghost use Rattle.found_station.specs.All.{AreTables};
-ghost use Rattle.lawful_tables.specs.Lawful.{IsLawfulTable};
-ghost use Rattle.lawful_tables.specs.declared.name.TableName.TheVariants as table;
-ghost use Rattle.book_audits.specs.Sums.{AreSums};
-ghost use Rattle.move_audits.specs.Audited.{flights_of};
+ghost use Rattle.table_load.specs.All.{AreTables};
+ghost use Rattle.table_audits.specs.Lawful.{IsLawfulTable};
+ghost use Rattle.table_audits.specs.declared.name.TableName.TheVariants as table;
+ghost use Rattle.table_audits.specs.Sums.{AreSums};
+ghost use Rattle.table_audits.specs.Audited.{flights_of};
 ghost use Rattle.file_audit.specs.Good.{before, AreGood, IsHeld};
 
-use book_audits::{BookSums, are_builds, are_counts};
-use found_station::FoundTables;
 use table_audits::{
-    are_expected_lawful, are_flights_lawful, are_kept_keys_lawful, are_kept_texts_lawful,
-    are_old_waybills_lawful, are_parts_lawful, are_stock_lawful, are_waybills_lawful,
-    is_outbox_lawful, is_trail_lawful,
+    BookSums, are_builds, are_counts, are_expected_lawful, are_flights_lawful,
+    are_kept_keys_lawful, are_kept_texts_lawful, are_old_waybills_lawful, are_parts_lawful,
+    are_stock_lawful, are_waybills_lawful, is_outbox_lawful, is_trail_lawful,
 };
+use table_load::FoundTables;
 
 /// Whether `waybill` is there and lawful.
 pub(crate) fn are_old_waybills_good(found: &FoundTables) -> bool

@@ -1,8 +1,8 @@
 ghost use Rattle.std.specs.Prelude.{◌≡◌, ℕ, ℤ, List, Ok};
-ghost use Rattle.found_station.specs.Reading.{Reading, station_read};
-ghost use Rattle.found_station.specs.All.{AreTables};
+ghost use Rattle.table_load.specs.Reading.{Reading, station_read};
+ghost use Rattle.table_load.specs.All.{AreTables};
 ghost use Rattle.table_load.specs.Verdict.{one_row};
-ghost use Rattle.lawful_tables.specs.declared.name.TableName.TheVariants as table;
+ghost use Rattle.table_audits.specs.declared.name.TableName.TheVariants as table;
 ghost use Rattle.file_audit.specs.Good.{before, AreGood};
 ghost use Rattle.file_audit.specs.Made.{tables_from, NamesFirst, AreSumsOf};
 
@@ -12,10 +12,9 @@ use crate::good::{
     are_kept_texts_good, are_old_waybills_good, are_parts_good, are_stock_good, are_waybills_good,
     is_outbox_good, is_trail_good,
 };
-use book_audits::{BookSums, NoRoom};
-use found_station::FoundTables;
-use lawful_tables::TableName;
 use std::alloc::Global;
+use table_audits::{BookSums, NoRoom, TableName};
+use table_load::FoundTables;
 
 /// The first table that isn't good, from `counts` on.
 fn bad_count(found: &FoundTables, sums: &BookSums) -> Option<TableName>

@@ -1,26 +1,25 @@
 ghost use Rattle.std.specs.Prelude.{◌≡◌, IfOk, IsTrue, ℕ, ℤ, List, length};
-ghost use Rattle.found_station.specs.Reading.{Reading, station_read, read_as};
+ghost use Rattle.table_load.specs.Reading.{Reading, station_read, read_as};
 ghost use Rattle.sqlite.specs.State.{HasCleanDisk, Survives};
 ghost use Rattle.sqlite.specs.Held.{state};
 ghost use Rattle.row_laws.specs.Calls.{Reads};
-ghost use Rattle.found_station.specs.All.{AreTables};
+ghost use Rattle.table_load.specs.All.{AreTables};
 ghost use Rattle.table_load.specs.Verdict.{one_row};
 ghost use Rattle.row_codec.specs.Numbers.{natural};
-ghost use Rattle.lawful_tables.specs.Lawful.{IsLawfulTable};
-ghost use Rattle.lawful_tables.specs.declared.name.TableName.TheVariants as table;
+ghost use Rattle.table_audits.specs.Lawful.{IsLawfulTable};
+ghost use Rattle.table_audits.specs.declared.name.TableName.TheVariants as table;
 ghost use Rattle.file_audit.specs.Made.{rows_in, tables_from};
 ghost use Rattle.file_audit.specs.Verdict.{Judges};
 
 use crate::counted::{OwnRow, count_of, own_row};
 use crate::judge::first_bad;
 use crate::unfit::Unfit;
-use found_station::{FoundTables, all_tables};
 use imp_fields::Airport;
-use lawful_tables::TableName;
 use sqlite::{Alter, Connection, Error, ErrorCode};
-use state_store::Sizes;
+use station_core::Sizes;
 use std::alloc::Global;
-use table_load::{FileVersion, StationFound, found_station};
+use table_audits::TableName;
+use table_load::{FileVersion, FoundTables, StationFound, all_tables, found_station};
 
 /// What is said of a station besides its rows.
 #[derive(Clone, Copy, Debug, PartialEq, Eq)]

@@ -1,4 +1,4 @@
-use lawful_tables::TableName;
+use table_audits::TableName;
 
 /// Why a database is no station's.
 #[derive(Clone, Copy, Debug, PartialEq, Eq)]

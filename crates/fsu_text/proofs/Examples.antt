@@ -4,7 +4,7 @@ use Rattle.std.specs.Prelude.{codes}
 use Rattle.std.specs.Fmt.{digits}
 use Rattle.awb_number.specs.Number.{key_of}
 use Rattle.imp_fields.specs.Flight.{Designator}
-use Rattle.imp_fields.specs.Date.{CalendarDay, When}
+use Rattle.station_days.specs.Date.{CalendarDay, When}
 use Rattle.imp_fields.specs.Consignment.{Shipment}
 use Rattle.imp_fields.specs.NormalText.{normal_lines, fault_at}
 use Rattle.imp_fields.specs.Message.{sent_text}

@@ -3,7 +3,7 @@ use Rattle.std.proofs.Common.{◌≡◌, ℕ, Bool, true, false, List, [], ◌�
 use Rattle.std.specs.Prelude.{codes}
 use Rattle.std.specs.Str.{bytes_eq}
 use Rattle.imp_fields.specs.Characters.{fields}
-use Rattle.imp_fields.specs.Steps.{or_else, where_true}
+use Rattle.station_days.specs.Steps.{or_else, where_true}
 use Rattle.imp_fields.proofs.SameFlight.{bytes_eq-true, bytes_eq-refl}
 use Rattle.fsu_text.specs.declared.status.Handling.{Handling}
 use Rattle.fsu_text.specs.declared.status.Handling.TheVariants as handling

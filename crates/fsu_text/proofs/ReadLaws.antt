@@ -9,7 +9,7 @@ use Rattle.imp_fields.specs.Consignment.{has_consignment_shape, quantity_part, c
 use Rattle.imp_fields.specs.Quantity.{quantity_of}
 use Rattle.imp_fields.specs.Token.{is_line_token}
 use Rattle.imp_fields.specs.NormalText.{fault_at, first_fault, IsFaultOf}
-use Rattle.imp_fields.specs.Steps.{or_else}
+use Rattle.station_days.specs.Steps.{or_else}
 use Rattle.imp_fields.specs.Message.{is_head, unless_true, err_of}
 use Rattle.imp_fields.specs.declared.amount.Quantity.{Quantity}
 use Rattle.imp_fields.specs.declared.token.Token.{Token}

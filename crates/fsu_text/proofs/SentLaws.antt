@@ -8,11 +8,11 @@ use Rattle.std.proofs.lemmas.List.Folds.{list_all-append}
 use Rattle.std.proofs.lemmas.List.Splits.{join_with_byte-slice_split}
 use Rattle.awb_number.specs.Digits.{is_digit, is_letter_or_digit, padded}
 use Rattle.awb_number.proofs.Padded.{digits-padded}
-use Rattle.imp_fields.specs.Steps.{◌>>=◌, or_else}
+use Rattle.station_days.specs.Steps.{◌>>=◌, or_else}
 use Rattle.imp_fields.specs.Characters.{fields, is_slash}
 use Rattle.imp_fields.specs.Airport.{is_airport, airport_of}
 use Rattle.imp_fields.specs.Flight.{Designator, flight_of, flight_text}
-use Rattle.imp_fields.specs.Date.{CalendarDay, IsCalendarDay, When, date_of, minute_of, date_time_of, optional_time_of, date_text, time_text, when_text}
+use Rattle.station_days.specs.Date.{CalendarDay, IsCalendarDay, When, date_of, minute_of, date_time_of, optional_time_of, date_text, time_text, when_text}
 use Rattle.imp_fields.specs.Name.{is_name}
 use Rattle.imp_fields.specs.Quantity.{quantity_of, written_code, is_unread}
 use Rattle.imp_fields.specs.declared.amount.Quantity.{Quantity}

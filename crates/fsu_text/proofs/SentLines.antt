@@ -9,7 +9,7 @@ use Rattle.awb_number.specs.Digits.{is_digit, is_letter, is_letter_or_digit, pad
 use Rattle.awb_number.specs.Number.{prefix_of, serial_of, check_digit, number_text}
 use Rattle.awb_number.proofs.Padded.{digits-padded, length-padded, is_digit_bounds}
 use Rattle.imp_fields.specs.Characters.{is_printable, is_blank, is_point}
-use Rattle.imp_fields.specs.Date.{date_text, when_text}
+use Rattle.station_days.specs.Date.{date_text, when_text}
 use Rattle.imp_fields.specs.Flight.{flight_text}
 use Rattle.imp_fields.specs.Name.{is_name, ends_in_blank}
 use Rattle.imp_fields.specs.Amount.{IsPieces}

@@ -3,7 +3,7 @@ use Rattle.std.specs.Prelude.{unwrap_or, slice_get, drop, All, ◌≡◌, ℕ, n
 use Rattle.std.specs.List.{join_with_byte}
 use Rattle.imp_fields.specs.Quantity.{written_code}
 use Rattle.imp_fields.specs.Flight.{flight_text}
-use Rattle.imp_fields.specs.Date.{when_text, date_text}
+use Rattle.station_days.specs.Date.{when_text, date_text}
 use Rattle.imp_fields.specs.Consignment.{Shipment, WrittenLine, consignment_of, consignment_text, shipment_written, shipment_of, HasSpans}
 use Rattle.imp_fields.specs.NormalText.{line_texts}
 use Rattle.imp_fields.specs.declared.line.Lines.{Lines}

@@ -3,7 +3,7 @@ use Rattle.std.specs.Prelude.{◌<◌, IsTrue}
 use Rattle.awb_number.specs.Number.{IsNumber}
 use Rattle.imp_fields.specs.Airport.{is_airport}
 use Rattle.imp_fields.specs.Amount.{IsPieces, IsBookTenths}
-use Rattle.imp_fields.specs.Date.{IsCalendarDay}
+use Rattle.station_days.specs.Date.{IsCalendarDay}
 use Rattle.imp_fields.specs.Flight.{IsDesignator}
 use Rattle.imp_fields.specs.Name.{is_name}
 use Rattle.imp_fields.specs.declared.waybill_summary.WaybillSummary.{WaybillSummary}

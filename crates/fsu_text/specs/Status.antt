@@ -2,13 +2,13 @@
 use Rattle.std.specs.Prelude.{ℕ, List, [], ◌∷◌, take, drop, Option, Some, None, codes, option_map}
 use Rattle.std.specs.List.{join_with_byte}
 use Rattle.std.specs.Str.{bytes_eq}
-use Rattle.imp_fields.specs.Steps.{◌>>=◌, where_true, or_else}
+use Rattle.station_days.specs.Steps.{◌>>=◌, where_true, or_else}
 use Rattle.imp_fields.specs.Characters.{fields}
 use Rattle.imp_fields.specs.Quantity.{quantity_of, quantity_text, written_code}
 use Rattle.imp_fields.specs.Flight.{Designator, flight_of}
 use Rattle.imp_fields.specs.Airport.{airport_of}
 use Rattle.imp_fields.specs.Name.{is_name}
-use Rattle.imp_fields.specs.Date.{CalendarDay, When, date_time_of, optional_time_of}
+use Rattle.station_days.specs.Date.{CalendarDay, When, date_time_of, optional_time_of}
 use Rattle.imp_fields.specs.declared.amount.Quantity.{Quantity}
 use Rattle.fsu_text.specs.declared.status.Handling.{Handling}
 use Rattle.fsu_text.specs.declared.status.Handling.TheVariants.{ReceivedFromShipper, Notified, Delivered}

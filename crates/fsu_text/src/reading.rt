@@ -10,9 +10,10 @@ ghost use Rattle.fsu_text.specs.Fsu.{IsFsu, fsu_fault, reading_of, update_of, Ha
 use crate::message::Fsu;
 use crate::status::{Carriage, FlightDay, Handling, Status, StatusLine};
 use imp_fields::{
-    Airport, DayMonth, DayTime, Discrepancy, Flight, Lines, Name, TextFault, Token, Why,
-    cut_at_slash, fault_at, first_field, is_head, read_consignment, read_quantity,
+    Airport, Discrepancy, Flight, Lines, Name, TextFault, Token, Why, cut_at_slash, fault_at,
+    first_field, is_head, read_consignment, read_quantity,
 };
+use station_days::{DayMonth, DayTime};
 use std::alloc::{AllocError, Global};
 use std::slice;
 

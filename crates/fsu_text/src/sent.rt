@@ -3,9 +3,8 @@
 ghost use Rattle.fsu_text.specs.Sent.{IsSent, IsDeclared, IsUpdate};
 
 use crate::status::Handling;
-use imp_fields::{
-    Airport, BookTenths, DayMonth, DayTime, Discrepancy, Flight, Name, Pieces, WaybillSummary,
-};
+use imp_fields::{Airport, BookTenths, Discrepancy, Flight, Name, Pieces, WaybillSummary};
+use station_days::{DayMonth, DayTime};
 
 /// What is reported of goods and a flight that leaves here.
 #[derive(Clone, Copy, Debug, PartialEq, Eq)]

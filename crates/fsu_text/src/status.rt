@@ -3,7 +3,8 @@
 ghost use Rattle.std.specs.Prelude.{◌<◌, IfSome};
 ghost use Rattle.fsu_text.specs.Status.{Day};
 
-use imp_fields::{Airport, DayMonth, DayTime, Discrepancy, Flight, Name, Quantity, Token};
+use imp_fields::{Airport, Discrepancy, Flight, Name, Quantity, Token};
+use station_days::{DayMonth, DayTime};
 use std::marker::Model;
 
 /// What was done with goods at a station.

@@ -1,7 +1,7 @@
 //! The writer of status update messages. Each helper returns the place behind what it wrote.
 
 ghost use Rattle.std.specs.Prelude.{◌≡◌, ◌≤◌, ◌+◌, ◌++◌, ◌∷◌, [], length, take, None, Ok, Some, OnOk, OnErr};
-ghost use Rattle.imp_fields.specs.Date.{date_text, when_text};
+ghost use Rattle.station_days.specs.Date.{date_text, when_text};
 ghost use Rattle.imp_fields.specs.Flight.{flight_text};
 ghost use Rattle.imp_fields.specs.Quantity.{quantity_text, written_code};
 ghost use Rattle.imp_fields.specs.Consignment.{consignment_text};
@@ -14,9 +14,10 @@ ghost use Rattle.fsu_text.specs.declared.sent.SentStatus.TheVariants as sent;
 use crate::sent::{SentCarriage, SentStatus, SentUpdate, update_known};
 use crate::status::Handling;
 use imp_fields::{
-    Airport, BookTenths, DayMonth, DayTime, Discrepancy, Flight, Name, Pieces, ShipmentCode,
-    WaybillSummary, put_quantity,
+    Airport, BookTenths, Discrepancy, Flight, Name, Pieces, ShipmentCode, WaybillSummary,
+    put_quantity,
 };
+use station_days::{DayMonth, DayTime};
 use std::alloc::AllocError;
 
 /// Writes a text at a place.

@@ -3,7 +3,7 @@ use Rattle.std.proofs.Common.{arith, ◌≡◌, ◌∙◌, ap, sym, subst, ℕ, 
 use Rattle.std.proofs.lemmas.List.{length-drop, take-append-drop}
 use Rattle.httparse.specs.Grammar.{RequestHead, print_request}
 use Rattle.httparse.proofs.GrammarLemmas.{request_unique}
-use Rattle.imp_fields.specs.Date.{LocalMinute}
+use Rattle.station_days.specs.Date.{LocalMinute}
 use Rattle.station_core.specs.Step.{State}
 use Rattle.http_desk.specs.declared.fault.FaultTold.{FaultTold}
 use Rattle.http_desk.specs.declared.wanted.Post.{Post}

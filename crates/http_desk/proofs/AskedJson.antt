@@ -1,6 +1,6 @@
 -- What is sent once the station was asked.
 use Rattle.std.proofs.Common.{◌≡◌, sym, ap, subst, refl, inl, inr, ⊎_elim, Bool, false, Option, Some, Err}
-use Rattle.imp_fields.specs.Date.{LocalMinute}
+use Rattle.station_days.specs.Date.{LocalMinute}
 use Rattle.shipment_machine.specs.declared.plans.Refusal.{Refusal}
 use Rattle.station_core.specs.declared.answer.ActFault.{ActFault}
 use Rattle.station_core.specs.declared.answer.ActFault.TheVariants as fault

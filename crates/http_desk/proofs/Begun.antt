@@ -6,12 +6,12 @@ use Rattle.serde_json.specs.Written.{compact_text}
 use Rattle.shipment_machine.specs.declared.plans.Refusal.{Refusal}
 use Rattle.station_core.specs.Texts.{detail_text}
 use Rattle.httparse.specs.Grammar.{RequestHead, print_request}
-use Rattle.imp_fields.specs.Date.{LocalMinute}
+use Rattle.station_days.specs.Date.{LocalMinute}
 use Rattle.station_core.specs.Given.{Given}
 use Rattle.station_core.specs.declared.answer.Answer.{Answer}
 use Rattle.station_core.specs.declared.answer.Answer.TheVariants as answer
 use Rattle.station_core.specs.Step.{State, accepted, step}
-use Rattle.http_desk.specs.declared.route.Report.{Report}
+use Rattle.reports.specs.declared.report.Report.{Report}
 use Rattle.http_desk.specs.declared.serve.Served.{Served}
 use Rattle.http_desk.specs.declared.serve.ServeFault.{ServeFault}
 use Rattle.http_desk.specs.declared.serve.ServeFault.TheVariants as serve

@@ -1,7 +1,7 @@
 -- What is sent for a request, once it went out, is its answer.
 use Rattle.std.proofs.Common.{◌≡◌, ◌∙◌, ap, sym, subst, refl, inl, inr, ⊎_elim, ℕ, Bool, false, Option, Some, None, Result, Ok, Err, List, [], ◌∷◌, ◌++◌, length, take, drop, string_bytes}
 use Rattle.std.specs.Prelude.{IfOk}
-use Rattle.imp_fields.specs.Date.{LocalMinute}
+use Rattle.station_days.specs.Date.{LocalMinute}
 use Rattle.station_core.specs.Given.{Given}
 use Rattle.station_core.specs.Ends.{HasCause}
 use Rattle.station_core.specs.Step.{State}
@@ -11,7 +11,7 @@ use Rattle.http_desk.specs.Told.{HasAsked, HasAskedShut, tells_reopen}
 use Rattle.http_desk.specs.Wanted.{Wants, wanted_reply, wanted_state}
 use Rattle.http_desk.specs.declared.asking.Told.{Told}
 use Rattle.http_desk.specs.declared.asking.Told.TheVariants as told
-use Rattle.http_desk.specs.declared.route.Report.{Report}
+use Rattle.reports.specs.declared.report.Report.{Report}
 use Rattle.http_desk.specs.declared.serve.Served.{Served}
 use Rattle.http_desk.specs.declared.serve.ServeFault.{ServeFault}
 use Rattle.http_desk.specs.declared.serve.ServeFault.TheVariants as serve

@@ -10,9 +10,10 @@ use Rattle.desk_commands.specs.Verb.{word, verb_called}
 use Rattle.desk_commands.proofs.Words.{called_again, called_is, of_every}
 use Rattle.http_desk.specs.declared.route.Page.{Page}
 use Rattle.http_desk.specs.declared.route.Page.TheVariants as page
-use Rattle.http_desk.specs.declared.route.Report.{Report}
-use Rattle.http_desk.specs.declared.route.Report.TheVariants as report
-use Rattle.http_desk.specs.Routes.{desk_rows, page_of, report_called, posted_command, posted_telegram, got_waybill, got_holder, got_report, Place, posts, gets, place_at, place_of}
+use Rattle.reports.specs.declared.report.Report.{Report}
+use Rattle.reports.specs.declared.report.Report.TheVariants as report
+use Rattle.http_desk.specs.Routes.{desk_rows, page_of, posted_command, posted_telegram, got_waybill, got_holder, got_report, Place, posts, gets, place_at, place_of}
+use Rattle.reports.specs.Reports.{report_called}
 use Rattle.http_desk.specs.Paths.{IsPath, IsName, report_path, LeadsTo}
 use Rattle.http_desk.proofs.Pages.{LeadsToPage, page_leads, page_only, path_is, path_behind}
 

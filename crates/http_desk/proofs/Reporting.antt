@@ -9,11 +9,11 @@ use Rattle.reports.specs.Ended.{HasEndedBy, HasTold, HaveGone, IsBegun, IsCause,
 use Rattle.reports.specs.declared.fault.ReportCause.{ReportCause}
 use Rattle.reports.specs.declared.fault.ReportCause.TheVariants as cause
 use Rattle.reports.specs.declared.fault.ReportFault.{ReportFault}
-use Rattle.http_desk.specs.declared.route.Report.{Report}
-use Rattle.http_desk.specs.declared.route.Report.TheVariants as report
-use Rattle.http_desk.specs.Reply.{report_head, IsReport}
+use Rattle.reports.specs.declared.report.Report.{Report}
+use Rattle.http_desk.specs.Reply.{report_head}
+use Rattle.reports.specs.Reports.{IsReport}
 use Rattle.http_desk.specs.Serving.{unavailable, SomeOrEach, StopsServing}
-use Rattle.http_desk.specs.Writing.{HasEndedReport, HasSent, HasBegun, HasReported}
+use Rattle.http_desk.specs.Writing.{HasSent, HasBegun, HasReported}
 use Rattle.http_desk.specs.declared.serve.Served.{Served}
 use Rattle.http_desk.specs.declared.serve.ServeFault.{ServeFault}
 use Rattle.http_desk.specs.declared.serve.ServeFault.TheVariants as serve
@@ -59,24 +59,14 @@ module _ (Open : Type 0) (s : State) (old new : Given) (e : ReportFault) where
   }
 
   -- the same of a report that is known by what it is
-  by_text : (name : Report) (front : List ℕ) → front ≡ report_head → HasEndedBy Open (IsReport s name) front old new (Err e) → EndedEarly Open s name old new e
-  by_text name front is (inl (text, are, begun), gone, told, fault) = of_text name front text is are begun fault
-  by_text name front is (inr each, gone, told, fault) = record {
+  pub ended_early : (name : Report) (front : List ℕ) → front ≡ report_head → HasEndedBy Open (IsReport s name) front old new (Err e) → EndedEarly Open s name old new e
+  ended_early name front is (inl (text, are, begun), gone, told, fault) = of_text name front text is are begun fault
+  ended_early name front is (inr each, gone, told, fault) = record {
     gone = gone;
     part = inr (λ text are. subst (λ f. Sent old new (f ++ text) e.sent) is (each text are).0);
     told = told;
     fault = fault;
   }
-
-  pub ended_early : (name : Report) (front : List ℕ) → front ≡ report_head → HasEndedReport Open s name front old new (Err e) → EndedEarly Open s name old new e
-  ended_early report.Stock front is ended = by_text report.Stock front is ended
-  ended_early report.Shed front is (begun, fault) = of_text report.Shed front _ is refl begun fault
-  ended_early report.Flights front is ended = by_text report.Flights front is ended
-  ended_early report.Expected front is ended = by_text report.Expected front is ended
-  ended_early report.Irregularities front is (begun, fault) = of_text report.Irregularities front _ is refl begun fault
-  ended_early report.Movements front is (begun, fault) = of_text report.Movements front _ is refl begun fault
-  ended_early report.Trail front is (begun, fault) = of_text report.Trail front _ is refl begun fault
-  ended_early report.Pending front is (begun, fault) = of_text report.Pending front _ is refl begun fault
 
 append_none : (xs : List ℕ) → xs ++ [] ≡ xs
 append_none [] = refl

@@ -7,7 +7,7 @@ use Rattle.awb_number.specs.Number.{number_of}
 use Rattle.awb_number.specs.declared.awb.AwbFault.{AwbFault}
 use Rattle.station_core.specs.Readers.{waybill_of}
 use Rattle.http_desk.specs.declared.fault.FaultTold.{FaultTold}
-use Rattle.http_desk.specs.declared.route.Report.{Report}
+use Rattle.reports.specs.declared.report.Report.{Report}
 use Rattle.http_desk.specs.declared.wanted.Wanted.{Wanted}
 use Rattle.http_desk.specs.declared.wanted.Wanted.TheVariants as wanted
 use Rattle.http_desk.specs.Fields.{meant}

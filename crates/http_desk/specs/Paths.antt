@@ -3,8 +3,8 @@ use Rattle.std.specs.Prelude.{◌≡◌, ℕ, ◌<◌, ◌==◌, ◌&&◌, not, 
 use Rattle.std.specs.List.{list_all}
 use Rattle.matchit.specs.Seek.{has_slash}
 use Rattle.desk_commands.specs.Verb.{word}
-use Rattle.http_desk.specs.declared.route.Report.{Report}
-use Rattle.http_desk.specs.declared.route.Report.TheVariants as report
+use Rattle.reports.specs.declared.report.Report.{Report}
+use Rattle.reports.specs.declared.report.Report.TheVariants as report
 use Rattle.http_desk.specs.Routes.{posted_command, posted_telegram, got_waybill, got_holder, got_report, Place, posts, gets}
 
 -- bytes without a question mark

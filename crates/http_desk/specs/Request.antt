@@ -6,7 +6,7 @@ use Rattle.std.specs.Str.{bytes_eq}
 use Rattle.serde_json.specs.Data.{Data}
 use Rattle.serde_json.specs.Read.{read}
 use Rattle.awb_number.specs.Digits.{is_digit, decimal_value}
-use Rattle.imp_fields.specs.Steps.{where_true}
+use Rattle.station_days.specs.Steps.{where_true}
 use Rattle.imp_fields.specs.declared.fault.TextFault.{TextFault}
 use Rattle.shipment_machine.specs.declared.plans.Refusal.{Refusal}
 use Rattle.desk_commands.specs.declared.command.Command.{Command}

@@ -1,7 +1,7 @@
 -- What one connection leaves.
 use Rattle.std.specs.Prelude.{◌≡◌, ◌⊎◌, ℕ, ◌<◌, ◌≤◌, Bool, true, false, Option, Some, None, Result, Ok, Err, List, [], ◌++◌, length, take, drop, codes}
 use Rattle.serde_json.specs.Written.{compact_text}
-use Rattle.imp_fields.specs.Date.{LocalMinute}
+use Rattle.station_days.specs.Date.{LocalMinute}
 use Rattle.station_core.specs.Given.{Given}
 use Rattle.station_core.specs.Ends.{Sent, HasCause, NoneFailed, OneFailed}
 use Rattle.station_core.specs.declared.input.Input.{Input}
@@ -9,8 +9,9 @@ use Rattle.station_core.specs.Step.{State, accepted, step}
 use Rattle.http_desk.specs.declared.serve.Served.{Served}
 use Rattle.http_desk.specs.declared.serve.ServeFault.{ServeFault}
 use Rattle.http_desk.specs.declared.serve.ServeFault.TheVariants as serve
-use Rattle.http_desk.specs.declared.route.Report.{Report}
-use Rattle.http_desk.specs.Reply.{json_answer, refused_data, report_head, IsReport}
+use Rattle.reports.specs.declared.report.Report.{Report}
+use Rattle.http_desk.specs.Reply.{json_answer, refused_data, report_head}
+use Rattle.reports.specs.Reports.{IsReport}
 use Rattle.httparse.specs.Grammar.{RequestHead, print_request}
 use Rattle.http_desk.specs.Routes.{Posted, got_report}
 use Rattle.http_desk.specs.Request.{looks_up, sends, head_asks, for_station, IsAsked}

@@ -1,10 +1,10 @@
 -- What a request wants of the desk, and what it is replied.
 use Rattle.std.specs.Prelude.{◌≡◌, ℕ, List, Option}
-use Rattle.imp_fields.specs.Date.{LocalMinute}
+use Rattle.station_days.specs.Date.{LocalMinute}
 use Rattle.station_core.specs.Readers.{waybill_of}
 use Rattle.station_core.specs.declared.input.Input.{Input}
 use Rattle.station_core.specs.Step.{State, step}
-use Rattle.http_desk.specs.declared.route.Report.{Report}
+use Rattle.reports.specs.declared.report.Report.{Report}
 use Rattle.http_desk.specs.declared.wanted.Post.{Post}
 use Rattle.http_desk.specs.declared.wanted.Post.TheVariants as post
 use Rattle.http_desk.specs.declared.wanted.Wanted.{Wanted}

@@ -1,20 +1,17 @@
 -- What a request is answered with, and what goes out of it.
 use Rattle.std.specs.Prelude.{◌≡◌, ◌⊎◌, ℕ, ◌<◌, ◌≤◌, Bool, false, Option, Some, Result, Ok, Err, List, ◌++◌, length, take, string_bytes}
-use Rattle.imp_fields.specs.Date.{LocalMinute}
+use Rattle.station_days.specs.Date.{LocalMinute}
 use Rattle.station_core.specs.Given.{Given}
 use Rattle.station_core.specs.Ends.{Sent, HasCause}
 use Rattle.station_core.specs.Step.{State}
-use Rattle.reports.specs.Ended.{HasEnded, HasEndedBy}
-use Rattle.reports.specs.Reports.{IsStockReport, shed_report, IsFlightReport, IsExpectedReport, irregularity_report, movement_book, pending_report, trail_report}
-use Rattle.reports.specs.declared.fault.ReportFault.{ReportFault}
 use Rattle.http_desk.specs.declared.asking.Told.{Told}
 use Rattle.http_desk.specs.declared.asking.Told.TheVariants as told
-use Rattle.http_desk.specs.declared.route.Report.{Report}
-use Rattle.http_desk.specs.declared.route.Report.TheVariants as report
+use Rattle.reports.specs.declared.report.Report.{Report}
 use Rattle.http_desk.specs.declared.serve.Served.{Served}
 use Rattle.http_desk.specs.declared.serve.ServeFault.{ServeFault}
 use Rattle.http_desk.specs.declared.serve.ServeFault.TheVariants as serve
-use Rattle.http_desk.specs.Reply.{ok_answer, report_head, IsReport}
+use Rattle.http_desk.specs.Reply.{ok_answer, report_head}
+use Rattle.reports.specs.Reports.{IsReport}
 use Rattle.http_desk.specs.Answer.{Answers}
 use Rattle.http_desk.specs.Serving.{unavailable, GetsReport, SomeOrEach, IsKept, IsUnchangedOrBroken}
 
@@ -33,18 +30,6 @@ abbrev pub HasSent : ℕ → Bool → List ℕ → Given → Given → Result Se
 HasSent status reopen bytes old new (Ok served) = (served ≡ record { status = status; reopen = reopen }) × (new.bytes ≡ old.bytes ++ bytes)
 HasSent status reopen bytes old new (Err serve.Read) = ⊥
 HasSent status reopen bytes old new (Err (serve.Write sent)) = Sent old new bytes sent × HasCause old new
-
--- a report ended behind what stands in front of it
-abbrev pub HasEndedReport : Type 0 → State → Report → List ℕ → Given → Given
-    → Result (Unit {0}) ReportFault → Type 0
-HasEndedReport open_station s report.Stock front old new r = HasEndedBy open_station (IsStockReport s.cargo.holders) front old new r
-HasEndedReport open_station s report.Shed front old new r = HasEnded open_station (front ++ shed_report s.cargo) old new r
-HasEndedReport open_station s report.Flights front old new r = HasEndedBy open_station (IsFlightReport s.cargo) front old new r
-HasEndedReport open_station s report.Expected front old new r = HasEndedBy open_station (IsExpectedReport s.cargo) front old new r
-HasEndedReport open_station s report.Irregularities front old new r = HasEnded open_station (front ++ irregularity_report s.cargo) old new r
-HasEndedReport open_station s report.Movements front old new r = HasEnded open_station (front ++ movement_book s.cargo) old new r
-HasEndedReport open_station s report.Trail front old new r = HasEnded open_station (front ++ trail_report s.cargo) old new r
-HasEndedReport open_station s report.Pending front old new r = HasEnded open_station (front ++ pending_report s.cargo) old new r
 
 -- all of a report's head went out, and a byte of the report or more
 abbrev pub HasBegun : Given → Given → List ℕ → Type 0

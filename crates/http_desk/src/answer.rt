@@ -11,10 +11,10 @@ use agent_stock::Holder;
 use awb_number::{Awb, ascii_text};
 use desk_commands::day_text;
 use http::StatusCode;
-use imp_fields::LocalDay;
 use serde_json::{Value, json};
 use shipment_machine::Amount;
 use station_core::Waybill;
+use station_days::LocalDay;
 use std::alloc::{AllocError, Global};
 
 /// `HTTP/1.1 409 Conflict`.

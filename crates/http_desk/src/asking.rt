@@ -5,7 +5,7 @@ ghost use Rattle.serde_json.specs.Data.{Data};
 ghost use Rattle.serde_json.specs.Written.{compact_text};
 ghost use Rattle.station_core.specs.Step.{State};
 ghost use Rattle.http_desk.specs.Told.{IsToldAs, HasAsked, HasAskedShut, IsUnavailable, tells_reopen};
-ghost use Rattle.imp_fields.specs.Date.{LocalMinute};
+ghost use Rattle.station_days.specs.Date.{LocalMinute};
 ghost use Rattle.station_core.specs.Texts.{detail_text};
 ghost use Rattle.http_desk.specs.Fields.{meant};
 ghost use Rattle.http_desk.specs.Reply.{refused_data, json_reply, fault_reply, refusal_status, refusal_reply, waybill_reply, holder_reply};
@@ -13,13 +13,13 @@ ghost use Rattle.http_desk.specs.Reply.{refused_data, json_reply, fault_reply, r
 use crate::answer::{holder_text, json_answer, refused_text, waybill_text};
 use crate::fault::FaultTold;
 use crate::head::NOT_FOUND;
-use crate::route::Report;
 use crate::wanted::Wanted;
 use agent_stock::Holder;
 use awb_number::Awb;
-use imp_fields::Moment;
+use reports::Report;
 use shipment_machine::Refusal;
 use station_core::{ActFault, Answer, Input, Keeper, Waybill, answer_one, detail_text};
+use station_days::Moment;
 use std::alloc::{AllocError, Global};
 
 /// What is to be written.
@@ -116,6 +116,8 @@ fn waybill_told(alloc: Global, number: &Awb, waybill: &Option<Waybill>) -> Told
 
 /// Asks who holds a number.
 fn ask_holder<K: Keeper>(alloc: Global, keeper: &mut K, number: &Awb) -> Told
+    ensures clean { K.is_clean keeper.new → K.is_clean keeper.old }
+    ensures still { K.is_sound keeper.old → K.is_clean keeper.new → K.is_sound keeper.new }
     ensures sound { K.is_sound keeper.new → K.is_sound keeper.old }
     ensures breaks { K.is_broken keeper.new ≡ K.is_broken keeper.old }
     ensures asked { (s : State) (at : LocalMinute) → K.keeps keeper.old s
@@ -134,6 +136,8 @@ fn ask_holder<K: Keeper>(alloc: Global, keeper: &mut K, number: &Awb) -> Told
 
 /// Asks what is known of a waybill.
 fn ask_waybill<K: Keeper>(alloc: Global, keeper: &mut K, number: &Awb) -> Told
+    ensures clean { K.is_clean keeper.new → K.is_clean keeper.old }
+    ensures still { K.is_sound keeper.old → K.is_clean keeper.new → K.is_sound keeper.new }
     ensures sound { K.is_sound keeper.new → K.is_sound keeper.old }
     ensures breaks { K.is_broken keeper.new ≡ K.is_broken keeper.old }
     ensures asked { (s : State) (at : LocalMinute) → K.keeps keeper.old s
@@ -152,6 +156,8 @@ fn ask_waybill<K: Keeper>(alloc: Global, keeper: &mut K, number: &Awb) -> Told
 
 /// Hands the station an input.
 fn ask_input<K: Keeper>(alloc: Global, keeper: &mut K, input: &Input<'_>, at: Moment) -> Told
+    ensures clean { K.is_clean keeper.new → K.is_clean keeper.old }
+    ensures still { K.is_sound keeper.old → K.is_clean keeper.new → K.is_sound keeper.new }
     ensures sound { K.is_sound keeper.new → K.is_sound keeper.old }
     ensures asked { (s : State) → K.keeps keeper.old s → K.is_broken keeper.old ≡ false
         → K.is_sound keeper.new
@@ -170,6 +176,8 @@ fn ask_input<K: Keeper>(alloc: Global, keeper: &mut K, input: &Input<'_>, at: Mo
 
 /// Asks the station for what is wanted. A report is left to be read while it is written.
 pub(crate) fn ask<K: Keeper>(alloc: Global, keeper: &mut K, wanted: &Wanted<'_>, at: Moment) -> Told
+    ensures clean { K.is_clean keeper.new → K.is_clean keeper.old }
+    ensures still { K.is_sound keeper.old → K.is_clean keeper.new → K.is_sound keeper.new }
     ensures sound { K.is_sound keeper.new → K.is_sound keeper.old }
     ensures asked { (s : State) → K.keeps keeper.old s → K.is_broken keeper.old ≡ false
         → K.is_sound keeper.new

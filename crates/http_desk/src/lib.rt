@@ -18,5 +18,5 @@ mod writing;
 
 pub use answer::{holder_text, waybill_text};
 pub use law::routes_law;
-pub use route::{Page, Report, Route};
+pub use route::{Page, Route};
 pub use serve::{ServeFault, Served, serve_one};

@@ -1,9 +1,10 @@
 //! The desk's routes.
 ghost use Rattle.std.specs.Prelude.{◌≡◌, ◌∷◌, drop, IfOk, option_map, option_and_then};
-ghost use Rattle.http_desk.specs.Routes.{desk_rows, page_of, report_called, place_told, place_at};
+ghost use Rattle.http_desk.specs.Routes.{desk_rows, page_of, place_told, place_at};
 
 use desk_commands::Verb;
 use matchit::{InsertError, Router};
+use reports::Report;
 use std::alloc::Global;
 
 /// What a path leads to, as the router has it.
@@ -15,19 +16,6 @@ pub enum Page {
     Stock,
     Outbox,
     Report,
-}
-
-/// A report that can be got.
-#[derive(Clone, Copy, Debug, PartialEq, Eq)]
-pub enum Report {
-    Stock,
-    Shed,
-    Flights,
-    Expected,
-    Irregularities,
-    Movements,
-    Trail,
-    Pending,
 }
 
 /// What a path leads to. The name of a waybill or of a number stands at the path's end.
@@ -64,29 +52,6 @@ fn found_page(router: &Router<Page>, path: &str) -> Option<Page>
     }
 }
 
-/// A report by its name.
-fn report_called(name: &[u8]) -> Option<Report>
-    ensures { result ≡ report_called name.now }
-{
-    if name == b"stock".as_slice() {
-        Some(Report::Stock)
-    } else if name == b"shed".as_slice() {
-        Some(Report::Shed)
-    } else if name == b"flights".as_slice() {
-        Some(Report::Flights)
-    } else if name == b"expected".as_slice() {
-        Some(Report::Expected)
-    } else if name == b"irregularities".as_slice() {
-        Some(Report::Irregularities)
-    } else if name == b"movements".as_slice() {
-        Some(Report::Movements)
-    } else if name == b"trail".as_slice() {
-        Some(Report::Trail)
-    } else {
-        None
-    }
-}
-
 /// What stands behind so many bytes.
 pub(crate) fn behind(path: &str, count: usize) -> &[u8]
     ensures { result.now ≡ drop count path.now }
@@ -111,7 +76,7 @@ fn route_at(page: Page, path: &str) -> Option<Route>
         Page::Stock => Some(Route::Stock),
         Page::Outbox => Some(Route::Report(Report::Pending)),
         Page::Report => {
-            let report = report_called(behind(path, 12))?;
+            let report = Report::read(behind(path, 12))?;
             Some(Route::Report(report))
         }
     }

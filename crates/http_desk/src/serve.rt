@@ -11,8 +11,8 @@ use crate::asking::{Told, ask};
 use crate::reading::ReadEnd;
 use crate::request::{Came, read_request, wanted};
 use crate::writing::write_told;
-use imp_fields::Moment;
 use station_core::{ByteIn, ByteOut, Keeper};
+use station_days::Moment;
 use std::alloc::Global;
 
 /// What a connection was answered.
@@ -36,6 +36,8 @@ pub enum ServeFault {
 /// Asks the station for what a request wants that has come.
 fn told_for<K: Keeper>(alloc: Global, keeper: &mut K, bytes: &[u8], came: Came, at: Moment) -> Told
     requires request { HasRequest bytes.now came }
+    ensures clean { K.is_clean keeper.new → K.is_clean keeper.old }
+    ensures still { K.is_sound keeper.old → K.is_clean keeper.new → K.is_sound keeper.new }
     ensures sound { K.is_sound keeper.new → K.is_sound keeper.old }
     ensures told { (s : State) → K.keeps keeper.old s → K.is_broken keeper.old ≡ false
         → K.is_sound keeper.new
@@ -59,6 +61,8 @@ pub fn serve_one<K: Keeper, I: ByteIn, O: ByteOut>(
     writer: &mut O,
     at: Moment,
 ) -> Result<Served, ServeFault>
+    ensures clean { K.is_clean keeper.new → K.is_clean keeper.old }
+    ensures still { K.is_sound keeper.old → K.is_clean keeper.new → K.is_sound keeper.new }
     ensures sound { K.is_sound keeper.new → K.is_sound keeper.old }
 
     // Reading ended within the request: nothing was written, nothing was changed. There are at most

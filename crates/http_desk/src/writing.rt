@@ -4,20 +4,14 @@ ghost use Rattle.station_core.specs.Keeping.{IsReadersFault, OnlyReads};
 ghost use Rattle.station_core.specs.Step.{State};
 ghost use Rattle.http_desk.specs.Reply.{ok_answer};
 ghost use Rattle.http_desk.specs.Serving.{unavailable, StopsServing};
-ghost use Rattle.http_desk.specs.Writing.{HasSent, HasEndedReport, HasReported, HasWritten, HasWrittenShut};
-ghost use Rattle.reports.specs.Ended.{IsReopen, StopsWriting};
-ghost use Rattle.http_desk.specs.declared.route.Report.{Report as AnyReport};
+ghost use Rattle.http_desk.specs.Writing.{HasSent, HasReported, HasWritten, HasWrittenShut};
+ghost use Rattle.reports.specs.declared.report.Report.{Report as AnyReport};
 
 use crate::accepted::{ROOM, put_accepted};
 use crate::answer::report_head;
 use crate::asking::Told;
-use crate::route::Report;
 use crate::serve::{ServeFault, Served};
-use reports::{
-    ReportCause, ReportFault, expected_report_behind, flight_report_behind,
-    irregularity_report_behind, movement_book_behind, pending_report_behind, shed_report_behind,
-    stock_report_behind, trail_report_behind,
-};
+use reports::{Report, ReportCause, ReportFault, write_report};
 use station_core::{ActFault, ByteOut, Keeper, send};
 use std::alloc::Global;
 
@@ -61,34 +55,6 @@ fn send_accepted<O: ByteOut>(writer: &mut O, count: u32) -> Result<Served, Serve
     send_answer(writer, 200, &room[..len], false)
 }
 
-/// Writes a report behind its head, while it is read.
-fn send_report<K: Keeper, O: ByteOut>(
-    alloc: Global,
-    keeper: &mut K,
-    writer: &mut O,
-    report: Report,
-    head: &[u8],
-) -> Result<(), ReportFault>
-    ensures reads { OnlyReads K.keeps K.is_sound K.is_broken K.may_find keeper.old keeper.new }
-    ensures reopen { K.is_broken keeper.old ≡ true → IsReopen result × (keeper.new ≡ keeper.old)
-        × (O.taken writer.new ≡ O.taken writer.old) }
-    ensures writes { StopsWriting head.now (O.taken writer.old) (O.taken writer.new) result }
-    ensures ended { (s : State) → K.keeps keeper.old s → K.is_sound keeper.new
-        → HasEndedReport (K.is_broken keeper.old ≡ false) s report head.now (O.taken writer.old)
-        (O.taken writer.new) result }
-{
-    match report {
-        Report::Stock => stock_report_behind(alloc, keeper, writer, head),
-        Report::Shed => shed_report_behind(alloc, keeper, writer, head),
-        Report::Flights => flight_report_behind(alloc, keeper, writer, head),
-        Report::Expected => expected_report_behind(alloc, keeper, writer, head),
-        Report::Irregularities => irregularity_report_behind(alloc, keeper, writer, head),
-        Report::Movements => movement_book_behind(alloc, keeper, writer, head),
-        Report::Trail => trail_report_behind(alloc, keeper, writer, head),
-        Report::Pending => pending_report_behind(alloc, keeper, writer, head),
-    }
-}
-
 /// Whether the station has to be opened again.
 fn is_reopen(fault: &ActFault) -> bool
     ensures { IsReadersFault fault.now → result ≡ false }
@@ -100,13 +66,14 @@ fn is_reopen(fault: &ActFault) -> bool
 }
 
 /// Answers with a report.
-fn write_report<K: Keeper, O: ByteOut>(
+fn answer_report<K: Keeper, O: ByteOut>(
     alloc: Global,
     keeper: &mut K,
     writer: &mut O,
     report: Report,
 ) -> Result<Served, ServeFault>
-    ensures reads { OnlyReads K.keeps K.is_sound K.is_broken K.may_find keeper.old keeper.new }
+    ensures reads { OnlyReads K.keeps K.is_clean K.is_sound K.is_broken K.may_find
+        keeper.old keeper.new }
     ensures writes { StopsServing (O.taken writer.old) (O.taken writer.new) result }
     ensures reported { (s : State) → K.keeps keeper.old s → K.is_broken keeper.old ≡ false
         → K.is_sound keeper.new
@@ -120,7 +87,7 @@ fn write_report<K: Keeper, O: ByteOut>(
     let Ok(head) = report_head(alloc) else {
         return send_answer(writer, 503, unavailable(), false);
     };
-    match send_report(alloc, keeper, writer, report, head.as_bytes()) {
+    match write_report(alloc, keeper, report, writer, head.as_bytes()) {
         Ok(()) => Ok(Served {
             status: 200,
             reopen: false,
@@ -147,7 +114,8 @@ pub(crate) fn write_told<K: Keeper, O: ByteOut>(
     writer: &mut O,
     told: &Told,
 ) -> Result<Served, ServeFault>
-    ensures reads { OnlyReads K.keeps K.is_sound K.is_broken K.may_find keeper.old keeper.new }
+    ensures reads { OnlyReads K.keeps K.is_clean K.is_sound K.is_broken K.may_find
+        keeper.old keeper.new }
     ensures writes { StopsServing (O.taken writer.old) (O.taken writer.new) result }
     ensures written { (s : State)
         → ((name : AnyReport) → told.now ≡ Told.Report name → K.keeps keeper.old s
@@ -161,7 +129,7 @@ pub(crate) fn write_told<K: Keeper, O: ByteOut>(
     match told {
         Told::Accepted(count) => send_accepted(writer, *count),
         Told::Json(status, text) => send_answer(writer, *status, text.as_bytes(), false),
-        Told::Report(report) => write_report(alloc, keeper, writer, *report),
+        Told::Report(report) => answer_report(alloc, keeper, writer, *report),
         Told::Unavailable(reopen) => send_answer(writer, 503, unavailable(), *reopen),
     }
 }

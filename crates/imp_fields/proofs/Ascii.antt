@@ -9,7 +9,6 @@ use Rattle.awb_number.specs.Ascii.{IsAscii-tested, IsAscii-padded, ascii-letter_
 use Rattle.awb_number.specs.Digits.{is_letter, is_letter_or_digit, padded}
 use Rattle.imp_fields.specs.Airport.{is_airport}
 use Rattle.imp_fields.specs.Characters.{is_printable}
-use Rattle.imp_fields.specs.Date.{day_text, day_line, year_of, date_on}
 use Rattle.imp_fields.specs.Flight.{Designator, IsDesignator, flight_text, is_carrier}
 use Rattle.imp_fields.specs.Name.{is_name, is_goods}
 use Rattle.imp_fields.proofs.FieldLaws.{flight_code}
@@ -34,19 +33,3 @@ IsAscii-goods text h = IsAscii-tested is_printable ascii-printable text (and_par
 
 pub IsAscii-flight : (f : Designator) → IsDesignator f → IsAscii (flight_text f)
 IsAscii-flight f h = IsAscii-tested is_letter_or_digit ascii-letter_or_digit (flight_text f) (flight_code f h).bytes
-
-dashed : (text : List ℕ) → IsAscii text → IsAscii (text ++ (45 ∷ []))
-dashed text h = IsAscii-push text 45 h (omega arith)
-
-dated : (year month day : List ℕ) → IsAscii year → IsAscii month → IsAscii day → IsAscii (year ++ (45 ∷ []) ++ month ++ (45 ∷ []) ++ day)
-dated year month day y m d =
-    IsAscii-append (year ++ (45 ∷ []) ++ month ++ (45 ∷ [])) day (dashed (year ++ (45 ∷ []) ++ month) (IsAscii-append (year ++ (45 ∷ [])) month (dashed year y) m)) d
-
-pub IsAscii-day : (day : ℕ) → IsAscii (day_text day)
-IsAscii-day day =
-    dated (padded 4 (year_of day)) (padded 2 (date_on day).month) (padded 2 (date_on day).day)
-    (IsAscii-padded 4 (year_of day)) (IsAscii-padded 2 (date_on day).month) (IsAscii-padded 2 (date_on day).day)
-
-pub IsAscii-line : (day : ℕ) → IsAscii (day_line day)
-unfolding day_line
-IsAscii-line day = IsAscii-day day

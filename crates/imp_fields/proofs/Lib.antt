@@ -1,5 +1,4 @@
 pub mod ExamplesQuantity
-pub mod ExamplesDate
 pub mod ExamplesField
 pub mod ExamplesText
 pub mod ExamplesLarge
@@ -16,8 +15,6 @@ pub mod ListLaws
 pub mod ScanLaws
 pub mod NormalLaws
 pub mod QuantityLaws
-pub mod DateLaws
-pub mod DateOnLaws
 pub mod WrittenLaws
 pub mod ConsignmentLaws
 pub mod SentLaws

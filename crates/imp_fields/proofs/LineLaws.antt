@@ -9,7 +9,7 @@ use Rattle.std.proofs.lemmas.List.{length-take-le, drop-drop, drop_all, take_all
 use Rattle.awb_number.specs.Number.{number_of}
 use Rattle.awb_number.specs.declared.awb.AwbFault.{AwbFault}
 use Rattle.imp_fields.specs.Characters.{is_slash}
-use Rattle.imp_fields.specs.Steps.{where_true}
+use Rattle.station_days.specs.Steps.{where_true}
 use Rattle.imp_fields.specs.Quantity.{quantity_of}
 use Rattle.imp_fields.specs.Consignment.{Shipment, has_consignment_shape, quantity_part, goods_part, consignment_by, consignment_of}
 use Rattle.imp_fields.specs.Token.{IsSlice}

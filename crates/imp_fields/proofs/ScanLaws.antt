@@ -7,7 +7,7 @@ use Rattle.std.proofs.lemmas.List.{length-append, take-take, length-map, map-app
 use Rattle.std.proofs.lemmas.List.Splits.{slice_split_first, slice_split_none}
 use Rattle.std.proofs.lemmas.List.Sums.{prefix_len-le-length, prefix_len_passes}
 use Rattle.std.proofs.lemmas.List.Folds.{length-prefix_len}
-use Rattle.imp_fields.specs.Steps.{or_else}
+use Rattle.station_days.specs.Steps.{or_else}
 use Rattle.imp_fields.specs.Characters.{is_printable, before_last_while}
 use Rattle.imp_fields.specs.Token.{IsSlice, AreSlicesFrom}
 use Rattle.imp_fields.specs.NormalText.{is_newline, is_empty, line_without_end, line_fault, first_fault, kind_of, is_message_line, starts_from}

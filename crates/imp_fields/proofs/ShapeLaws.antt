@@ -11,7 +11,7 @@ use Rattle.std.proofs.lemmas.List.Folds.{list_all-append}
 use Rattle.awb_number.specs.Digits.{is_letter}
 use Rattle.awb_number.specs.Number.{has_number_shape}
 use Rattle.imp_fields.specs.Airport.{is_airport, airport_of}
-use Rattle.imp_fields.specs.Steps.{where_true}
+use Rattle.station_days.specs.Steps.{where_true}
 use Rattle.imp_fields.specs.Consignment.{has_consignment_shape}
 
 -- a line that has the shape goes on behind its slash's place

@@ -1,10 +1,8 @@
-pub mod Steps
 pub mod Characters
 pub mod Amount
 pub mod Quantity
 pub mod Flight
 pub mod Airport
-pub mod Date
 pub mod Padding
 pub mod Name
 pub mod Token

@@ -2,7 +2,7 @@
 use Rattle.std.specs.Prelude.{ℕ, Bool, ◌&&◌, ◌==◌, nat_eq, nat_le, if◌then◌else◌, List, [], ◌∷◌, ◌++◌, length, drop, slice_index, Option, Some, None, Result, Ok, Err}
 use Rattle.std.specs.List.{list_all, starts_with}
 use Rattle.awb_number.specs.Digits.{is_digit}
-use Rattle.imp_fields.specs.Steps.{or_else}
+use Rattle.station_days.specs.Steps.{or_else}
 use Rattle.imp_fields.specs.NormalText.{fault_at, first_fault}
 use Rattle.imp_fields.specs.declared.fault.Why.{Why}
 use Rattle.imp_fields.specs.declared.fault.Why.TheVariants as why

@@ -2,7 +2,7 @@
 use Rattle.std.specs.Prelude.{◌≡◌, ℕ, ◌+◌, ◌≤◌, ◌&&◌, nat_le, nat_lt, if◌then◌else◌, is_some, List, [], ◌∷◌, ◌++◌, length, take, drop, map, position, Option, Some, None}
 use Rattle.std.specs.List.{AllByRecursion, slice_split}
 use Rattle.imp_fields.specs.Characters.{before_last_while}
-use Rattle.imp_fields.specs.Steps.{or_else}
+use Rattle.station_days.specs.Steps.{or_else}
 use Rattle.imp_fields.specs.Token.{AreSlices}
 use Rattle.imp_fields.specs.NormalText.{is_newline, line_without_end, starts_from, is_empty, line_fault, first_fault, kind_of, is_message_line}
 use Rattle.imp_fields.specs.declared.token.Token.{Token}

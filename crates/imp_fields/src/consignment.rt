@@ -2,7 +2,7 @@
 
 ghost use Rattle.std.specs.Prelude.{◌≡◌, ◌≤◌, length, slice_range, IsSome, IfOk};
 ghost use Rattle.awb_number.specs.Number.{has_number_shape};
-ghost use Rattle.imp_fields.specs.Steps.{where_true};
+ghost use Rattle.station_days.specs.Steps.{where_true};
 ghost use Rattle.imp_fields.specs.Consignment.{has_consignment_shape, consignment_of, plain, HasSpans};
 
 use crate::airport::Airport;

@@ -1,8 +1,7 @@
 //! Laws of the definitions.
 
-ghost use Rattle.std.specs.Prelude.{◌≡◌, ◌↔◌, ◌≤◌, ◌-◌, ℕ, List, [], Some, None, IsTrue};
+ghost use Rattle.std.specs.Prelude.{◌≡◌, ◌↔◌, ◌≤◌, ◌-◌, ℕ, List, Some, IsTrue};
 ghost use Rattle.imp_fields.specs.Amount.{share_of};
-ghost use Rattle.imp_fields.specs.Date.{CalendarDay, IsMomentDay, IsInYear, year_of, date_on, day_in_year, days_meant, resolved, IsNearest};
 ghost use Rattle.imp_fields.specs.Flight.{Designator, IsDesignator, flight_text, same_flight};
 ghost use Rattle.imp_fields.specs.declared.amount.Quantity.{Quantity};
 ghost use Rattle.imp_fields.specs.Quantity.{quantity_of, IsQuantity};
@@ -11,15 +10,6 @@ ghost use Rattle.imp_fields.specs.Quantity.{quantity_of, IsQuantity};
 pub fn quantity_law()
     ensures parts { (text : List ℕ) (q : Quantity) → quantity_of text ≡ Some q → IsQuantity text q }
     ensures read { (text : List ℕ) (q : Quantity) → IsQuantity text q → quantity_of text ≡ Some q }
-{}
-
-/// The day that a date means is the nearest of those that it may mean, which are days of the year of receipt and of its
-/// neighbours. The date of a day names that day again.
-pub fn resolve_law()
-    ensures year { (day : ℕ) → IsMomentDay day → IsInYear day (year_of day) }
-    ensures nearest { (d : CalendarDay) (receipt day : ℕ) → resolved d receipt ≡ Some day → IsNearest receipt (days_meant d (year_of receipt)) day }
-    ensures none { (d : CalendarDay) (receipt : ℕ) → resolved d receipt ≡ None → days_meant d (year_of receipt) ≡ [] }
-    ensures again { (day : ℕ) → IsMomentDay day → day_in_year (date_on day) (year_of day) ≡ Some day }
 {}
 
 /// Flights with the same carrier, number and letter are one flight, and so are flights that are written alike.

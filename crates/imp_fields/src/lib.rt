@@ -3,16 +3,13 @@
 
 mod airport;
 mod amount;
-mod calendar;
 mod consignment;
-mod date;
 mod discrepancy;
 mod fault;
 mod field;
 mod flight;
 mod laws;
 mod line;
-mod local_day;
 mod name;
 mod normal;
 mod put;
@@ -26,16 +23,13 @@ pub use amount::{
     BookTenths, MOST_PIECES, MOST_TENTHS, PartNumber, Pieces, Quantity, ShipmentCode, Tenths,
     WeightUnit, book_weight, share,
 };
-pub use calendar::{civil_date, day_in_year, resolve};
 pub use consignment::read_consignment;
-pub use date::{DayMonth, DayTime, Moment};
 pub use discrepancy::Discrepancy;
 pub use fault::{TextFault, Why, fault_at};
 pub use field::{cut_at_slash, first_field};
 pub use flight::Flight;
-pub use laws::{flight_law, quantity_law, resolve_law, share_law};
+pub use laws::{flight_law, quantity_law, share_law};
 pub use line::{Consignment, Lines, MessageKind};
-pub use local_day::LocalDay;
 pub use name::{Goods, Name};
 pub use normal::{MOST_BYTES, is_head, normal_text};
 pub use quantity::{put_quantity, read_quantity, weight_of};

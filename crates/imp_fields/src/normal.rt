@@ -3,7 +3,7 @@
 ghost use Rattle.std.specs.Prelude.{◌≡◌, ◌+◌, ◌≤◌, ◌<◌, ◌^◌, ◌∷◌, ◌++◌, ℕ, List, IfOk, OnOk, [], nat_lt, if◌then◌else◌, length, take, Some, None};
 ghost use Rattle.std.specs.List.{list_all};
 ghost use Rattle.imp_fields.specs.Characters.{is_printable};
-ghost use Rattle.imp_fields.specs.Steps.{or_else};
+ghost use Rattle.station_days.specs.Steps.{or_else};
 ghost use Rattle.imp_fields.specs.Token.{IsSlice, AreSlices};
 ghost use Rattle.imp_fields.specs.Message.{is_head};
 ghost use Rattle.imp_fields.specs.NormalText.{line_without_end, line_fault, kind_of, first_fault, first_kind, normal_lines, line_texts, Gives, BeginLines};

@@ -1,6 +1,6 @@
 -- What is done with an input that isn't known yet is its step.
 use Rattle.std.proofs.Common.{◌≡◌, ℕ, true, false, None, Result, Ok, Err, refl, sym, ap, ◌∙◌}
-use Rattle.imp_fields.specs.Date.{LocalMinute}
+use Rattle.station_days.specs.Date.{LocalMinute}
 use Rattle.shipment_machine.specs.Cargo.{Cargo}
 use Rattle.shipment_machine.specs.declared.plans.Refusal.{Refusal}
 use Rattle.station_core.specs.declared.answer.Answer.TheVariants.{Refused}

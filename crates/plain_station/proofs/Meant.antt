@@ -3,7 +3,7 @@ use Rattle.std.proofs.Common.{◌≡◌, ℕ, true, false, nat_le, Option, Some,
 use Rattle.std.specs.Prelude.{◌↔◌, is_some}
 use Rattle.std.specs.Option.{option_copied}
 use Rattle.std.proofs.lemmas.Bool.{and_parts, and_from, le-leb, leb-true}
-use Rattle.imp_fields.specs.Date.{IsMomentDay, is_moment_day}
+use Rattle.station_days.specs.Date.{IsMomentDay, is_moment_day}
 use Rattle.shipment_machine.specs.Effect.{is_day}
 
 inside : (day : ℕ) → IsMomentDay day → is_moment_day day ≡ true

@@ -1,6 +1,6 @@
 //! What is done with an input that isn't known yet.
 ghost use Rattle.std.specs.Prelude.{◌≡◌, ℕ, List};
-ghost use Rattle.imp_fields.specs.Date.{LocalMinute};
+ghost use Rattle.station_days.specs.Date.{LocalMinute};
 ghost use Rattle.agent_stock.specs.Stock.{order_refusal};
 ghost use Rattle.desk_commands.specs.declared.command.Command.{Command as AnyCommand};
 ghost use Rattle.desk_commands.specs.declared.command.Command.TheVariants.{Stock, Cargo};
@@ -13,9 +13,9 @@ ghost use Rattle.plain_station.specs.Doing.{Does};
 use crate::cargo::PlainCargo;
 use agent_stock::{Order, StockFault, carry_out};
 use desk_commands::Command;
-use imp_fields::Moment;
 use shipment_machine::{DeskRef, PlanFault, ShipmentCommand};
 use station_core::{ActFault, count_of_order, refusal_of_order, shipment_of};
+use station_days::Moment;
 use telegrams::Telegram;
 
 impl PlainCargo {

@@ -7,8 +7,8 @@ ghost use Rattle.plain_station.specs.Lists.{cargo_of};
 ghost use Rattle.station_core.specs.Step.{sent};
 
 use crate::cargo::PlainCargo;
-use imp_fields::Moment;
 use shipment_machine::{Plan, PlanFault, ShipmentCommand, plan};
+use station_days::Moment;
 
 impl PlainCargo {
     /// What a command does at a moment, or the first refusal that is due, with its detail. Out of

@@ -16,11 +16,12 @@ use crate::kept::{KeptReply, KeptText, answer_under, count_of};
 use agent_stock::{Holder, StockRun};
 use awb_number::Awb;
 use desk_commands::{Command, command_text};
-use imp_fields::{Airport, Moment};
+use imp_fields::Airport;
 use station_core::{
     ActFault, Answer, BookRow, ExpectedRow, FlightRow, Input, IrregularRow, Keeper, Key, Message,
     Reply, ShedRow, Sink, TrailRow, Waybill,
 };
+use station_days::Moment;
 use std::alloc::Global;
 use telegrams::Telegram;
 
@@ -143,6 +144,8 @@ impl PlainStation {
 
 impl Keeper for PlainStation {
     ghost keeps = { λ k s. state_of k ≡ s };
+
+    ghost is_clean = { λ k. Unit {0} };
 
     ghost is_sound = { λ k. Unit {0} };
 

@@ -3,7 +3,7 @@ ghost use Rattle.std.specs.Prelude.{Some, None, true, false, [], IfSome, ◌≡�
 ghost use Rattle.std.specs.List.{filter};
 ghost use Rattle.shipment_machine.specs.declared.command.ShipmentCommand.TheVariants as order;
 ghost use Rattle.shipment_machine.specs.declared.view.Rows.TheVariants as rows;
-ghost use Rattle.imp_fields.specs.Date.{resolved};
+ghost use Rattle.station_days.specs.Date.{resolved};
 ghost use Rattle.shipment_machine.specs.Agreement.{rows_for, view_of};
 ghost use Rattle.shipment_machine.specs.Book.{built, waybills_on};
 ghost use Rattle.shipment_machine.specs.Effect.{lines_for, is_day};
@@ -14,12 +14,12 @@ ghost use Rattle.plain_station.specs.Lists.{cargo_of};
 use crate::balances::{held, is_moved};
 use crate::cargo::PlainCargo;
 use awb_number::Awb;
-use imp_fields::{DayMonth, LocalDay, Moment, resolve};
 use shipment_machine::{
     Amount, DeclarationView, Declared, FlightDate, FlightLoad, FlightView, InboundLine,
     InboundPart, LineView, LineViews, Loads, Move, Part, Place, Rows, RowsKey, ShipmentCommand,
     View, WaybillView, waybills_of,
 };
+use station_days::{DayMonth, LocalDay, Moment, resolve};
 use std::alloc::AllocError;
 
 /// Whether a move goes onto a flight.

@@ -18,9 +18,12 @@ use Rattle.reports.proofs.Telling.{Handed, start_whole, handed, unfinished, Took
 have_gone : (text : List ℕ) (n : ℕ) (old new : Given) → Sent old new text n → HaveGone n old new
 have_gone text n old new sent = (take n text, length-take-le n text sent.0, sent.1)
 
-of_one : (Open : Type 0) (Is : List ℕ → Type 0) (front text : List ℕ) (old new : Given) (r : Result (Unit {0}) ReportFault) → Is text → HasEnded Open (front ++ text) old new r → HasEndedBy Open Is front old new r
+pub of_one : (Open : Type 0) (Is : List ℕ → Type 0) (front text : List ℕ) (old new : Given) (r : Result (Unit {0}) ReportFault) → Is text → HasEnded Open (front ++ text) old new r → HasEndedBy Open Is front old new r
 of_one Open Is front text old new (Ok x) is h = (text, is, h)
 of_one Open Is front text old new (Err e) is h = (inl (text, is, h.0), have_gone (front ++ text) e.sent old new h.0.0, h.0.1, h.1)
+
+pub each_of_one : (Open : Type 0) (Is : List ℕ → Type 0) (front text : List ℕ) (old new : Given) (r : Result (Unit {0}) ReportFault) → ((t : List ℕ) → Is t → t ≡ text) → HasEnded Open (front ++ text) old new r → HasEndedEach Open Is front old new r
+each_of_one Open Is front text old new r only h = record { text = λ t is. subst (λ u. HasEnded Open (front ++ u) old new r) (sym (only t is)) h }
 
 fault_of : (start : Given) (text : List ℕ) (n : ℕ) (p q : Progress) (e : ActFault) (r : Result (Unit {0}) ReportFault)
     → ((why : ReportCause) → p.cause ≡ Some why → (r ≡ Err (record { sent = p.sent; cause = why })) × (q ≡ p))

@@ -6,7 +6,7 @@ use Rattle.imp_fields.specs.Airport.{is_airport}
 use Rattle.shipment_machine.specs.Cargo.{written}
 use Rattle.shipment_machine.specs.declared.plans.Change.TheVariants.{Confirm}
 use Rattle.station_core.specs.Step.{State}
-use Rattle.state_store.specs.Told.{on_cargo}
+use Rattle.station_core.specs.Told.{on_cargo}
 use Rattle.row_schema.specs.Tables.{Tables, Station, station_id}
 use Rattle.station_rows.specs.Meant.{confirming}
 use Rattle.row_codec.specs.Numbers.{is_count}

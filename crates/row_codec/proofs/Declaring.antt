@@ -8,7 +8,7 @@ use Rattle.shipment_machine.specs.declared.moves.Declared.{Declared}
 use Rattle.shipment_machine.specs.declared.plans.Change.TheVariants.{Declare}
 use Rattle.shipment_machine.specs.Cargo.{written}
 use Rattle.station_core.specs.Step.{State}
-use Rattle.state_store.specs.Told.{on_cargo}
+use Rattle.station_core.specs.Told.{on_cargo}
 use Rattle.row_schema.specs.Tables.{Tables, Waybill, waybill_id}
 use Rattle.cargo_rows.specs.Meant.{with_waybill, changing_waybill}
 use Rattle.row_codec.specs.Numbers.{flag, is_set}

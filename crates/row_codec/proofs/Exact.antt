@@ -8,8 +8,8 @@ use Rattle.std.proofs.lemmas.Bool.{and_parts, and_from}
 use Rattle.std.proofs.lemmas.Int.{ints}
 use Rattle.std.proofs.lemmas.Str.{is_utf8-from_IsUtf8, IsUtf8-string_bytes}
 use Rattle.imp_fields.specs.Airport.{is_airport}
-use Rattle.imp_fields.specs.Date.{IsMomentDay}
-use Rattle.imp_fields.specs.Steps.{where_true}
+use Rattle.station_days.specs.Date.{IsMomentDay}
+use Rattle.station_days.specs.Steps.{where_true}
 use Rattle.station_core.specs.Key.{is_key}
 use Rattle.row_schema.specs.Tables.{Flight, FlightKey, Expected, ExpectedKey, Kept}
 use Rattle.row_codec.specs.Numbers.{is_within, is_count, is_day, is_flag, is_number}

@@ -8,7 +8,7 @@ use Rattle.awb_number.specs.Number.{IsNumber}
 use Rattle.imp_fields.specs.Airport.{is_airport}
 use Rattle.imp_fields.specs.Amount.{IsPieces, IsBookTenths, IsPartNumber}
 use Rattle.imp_fields.specs.Characters.{is_line}
-use Rattle.imp_fields.specs.Date.{IsMomentDay}
+use Rattle.station_days.specs.Date.{IsMomentDay}
 use Rattle.imp_fields.specs.Name.{is_goods}
 use Rattle.shipment_machine.specs.declared.moves.Declared.{Declared}
 use Rattle.shipment_machine.specs.declared.moves.Outbound.{Outbound}

@@ -8,7 +8,7 @@ use Rattle.std.proofs.lemmas.Map.Text.{is_eq-slice_cmp}
 use Rattle.station_core.specs.Key.{is_key}
 use Rattle.station_core.specs.Step.{State, keeping, keeping_text}
 use Rattle.station_core.specs.Step as step
-use Rattle.state_store.specs.Told.{IsRequest, with_key, with_text}
+use Rattle.station_core.specs.Told.{IsRequest, with_key, with_text}
 use Rattle.row_schema.specs.Tables.{Tables, Kept, kept_cmp, kept_text_cmp}
 use Rattle.row_schema.proofs.Keys.{kept_total, kept_same, kept_text_total, kept_text_same}
 use Rattle.text_rows.specs.Meant.{with_kept, with_kept_text}

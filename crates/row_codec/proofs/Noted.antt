@@ -16,7 +16,7 @@ use Rattle.awb_number.proofs.Padded.{decimal_value_bound}
 use Rattle.imp_fields.specs.Amount.{count_of}
 use Rattle.imp_fields.specs.Characters.{drop_while}
 use Rattle.imp_fields.specs.Flight.{Designator, IsDesignator, flight_of, flight_text, is_carrier, suffix_of}
-use Rattle.imp_fields.specs.Steps.{◌>>=◌, where_true}
+use Rattle.station_days.specs.Steps.{◌>>=◌, where_true}
 use Rattle.imp_fields.proofs.SameFlight.{bytes_eq-true}
 use Rattle.shipment_machine.specs.Flights.{same_flight_date}
 use Rattle.shipment_machine.specs.declared.flight.FlightDate.{FlightDate}

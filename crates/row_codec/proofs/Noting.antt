@@ -9,7 +9,7 @@ use Rattle.shipment_machine.specs.declared.moves.Expected as cargo
 use Rattle.shipment_machine.specs.declared.moves.Part.{Part}
 use Rattle.shipment_machine.specs.declared.plans.Change.TheVariants.{NoteFlight, Expect, NotePart}
 use Rattle.station_core.specs.Step.{State}
-use Rattle.state_store.specs.Told.{on_cargo}
+use Rattle.station_core.specs.Told.{on_cargo}
 use Rattle.row_schema.specs.Tables.{Tables, Flight, flight_cmp, Expected, expected_cmp, part_cmp}
 use Rattle.row_schema.proofs.Keys.{flight_total, flight_same, expected_total, expected_same, part_total, part_same}
 use Rattle.cargo_rows.specs.Meant.{with_flight, changing_flight, with_expected, changing_expected}

@@ -6,7 +6,7 @@ use Rattle.sqlite_keyed.specs.Keyed.{insert_by}
 use Rattle.shipment_machine.specs.Cargo.{written}
 use Rattle.shipment_machine.specs.declared.plans.Change.TheVariants.{Trail}
 use Rattle.station_core.specs.Step.{State}
-use Rattle.state_store.specs.Told.{on_cargo, with_messages}
+use Rattle.station_core.specs.Told.{on_cargo, with_messages}
 use Rattle.row_schema.specs.Tables.{Tables, trail_id, Message, message_id}
 use Rattle.text_rows.specs.Meant.{with_trail_line, with_message}
 use Rattle.row_codec.specs.Logs.{line_by, line_row, trail_in, is_trail_row, message_row, is_message_row, outbox_in}

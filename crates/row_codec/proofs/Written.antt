@@ -14,7 +14,7 @@ use Rattle.sqlite_keyed.specs.Keyed.{get_by}
 use Rattle.station_core.specs.Key.{is_key}
 use Rattle.station_core.specs.Step.{State}
 use Rattle.station_core.specs.Step as step
-use Rattle.state_store.specs.Told.{IsRequest, on_cargo, with_key, with_text, with_messages}
+use Rattle.station_core.specs.Told.{IsRequest, on_cargo, with_key, with_text, with_messages}
 use Rattle.row_schema.specs.Tables.{Tables, Waybill, waybill_id, Flight, FlightKey, Expected, ExpectedKey, PartKey, Kept, TrailLine, Message, Move}
 use Rattle.cargo_rows.specs.Meant.{with_waybill, changing_waybill, with_flight, with_expected, with_move}
 use Rattle.text_rows.specs.Meant.{with_part, with_trail_line, with_message, with_kept, with_kept_text}

@@ -5,7 +5,8 @@ ghost use Rattle.imp_fields.specs.Name.{is_goods};
 ghost use Rattle.row_codec.specs.Numbers.{natural, is_within, is_number, is_count, is_day, is_set, is_flag};
 
 use awb_number::Awb;
-use imp_fields::{Airport, BookTenths, Goods, LocalDay, PartNumber, Pieces};
+use imp_fields::{Airport, BookTenths, Goods, PartNumber, Pieces};
+use station_days::LocalDay;
 
 /// The waybill's number of a key.
 #[tactic(auto, using(crate::proofs::Exact::within_number))]

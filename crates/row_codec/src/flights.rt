@@ -10,9 +10,10 @@ ghost use Rattle.row_codec.specs.Flights.{is_designator, is_flight_text, flight_
 use crate::columns::{airport_of, day_by, flag_by};
 use crate::texts::text;
 use awb_number::Awb;
-use imp_fields::{Flight, LocalDay};
+use imp_fields::Flight;
 use shipment_machine::{FlightDate, Outbound};
 use station_core::NotedFlight;
+use station_days::LocalDay;
 use station_rows::{FlightRow, NotedFlightRow, StoreFault};
 use std::alloc::Global;
 

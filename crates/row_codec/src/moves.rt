@@ -7,9 +7,9 @@ ghost use Rattle.row_codec.specs.Numbers.{natural, is_count, is_day, is_within};
 
 use crate::columns::{awb_by, count_of, pieces_by, tenths_by};
 use crate::flights::{awb_key, day_number, flight_date_by, flight_text};
-use imp_fields::Moment;
 use shipment_machine::{FlightDate, Move, Place};
 use station_core::BookRow;
+use station_days::Moment;
 use station_rows::{MoveRow, StoreFault};
 use std::alloc::Global;
 

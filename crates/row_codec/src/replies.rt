@@ -2,10 +2,10 @@ ghost use Rattle.std.specs.Prelude.{◌≡◌, List, ℕ, is_some, IsTrue, IfSom
 ghost use Rattle.text_rows.specs.Meant.{kept_meant};
 ghost use Rattle.station_core.specs.Key.{is_key};
 ghost use Rattle.row_codec.specs.Replies.{kept_by, is_kept_row};
-ghost use Rattle.state_store.specs.Told.{kept_of};
+ghost use Rattle.station_core.specs.Told.{kept_of};
 
 use crate::columns::count_of;
-use state_store::KeptReply;
+use station_core::KeptReply;
 use station_rows::KeptRow;
 
 /// What is kept under a key. `None`: the count is out of range.

@@ -7,8 +7,8 @@ use crate::columns::{airport_of, awb_by, day_by, flag_by, goods_of, pieces_by, t
 use crate::flights::{awb_key, day_number};
 use crate::texts::text;
 use awb_number::Awb;
-use imp_fields::LocalDay;
 use shipment_machine::Declared;
+use station_days::LocalDay;
 use station_rows::{StoreFault, WaybillRow};
 use std::alloc::Global;
 

@@ -17,8 +17,8 @@ use Rattle.shipment_machine.specs.Book.{balances_of}
 use Rattle.shipment_machine.specs.declared.moves.Move.{Move}
 use Rattle.shipment_machine.specs.declared.moves.Place.{Place}
 use Rattle.shipment_machine.specs.declared.moves.Place.TheVariants.{Hand, Surplus, Free, Departed, Delivered, Missing, Transferred}
-use Rattle.state_store.specs.Told.{AreAllBalances, nothing}
-use Rattle.state_store.specs.declared.store.WaybillBalances.{WaybillBalances}
+use Rattle.station_core.specs.Told.{AreAllBalances, nothing}
+use Rattle.station_core.specs.declared.stored.WaybillBalances.{WaybillBalances}
 use Rattle.row_laws.proofs.Maps.{entries_rise}
 use Rattle.row_schema.proofs.Keys.{count_total}
 use Rattle.row_schema.specs.Tables.{Count, CountKey, count_cmp}

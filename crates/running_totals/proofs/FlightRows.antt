@@ -20,8 +20,8 @@ use Rattle.shipment_machine.specs.declared.moves.Move.{Move}
 use Rattle.shipment_machine.specs.declared.moves.Place.TheVariants.{Built}
 use Rattle.shipment_machine.proofs.Rising.{Rising-filter, same_rising}
 use Rattle.shipment_machine.proofs.OnFlight.{Rising-waybills_of, is_in-waybills_on}
-use Rattle.state_store.specs.Told.{load_on, loads_on}
-use Rattle.state_store.specs.declared.store.Load.{Load}
+use Rattle.station_core.specs.Told.{load_on, loads_on}
+use Rattle.station_core.specs.declared.stored.Load.{Load}
 use Rattle.row_laws.proofs.Keys.{texts_total, first_true, second_true}
 use Rattle.row_laws.proofs.Maps.{entries_rise, ascending_where, all_passed}
 use Rattle.row_schema.specs.Tables.{Build, BuildKey, build_cmp}

@@ -4,7 +4,7 @@ use Rattle.std.specs.List.{filter}
 use Rattle.std.specs.Prelude.{ℤ}
 use Rattle.row_codec.specs.Counts.{Running}
 use Rattle.std.proofs.lemmas.List.{take_more}
-use Rattle.state_store.specs.declared.store.Load.{Load}
+use Rattle.station_core.specs.declared.stored.Load.{Load}
 use Rattle.cargo_rows.specs.Meant.{build_meant}
 use Rattle.cargo_rows.specs.declared.builds.BuildRow.{BuildRow}
 use Rattle.running_totals.specs.Loaded.{load_said, row_said, is_loaded}

@@ -2,7 +2,7 @@
 use Rattle.std.specs.Prelude.{ℤ, pos, int_lt, Bool}
 use Rattle.row_schema.specs.Tables.{Build, BuildKey}
 use Rattle.row_codec.specs.Counts.{Running, running_on}
-use Rattle.state_store.specs.declared.store.Load.{Load}
+use Rattle.station_core.specs.declared.stored.Load.{Load}
 
 -- a waybill and its amount
 abbrev pub load_said : Load → ℤ × Running

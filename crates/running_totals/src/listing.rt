@@ -3,7 +3,7 @@ ghost use Rattle.std.specs.FinMap.{FinMap, entries};
 ghost use Rattle.std.specs.List.{prefix_len};
 ghost use Rattle.std.specs.Ordering.{int_eq};
 ghost use Rattle.shipment_machine.specs.Book.{balances_of};
-ghost use Rattle.state_store.specs.Told.{AreAllBalances};
+ghost use Rattle.station_core.specs.Told.{AreAllBalances};
 ghost use Rattle.row_schema.specs.Store.{Seen, Rests, Survives, IsShowing};
 ghost use Rattle.row_schema.specs.Tables.{Count, count_cmp};
 ghost use Rattle.cargo_rows.specs.Meant.{count_meant, counts_for};
@@ -13,7 +13,7 @@ ghost use Rattle.row_codec.specs.Counts.{AreCounts};
 use crate::counting::balances_by;
 use crate::fields::awb_of;
 use shipment_machine::Move;
-use state_store::WaybillBalances;
+use station_core::WaybillBalances;
 use station_rows::{CountRow, StoreFault, TableStore};
 use std::alloc::Global;
 

@@ -1,6 +1,6 @@
 ghost use Rattle.std.specs.Prelude.{◌≡◌, ◌∷◌, ◌++◌, [], pos, int_lt, length, List, map, filter, IfOk, OnOk};
 ghost use Rattle.shipment_machine.specs.Book.{waybills_on};
-ghost use Rattle.state_store.specs.Told.{loads_on};
+ghost use Rattle.station_core.specs.Told.{loads_on};
 ghost use Rattle.row_schema.specs.Store.{Seen, Rests, Survives, IsShowing};
 ghost use Rattle.cargo_rows.specs.Meant.{build_meant};
 ghost use Rattle.station_rows.specs.Clauses.{ShowsStill, WasOpen};
@@ -10,7 +10,7 @@ ghost use Rattle.running_totals.specs.Loaded.{load_said, row_said, is_loaded};
 use crate::fields::{awb_of, whole, written};
 use crate::tally::build_tally;
 use shipment_machine::{FlightDate, Move};
-use state_store::Load;
+use station_core::Load;
 use station_rows::{BuildRow, StoreFault, TableStore};
 use std::alloc::Global;
 

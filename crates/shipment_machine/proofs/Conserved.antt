@@ -16,24 +16,21 @@ use Rattle.shipment_machine.specs.Lawful.{IsLawfulMove, IsLawful}
 use Rattle.shipment_machine.specs.Laws.{IsConserved}
 use Rattle.shipment_machine.proofs.BalanceLaws.{in_at, out_at, total_in, total_out}
 use Rattle.shipment_machine.proofs.ByFlight.{Entry, sum_all, sum_at, covered}
-use Rattle.shipment_machine.proofs.Places.{no_way_out, not_hand, not_surplus, is_built, no_added}
+use Rattle.shipment_machine.proofs.Places.{never_surplus, is_built, no_added}
 
--- Nothing moves outside.
+-- Nothing moves to the surplus.
 
-pub none_in : (s : Cargo) (measure : Move → ℕ) (w : ℕ) (there : Place → Bool) → ((p : Place) → is_outside p ≡ false → there p ≡ false) → (book : List Move) → AllByRecursion (IsLawfulMove s) book → moved_in measure book w there ≡ 0
-none_in s measure w there apart [] h = refl
-none_in s measure w there apart (m ∷ book) h = sum_by-cons (brings measure w there) m book
-    ∙ ap (λ k. k + moved_in measure book w there) (no_added (m.awb == w) (there m.to) (measure m) (apart m.to (no_way_out m.from m.to h.0.pair)))
-    ∙ only_rest (moved_in measure book w there) (none_in s measure w there apart book h.1)
+pub none_in : (s : Cargo) (measure : Move → ℕ) (w : ℕ) (book : List Move) → AllByRecursion (IsLawfulMove s) book → moved_in measure book w (same_place Surplus) ≡ 0
+none_in s measure w [] h = refl
+none_in s measure w (m ∷ book) h = sum_by-cons (brings measure w (same_place Surplus)) m book
+    ∙ ap (λ k. k + moved_in measure book w (same_place Surplus)) (no_added (m.awb == w) (same_place Surplus m.to) (measure m) (never_surplus m.from m.to h.0.pair))
+    ∙ only_rest (moved_in measure book w (same_place Surplus)) (none_in s measure w book h.1)
   where
     only_rest : (n : ℕ) → n ≡ 0 → 0 + n ≡ 0
     only_rest n e = omega arith
 
-pub none_in_hand : (s : Cargo) (measure : Move → ℕ) (w : ℕ) → IsLawful s → moved_in measure s.book w (same_place Hand) ≡ 0
-none_in_hand s measure w law = none_in s measure w (same_place Hand) not_hand s.book law.moves
-
 pub none_in_surplus : (s : Cargo) (measure : Move → ℕ) (w : ℕ) → IsLawful s → moved_in measure s.book w (same_place Surplus) ≡ 0
-none_in_surplus s measure w law = none_in s measure w (same_place Surplus) not_surplus s.book law.moves
+none_in_surplus s measure w law = none_in s measure w s.book law.moves
 
 -- What is built of a waybill, flight by flight.
 
@@ -99,6 +96,10 @@ store_out : (measure : Move → ℕ) (w : ℕ) (book : List Move) → moved_out 
 store_out measure w [] = refl
 store_out measure w (m ∷ book) = simp sum_by-cons (omega (arith, store_out measure w book, store_split (measure m) (m.awb == w) m.from))
 
+-- no more goes back to who brought it than was taken over
+abbrev pub Covers : (Move → ℕ) → List Move → ℕ → Type 0
+Covers measure book w = moved_in measure book w (same_place Hand) ≤ moved_out measure book w (same_place Hand)
+
 -- no more leaves a place of the station than enters it
 abbrev pub Stays : (Move → ℕ) → List Move → ℕ → Place → Type 0
 Stays measure book w p = moved_out measure book w (same_place p) ≤ moved_in measure book w (same_place p)
@@ -156,15 +157,15 @@ all_stay measure book w (place ∷ places) inside stay =
     let here : moved_out measure book w (same_place place) ≤ moved_in measure book w (same_place place) = stay place parts.0 in
     (omega arith, omega arith)
 
-equal_sums : (hi ho si so ti to i o there n : ℕ) → hi + si + ti + i ≡ n → ho + so + to + o ≡ n → hi ≡ 0 → si ≡ 0 → to ≤ ti → o ≤ i → there ≡ i - o →
+equal_sums : (hi ho si so ti to i o there n : ℕ) → hi + si + ti + i ≡ n → ho + so + to + o ≡ n → hi ≤ ho → si ≡ 0 → to ≤ ti → o ≤ i → there ≡ i - o →
     (ho - hi) + (so - si) ≡ (ti - to) + there
 equal_sums hi ho si so ti to i o there n a b c d e f g = omega arith
 
-conserved : (s : Cargo) (measure : Move → ℕ) (w : ℕ) → IsLawful s → AllStay measure s.book w →
+conserved : (s : Cargo) (measure : Move → ℕ) (w : ℕ) → IsLawful s → Covers measure s.book w → AllStay measure s.book w →
     came measure s.book w ≡ there_is measure s.book w in_store + there_at measure s.book w beyond_store
-conserved s measure w law stay =
+conserved s measure w law back stay =
     let beyond = all_stay measure s.book w beyond_store refl stay in
-    equal_sums _ _ _ _ _ _ _ _ _ _ (total_in measure w s.book) (total_out measure w s.book) (none_in_hand s measure w law) (none_in_surplus s measure w law)
+    equal_sums _ _ _ _ _ _ _ _ _ _ (total_in measure w s.book) (total_out measure w s.book) back (none_in_surplus s measure w law)
     (store_stays measure s.book w stay) beyond.0 beyond.1
 
 pub stay_pieces : (s : Cargo) (w : ℕ) → IsLawful s → AllStay pieces_of s.book w
@@ -175,22 +176,22 @@ stay_tenths s w law p inside = (law.stocked w p inside).tenths
 
 pub is_conserved : (s : Cargo) (w : ℕ) → IsLawful s → IsConserved s.book w
 is_conserved s w law =
-    let pieces = conserved s pieces_of w law (stay_pieces s w law) in
-    let tenths = conserved s tenths_of w law (stay_tenths s w law) in
+    let pieces = conserved s pieces_of w law (law.covered w).pieces (stay_pieces s w law) in
+    let tenths = conserved s tenths_of w law (law.covered w).tenths (stay_tenths s w law) in
     λ i. record { pieces = pieces i; tenths = tenths i }
 
 -- No place of the store, and not the missing, holds more than came in.
 
-free_within : (s : Cargo) (measure : Move → ℕ) (w : ℕ) → IsLawful s → AllStay measure s.book w → there_is measure s.book w (same_place Free) ≤ came measure s.book w
-free_within s measure w law stay = omega (arith, conserved s measure w law stay, (built_within measure s.book w flight_any stay).0, stay Free refl, store_in measure w s.book, store_out measure w s.book)
+free_within : (s : Cargo) (measure : Move → ℕ) (w : ℕ) → IsLawful s → Covers measure s.book w → AllStay measure s.book w → there_is measure s.book w (same_place Free) ≤ came measure s.book w
+free_within s measure w law back stay = omega (arith, conserved s measure w law back stay, (built_within measure s.book w flight_any stay).0, stay Free refl, store_in measure w s.book, store_out measure w s.book)
 
-load_within : (s : Cargo) (measure : Move → ℕ) (w : ℕ) (k : FlightDate) → IsLawful s → AllStay measure s.book w → there_is measure s.book w (same_place (Built k)) ≤ came measure s.book w
-load_within s measure w k law stay = omega (arith, conserved s measure w law stay, (built_within measure s.book w k stay).0, (built_within measure s.book w k stay).1, stay Free refl, store_in measure w s.book, store_out measure w s.book)
+load_within : (s : Cargo) (measure : Move → ℕ) (w : ℕ) (k : FlightDate) → IsLawful s → Covers measure s.book w → AllStay measure s.book w → there_is measure s.book w (same_place (Built k)) ≤ came measure s.book w
+load_within s measure w k law back stay = omega (arith, conserved s measure w law back stay, (built_within measure s.book w k stay).0, (built_within measure s.book w k stay).1, stay Free refl, store_in measure w s.book, store_out measure w s.book)
 
-missing_within : (s : Cargo) (measure : Move → ℕ) (w : ℕ) → IsLawful s → AllStay measure s.book w → there_is measure s.book w (same_place Missing) ≤ came measure s.book w
-missing_within s measure w law stay =
+missing_within : (s : Cargo) (measure : Move → ℕ) (w : ℕ) → IsLawful s → Covers measure s.book w → AllStay measure s.book w → there_is measure s.book w (same_place Missing) ≤ came measure s.book w
+missing_within s measure w law back stay =
     let first : there_is measure s.book w (same_place Missing) ≤ there_at measure s.book w beyond_store = first_there measure s.book w Missing (rest beyond_store) in
-    omega (arith, conserved s measure w law stay, first)
+    omega (arith, conserved s measure w law back stay, first)
   where
     rest : List Place → List Place
     rest [] = []
@@ -207,24 +208,24 @@ light_came s w law = leb-true _ _ (and_parts _ _ (law.within w)).1
 
 pub held_free : (s : Cargo) (w : ℕ) → IsLawful s → IsHeld (free s.book w)
 held_free s w law = record {
-  pieces = omega (arith, free_within s pieces_of w law (stay_pieces s w law), few_came s w law);
-  tenths = omega (arith, free_within s tenths_of w law (stay_tenths s w law), light_came s w law);
+  pieces = omega (arith, free_within s pieces_of w law (law.covered w).pieces (stay_pieces s w law), few_came s w law);
+  tenths = omega (arith, free_within s tenths_of w law (law.covered w).tenths (stay_tenths s w law), light_came s w law);
   tenth_a_piece = (law.stocked w Free refl).tenth_a_piece;
 }
 
 pub held_built : (s : Cargo) (w : ℕ) (k : FlightDate) → IsLawful s → IsHeld (built s.book w k)
 held_built s w k law = record {
-  pieces = omega (arith, load_within s pieces_of w k law (stay_pieces s w law), few_came s w law);
-  tenths = omega (arith, load_within s tenths_of w k law (stay_tenths s w law), light_came s w law);
+  pieces = omega (arith, load_within s pieces_of w k law (law.covered w).pieces (stay_pieces s w law), few_came s w law);
+  tenths = omega (arith, load_within s tenths_of w k law (law.covered w).tenths (stay_tenths s w law), light_came s w law);
   tenth_a_piece = (law.stocked w (Built k) refl).tenth_a_piece;
 }
 
 pub held_missing : (s : Cargo) (w : ℕ) → IsLawful s → IsHeld (missing s.book w)
 held_missing s w law = record {
-  pieces = omega (arith, missing_within s pieces_of w law (stay_pieces s w law), few_came s w law);
-  tenths = omega (arith, missing_within s tenths_of w law (stay_tenths s w law), light_came s w law);
+  pieces = omega (arith, missing_within s pieces_of w law (law.covered w).pieces (stay_pieces s w law), few_came s w law);
+  tenths = omega (arith, missing_within s tenths_of w law (law.covered w).tenths (stay_tenths s w law), light_came s w law);
   tenth_a_piece = (law.stocked w Missing refl).tenth_a_piece;
 }
 
 pub missing_came : (s : Cargo) (w : ℕ) → IsLawful s → (missing s.book w).tenths ≤ (taken s.book w).tenths + (found s.book w).tenths
-missing_came s w law = missing_within s tenths_of w law (stay_tenths s w law)
+missing_came s w law = missing_within s tenths_of w law (law.covered w).tenths (stay_tenths s w law)

@@ -6,7 +6,7 @@ use Rattle.std.specs.List.{AllByRecursion, list_any, flat_map}
 use Rattle.std.proofs.lemmas.Bool.{ltb-true}
 use Rattle.std.proofs.lemmas.Bool.Decides.{nat_tests}
 use Rattle.std.proofs.lemmas.List.Folds.{list_any-append}
-use Rattle.imp_fields.specs.Date.{LocalMinute}
+use Rattle.station_days.specs.Date.{LocalMinute}
 use Rattle.shipment_machine.specs.declared.amount.Amount.{Amount}
 use Rattle.shipment_machine.specs.declared.flight.FlightDate.{FlightDate}
 use Rattle.shipment_machine.specs.declared.moves.Place.TheVariants.{Built, Departed}
@@ -109,6 +109,7 @@ departed_lawful s flight o named at is w ws some shut away law =
     let less : (q : ℕ) (k : FlightDate) → (built new q k).pieces ≤ (built s.book q k).pieces = λ q k. subst (λ (n : ℕ). n ≤ (built s.book q k).pieces) (sym (after q k)) (minus _ _) in
     record {
       stocked = sound.stocked;
+      covered = sound.covered;
       within = λ q. within_of (record s { book = new }) q sound;
       declarations = law.declarations;
       expectations = law.expectations;

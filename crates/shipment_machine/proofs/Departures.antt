@@ -5,7 +5,7 @@ use Rattle.std.proofs.lemmas.Bool.Decides.{nat_tests}
 use Rattle.std.proofs.lemmas.List.{append-nil}
 use Rattle.std.proofs.lemmas.List.Sums.{sum_by_push, sum_by-cons, sum_by-append}
 use Rattle.std.proofs.lemmas.List.Folds.{list_any-append}
-use Rattle.imp_fields.specs.Date.{LocalMinute}
+use Rattle.station_days.specs.Date.{LocalMinute}
 use Rattle.shipment_machine.specs.declared.amount.Amount.{Amount}
 use Rattle.shipment_machine.specs.declared.flight.FlightDate.{FlightDate}
 use Rattle.shipment_machine.specs.declared.moves.Place.{Place}
@@ -50,6 +50,7 @@ fitting s flight a w named at is h = record {
   names_from = is;
   names_to = tt;
   leaves = λ _. all_of _ _ _ _ h.pieces h.tenths;
+  back = λ e. absurd (true≢false (sym e));
   room = λ e. absurd (true≢false (sym e));
 }
   where

@@ -8,7 +8,7 @@ use Rattle.shipment_machine.specs.declared.amount.Amount.{Amount}
 use Rattle.jiff_core.specs.Calendar.{days_of_years, days_of_months, day_count, days_from_civil}
 use Rattle.imp_fields.specs.Flight.{Designator}
 use Rattle.shipment_machine.specs.declared.flight.FlightDate.{FlightDate}
-use Rattle.imp_fields.specs.Date.{LocalMinute, day_line}
+use Rattle.station_days.specs.Date.{LocalMinute, day_line}
 use Rattle.imp_fields.specs.declared.fault.Why.TheVariants as why
 use Rattle.shipment_machine.specs.declared.moves.Place.{Place}
 use Rattle.shipment_machine.specs.declared.moves.Place.TheVariants.{Hand, Surplus, Free, Built, Delivered, Missing, Transferred}
@@ -165,6 +165,89 @@ example_depart_empty = refl
 example_balances : taken left.book w1 ∷ store left.book w1 ∷ departed left.book w1 ∷ delivered left.book w1 ∷ missing left.book w1 ∷ found left.book w1 ∷ built left.book w1 (lh_on 400) ∷ []
     ≡ amount 10 1000 ∷ amount 6 600 ∷ amount 4 400 ∷ amount 0 0 ∷ amount 0 0 ∷ amount 0 0 ∷ amount 0 0 ∷ []
 example_balances = refl
+
+-- Pieces that were received go back, all of them or some with their share, and are received anew.
+
+abbrev withdrawing : ℕ → ShipmentCommand
+withdrawing pieces = order.Desk (desk.Withdraw w1 pieces (codes "ACME"))
+
+example_withdraw : moves received (withdrawing 4) noon ≡ (Free, Hand, amount 4 400) ∷ []
+example_withdraw = refl
+
+example_withdraw_tells_nothing : events received (withdrawing 4) noon ≡ []
+example_withdraw_tells_nothing = refl
+
+abbrev withdrawn : Cargo
+withdrawn = after received (withdrawing 10) noon
+
+example_withdraw_balances : taken withdrawn.book w1 ∷ store withdrawn.book w1 ∷ [] ≡ amount 0 0 ∷ amount 0 0 ∷ []
+example_withdraw_balances = refl
+
+-- at another weight, though the waybill still has moves
+example_receive_anew : reply withdrawn (order.Desk (desk.Receive w1 10 2000 (codes "ACME"))) noon ≡ Ok 10
+example_receive_anew = refl
+
+example_book_still_moved : reply withdrawn booking noon ≡ refused_waybill 202 w1
+example_book_still_moved = refl
+
+example_withdraw_too_much : reply manifested (withdrawing 7) noon ≡ refused_free 6
+example_withdraw_too_much = refl
+
+example_withdraw_elsewhere : reply (record received { here = jfk }) (withdrawing 1) noon ≡ refused_waybill 204 w1
+example_withdraw_elsewhere = refl
+
+example_withdraw_unknown : reply fresh (withdrawing 1) noon ≡ refused_waybill 201 w1
+example_withdraw_unknown = refl
+
+-- ten pieces of 100.0 kg were taken over, and two of 900.0 kg beside them
+abbrev with_found : Cargo
+with_found = after received (order.Desk (desk.Found w1 2 9000 None)) noon
+
+-- no more pieces go back than were taken over, and no more weight
+example_withdraw_found_pieces : reply with_found (withdrawing 11) noon ≡ refused_waybill 223 w1
+example_withdraw_found_pieces = refl
+
+example_withdraw_found_weight : reply with_found (withdrawing 2) noon ≡ refused_waybill 223 w1
+example_withdraw_found_weight = refl
+
+example_withdraw_one_of_found : moves with_found (withdrawing 1) noon ≡ (Free, Hand, amount 1 833) ∷ []
+example_withdraw_one_of_found = refl
+
+-- A flight with nothing on it unloads elsewhere from now on.
+
+abbrev rerouting : ℕ → List ℕ → ShipmentCommand
+rerouting flight unload = order.Desk (desk.Reroute (lh_on flight) unload)
+
+abbrev emptied : Cargo
+emptied = after manifested (order.Desk (desk.Offload w1 (lh_on 400) 4)) noon
+
+example_reroute : reply emptied (rerouting 400 (codes "ORD")) noon ≡ Ok 1
+example_reroute = refl
+
+example_reroute_same : reply emptied (rerouting 400 jfk) noon ≡ Ok 0
+example_reroute_same = refl
+
+-- what is built then goes there, and no longer to where it went
+abbrev rerouted : Cargo
+rerouted = after emptied (rerouting 400 (codes "ORD")) noon
+
+example_manifest_rerouted : reply rerouted (order.Desk (desk.Manifest w1 (lh_on 400) (codes "ORD") 4)) noon ≡ Ok 4
+example_manifest_rerouted = refl
+
+example_manifest_old_point : reply rerouted manifesting noon ≡ refused_flight 218 (lh_on 400)
+example_manifest_old_point = refl
+
+example_reroute_unknown : reply emptied (rerouting 401 jfk) noon ≡ refused_flight 221 (lh_on 401)
+example_reroute_unknown = refl
+
+example_reroute_closed : reply left (rerouting 400 fra) noon ≡ refused_flight 208 (lh_on 400)
+example_reroute_closed = refl
+
+example_reroute_here : reply manifested (rerouting 400 fra) noon ≡ refused_flight 204 (lh_on 400)
+example_reroute_here = refl
+
+example_reroute_built : reply manifested (rerouting 400 jfk) noon ≡ refused_flight 222 (lh_on 400)
+example_reroute_built = refl
 
 -- A manifest announces ten pieces here, of which seven, twelve or none are counted.
 

@@ -1,10 +1,10 @@
 -- Moves onto a flight and off it keep a state lawful.
-use Rattle.std.proofs.Common.{◌≡◌, ◌≢◌, ℕ, ◌+◌, ◌-◌, ◌<◌, ◌≤◌, Bool, true, false, ◌&&◌, ◌||◌, ◌==◌, nat_lt, Option, Some, None, IsSome, IfSome, List, [], ◌∷◌, ◌++◌, length, refl, sym, ap, subst, ◌∙◌, arith, true≢false, ◌⊎◌, inl, inr}
+use Rattle.std.proofs.Common.{◌≡◌, ◌≢◌, ℕ, ◌+◌, ◌-◌, ◌<◌, ◌≤◌, Bool, true, false, ◌&&◌, ◌||◌, ◌==◌, nat_lt, Option, Some, IsSome, IfSome, List, [], ◌∷◌, ◌++◌, length, refl, sym, ap, subst, ◌∙◌, arith, true≢false, ◌⊎◌, inl, inr}
 use Rattle.std.specs.Bool.{if◌then◌else◌}
 use Rattle.std.specs.Str.{bytes_eq}
 use Rattle.std.specs.List.{AllByRecursion, list_any, filter}
 use Rattle.std.proofs.lemmas.Bool.Decides.{nat_tests}
-use Rattle.imp_fields.specs.Date.{LocalMinute}
+use Rattle.station_days.specs.Date.{LocalMinute}
 use Rattle.shipment_machine.specs.declared.flight.FlightDate.{FlightDate}
 use Rattle.shipment_machine.specs.declared.moves.Place.{Place}
 use Rattle.shipment_machine.specs.declared.moves.Place.TheVariants.{Free, Built, Departed}
@@ -101,6 +101,7 @@ offloaded s w n t flight named at fit law =
     let departs : (k : FlightDate) → departs_with k m ≡ false = λ k. and_never (same_flight_date flight k) in
     record {
       stocked = sound.stocked;
+      covered = sound.covered;
       within = λ q. within_of (with_move s m) q sound;
       declarations = law.declarations;
       expectations = law.expectations;
@@ -121,7 +122,7 @@ offloaded s w n t flight named at fit law =
     at_most : (a b : ℕ) → a ≤ b → b ≤ 500 → a ≤ 500
     at_most a b h e = omega arith
 
--- A new flight.
+-- A new flight, or one that unloads elsewhere from now on.
 
 -- flights with one more note
 abbrev pub with_note : Cargo → FlightDate → Outbound → Cargo
@@ -142,9 +143,10 @@ none_departed s flight k law ajar same = same_departs k flight s.book same ∙ n
     not_true true h = absurd (h refl)
     not_true false h = refl
 
-pub noted_open : (s : Cargo) (flight : FlightDate) (o : Outbound) → s.flights flight ≡ None → o.closed ≡ false → bytes_eq o.unload s.here ≡ false → IsLawful s → IsLawful (with_note s flight o)
-noted_open s flight o none ajar away law = record {
+pub noted_open : (s : Cargo) (flight : FlightDate) (o : Outbound) → is_closed (s.flights flight) ≡ false → o.closed ≡ false → bytes_eq o.unload s.here ≡ false → IsLawful s → IsLawful (with_note s flight o)
+noted_open s flight o open' ajar away law = record {
   stocked = law.stocked;
+  covered = law.covered;
   within = law.within;
   declarations = law.declarations;
   expectations = law.expectations;
@@ -152,7 +154,7 @@ noted_open s flight o none ajar away law = record {
   trail = law.trail;
   used = law.used;
   closed = λ k. elim (same_flight_date k flight) as (λ b. same_flight_date k flight ≡ b → (is_closed (if b then Some o else s.flights k) ≡ true → list_any (departs_with k) s.book ≡ true) × (list_any (departs_with k) s.book ≡ true → is_closed (if b then Some o else s.flights k) ≡ true)) [
-    | true ↦ λ e. ((λ h. absurd (true≢false (sym h ∙ ajar))), (λ h. absurd (true≢false (sym h ∙ none_departed s flight k law (ap is_closed none) e))))
+    | true ↦ λ e. ((λ h. absurd (true≢false (sym h ∙ ajar))), (λ h. absurd (true≢false (sym h ∙ none_departed s flight k law open' e))))
     | false ↦ λ e. ((law.closed k).0, (law.closed k).1)
   ] refl;
   departed = law.departed;
@@ -256,6 +258,7 @@ manifested s w n t flight named at fit ajar room law =
     ] refl in
     record {
       stocked = sound.stocked;
+      covered = sound.covered;
       within = λ q. within_of (with_move s m) q sound;
       declarations = law.declarations;
       expectations = law.expectations;

@@ -5,7 +5,7 @@ use Rattle.std.specs.Option.{unwrap_or}
 use Rattle.std.specs.List.{AllByRecursion}
 use Rattle.std.proofs.lemmas.Bool.{ltb-false}
 use Rattle.std.proofs.lemmas.List.{append-nil}
-use Rattle.imp_fields.specs.Date.{LocalMinute}
+use Rattle.station_days.specs.Date.{LocalMinute}
 use Rattle.shipment_machine.specs.declared.moves.Move.{Move}
 use Rattle.shipment_machine.specs.declared.moves.Declared.{Declared}
 use Rattle.shipment_machine.specs.declared.moves.Expected.{Expected}
@@ -54,6 +54,7 @@ pub keeps_confirm : (s : Cargo) (upto : ℕ) (at : LocalMinute) (text : List ℕ
 keeps_confirm s upto at text law = by_refusals s (order.Desk (desk.Confirm upto)) at _ (λ none.
     subst (λ (book : List Move). IsLawful (record s { book = book; confirmed = upto })) (sym (append-nil s.book)) (record {
       stocked = law.stocked;
+      covered = law.covered;
       within = law.within;
       declarations = law.declarations;
       expectations = law.expectations;
@@ -88,6 +89,7 @@ still_expected (Some e) P Q f h = (h.0, f h.1)
 pub declares : (s : Cargo) (w : ℕ) (d : Declared) → IsLawfulAmount d.pieces d.tenths → IsLawful s → IsLawful (with_declared s w d)
 declares s w d fine law = record {
   stocked = law.stocked;
+  covered = law.covered;
   within = law.within;
   declarations = λ q. chosen (λ d. IsLawfulAmount d.pieces d.tenths) (q == w) d (s.declared q) fine (law.declarations q);
   expectations = λ k q. still_expected (s.expected k q) _ _ (still_some (q == w) d (s.declared q)) (law.expectations k q);

@@ -1,9 +1,9 @@
 -- Whatever is done, a lawful state stays lawful. The commands that take up few lines are here, the others in files of their own.
-use Rattle.std.proofs.Common.{◌≡◌, ℕ, zero, suc, ◌+◌, ◌-◌, ◌≤◌, min, max, true, false, Option, Some, None, IsSome, List, refl, subst, arith, append_assoc}
+use Rattle.std.proofs.Common.{◌≡◌, ℕ, zero, suc, ◌+◌, ◌-◌, ◌≤◌, min, max, Bool, true, false, ◌||◌, nat_lt, Option, Some, None, IsSome, List, refl, subst, arith, append_assoc, true≢false}
 use Rattle.std.specs.Prelude.{IfOk}
 use Rattle.std.proofs.lemmas.Bool.{ltb-false}
 use Rattle.std.proofs.lemmas.List.Elements.{recursion_from_All}
-use Rattle.imp_fields.specs.Date.{LocalMinute}
+use Rattle.station_days.specs.Date.{LocalMinute}
 use Rattle.shipment_machine.specs.declared.amount.Amount.{Amount}
 use Rattle.shipment_machine.specs.declared.flight.FlightDate.{FlightDate}
 use Rattle.shipment_machine.specs.declared.moves.Place.{Place}
@@ -13,7 +13,7 @@ use Rattle.shipment_machine.specs.declared.command.DeskCommand.{DeskCommand}
 use Rattle.shipment_machine.specs.declared.command.DeskCommand.TheVariants as desk
 use Rattle.shipment_machine.specs.declared.command.ShipmentCommand.TheVariants as order
 use Rattle.shipment_machine.specs.Amount.{amount, part, plus}
-use Rattle.shipment_machine.specs.Book.{pieces_of, tenths_of, free, built, missing, taken_and_found}
+use Rattle.shipment_machine.specs.Book.{same_place, pieces_of, tenths_of, taken, free, built, missing, taken_and_found}
 use Rattle.shipment_machine.specs.Cargo.{Cargo}
 use Rattle.shipment_machine.specs.Effect.{effect, carried_out, move_of, surplus}
 use Rattle.shipment_machine.specs.Lawful.{is_pair, IsLawful, IsNoted, NamesFlight, HasPieces}
@@ -25,8 +25,8 @@ use Rattle.shipment_machine.proofs.SoundBook.{there_are}
 use Rattle.shipment_machine.proofs.PlainMoves.{lawful_after}
 use Rattle.shipment_machine.proofs.FlightMoves.{offloaded}
 use Rattle.shipment_machine.proofs.Departed.{noted_load}
-use Rattle.shipment_machine.proofs.KeepsMoves.{is_known, with_moves, may_move, inside_fits, outside_fits, came_inside, fits_parts}
-use Rattle.shipment_machine.proofs.KeepsFlights.{keeps_check_in, keeps_manifest, keeps_depart}
+use Rattle.shipment_machine.proofs.KeepsMoves.{is_known, with_moves, may_move, inside_back, inside_fits, outside_fits, came_inside, fits_parts}
+use Rattle.shipment_machine.proofs.KeepsFlights.{keeps_check_in, keeps_manifest, keeps_reroute, keeps_depart}
 use Rattle.shipment_machine.proofs.KeepsRows.{keeps_book, keeps_fwb, keeps_ffm, keeps_fsu, here_have_pieces}
 
 -- what a command of the desk makes of a lawful state is lawful
@@ -34,12 +34,12 @@ abbrev Keeps : Cargo → DeskCommand → Type 0
 Keeps s command = (at : LocalMinute) (text : List ℕ) → IsLawful s → IfOk (effect s (order.Desk command) at) (λ done. IsLawful (carried_out text done s))
 
 -- a part of the free cargo may go to a place that isn't built
-free_to : (s : Cargo) (w p : ℕ) (to : Place) (flight : Option FlightDate) (at : LocalMinute) → is_pair Free to ≡ true → is_built to ≡ false → IsNoted s to → NamesFlight to flight
+free_to : (s : Cargo) (w p : ℕ) (to : Place) (flight : Option FlightDate) (at : LocalMinute) → is_pair Free to ≡ true → same_place Hand to ≡ false → is_built to ≡ false → IsNoted s to → NamesFlight to flight
     → IsSome (s.declared w) → p ≤ there_are pieces_of s.book w Free → IsLawful s → IsLawful (with_moves s (move_of w Free to (part (free s.book w) p) flight at))
-free_to s w p to flight at pair plain noted names known within law =
+free_to s w p to flight at pair stays plain noted names known within law =
     let held = held_free s w law in
     may_move s w Free to (part (free s.book w) p) flight at (λ some.
-    lawful_after s _ (inside_fits s w p Free to flight at refl pair some within known tt noted tt names held.pieces law) refl plain law) law
+    lawful_after s _ (inside_fits s w p Free to flight at refl pair stays some within known tt noted tt names held.pieces law) refl plain law) law
 
 -- Receive.
 
@@ -48,24 +48,39 @@ keeps_receive s w p t name at text law = by_refusals s (order.Desk (desk.Receive
     let a : Amount = amount p (max t p) in
     let room = fits_parts (plus (taken_and_found s.book w) a) none.1.1.1.0 in
     may_move s w Hand Free a None at (λ some.
-    lawful_after s _ (outside_fits s w p (max t p) Hand Free None at refl refl some (heavier t p) (is_known (s.declared w) none.0) tt tt tt tt room.0 room.1) refl refl law) law)
+    lawful_after s _ (outside_fits s w p (max t p) Hand Free None at refl refl refl some (heavier t p) (is_known (s.declared w) none.0) tt tt tt tt room.0 room.1) refl refl law) law)
   where
     heavier : (t p : ℕ) → p ≤ max t p
     heavier t p = omega arith
+
+-- Withdraw.
+
+keeps_withdraw : (s : Cargo) (w p : ℕ) (name : List ℕ) → Keeps s (desk.Withdraw w p name)
+keeps_withdraw s w p name at text law = by_refusals s (order.Desk (desk.Withdraw w p name)) at _ (λ none.
+    let held = held_free s w law in
+    let a : Amount = part (free s.book w) p in
+    let most = both_false (nat_lt (taken s.book w).pieces p) (nat_lt (taken s.book w).tenths a.tenths) none.1.1.1.0 in
+    let within : p ≤ there_are pieces_of s.book w Free = ltb-false _ _ none.1.1.0 in
+    may_move s w Free Hand a None at (λ some.
+    lawful_after s _ (inside_back s w p Free Hand None at refl refl (λ _. (ltb-false _ _ most.0, ltb-false _ _ most.1)) some within (is_known (s.declared w) none.0) tt tt tt tt held.pieces law) refl refl law) law)
+  where
+    both_false : (a b : Bool) → (a || b) ≡ false → (a ≡ false) × (b ≡ false)
+    both_false true b e = absurd (true≢false e)
+    both_false false b e = (refl, e)
 
 -- Deliver, transfer and missing.
 
 keeps_deliver : (s : Cargo) (w p : ℕ) (name : List ℕ) → Keeps s (desk.Deliver w p name)
 keeps_deliver s w p name at text law = by_refusals s (order.Desk (desk.Deliver w p name)) at _ (λ none.
-    free_to s w p Delivered None at refl refl tt tt (is_known (s.declared w) none.0) (ltb-false _ _ none.1.1.1.0) law)
+    free_to s w p Delivered None at refl refl refl tt tt (is_known (s.declared w) none.0) (ltb-false _ _ none.1.1.1.0) law)
 
 keeps_transfer : (s : Cargo) (w p : ℕ) (airline : List ℕ) → Keeps s (desk.Transfer w p airline)
 keeps_transfer s w p airline at text law = by_refusals s (order.Desk (desk.Transfer w p airline)) at _ (λ none.
-    free_to s w p Transferred None at refl refl tt tt (is_known (s.declared w) none.0) (ltb-false _ _ none.1.1.0) law)
+    free_to s w p Transferred None at refl refl refl tt tt (is_known (s.declared w) none.0) (ltb-false _ _ none.1.1.0) law)
 
 keeps_missing : (s : Cargo) (w p : ℕ) (flight : Option FlightDate) → Keeps s (desk.Missing w p flight)
 keeps_missing s w p flight at text law = by_refusals s (order.Desk (desk.Missing w p flight)) at _ (λ none.
-    free_to s w p Missing flight at refl refl tt tt (is_known (s.declared w) none.0) (ltb-false _ _ none.1.0) law)
+    free_to s w p Missing flight at refl refl refl tt tt (is_known (s.declared w) none.0) (ltb-false _ _ none.1.0) law)
 
 -- Offload.
 
@@ -75,7 +90,7 @@ keeps_offload s w p flight at text law = by_refusals s (order.Desk (desk.Offload
     let held = held_built s w flight law in
     let within : p ≤ there_are pieces_of s.book w (Built flight) = ltb-false _ _ none.1.1.0 in
     offloaded s w p _ flight (Some flight) at
-    (inside_fits s w p (Built flight) Free (Some flight) at refl refl some within (is_known (s.declared w) none.0) (noted_load s w flight law (omega arith)) tt refl tt held.pieces law) law) law)
+    (inside_fits s w p (Built flight) Free (Some flight) at refl refl refl some within (is_known (s.declared w) none.0) (noted_load s w flight law (omega arith)) tt refl tt held.pieces law) law) law)
 
 -- Found.
 
@@ -95,20 +110,22 @@ keeps_found s w p t flight at text law = by_refusals s (order.Desk (desk.Found w
     let room = fits_parts (plus (taken_and_found s.book w) more) none.1.0 in
     let s1 : Cargo = with_moves s (move_of w Missing Free back flight at) in
     let law1 : IsLawful s1 = may_move s w Missing Free back flight at (λ some.
-    lawful_after s _ (inside_fits s w (min p (missing s.book w).pieces) Missing Free flight at refl refl some (back_held s w p) known tt tt tt tt held.pieces law) refl refl law) law in
+    lawful_after s _ (inside_fits s w (min p (missing s.book w).pieces) Missing Free flight at refl refl refl some (back_held s w p) known tt tt tt tt held.pieces law) refl refl law) law in
     let pieces1 : came pieces_of s1.book w ≤ came pieces_of s.book w = came_inside s pieces_of w Missing Free back flight at refl refl law in
     let tenths1 : came tenths_of s1.book w ≤ came tenths_of s.book w = came_inside s tenths_of w Missing Free back flight at refl refl law in
     let all : came pieces_of s.book w + more.pieces ≤ 9999 = room.0 in
     let heavy : came tenths_of s.book w + more.tenths ≤ 999999 = room.1 in
     let law2 : IsLawful (with_moves s1 (move_of w Surplus Free more flight at)) = may_move s1 w Surplus Free more flight at (λ some.
-    lawful_after s1 _ (outside_fits s1 w more.pieces more.tenths Surplus Free flight at refl refl some (surplus_heavy (p - (missing s.book w).pieces) t) known tt tt tt tt (omega arith) (omega arith)) refl refl law1) law1 in
+    lawful_after s1 _ (outside_fits s1 w more.pieces more.tenths Surplus Free flight at refl refl refl some (surplus_heavy (p - (missing s.book w).pieces) t) known tt tt tt tt (omega arith) (omega arith)) refl refl law1) law1 in
     subst (λ (book : List Move). IsLawful (record s { book = book })) (append_assoc {A = Move} s.book (move_of w Missing Free back flight at) (move_of w Surplus Free more flight at)) law2)
 
 pub keeps_lawful : KeepsLawful
 keeps_lawful s (order.Desk (desk.Book w origin destination p t goods)) at text law proper = keeps_book s w origin destination p t goods at text proper law
 keeps_lawful s (order.Desk (desk.Receive w p t name)) at text law proper = keeps_receive s w p t name at text law
+keeps_lawful s (order.Desk (desk.Withdraw w p name)) at text law proper = keeps_withdraw s w p name at text law
 keeps_lawful s (order.Desk (desk.Manifest w flight unload p)) at text law proper = keeps_manifest s w p flight unload at text law
 keeps_lawful s (order.Desk (desk.Offload w flight p)) at text law proper = keeps_offload s w p flight at text law
+keeps_lawful s (order.Desk (desk.Reroute flight unload)) at text law proper = keeps_reroute s flight unload at text law
 keeps_lawful s (order.Desk (desk.Depart flight)) at text law proper = keeps_depart s flight at text law
 keeps_lawful s (order.Desk (desk.CheckIn w flight counted)) at text law proper = keeps_check_in s w flight counted at text law
 keeps_lawful s (order.Desk (desk.Notify w name)) at text law proper = keeps_notify s w name at text law

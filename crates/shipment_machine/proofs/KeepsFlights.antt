@@ -1,13 +1,13 @@
--- Check-in, manifest and departure keep a state lawful.
+-- Check-in, manifest, rerouting and departure keep a state lawful.
 use Rattle.std.proofs.Common.{◌≡◌, ℕ, ◌+◌, ◌-◌, ◌<◌, ◌≤◌, Bool, true, false, ◌&&◌, ◌==◌, nat_lt, nat_le, Option, Some, None, is_none, IsSome, IfSome, IfOk, List, [], ◌∷◌, ◌++◌, length, refl, sym, ap, subst, ◌∙◌, arith, append_assoc, true≢false, inl, inr}
 use Rattle.std.specs.Prelude.{is_some}
-use Rattle.std.proofs.lemmas.List.{length-map}
+use Rattle.std.proofs.lemmas.List.{length-map, append-nil}
 use Rattle.std.specs.Bool.{if◌then◌else◌}
 use Rattle.std.specs.Str.{bytes_eq}
 use Rattle.std.proofs.lemmas.Bool.{leb-true, leb-false, ltb-false}
 use Rattle.std.proofs.lemmas.Bool.Decides.{nat_tests}
 use Rattle.imp_fields.specs.Amount.{share_of}
-use Rattle.imp_fields.specs.Date.{LocalMinute}
+use Rattle.station_days.specs.Date.{LocalMinute}
 use Rattle.shipment_machine.specs.declared.amount.Amount.{Amount}
 use Rattle.shipment_machine.specs.declared.flight.FlightDate.{FlightDate}
 use Rattle.shipment_machine.specs.declared.moves.Place.TheVariants.{Hand, Surplus, Free, Built, Missing}
@@ -76,16 +76,16 @@ keeps_check_in s w flight counted at text law = by_refusals s (order.Desk (desk.
     let sp : Split e first rest = split e counted fine in
     let s1 : Cargo = with_moves s (move_of w Hand Free first (Some flight) at) in
     let law1 : IsLawful s1 = may_move s w Hand Free first (Some flight) at (λ some.
-    lawful_after s _ (outside_fits s w first.pieces first.tenths Hand Free (Some flight) at refl refl some sp.heavy known tt tt tt tt (omega (arith, sp.pieces)) (omega (arith, sp.tenths))) refl refl law) law in
+    lawful_after s _ (outside_fits s w first.pieces first.tenths Hand Free (Some flight) at refl refl refl some sp.heavy known tt tt tt tt (omega (arith, sp.pieces)) (omega (arith, sp.tenths))) refl refl law) law in
     let pieces1 : came pieces_of s1.book w ≤ came pieces_of s.book w + first.pieces = came_with s pieces_of w Hand Free first (Some flight) at first.pieces refl (omega arith) law in
     let tenths1 : came tenths_of s1.book w ≤ came tenths_of s.book w + first.tenths = came_with s tenths_of w Hand Free first (Some flight) at first.tenths refl (omega arith) law in
     let s2 : Cargo = with_moves s1 (move_of w Hand Missing rest (Some flight) at) in
     let law2 : IsLawful s2 = may_move s1 w Hand Missing rest (Some flight) at (λ some.
-    lawful_after s1 _ (outside_fits s1 w rest.pieces rest.tenths Hand Missing (Some flight) at refl refl some sp.rest_heavy known tt tt tt tt (omega (arith, sp.pieces)) (omega (arith, sp.tenths))) refl refl law1) law1 in
+    lawful_after s1 _ (outside_fits s1 w rest.pieces rest.tenths Hand Missing (Some flight) at refl refl refl some sp.rest_heavy known tt tt tt tt (omega (arith, sp.pieces)) (omega (arith, sp.tenths))) refl refl law1) law1 in
     let pieces2 : came pieces_of s2.book w ≤ came pieces_of s1.book w + rest.pieces = came_with s1 pieces_of w Hand Missing rest (Some flight) at rest.pieces refl (omega arith) law1 in
     let tenths2 : came tenths_of s2.book w ≤ came tenths_of s1.book w + rest.tenths = came_with s1 tenths_of w Hand Missing rest (Some flight) at rest.tenths refl (omega arith) law1 in
     let law3 : IsLawful (with_moves s2 (move_of w Surplus Free more (Some flight) at)) = may_move s2 w Surplus Free more (Some flight) at (λ some.
-    lawful_after s2 _ (outside_fits s2 w more.pieces more.tenths Surplus Free (Some flight) at refl refl some (share_heavy e.pieces e.tenths (counted - e.pieces) fine.some fine.tenth_a_piece) known tt tt tt tt (omega (arith, sp.pieces)) (omega (arith, sp.tenths))) refl refl law2) law2 in
+    lawful_after s2 _ (outside_fits s2 w more.pieces more.tenths Surplus Free (Some flight) at refl refl refl some (share_heavy e.pieces e.tenths (counted - e.pieces) fine.some fine.tenth_a_piece) known tt tt tt tt (omega (arith, sp.pieces)) (omega (arith, sp.tenths))) refl refl law2) law2 in
     let joined : ((s.book ++ move_of w Hand Free first (Some flight) at) ++ move_of w Hand Missing rest (Some flight) at) ++ move_of w Surplus Free more (Some flight) at ≡ s.book ++ check_in_moves w flight e counted at =
     join s.book (move_of w Hand Free first (Some flight) at) (move_of w Hand Missing rest (Some flight) at) (move_of w Surplus Free more (Some flight) at) in
     expects text (record s { book = s.book ++ check_in_moves w flight e counted at }) flight w (record { pieces = e.pieces; tenths = e.tenths; checked = true }) fine known
@@ -113,7 +113,7 @@ onto : (s : Cargo) (w p : ℕ) (flight : FlightDate) (at : LocalMinute) → IsSo
     IsLawful (with_moves s (move_of w Free (Built flight) (part (free s.book w) p) (Some flight) at))
 onto s w p flight at known ajar noted within few room law =
     may_move s w Free (Built flight) (part (free s.book w) p) (Some flight) at (λ some.
-    manifested s w p _ flight (Some flight) at (inside_fits s w p Free (Built flight) (Some flight) at refl refl some within known tt noted tt refl few law) ajar room law) law
+    manifested s w p _ flight (Some flight) at (inside_fits s w p Free (Built flight) (Some flight) at refl refl refl some within known tt noted tt refl few law) ajar room law) law
 
 pub keeps_manifest : (s : Cargo) (w p : ℕ) (flight : FlightDate) (unload : List ℕ) (at : LocalMinute) (text : List ℕ) → IsLawful s → IfOk (effect s (order.Desk (desk.Manifest w flight unload p)) at) (λ done. IsLawful (carried_out text done s))
 keeps_manifest s w p flight unload at text law = by_refusals s (order.Desk (desk.Manifest w flight unload p)) at _ (λ none.
@@ -126,9 +126,16 @@ keeps_manifest s w p flight unload at text law = by_refusals s (order.Desk (desk
     let o : Outbound = record { unload = unload; closed = false } in
     elim (s.flights flight) as (λ was. s.flights flight ≡ was → IsLawful (written_all text (if is_none was then NoteFlight flight o ∷ [] else []) (with_moves s (move_of w Free (Built flight) (part (free s.book w) p) (Some flight) at)))) [
       | None ↦ λ e. onto (with_note s flight o) w p flight at known (ap (λ (b : Bool). is_closed (if b then Some o else s.flights flight)) (same-refl flight)) (ap (λ (b : Bool). is_some (if b then Some o else s.flights flight)) (same-refl flight)) within few room
-          (noted_open s flight o e refl away law)
+          (noted_open s flight o (ap is_closed e) refl away law)
       | Some was ↦ λ e. onto s w p flight at known none.1.1.0 (ap is_some e) within few room law
     ] refl)
+
+-- Reroute.
+
+pub keeps_reroute : (s : Cargo) (flight : FlightDate) (unload : List ℕ) (at : LocalMinute) (text : List ℕ) → IsLawful s → IfOk (effect s (order.Desk (desk.Reroute flight unload)) at) (λ done. IsLawful (carried_out text done s))
+keeps_reroute s flight unload at text law = by_refusals s (order.Desk (desk.Reroute flight unload)) at _ (λ none.
+    let o : Outbound = record { unload = unload; closed = false } in
+    subst (λ (book : List Move). IsLawful (with_note (record s { book = book }) flight o)) (sym (append-nil s.book)) (noted_open s flight o none.1.0 refl none.1.1.0 law))
 
 -- Departure.
 

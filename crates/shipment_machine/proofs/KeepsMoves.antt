@@ -5,13 +5,14 @@ use Rattle.std.proofs.lemmas.Bool.{and_parts, leb-true}
 use Rattle.std.proofs.lemmas.Bool.Decides.{nat_tests}
 use Rattle.std.proofs.lemmas.List.{append-nil}
 use Rattle.imp_fields.specs.Amount.{share_of}
-use Rattle.imp_fields.specs.Date.{LocalMinute}
+use Rattle.station_days.specs.Date.{LocalMinute}
 use Rattle.shipment_machine.specs.declared.amount.Amount.{Amount}
 use Rattle.shipment_machine.specs.declared.flight.FlightDate.{FlightDate}
 use Rattle.shipment_machine.specs.declared.moves.Place.{Place}
+use Rattle.shipment_machine.specs.declared.moves.Place.TheVariants.{Hand}
 use Rattle.shipment_machine.specs.declared.moves.Move.{Move}
 use Rattle.shipment_machine.specs.Amount.{fits}
-use Rattle.shipment_machine.specs.Book.{pieces_of, tenths_of}
+use Rattle.shipment_machine.specs.Book.{same_place, pieces_of, tenths_of, taken}
 use Rattle.shipment_machine.specs.Cargo.{Cargo}
 use Rattle.shipment_machine.specs.Effect.{move_of}
 use Rattle.shipment_machine.specs.Lawful.{is_outside, is_pair, IsLawful, IsNoted, NamesFlight}
@@ -50,10 +51,10 @@ may_move s w from to a flight at moves law =
 
 -- From a place of the store, or the missing.
 
--- a part of what is there
-pub inside_fits : (s : Cargo) (w n : ℕ) (from to : Place) (flight : Option FlightDate) (at : LocalMinute) → is_outside from ≡ false → is_pair from to ≡ true → 1 ≤ n → n ≤ there_are pieces_of s.book w from → IsSome (s.declared w) → IsNoted s from → IsNoted s to → NamesFlight from flight → NamesFlight to flight → there_are pieces_of s.book w from ≤ 9999 → IsLawful s →
+-- a part of what is there, which may go back to who brought it
+pub inside_back : (s : Cargo) (w n : ℕ) (from to : Place) (flight : Option FlightDate) (at : LocalMinute) → is_outside from ≡ false → is_pair from to ≡ true → (same_place Hand to ≡ true → (n ≤ (taken s.book w).pieces) × (share_of (there_are pieces_of s.book w from) (there_are tenths_of s.book w from) n ≤ (taken s.book w).tenths)) → 1 ≤ n → n ≤ there_are pieces_of s.book w from → IsSome (s.declared w) → IsNoted s from → IsNoted s to → NamesFlight from flight → NamesFlight to flight → there_are pieces_of s.book w from ≤ 9999 → IsLawful s →
     IsFitting s (record { awb = w; from = from; to = to; pieces = n; tenths = share_of (there_are pieces_of s.book w from) (there_are tenths_of s.book w from) n; flight = flight; at = at })
-inside_fits s w n from to flight at inside pair some within known noted_from noted_to names_from names_to few law =
+inside_back s w n from to flight at inside pair back some within known noted_from noted_to names_from names_to few law =
     let p = there_are pieces_of s.book w from in
     let t = there_are tenths_of s.book w from in
     let weighs : p ≤ t = (law.stocked w from inside).tenth_a_piece in
@@ -68,17 +69,23 @@ inside_fits s w n from to flight at inside pair some within known noted_from not
       names_from = names_from;
       names_to = names_to;
       leaves = λ _. part_leaves p t n some weighs within;
+      back = back;
       room = λ e. absurd (true≢false (sym e ∙ inside));
     }
+
+-- a part that stays here or leaves
+pub inside_fits : (s : Cargo) (w n : ℕ) (from to : Place) (flight : Option FlightDate) (at : LocalMinute) → is_outside from ≡ false → is_pair from to ≡ true → same_place Hand to ≡ false → 1 ≤ n → n ≤ there_are pieces_of s.book w from → IsSome (s.declared w) → IsNoted s from → IsNoted s to → NamesFlight from flight → NamesFlight to flight → there_are pieces_of s.book w from ≤ 9999 → IsLawful s →
+    IsFitting s (record { awb = w; from = from; to = to; pieces = n; tenths = share_of (there_are pieces_of s.book w from) (there_are tenths_of s.book w from) n; flight = flight; at = at })
+inside_fits s w n from to flight at inside pair stays = inside_back s w n from to flight at inside pair (λ e. absurd (true≢false (sym e ∙ stays)))
 
 small : (s : Cargo) (w : ℕ) (from : Place) → IsLawful s → came pieces_of s.book w ≤ 9999
 small s w from law = (sound_of s law).pieces w
 
 -- From outside.
 
-pub outside_fits : (s : Cargo) (w n t : ℕ) (from to : Place) (flight : Option FlightDate) (at : LocalMinute) → is_outside from ≡ true → is_pair from to ≡ true → 1 ≤ n → n ≤ t → IsSome (s.declared w) → IsNoted s from → IsNoted s to → NamesFlight from flight → NamesFlight to flight →
+pub outside_fits : (s : Cargo) (w n t : ℕ) (from to : Place) (flight : Option FlightDate) (at : LocalMinute) → is_outside from ≡ true → is_pair from to ≡ true → same_place Hand to ≡ false → 1 ≤ n → n ≤ t → IsSome (s.declared w) → IsNoted s from → IsNoted s to → NamesFlight from flight → NamesFlight to flight →
     came pieces_of s.book w + n ≤ 9999 → came tenths_of s.book w + t ≤ 999999 → IsFitting s (record { awb = w; from = from; to = to; pieces = n; tenths = t; flight = flight; at = at })
-outside_fits s w n t from to flight at outside pair some heavy known noted_from noted_to names_from names_to few light = record {
+outside_fits s w n t from to flight at outside pair stays some heavy known noted_from noted_to names_from names_to few light = record {
   pair = pair;
   some = some;
   few = omega arith;
@@ -89,6 +96,7 @@ outside_fits s w n t from to flight at outside pair some heavy known noted_from 
   names_from = names_from;
   names_to = names_to;
   leaves = λ e. absurd (true≢false (sym outside ∙ e));
+  back = λ e. absurd (true≢false (sym e ∙ stays));
   room = λ _. (few, light);
 }
 
@@ -107,7 +115,7 @@ came_with s measure w from to a flight at n pair most law =
     added_most true false k = omega arith
     added_most false o k = omega arith
 
-    at_most : (c' c x k : ℕ) → c' ≡ c + x → x ≤ k → k ≤ n → c' ≤ c + n
+    at_most : (c' c x k : ℕ) → c' ≤ c + x → x ≤ k → k ≤ n → c' ≤ c + n
     at_most c' c x k e f g = omega arith
 
 -- nothing came in with a move inside
@@ -125,7 +133,7 @@ came_inside s measure w from to a flight at pair inside law =
     none_added true false k e = refl
     none_added false o k e = refl
 
-    at_most : (c' c x : ℕ) → c' ≡ c + x → x ≡ 0 → c' ≤ c
+    at_most : (c' c x : ℕ) → c' ≤ c + x → x ≡ 0 → c' ≤ c
     at_most c' c x e f = omega arith
 
 pub fits_parts : (a : Amount) → not (fits a) ≡ false → (a.pieces ≤ 9999) × (a.tenths ≤ 999999)

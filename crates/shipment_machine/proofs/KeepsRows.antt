@@ -10,7 +10,7 @@ use Rattle.imp_fields.specs.Characters.{is_line}
 use Rattle.std.proofs.lemmas.List.{append-nil}
 use Rattle.shipment_machine.specs.declared.moves.Move.{Move}
 use Rattle.imp_fields.specs.Amount.{book_weight_of}
-use Rattle.imp_fields.specs.Date.{LocalMinute}
+use Rattle.station_days.specs.Date.{LocalMinute}
 use Rattle.agent_stock.specs.declared.stock.Holder.{Holder}
 use Rattle.agent_stock.specs.declared.stock.Holder.TheVariants as holder
 use Rattle.shipment_machine.specs.declared.flight.FlightDate.{FlightDate}

@@ -8,6 +8,7 @@ use Rattle.shipment_machine.specs.Lawful.{IsLawful}
 pub opening_lawful : (here : List ℕ) → IsLawful (opening_cargo here)
 opening_lawful here = record {
   stocked = λ w p inside. record { pieces = omega arith; tenths = omega arith; tenth_a_piece = omega arith; no_weight_alone = λ _. refl };
+  covered = λ w. record { pieces = omega arith; tenths = omega arith };
   within = λ w. refl;
   declarations = λ w. tt;
   expectations = λ flight w. tt;

@@ -8,31 +8,16 @@ use Rattle.shipment_machine.specs.Cargo.{Cargo}
 use Rattle.shipment_machine.specs.Lawful.{is_outside, is_pair, IsNoted}
 use Rattle.shipment_machine.proofs.FlightKeys.{same-alike}
 
--- Nothing moves outside.
+-- Nothing moves to the surplus, and to the hand only from the free cargo.
 
-pub not_hand : (p : Place) → is_outside p ≡ false → same_place Hand p ≡ false
-not_hand Hand e = absurd (true≢false e)
-not_hand p e = refl
-
-pub not_surplus : (p : Place) → is_outside p ≡ false → same_place Surplus p ≡ false
-not_surplus Hand e = refl
-not_surplus Surplus e = absurd (true≢false e)
-not_surplus p e = refl
-
-pub no_way_out : (from to : Place) → is_pair from to ≡ true → is_outside to ≡ false
-no_way_out from Hand e = absurd (true≢false (sym e ∙ no from))
-  where
-    no : (p : Place) → is_pair p Hand ≡ false
-    no Hand = refl
-    no (Built f) = refl
-    no p = refl
-no_way_out from Surplus e = absurd (true≢false (sym e ∙ no from))
+pub never_surplus : (from to : Place) → is_pair from to ≡ true → same_place Surplus to ≡ false
+never_surplus from Surplus e = absurd (true≢false (sym e ∙ no from))
   where
     no : (p : Place) → is_pair p Surplus ≡ false
     no Hand = refl
     no (Built f) = refl
     no p = refl
-no_way_out from to e = refl
+never_surplus from to e = refl
 
 pub outside_split : (b : Bool) (p : Place) (n : ℕ) → (if b && same_place Hand p then n else 0) + (if b && same_place Surplus p then n else 0) ≡ (if b && is_outside p then n else 0)
 outside_split true Hand n = omega arith

@@ -23,6 +23,7 @@ le_test a b h = grind (arith, nat_tests)
 pub sound_of : (s : Cargo) → IsLawful s → IsSound s
 sound_of s law = record {
   stocked = law.stocked;
+  covered = law.covered;
   pieces = λ w. leb-true _ _ (and_parts _ _ (law.within w)).0;
   tenths = λ w. leb-true _ _ (and_parts _ _ (law.within w)).1;
   moves = law.moves;
@@ -67,6 +68,7 @@ lawful_after s m fit from to law =
     let departs : (k : FlightDate) → departs_with k m ≡ false = λ k. and_none (same_place m.from (Built k)) _ (not_built_on m.from k from) in
     record {
       stocked = sound.stocked;
+      covered = sound.covered;
       within = λ w. within_of (with_move s m) w sound;
       declarations = law.declarations;
       expectations = law.expectations;

@@ -9,12 +9,12 @@ use Rattle.shipment_machine.specs.Book.{same_place, in_store, pieces_of, tenths_
 use Rattle.shipment_machine.specs.Cargo.{Cargo}
 use Rattle.shipment_machine.specs.Lawful.{IsLawful, is_outside}
 use Rattle.shipment_machine.specs.Laws.{IsBalance, CameFrom, AreBalances}
-use Rattle.shipment_machine.proofs.Conserved.{none_in_hand, none_in_surplus, stay_pieces, stay_tenths, store_stays}
+use Rattle.shipment_machine.proofs.Conserved.{none_in_surplus, stay_pieces, stay_tenths, store_stays}
 
 left : (i o : ℕ) → o ≤ i → pos (i - o) ≡ pos i -ℤ pos o
 left i o h = omega (arith, ints, h)
 
-came : (i o : ℕ) → i ≡ 0 → pos (o - i) ≡ neg_ℤ (pos i -ℤ pos o)
+came : (i o : ℕ) → i ≤ o → pos (o - i) ≡ neg_ℤ (pos i -ℤ pos o)
 came i o h = omega (arith, ints, h)
 
 -- at places that keep what they are given
@@ -24,13 +24,16 @@ at_places book w there p t = record { pieces = left _ _ p; tenths = left _ _ t }
 inside : (s : Cargo) (w : ℕ) (p : Place) → IsLawful s → is_outside p ≡ false → IsBalance s.book w (same_place p) (held s.book w (same_place p))
 inside s w p law e = at_places s.book w (same_place p) (stay_pieces s w law p e) (stay_tenths s w law p e)
 
-outside : (book : List Move) (w : ℕ) (there : Place → Bool) → moved_in pieces_of book w there ≡ 0 → moved_in tenths_of book w there ≡ 0 → CameFrom book w there (drawn book w there)
+outside : (book : List Move) (w : ℕ) (there : Place → Bool) → moved_in pieces_of book w there ≤ moved_out pieces_of book w there → moved_in tenths_of book w there ≤ moved_out tenths_of book w there → CameFrom book w there (drawn book w there)
 outside book w there p t = record { pieces = came _ _ p; tenths = came _ _ t }
 
 pub are_balances : (s : Cargo) (w : ℕ) → IsLawful s → AreBalances s.book w
 are_balances s w law = record {
-  taken = outside s.book w (same_place Hand) (none_in_hand s pieces_of w law) (none_in_hand s tenths_of w law);
-  found = outside s.book w (same_place Surplus) (none_in_surplus s pieces_of w law) (none_in_surplus s tenths_of w law);
+  taken = outside s.book w (same_place Hand) (law.covered w).pieces (law.covered w).tenths;
+  found = outside s.book w (same_place Surplus) (nothing _ _ (none_in_surplus s pieces_of w law)) (nothing _ _ (none_in_surplus s tenths_of w law));
   store = at_places s.book w in_store (store_stays pieces_of s.book w (stay_pieces s w law)) (store_stays tenths_of s.book w (stay_tenths s w law));
   held = λ place e. inside s w place law e;
 }
+  where
+    nothing : (i o : ℕ) → i ≡ 0 → i ≤ o
+    nothing i o e = omega (arith, e)

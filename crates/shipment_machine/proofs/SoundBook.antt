@@ -11,11 +11,11 @@ use Rattle.shipment_machine.specs.declared.flight.FlightDate.{FlightDate}
 use Rattle.shipment_machine.specs.declared.moves.Place.{Place}
 use Rattle.shipment_machine.specs.declared.moves.Place.TheVariants.{Hand, Surplus}
 use Rattle.shipment_machine.specs.declared.moves.Move.{Move}
-use Rattle.shipment_machine.specs.Book.{same_place, pieces_of, tenths_of, moved_in, moved_out, brings, takes}
+use Rattle.shipment_machine.specs.Book.{same_place, pieces_of, tenths_of, moved_in, moved_out, brings, takes, taken}
 use Rattle.shipment_machine.specs.Cargo.{Cargo}
-use Rattle.shipment_machine.specs.Lawful.{is_outside, is_pair, IsStocked, IsNoted, NamesFlight, IsLawfulMove}
+use Rattle.shipment_machine.specs.Lawful.{is_outside, is_pair, IsStocked, IsCovered, IsNoted, NamesFlight, IsLawfulMove}
 use Rattle.shipment_machine.proofs.Conserved.{none_in, came}
-use Rattle.shipment_machine.proofs.Places.{no_way_out, not_hand, not_surplus, outside_split, outside_too, same_test, noted_under, added, no_added}
+use Rattle.shipment_machine.proofs.Places.{never_surplus, outside_split, outside_too, same_test, noted_under, added, no_added}
 
 -- what is left of an amount after a part of it is taken has at least a tenth a piece
 pub record Leaves (pieces tenths n t : ℕ) : Type 0 where
@@ -56,11 +56,13 @@ pub record IsFitting (s : Cargo) (m : Move) : Type 0 where
   pub names_from : NamesFlight m.from m.flight
   pub names_to : NamesFlight m.to m.flight
   pub leaves : is_outside m.from ≡ false → Leaves (there_are pieces_of s.book m.awb m.from) (there_are tenths_of s.book m.awb m.from) m.pieces m.tenths
+  pub back : same_place Hand m.to ≡ true → (m.pieces ≤ (taken s.book m.awb).pieces) × (m.tenths ≤ (taken s.book m.awb).tenths)
   pub room : is_outside m.from ≡ true → (came pieces_of s.book m.awb + m.pieces ≤ 9999) × (came tenths_of s.book m.awb + m.tenths ≤ 999999)
 
 -- a sound book
 pub record IsSound (s : Cargo) : Type 0 where
   pub stocked : (w : ℕ) (p : Place) → is_outside p ≡ false → IsStocked s.book w p
+  pub covered : (w : ℕ) → IsCovered s.book w
   pub pieces : (w : ℕ) → came pieces_of s.book w ≤ 9999
   pub tenths : (w : ℕ) → came tenths_of s.book w ≤ 999999
   pub moves : AllByRecursion (IsLawfulMove s) s.book
@@ -150,23 +152,48 @@ stocked_after s m fit q p inside old =
 
 -- What came in.
 
-pub came_after : (s : Cargo) (measure : Move → ℕ) (m : Move) (q : ℕ) → is_pair m.from m.to ≡ true → AllByRecursion (IsLawfulMove s) s.book → came measure (s.book ++ m ∷ []) q ≡ came measure s.book q + added (m.awb == q) (is_outside m.from) (measure m)
+pub came_after : (s : Cargo) (measure : Move → ℕ) (m : Move) (q : ℕ) → is_pair m.from m.to ≡ true → AllByRecursion (IsLawfulMove s) s.book → came measure (s.book ++ m ∷ []) q ≤ came measure s.book q + added (m.awb == q) (is_outside m.from) (measure m)
 came_after s measure m q pair moves =
-    let inside = no_way_out m.from m.to pair in
     sums _ _ _ _ _ _ _ _ _ _ _ _ _
     (sum_by_push (takes measure q (same_place Hand)) s.book m) (sum_by_push (brings measure q (same_place Hand)) s.book m)
     (sum_by_push (takes measure q (same_place Surplus)) s.book m) (sum_by_push (brings measure q (same_place Surplus)) s.book m)
-    (none_in s measure q (same_place Hand) not_hand s.book moves) (none_in s measure q (same_place Surplus) not_surplus s.book moves)
-    (no_added (m.awb == q) (same_place Hand m.to) (measure m) (not_hand m.to inside)) (no_added (m.awb == q) (same_place Surplus m.to) (measure m) (not_surplus m.to inside))
+    (none_in s measure q s.book moves) (no_added (m.awb == q) (same_place Surplus m.to) (measure m) (never_surplus m.from m.to pair))
     (outside_split (m.awb == q) m.from (measure m))
   where
-    sums : (oh oh' ih ih' os os' is is' a b x y k : ℕ) → oh' ≡ oh + a → ih' ≡ ih + x → os' ≡ os + b → is' ≡ is + y → ih ≡ 0 → is ≡ 0 → x ≡ 0 → y ≡ 0 → a + b ≡ k → (oh' - ih') + (os' - is') ≡ ((oh - ih) + (os - is)) + k
-    sums oh oh' ih ih' os os' is is' a b x y k e1 e2 e3 e4 e5 e6 e7 e8 e9 = omega arith
+    sums : (oh oh' ih ih' os os' is is' a b x y k : ℕ) → oh' ≡ oh + a → ih' ≡ ih + x → os' ≡ os + b → is' ≡ is + y → is ≡ 0 → y ≡ 0 → a + b ≡ k → (oh' - ih') + (os' - is') ≤ ((oh - ih) + (os - is)) + k
+    sums oh oh' ih ih' os os' is is' a b x y k e1 e2 e3 e4 e5 e6 e7 = omega arith
 
 bounded : (top c n : ℕ) (b o : Bool) → c ≤ top → (b ≡ true → o ≡ true → c + n ≤ top) → c + added b o n ≤ top
 bounded top c n true true h f = f refl refl
 bounded top c n true false h f = omega arith
 bounded top c n false o h f = omega arith
+
+at_most : (a b c : ℕ) → a ≤ b → b ≤ c → a ≤ c
+at_most a b c h k = omega (arith, h, k)
+
+-- What went back.
+
+back_step : (i o n a : ℕ) (b h : Bool) → i ≤ o → (b ≡ true → h ≡ true → n ≤ o - i) → i + added b h n ≤ o + a
+back_step i o n a true true h f = let k : n ≤ o - i = f refl refl in omega (arith, h, k)
+back_step i o n a true false h f = omega (arith, h)
+back_step i o n a false h' h f = omega (arith, h)
+
+went_back : (s : Cargo) (measure : Move → ℕ) (m : Move) (q : ℕ) → moved_in measure s.book q (same_place Hand) ≤ moved_out measure s.book q (same_place Hand) →
+    (same_place Hand m.to ≡ true → measure m ≤ moved_out measure s.book m.awb (same_place Hand) - moved_in measure s.book m.awb (same_place Hand)) →
+    moved_in measure (s.book ++ m ∷ []) q (same_place Hand) ≤ moved_out measure (s.book ++ m ∷ []) q (same_place Hand)
+went_back s measure m q old fit =
+    sums _ _ _ _ _ _ (sum_by_push (brings measure q (same_place Hand)) s.book m) (sum_by_push (takes measure q (same_place Hand)) s.book m)
+    (back_step _ _ (measure m) (added (m.awb == q) (same_place Hand m.from) (measure m)) (m.awb == q) (same_place Hand m.to) old
+    (λ e h. subst (λ (w : ℕ). measure m ≤ moved_out measure s.book w (same_place Hand) - moved_in measure s.book w (same_place Hand)) (same_number m.awb q e) (fit h)))
+  where
+    sums : (i o i' o' a b : ℕ) → i' ≡ i + a → o' ≡ o + b → i + a ≤ o + b → i' ≤ o'
+    sums i o i' o' a b e f h = omega (arith, e, f, h)
+
+covered_after : (s : Cargo) (m : Move) → IsFitting s m → (q : ℕ) → IsCovered s.book q → IsCovered (s.book ++ m ∷ []) q
+covered_after s m fit q old = record {
+  pieces = went_back s pieces_of m q old.pieces (λ h. (fit.back h).0);
+  tenths = went_back s tenths_of m q old.tenths (λ h. (fit.back h).1);
+}
 
 -- Moves.
 
@@ -195,10 +222,11 @@ all_map P Q f (x ∷ xs) h = (f x h.0, all_map P Q f xs h.1)
 pub sound_after : (s : Cargo) (m : Move) → IsFitting s m → IsSound s → IsSound (with_move s m)
 sound_after s m fit old = record {
   stocked = λ q p inside. stocked_after s m fit q p inside (old.stocked q p inside);
-  pieces = λ q. subst (λ (n : ℕ). n ≤ 9999) (sym (came_after s pieces_of m q fit.pair old.moves))
+  covered = λ q. covered_after s m fit q (old.covered q);
+  pieces = λ q. at_most _ _ _ (came_after s pieces_of m q fit.pair old.moves)
       (bounded 9999 (came pieces_of s.book q) m.pieces (m.awb == q) (is_outside m.from) (old.pieces q)
       (λ e o. subst (λ (w : ℕ). came pieces_of s.book w + m.pieces ≤ 9999) (same_number m.awb q e) (fit.room o).0));
-  tenths = λ q. subst (λ (n : ℕ). n ≤ 999999) (sym (came_after s tenths_of m q fit.pair old.moves))
+  tenths = λ q. at_most _ _ _ (came_after s tenths_of m q fit.pair old.moves)
       (bounded 999999 (came tenths_of s.book q) m.tenths (m.awb == q) (is_outside m.from) (old.tenths q)
       (λ e o. subst (λ (w : ℕ). came tenths_of s.book w + m.tenths ≤ 999999) (same_number m.awb q e) (fit.room o).1));
   moves = all_push (IsLawfulMove s) (IsLawfulMove (with_move s m)) (move_under s (with_move s m) (λ w h. h) (λ k h. h)) s.book m old.moves

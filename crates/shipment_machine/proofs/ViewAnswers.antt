@@ -3,7 +3,7 @@ use Rattle.std.proofs.Common.{◌≡◌, ℕ, Bool, true, false, not, Option, So
 use Rattle.std.specs.Prelude.{is_some, IfOk, IfErr}
 use Rattle.std.specs.Bool.{if◌then◌else◌}
 use Rattle.std.proofs.lemmas.List.{length-map}
-use Rattle.imp_fields.specs.Date.{LocalMinute, resolved}
+use Rattle.station_days.specs.Date.{LocalMinute, resolved}
 use Rattle.shipment_machine.specs.declared.view.RowsKey.{RowsKey}
 use Rattle.shipment_machine.specs.declared.view.RowsKey.TheVariants as key
 use Rattle.shipment_machine.specs.declared.view.Rows.{Rows}

@@ -25,6 +25,7 @@ moves_in s s' known noted law = all_map (IsLawfulMove s) (IsLawfulMove s') (move
 pub uses : (text : List ℕ) (s : Cargo) (w : ℕ) → IsSome (s.declared w) → IsLawful s → IsLawful (written text (UseUp w) s)
 uses text s w known law = record {
   stocked = law.stocked;
+  covered = law.covered;
   within = law.within;
   declarations = law.declarations;
   expectations = law.expectations;
@@ -67,6 +68,7 @@ known_after text (Some holder.Void) s w d = now_known s w d
 pub expects : (text : List ℕ) (s : Cargo) (flight : FlightDate) (w : ℕ) (e : Expected) → IsLawfulAmount e.pieces e.tenths → IsSome (s.declared w) → IsLawful s → IsLawful (written text (Expect flight w e) s)
 expects text s flight w e fine known law = record {
   stocked = law.stocked;
+  covered = law.covered;
   within = law.within;
   declarations = law.declarations;
   expectations = λ k q. elim (q == w) as (λ b. (q == w) ≡ b → IfSome (if same_flight_date k flight && b then Some e else s.expected k q) (λ e. IsLawfulAmount e.pieces e.tenths × IsSome (s.declared q))) [
@@ -93,6 +95,7 @@ expects text s flight w e fine known law = record {
 pub notes_part : (text : List ℕ) (s : Cargo) (part : Part) → IsLawful s → IsLawful (written text (NotePart part) s)
 notes_part text s part law = record {
   stocked = law.stocked;
+  covered = law.covered;
   within = law.within;
   declarations = law.declarations;
   expectations = law.expectations;
@@ -114,6 +117,7 @@ all_end P (x ∷ xs) y h q = (h.0, all_end P xs y h.1 q)
 pub trails : (text : List ℕ) (s : Cargo) (w : ℕ) (line : List ℕ) → IsSome (s.declared w) → IsTrue (is_line line) → IsLawful s → IsLawful (written text (Trail w line) s)
 trails text s w line known prints law = record {
   stocked = law.stocked;
+  covered = law.covered;
   within = law.within;
   declarations = law.declarations;
   expectations = law.expectations;

@@ -1,7 +1,7 @@
 -- Airlines by their designators.
 use Rattle.std.specs.Prelude.{ℕ, List, Option}
 use Rattle.imp_fields.specs.Flight.{is_carrier}
-use Rattle.imp_fields.specs.Steps.{where_true}
+use Rattle.station_days.specs.Steps.{where_true}
 
 -- two letters or digits, at least one a letter, and nothing more
 abbrev pub airline_of : List ℕ → Option (List ℕ)

@@ -7,7 +7,7 @@ use Rattle.std.specs.Str.{bytes_eq}
 use Rattle.imp_fields.specs.Amount.{share_of, book_weight_of}
 use Rattle.shipment_machine.specs.Amount.{amount, part, less, plus, fits}
 use Rattle.shipment_machine.specs.declared.amount.Amount.{Amount}
-use Rattle.imp_fields.specs.Date.{LocalMinute, resolved, is_moment_day}
+use Rattle.station_days.specs.Date.{LocalMinute, resolved, is_moment_day}
 use Rattle.shipment_machine.specs.declared.flight.FlightDate.{FlightDate}
 use Rattle.imp_fields.specs.declared.fault.Why.TheVariants as why
 use Rattle.agent_stock.specs.declared.stock.Holder.{Holder}
@@ -328,6 +328,20 @@ receiving here view w p t name at =
           (status_of here w d (event.ReceivedFromShipper name at) a) [] p;
     }
 
+-- Withdraw: free pieces go back to who brought them, no more than was taken over.
+abbrev pub withdrawing : List ℕ → WaybillView → ℕ → ℕ → LocalMinute → Rule
+withdrawing here view w p at =
+    let free = view.balances.free in
+    let taken = view.balances.taken in
+    let a = part free p in
+    record {
+      refusals = (is_none view.declared, about 201 w)
+          ∷ (not (bytes_eq (declared_as view.declared).origin here), about 204 w)
+          ∷ (nat_lt free.pieces p, only_free free.pieces)
+          ∷ (nat_lt taken.pieces p || nat_lt taken.tenths a.tenths, about 223 w) ∷ [];
+      outcome = does (move_of w place.Free place.Hand a None at) [] [] p;
+    }
+
 -- Manifest: free pieces are built on a flight, which is noted where it is new.
 abbrev pub manifesting : List ℕ → WaybillView → FlightView → ℕ → FlightDate → List ℕ → ℕ
     → LocalMinute → Rule
@@ -381,6 +395,17 @@ departing here outbound loads flight at = record {
       does (depart_moves loads flight at) (depart_notices here (unload_of outbound) loads flight)
       (NoteFlight flight (record { unload = unload_of outbound; closed = true }) ∷ [])
       (sum_by (λ a. a.load.pieces) loads);
+}
+
+-- Reroute: a noted flight on which nothing is built unloads elsewhere from now on.
+abbrev pub rerouting : List ℕ → Option Outbound → List FlightLoad → FlightDate → List ℕ → Rule
+rerouting here outbound loads flight unload = record {
+  refusals = (is_none outbound, on_flight 221 flight)
+      ∷ (is_closed outbound, on_flight 208 flight)
+      ∷ (bytes_eq unload here, on_flight 204 flight)
+      ∷ (not (length loads == 0), on_flight 222 flight) ∷ [];
+  outcome = does [] [] (NoteFlight flight (record { unload = unload; closed = false }) ∷ [])
+      (if goes_elsewhere outbound unload then 1 else 0);
 }
 
 -- Check-in: what was counted goes to the free cargo, the rest of what was expected to the missing,
@@ -542,8 +567,10 @@ noting_status declared w lines = record {
 abbrev pub reads : DeskCommand → RowsKey
 reads (desk.Book w origin destination p t goods) = key.Declaration w
 reads (desk.Receive w p t name) = key.Waybill w
+reads (desk.Withdraw w p name) = key.Waybill w
 reads (desk.Manifest w flight unload p) = key.Manifest w flight
 reads (desk.Offload w flight p) = key.Offload w flight
+reads (desk.Reroute flight unload) = key.Departure flight
 reads (desk.Depart flight) = key.Departure flight
 reads (desk.CheckIn w flight counted) = key.CheckIn w flight
 reads (desk.Notify w name) = key.Waybill w
@@ -557,10 +584,13 @@ abbrev pub desk_rule : List ℕ → Rows → DeskCommand → LocalMinute → Rul
 desk_rule here (rows.Declaration view) (desk.Book w origin destination p t goods) at =
     declaring view w (dated at.day (booked origin destination p t goods))
 desk_rule here (rows.Waybill view) (desk.Receive w p t name) at = receiving here view w p t name at
+desk_rule here (rows.Waybill view) (desk.Withdraw w p name) at = withdrawing here view w p at
 desk_rule here (rows.Manifest view on) (desk.Manifest w flight unload p) at =
     manifesting here view on w flight unload p at
 desk_rule here (rows.Offload declared outbound load) (desk.Offload w flight p) at =
     offloading here declared outbound load w flight p at
+desk_rule here (rows.Departure outbound loads) (desk.Reroute flight unload) at =
+    rerouting here outbound loads flight unload
 desk_rule here (rows.Departure outbound loads) (desk.Depart flight) at =
     departing here outbound loads flight at
 desk_rule here (rows.CheckIn view expected) (desk.CheckIn w flight counted) at =

@@ -6,7 +6,7 @@ use Rattle.std.specs.Str.{bytes_eq}
 use Rattle.shipment_machine.specs.declared.flight.FlightDate.{FlightDate}
 use Rattle.agent_stock.specs.declared.stock.Holder.TheVariants.{Used}
 use Rattle.shipment_machine.specs.declared.moves.Place.{Place}
-use Rattle.shipment_machine.specs.declared.moves.Place.TheVariants.{Built, Departed}
+use Rattle.shipment_machine.specs.declared.moves.Place.TheVariants.{Hand, Built, Departed}
 use Rattle.shipment_machine.specs.declared.moves.Move.{Move}
 use Rattle.shipment_machine.specs.declared.command.InboundLine.{InboundLine}
 use Rattle.shipment_machine.specs.declared.command.ShipmentCommand.{ShipmentCommand}
@@ -26,6 +26,11 @@ pub record IsStocked (book : List Move) (w : ℕ) (p : Place) : Type 0 where
   pub tenth_a_piece : (held book w (same_place p)).pieces ≤ (held book w (same_place p)).tenths
   pub no_weight_alone : (held book w (same_place p)).pieces ≡ 0
       → (held book w (same_place p)).tenths ≡ 0
+
+-- no more of a waybill went back to who brought it than was taken over
+pub record IsCovered (book : List Move) (w : ℕ) : Type 0 where
+  pub pieces : moved_in pieces_of book w (same_place Hand) ≤ moved_out pieces_of book w (same_place Hand)
+  pub tenths : moved_in tenths_of book w (same_place Hand) ≤ moved_out tenths_of book w (same_place Hand)
 
 -- the flight of a built place is noted
 abbrev pub IsNoted : Cargo → Place → Type 0
@@ -72,6 +77,7 @@ StaysDeparted flight (m ∷ later) =
 -- A lawful state. That the text of each noted part is kept is said of the whole station.
 pub record IsLawful (s : Cargo) : Type 0 where
   pub stocked : (w : ℕ) (p : Place) → is_outside p ≡ false → IsStocked s.book w p
+  pub covered : (w : ℕ) → IsCovered s.book w
   pub within : (w : ℕ) → IsTrue (fits (taken_and_found s.book w))
   pub declarations : (w : ℕ) → IfSome (s.declared w) (λ d. IsLawfulAmount d.pieces d.tenths)
   pub expectations : (flight : FlightDate) (w : ℕ)

@@ -43,5 +43,6 @@ is_pair (Built _) Departed = true
 is_pair Free Delivered = true
 is_pair Free Missing = true
 is_pair Free Transferred = true
+is_pair Free Hand = true
 is_pair Missing Free = true
 is_pair _ _ = false

@@ -1,7 +1,7 @@
 -- Flights on their days and refusals as texts.
 use Rattle.std.specs.Prelude.{ℕ, decimal, List, [], ◌∷◌, ◌++◌, codes}
 use Rattle.awb_number.specs.Number.{number_text}
-use Rattle.imp_fields.specs.Date.{day_line}
+use Rattle.station_days.specs.Date.{day_line}
 use Rattle.imp_fields.specs.Fault.{why_word}
 use Rattle.imp_fields.specs.Flight.{flight_text}
 use Rattle.shipment_machine.specs.declared.flight.FlightDate.{FlightDate}

@@ -1,23 +1,24 @@
-//! What is declared and taken over.
+//! What is declared and taken over, and what goes back.
 ghost use Rattle.std.specs.Prelude.{◌≡◌, ℕ, ◌≤◌, ◌++◌, Some, None, OnOk, if◌then◌else◌};
-ghost use Rattle.shipment_machine.specs.Amount.{amount, fits};
-ghost use Rattle.shipment_machine.specs.Effect.{decided, at_desk_or_void, booked, dated, declare, declared_by, declaring, receiving};
+ghost use Rattle.shipment_machine.specs.Amount.{IsHeld, amount, fits};
+ghost use Rattle.shipment_machine.specs.Effect.{decided, at_desk_or_void, booked, dated, declare, declared_by, declaring, receiving, withdrawing};
 ghost use Rattle.shipment_machine.specs.Agreement.{IsAnswer};
 ghost use Rattle.shipment_machine.specs.Claims.{claimed};
 
-use crate::amount::{Amount, is_within};
+use crate::amount::{Amount, is_within, part_of};
 use crate::command::CargoLine;
 use crate::moves::{Declared, Place};
 use crate::notice::Event;
 use crate::plan_parts::{
-    PlanContext, add_move, add_notice, blank, fits_with, is_same, pieces_of, refuse_waybill,
-    tenths_of,
+    PlanContext, add_move, add_notice, blank, fits_with, is_same, pieces_of, refuse_free,
+    refuse_waybill, tenths_of,
 };
 use crate::plans::{Change, Plan, PlanFault};
 use crate::view::{DeclarationView, WaybillView};
 use agent_stock::Holder;
 use awb_number::Awb;
-use imp_fields::{Airport, Goods, LocalDay, Moment, Name, Pieces, Tenths, book_weight, share};
+use imp_fields::{Airport, Goods, Name, Pieces, Tenths, book_weight, share};
+use station_days::{LocalDay, Moment};
 use std::alloc::AllocError;
 
 /// What is to be declared of a waybill, perhaps past what can be.
@@ -191,5 +192,36 @@ pub(crate) fn receive<'a>(
     let (hand, free) = (Place::Hand, Place::Free);
     add_move(&mut plan.moves, awb, hand, free, amount, None, on.at)?;
     add_notice(&mut plan.notices, on.here, awb, declared, event, amount)?;
+    Ok(plan)
+}
+
+/// Gives free pieces back to who brought them, no more than was taken over.
+pub(crate) fn withdraw<'a>(
+    on: &PlanContext,
+    view: &WaybillView,
+    awb: Awb,
+    pieces: Pieces,
+) -> Result<Plan<'a>, PlanFault>
+    requires { IsHeld view.now.balances.free }
+    ensures { IsAnswer result (decided (withdrawing on.now.here view.now awb pieces on.now.at)) }
+{
+    let Some(declared) = &view.declared else {
+        return Err(refuse_waybill(201, awb));
+    };
+    if !is_same(declared.origin, on.here) {
+        return Err(refuse_waybill(204, awb));
+    }
+    let free = view.balances.free;
+    if free.pieces < pieces.number() {
+        return Err(refuse_free(free));
+    }
+    let part = part_of(free, pieces.number());
+    let taken = view.balances.taken;
+    if taken.pieces < pieces.number() || taken.tenths < part.tenths {
+        return Err(refuse_waybill(223, awb));
+    }
+    let mut plan = blank(on.alloc, pieces.number());
+    let (free, hand) = (Place::Free, Place::Hand);
+    add_move(&mut plan.moves, awb, free, hand, part, None, on.at)?;
     Ok(plan)
 }

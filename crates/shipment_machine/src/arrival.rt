@@ -16,7 +16,8 @@ use crate::plan_parts::{
 use crate::plans::{Change, Plan, PlanFault};
 use crate::view::WaybillView;
 use awb_number::Awb;
-use imp_fields::{Discrepancy, Moment, share};
+use imp_fields::{Discrepancy, share};
+use station_days::Moment;
 use std::alloc::AllocError;
 
 /// What of the expected pieces was counted.

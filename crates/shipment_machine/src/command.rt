@@ -7,7 +7,8 @@ use crate::flight::FlightDate;
 use crate::trail::TrailLines;
 use crate::view::RowsKey;
 use awb_number::Awb;
-use imp_fields::{Airport, DayMonth, Flight, Goods, MOST_PIECES, Name, PartNumber, Pieces, Tenths};
+use imp_fields::{Airport, Flight, Goods, MOST_PIECES, Name, PartNumber, Pieces, Tenths};
+use station_days::DayMonth;
 use std::marker::Model;
 
 /// How many pieces were counted, 0 to 9999.
@@ -146,6 +147,12 @@ pub enum DeskCommand {
         tenths: Tenths,
         name: Name,
     },
+    /// Gives free pieces back to who brought them.
+    Withdraw {
+        awb: Awb,
+        pieces: Pieces,
+        name: Name,
+    },
     /// Builds free pieces for a flight to the airport where it unloads.
     Manifest {
         awb: Awb,
@@ -158,6 +165,11 @@ pub enum DeskCommand {
         awb: Awb,
         flight: FlightDate,
         pieces: Pieces,
+    },
+    /// Lets a noted flight unload elsewhere.
+    Reroute {
+        flight: FlightDate,
+        unload: Airport,
     },
     /// Sends a flight off.
     Depart {
@@ -213,8 +225,10 @@ impl DeskCommand {
         match self {
             DeskCommand::Book { awb, .. } => RowsKey::Declaration(*awb),
             DeskCommand::Receive { awb, .. } => RowsKey::Waybill(*awb),
+            DeskCommand::Withdraw { awb, .. } => RowsKey::Waybill(*awb),
             DeskCommand::Manifest { awb, flight, .. } => RowsKey::Manifest(*awb, *flight),
             DeskCommand::Offload { awb, flight, .. } => RowsKey::Offload(*awb, *flight),
+            DeskCommand::Reroute { flight, .. } => RowsKey::Departure(*flight),
             DeskCommand::Depart { flight } => RowsKey::Departure(*flight),
             DeskCommand::CheckIn { awb, flight, .. } => RowsKey::CheckIn(*awb, *flight),
             DeskCommand::Notify { awb, .. } => RowsKey::Waybill(*awb),

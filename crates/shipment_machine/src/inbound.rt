@@ -23,7 +23,8 @@ use crate::plans::{Change, Detail, Plan, PlanFault, Refusal};
 use crate::view::{LineView, LineViews};
 use agent_stock::Holder;
 use awb_number::Awb;
-use imp_fields::{Airport, LocalDay, Moment, Why, book_weight};
+use imp_fields::{Airport, Why, book_weight};
+use station_days::{LocalDay, Moment};
 use std::alloc::{AllocError, Global};
 use std::collections::HashMap;
 

@@ -4,7 +4,8 @@ ghost use Rattle.shipment_machine.specs.Places.{same_place};
 use crate::amount::Amount;
 use crate::flight::FlightDate;
 use awb_number::Awb;
-use imp_fields::{Airport, BookTenths, Goods, LocalDay, Moment, PartNumber, Pieces};
+use imp_fields::{Airport, BookTenths, Goods, PartNumber, Pieces};
+use station_days::{LocalDay, Moment};
 
 /// Where pieces of a waybill can be. The first two are outside the station.
 #[derive(Clone, Copy, Debug, PartialEq, Eq)]

@@ -1,7 +1,8 @@
 ghost use Rattle.std.specs.Prelude.{◌≡◌, ◌≤◌, ◌↔◌, length, IsSome, IfSome};
 
 use crate::flight::{FlightDate, MOST_WAYBILLS};
-use imp_fields::{Airport, BookTenths, Discrepancy, Goods, Moment, Name, Pieces, WaybillSummary};
+use imp_fields::{Airport, BookTenths, Discrepancy, Goods, Name, Pieces, WaybillSummary};
+use station_days::Moment;
 use std::marker::Model;
 
 /// What happened to some pieces.

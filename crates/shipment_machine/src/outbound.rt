@@ -1,7 +1,7 @@
 //! What is built for a flight and leaves with it.
 ghost use Rattle.std.specs.Prelude.{◌*◌, ◌<◌};
 ghost use Rattle.shipment_machine.specs.Amount.{IsHeld};
-ghost use Rattle.shipment_machine.specs.Effect.{decided, manifesting, offloading};
+ghost use Rattle.shipment_machine.specs.Effect.{decided, manifesting, offloading, rerouting};
 ghost use Rattle.shipment_machine.specs.Agreement.{IsAnswer};
 
 use crate::amount::{Amount, part_of};
@@ -12,7 +12,7 @@ use crate::plan_parts::{
     PlanContext, add_move, add_notice, blank, is_same, refuse_flight, refuse_free, refuse_waybill,
 };
 use crate::plans::{Change, Plan, PlanFault};
-use crate::view::{FlightView, WaybillView};
+use crate::view::{FlightView, Loads, WaybillView};
 use awb_number::Awb;
 use imp_fields::{Airport, Discrepancy, Pieces};
 
@@ -112,5 +112,40 @@ pub(crate) fn offload<'a>(
     let mut plan = blank(on.alloc, pieces.number());
     add_move(&mut plan.moves, awb, built, Place::Free, part, named, on.at)?;
     add_notice(&mut plan.notices, on.here, awb, declared, event, part)?;
+    Ok(plan)
+}
+
+/// Lets a noted flight, on which nothing is built, unload elsewhere.
+pub(crate) fn reroute<'a>(
+    on: &PlanContext,
+    outbound: &Option<Outbound>,
+    loads: &Loads,
+    flight: &FlightDate,
+    unload: Airport,
+) -> Result<Plan<'a>, PlanFault>
+    ensures { IsAnswer result
+        (decided (rerouting on.now.here outbound.now loads.now flight.now unload)) }
+{
+    let Some(noted) = *outbound else {
+        return Err(refuse_flight(221, *flight));
+    };
+    if noted.closed {
+        return Err(refuse_flight(208, *flight));
+    }
+    if is_same(unload, on.here) {
+        return Err(refuse_flight(204, *flight));
+    }
+    if !loads.as_slice().is_empty() {
+        return Err(refuse_flight(222, *flight));
+    }
+    let count = if is_same(noted.unload, unload) { 0 } else { 1 };
+    let mut plan = blank(on.alloc, count);
+    plan.changes.push(Change::NoteFlight {
+        flight: *flight,
+        outbound: Outbound {
+            unload,
+            closed: false,
+        },
+    })?;
     Ok(plan)
 }

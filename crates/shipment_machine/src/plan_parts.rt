@@ -12,7 +12,8 @@ use crate::moves::{Balances, Declared, Move, Place};
 use crate::notice::{Event, Notice};
 use crate::plans::{Detail, Plan, PlanFault, Refusal};
 use awb_number::Awb;
-use imp_fields::{Airport, BookTenths, Moment, Pieces, WaybillSummary};
+use imp_fields::{Airport, BookTenths, Pieces, WaybillSummary};
+use station_days::Moment;
 use std::alloc::{AllocError, Global};
 
 /// What each command is planned with: the memory, the station and the moment.

@@ -9,7 +9,7 @@ ghost use Rattle.shipment_machine.specs.Effect.{effect, expected_amount, lines_f
 ghost use Rattle.shipment_machine.specs.Lawful.{IsProper};
 ghost use Rattle.shipment_machine.specs.Agreement.{AreRowsOf, AreSound, FitsCommand, IsAnswer, IsOnBoard, IsViewOf, RefusesAs, StaysLawful, meant_by, outcome_of, rows_answer};
 
-use crate::acceptance::{book, booked, claim_of, receive};
+use crate::acceptance::{book, booked, claim_of, receive, withdraw};
 use crate::amount::Amount;
 use crate::arrival::check_in;
 use crate::command::{DeskCommand, InboundLine, ShipmentCommand};
@@ -19,11 +19,12 @@ use crate::inbound::announce;
 use crate::irregular::{record_found, record_missing};
 use crate::messages::{confirm, note_status};
 use crate::moves::{Balances, Expected};
-use crate::outbound::{manifest, offload};
+use crate::outbound::{manifest, offload, reroute};
 use crate::plan_parts::PlanContext;
 use crate::plans::{Plan, PlanFault};
 use crate::view::{FlightLoad, Rows, RowsKey, View};
-use imp_fields::{Airport, LocalDay, MOST_PIECES, MOST_TENTHS, Moment, resolve};
+use imp_fields::{Airport, MOST_PIECES, MOST_TENTHS};
+use station_days::{LocalDay, Moment, resolve};
 use std::alloc::Global;
 
 /// Whether an amount is within the bounds, with at least a tenth a piece.
@@ -177,6 +178,7 @@ fn plan_desk<'a>(
                 tenths,
                 name,
             } => receive(on, waybill, *awb, *pieces, *tenths, *name),
+            DeskCommand::Withdraw { awb, pieces, .. } => withdraw(on, waybill, *awb, *pieces),
             DeskCommand::Notify { awb, name } => notify(on, waybill, *awb, *name),
             DeskCommand::Deliver { awb, pieces, name } => {
                 deliver(on, waybill, *awb, *pieces, *name)
@@ -220,6 +222,9 @@ fn plan_desk<'a>(
             _ => Err(PlanFault::Unfit),
         },
         Rows::Departure { outbound, loads } => match command {
+            DeskCommand::Reroute { flight, unload } => reroute(
+                on, outbound, loads, flight, *unload,
+            ),
             DeskCommand::Depart { flight } => depart(on, outbound, loads, flight),
             _ => Err(PlanFault::Unfit),
         },

@@ -23,8 +23,8 @@ use Rattle.shipment_machine.specs.Book.{balances_of, drawn, has_moves, held, mov
 use Rattle.shipment_machine.specs.Numbers.{IsAscending as Rising, is_in}
 use Rattle.shipment_machine.proofs.OnFlight.{Rising-waybills_of, is_in-waybills_of, none_in}
 use Rattle.shipment_machine.proofs.Rising.{Rising-filter, is_in-filter, same_rising, below_in, yes_here}
-use Rattle.state_store.specs.declared.store.WaybillBalances.{WaybillBalances}
-use Rattle.state_store.specs.Told.{AreAllBalances, nothing}
+use Rattle.station_core.specs.declared.stored.WaybillBalances.{WaybillBalances}
+use Rattle.station_core.specs.Told.{AreAllBalances, nothing}
 
 abbrev numbers : List WaybillBalances → List ℕ
 numbers rows = map (λ row. row.awb) rows

@@ -3,7 +3,7 @@ use Rattle.std.proofs.Common.{◌≡◌, ℕ, true, false, nat_le, Option, Some,
 use Rattle.std.specs.Prelude.{◌↔◌, is_some}
 use Rattle.std.specs.Option.{unwrap_or}
 use Rattle.std.proofs.lemmas.Bool.{cond-true, and_parts, and_from, le-leb, leb-true}
-use Rattle.imp_fields.specs.Date.{IsMomentDay, is_moment_day, LocalMinute, resolved}
+use Rattle.station_days.specs.Date.{IsMomentDay, is_moment_day, LocalMinute, resolved}
 use Rattle.shipment_machine.specs.declared.command.InboundPart.{InboundPart}
 use Rattle.shipment_machine.specs.declared.command.ShipmentCommand.TheVariants as order
 use Rattle.shipment_machine.specs.Agreement.{rows_for}

@@ -4,7 +4,7 @@ use Rattle.shipment_machine.specs.declared.amount.Amount.{Amount}
 use Rattle.shipment_machine.specs.declared.moves.Move.{Move}
 use Rattle.shipment_machine.specs.Book.{balances_of, store, taken, found, departed, delivered, missing, transferred}
 use Rattle.shipment_machine.specs.Laws.{IsConserved}
-use Rattle.state_store.specs.Told.{stored_of}
+use Rattle.station_core.specs.Told.{stored_of}
 
 rest : (came stored m d e f : ℕ) → came ≡ stored + (m + (d + (e + (f + 0)))) → came - (d + e + m + f) ≡ stored
 rest came stored m d e f h = omega (arith, h)

@@ -9,7 +9,7 @@ use Rattle.shipment_machine.specs.declared.view.Rows.TheVariants as rows
 use Rattle.shipment_machine.specs.Cargo.{Cargo}
 use Rattle.shipment_machine.specs.Effect.{lines_for}
 use Rattle.shipment_machine.specs.Views.{declaration, line_view_of}
-use Rattle.state_store.specs.declared.store.Load.{Load}
+use Rattle.station_core.specs.declared.stored.Load.{Load}
 
 -- a load with what is declared of its waybill
 abbrev pub aboard_of : Cargo → Load → FlightLoad

@@ -31,13 +31,3 @@ pub record MayLeave {K : Type 0} (is_sound : K → Type 0) (may_find : K → Opt
   pub sound : is_sound new → is_sound old
   pub leaves : is_sound new → (found : Option State) → may_find new found → may_find old found
       ⊎ (found ≡ Some after)
-
--- a refusal of an order that is returned is the one that is due
-abbrev pub RefusesBy : {F : Type 0} → Option (ℕ × Option ℕ) → StockFault F → Type 0
-RefusesBy due (fault.Refused number lowest) = due ≡ Some (number, lowest)
-RefusesBy due (fault.Rows _) = Unit {0}
-
--- it holds where an order was refused
-abbrev pub OnRefused : {A F : Type 0} → Result A (StockFault F) → Type 0 → Type 0
-OnRefused (Err (fault.Refused number lowest)) P = P
-OnRefused _ P = Unit {0}

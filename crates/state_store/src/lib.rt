@@ -7,6 +7,6 @@ mod store;
 mod telling;
 mod viewing;
 
-pub use store::{KeptReply, Load, Sizes, StateStore, StoreFault, WaybillBalances};
+pub use store::{StateStore, StoreFault};
 pub use telling::{expected_rows, flight_rows, irregular_rows, shed_rows, waybill_in};
 pub use viewing::view;

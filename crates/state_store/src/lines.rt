@@ -1,7 +1,7 @@
 //! The rows of a flight: what is built on it, and what is kept of each line of its manifest.
 ghost use Rattle.std.specs.Prelude.{◌≡◌, ◌++◌, ◌∷◌, [], true, false, None, Some, OnOk, IfOk, IfSome, map, if◌then◌else◌};
 ghost use Rattle.std.specs.Str.{bytes_eq};
-ghost use Rattle.imp_fields.specs.Date.{resolved};
+ghost use Rattle.station_days.specs.Date.{resolved};
 ghost use Rattle.shipment_machine.specs.Agreement.{rows_for};
 ghost use Rattle.shipment_machine.specs.Effect.{is_day, lines_for};
 ghost use Rattle.shipment_machine.specs.Views.{loads_of, line_view_of};
@@ -10,12 +10,14 @@ ghost use Rattle.shipment_machine.specs.declared.view.Rows.TheVariants as rows;
 ghost use Rattle.state_store.specs.Lines.{aboard_of, part_rows_on};
 ghost use Rattle.state_store.specs.Store.{Seen, Survives};
 
-use crate::store::{Load, StateStore, StoreFault};
+use crate::store::{StateStore, StoreFault};
 use awb_number::Awb;
-use imp_fields::{Airport, DayMonth, LocalDay, Moment, resolve};
+use imp_fields::Airport;
 use shipment_machine::{
     FlightDate, FlightLoad, InboundLine, InboundPart, LineView, LineViews, Loads, Part, Rows,
 };
+use station_core::Load;
+use station_days::{DayMonth, LocalDay, Moment, resolve};
 use std::alloc::Global;
 
 /// A waybill that is built on a flight, with what is declared of it.

@@ -4,7 +4,10 @@ use imp_fields::Airport;
 use shipment_machine::{
     Amount, Balances, Change, Declared, Expected, FlightDate, Move, Outbound, Part,
 };
-use station_core::{BookRow, Expectation, Key, Message, NotedFlight, Sink, TrailRow};
+use station_core::{
+    BookRow, Expectation, KeptReply, Key, Load, Message, NotedFlight, Sink, Sizes, TrailRow,
+    WaybillBalances,
+};
 use std::alloc::{AllocError, AllocFailed};
 
 /// A call of the store failed: the store itself, or memory ran out once it had been asked.
@@ -21,37 +24,6 @@ impl<T: Drop> From<AllocFailed<T>> for StoreFault {
     fn from(_: AllocFailed<T>) -> StoreFault {
         StoreFault
     }
-}
-
-/// What was accepted under a key.
-#[derive(Debug, Drop)]
-pub struct KeptReply {
-    /// The command's text.
-    pub request: String,
-    /// What was returned for it.
-    pub count: u32,
-}
-
-/// What of a waybill is built on a flight.
-#[derive(Clone, Copy, Debug, PartialEq, Eq)]
-pub struct Load {
-    pub awb: Awb,
-    pub amount: Amount,
-}
-
-/// What the moves of a waybill add up to.
-#[derive(Clone, Copy, Debug, PartialEq, Eq)]
-pub struct WaybillBalances {
-    pub awb: Awb,
-    pub balances: Balances,
-}
-
-/// How many moves, lines of the trail and messages there are. Each is numbered from 1.
-#[derive(Clone, Copy, Debug, PartialEq, Eq)]
-pub struct Sizes {
-    pub moves: u32,
-    pub lines: u32,
-    pub messages: u32,
 }
 
 /// The state of a station in a store, by what short calls read of it and do to it.
@@ -72,8 +44,9 @@ pub trait StateStore {
     ghost use Rattle.station_core.specs.declared.rows.Message.{Message as AnyMessage};
     ghost use Rattle.station_core.specs.declared.rows.TrailRow.{TrailRow as AnyTrailRow};
     ghost use Rattle.row_sinks.specs.Handed.{HandedOut, Hands};
-    ghost use Rattle.state_store.specs.Store.{Seen, at_rest, inside, Survives, MayLeave, OnRefused, RefusesBy};
-    ghost use Rattle.state_store.specs.Told.{IsRequest, AreAllBalances, kept_of, sizes_of, loads_on, on_cargo, with_moves, with_messages, with_key, with_text, with_order};
+    ghost use Rattle.state_store.specs.Store.{Seen, at_rest, inside, Survives, MayLeave};
+    ghost use Rattle.agent_stock.specs.Refusing.{OnRefused, RefusesBy};
+    ghost use Rattle.station_core.specs.Told.{IsRequest, AreAllBalances, kept_of, sizes_of, loads_on, on_cargo, with_moves, with_messages, with_key, with_text, with_order};
 
     /// It shows this, as long as the disk returned what was written.
     ghost shows: { Self → Seen → Type 0 };

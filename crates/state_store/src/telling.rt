@@ -8,14 +8,15 @@ ghost use Rattle.shipment_machine.specs.Views.{declaration};
 ghost use Rattle.station_core.specs.Readers.{told_of, waybill_of, irregular_rows, shed_rows, flight_row, AreFlightRows, expected_row, AreExpectedRows};
 ghost use Rattle.station_core.specs.Step.{State};
 ghost use Rattle.state_store.specs.Store.{at_rest, Survives};
-ghost use Rattle.state_store.specs.Told.{stored_of, irregular_by, irregulars_by, shed_by, sheds_by};
+ghost use Rattle.station_core.specs.Told.{stored_of, irregular_by, irregulars_by, shed_by, sheds_by};
 
-use crate::store::{Load, StateStore, StoreFault, WaybillBalances};
+use crate::store::{StateStore, StoreFault};
 use awb_number::Awb;
 use shipment_machine::laws::conservation_law;
 use shipment_machine::{Amount, Balances, Declared};
 use station_core::{
-    Expectation, ExpectedRow, FlightRow, IrregularRow, NotedFlight, ShedRow, Waybill,
+    Expectation, ExpectedRow, FlightRow, IrregularRow, Load, NotedFlight, ShedRow, Waybill,
+    WaybillBalances,
 };
 use std::alloc::Global;
 

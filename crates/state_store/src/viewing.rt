@@ -10,10 +10,10 @@ ghost use Rattle.state_store.specs.Store.{Seen, Survives};
 use crate::lines::{loads_of, part_rows};
 use crate::store::{StateStore, StoreFault};
 use awb_number::Awb;
-use imp_fields::Moment;
 use shipment_machine::{
     DeclarationView, FlightDate, FlightView, Rows, RowsKey, ShipmentCommand, View, WaybillView,
 };
+use station_days::Moment;
 use std::alloc::Global;
 
 /// What a booking, or an FWB, is planned from.

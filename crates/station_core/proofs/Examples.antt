@@ -6,13 +6,13 @@ use Rattle.std.specs.List.{flat_map}
 use Rattle.jiff_core.specs.Calendar.{days_of_years, days_of_months, day_count, days_from_civil}
 use Rattle.imp_fields.specs.Flight.{Designator}
 use Rattle.shipment_machine.specs.declared.flight.FlightDate.{FlightDate}
-use Rattle.imp_fields.specs.Date.{LocalMinute}
+use Rattle.station_days.specs.Date.{LocalMinute}
 use Rattle.agent_stock.specs.declared.stock.Run.{Run}
 use Rattle.agent_stock.specs.declared.stock.Order.{Order}
 use Rattle.agent_stock.specs.declared.stock.Order.TheVariants.{TakeIn, Issue, Void}
 use Rattle.shipment_machine.specs.declared.command.InboundLine.{InboundLine}
 use Rattle.shipment_machine.specs.declared.command.DeskCommand.{DeskCommand}
-use Rattle.shipment_machine.specs.declared.command.DeskCommand.TheVariants.{Notify, Book, Receive, Manifest, Offload, Depart, CheckIn, Deliver, Missing, Confirm}
+use Rattle.shipment_machine.specs.declared.command.DeskCommand.TheVariants.{Notify, Book, Receive, Withdraw, Manifest, Offload, Reroute, Depart, CheckIn, Deliver, Missing, Confirm}
 use Rattle.desk_commands.specs.declared.command.Command.TheVariants.{Stock, Cargo}
 use Rattle.desk_commands.specs.Command.{command_text}
 use Rattle.desk_commands.specs.Day.{day_line}
@@ -171,6 +171,32 @@ example_received_length = refl
 example_received_twice : told received (desk (codes "r2") (Receive 201234567 1 1 []) ∷ []) ≡ codes "refused 205 020-12345675" ∷ []
 unfolding digits day_line
 example_received_twice = refl
+
+-- Taken back and received anew at another weight: each of the three is told once, and its message too.
+
+abbrev withdrawing : Input × LocalMinute
+withdrawing = desk (codes "w") (Withdraw 201234567 10 (codes "ACME"))
+
+abbrev receiving_anew : Input × LocalMinute
+receiving_anew = (Keyed (codes "r3") (Cargo (Receive 201234567 10 2000 (codes "ACME"))), at_time 10 30)
+
+example_received_anew : told received (withdrawing ∷ withdrawing ∷ receiving_anew ∷ booking ∷ []) ≡ codes "ok 10" ∷ codes "ok 10" ∷ codes "ok 10" ∷ codes "ok 10" ∷ []
+unfolding digits day_line
+example_received_anew = refl
+
+example_withdrawn_tells_nothing : (after received (withdrawing ∷ [])).cargo.outbox ≡ received.cargo.outbox
+unfolding digits day_line
+example_withdrawn_tells_nothing = refl
+
+-- A flight unloads elsewhere once nothing is on it any more.
+
+abbrev rerouting : List ℕ → Input × LocalMinute
+rerouting key = desk key (Reroute (lh_on 400) (codes "ORD"))
+
+example_rerouted : told loaded (rerouting (codes "u1") ∷ desk (codes "o") (Offload 201234567 (lh_on 400) 4) ∷ rerouting (codes "u2") ∷ rerouting (codes "u3") ∷ desk (codes "m4") (Manifest 201234567 (lh_on 400) jfk 4) ∷ [])
+    ≡ codes "refused 222 LH400/2026-01-12" ∷ codes "ok 4" ∷ codes "ok 1" ∷ codes "ok 0" ∷ codes "refused 218 LH400/2026-01-12" ∷ []
+unfolding digits day_line
+example_rerouted = refl
 
 abbrev ffm_message : List ℕ
 ffm_message = crlf (codes "FFM/8" ∷ codes "1/LH400/12JAN/FRA" ∷ codes "JFK" ∷ codes "020-12345675FRAJFK/P4K40.0T10/CARGO" ∷ codes "LAST" ∷ [])

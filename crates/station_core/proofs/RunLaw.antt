@@ -1,6 +1,6 @@
 -- A run of inputs from a new station keeps it lawful.
 use Rattle.std.proofs.Common.{ℕ, List, [], ◌∷◌}
-use Rattle.imp_fields.specs.Date.{LocalMinute}
+use Rattle.station_days.specs.Date.{LocalMinute}
 use Rattle.shipment_machine.proofs.Opening.{opening_lawful}
 use Rattle.station_core.specs.declared.input.Input.{Input}
 use Rattle.station_core.specs.Ranges.{AreInputs}

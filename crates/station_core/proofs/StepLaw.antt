@@ -6,7 +6,7 @@ use Rattle.std.specs.List.{AllByRecursion}
 use Rattle.std.specs.Str.{bytes_eq}
 use Rattle.std.proofs.lemmas.List.{length-append}
 use Rattle.std.proofs.lemmas.List.Elements.{All-from_recursion}
-use Rattle.imp_fields.specs.Date.{LocalMinute}
+use Rattle.station_days.specs.Date.{LocalMinute}
 use Rattle.agent_stock.specs.Stock.{Holders, covers, run_of, holder_after, order_refusal, after_order}
 use Rattle.agent_stock.specs.declared.stock.Holder.{Holder}
 use Rattle.agent_stock.specs.declared.stock.Holder.TheVariants.{Used}
@@ -75,6 +75,7 @@ module _ (s : Cargo) (h : Holders) (o : List (List ℕ)) where
   pub still_lawful : IsLawful s → ((w : ℕ) → h w ≡ Some Used → IsSome (s.declared w)) → s.confirmed ≤ length o → IsLawful with
   still_lawful law used mark = record {
     stocked = law.stocked;
+    covered = law.covered;
     within = law.within;
     declarations = law.declarations;
     expectations = law.expectations;

@@ -6,7 +6,7 @@ use Rattle.station_core.specs.declared.answer.Answer.{Answer}
 use Rattle.station_core.specs.declared.answer.Answer.TheVariants as answer
 use Rattle.station_core.specs.declared.answer.ActFault.{ActFault}
 use Rattle.station_core.specs.declared.answer.ActFault.TheVariants as fault
-use Rattle.imp_fields.specs.Date.{LocalMinute}
+use Rattle.station_days.specs.Date.{LocalMinute}
 use Rattle.station_core.specs.declared.input.Input.{Input}
 use Rattle.row_sinks.specs.Handed.{HandedOut}
 use Rattle.station_core.specs.Step.{State, step, after_all}
@@ -84,8 +84,10 @@ IsAfterAnswered s inputs answered ended found =
 
 -- A reader changes nothing: what is kept stays, a reopening finds what it found before, and no
 -- other call returns anything else.
-pub record OnlyReads {K : Type 0} (keeps : K → State → Type 0) (is_sound : K → Type 0) (is_broken : K → Bool) (may_find : K → Option State → Type 0) (old new : K) : Type 0 where
+pub record OnlyReads {K : Type 0} (keeps : K → State → Type 0) (is_clean is_sound : K → Type 0) (is_broken : K → Bool) (may_find : K → Option State → Type 0) (old new : K) : Type 0 where
   pub breaks : is_broken new ≡ is_broken old
+  pub clean : is_clean new → is_clean old
+  pub still : is_sound old → is_clean new → is_sound new
   pub sound : is_sound new → is_sound old
   pub same : (s : State) → keeps old s → is_sound new → keeps new s
   pub leaves : is_sound new → (found : Option State) → may_find new found → may_find old found
@@ -93,11 +95,11 @@ pub record OnlyReads {K : Type 0} (keeps : K → State → Type 0) (is_sound : K
 -- A reader of rows changes nothing. At Ok its sink took the rows in order, or those up to one after
 -- which it wanted no more; at Err a beginning of them. A station that has to be opened again hands
 -- out nothing.
-pub record HandsOut {K S Row : Type 0} (keeps : K → State → Type 0) (is_sound : K → Type 0) (is_broken : K → Bool) (may_find : K → Option State → Type 0)
+pub record HandsOut {K S Row : Type 0} (keeps : K → State → Type 0) (is_clean is_sound : K → Type 0) (is_broken : K → Bool) (may_find : K → Option State → Type 0)
     (old new : K) (result : Result (Unit {0}) ActFault) (takes : S → Row → Bool → S → Type 0) (AreRows : Cargo → List Row → Type 0) (from to : S) : Type 0 where
   pub reopen : is_broken old ≡ true → (result ≡ Err fault.Reopen) × (new ≡ old) × (to ≡ from)
   pub fault : is_broken old ≡ false → IfErr result IsReadersFault
-  pub reads : OnlyReads keeps is_sound is_broken may_find old new
+  pub reads : OnlyReads keeps is_clean is_sound is_broken may_find old new
   pub rows : (s : State) → keeps old s → is_sound new
       → OnOk result ((rows : List Row) × AreRows s.cargo rows × HandedOut takes rows from to)
   pub beginning : (s : State) → keeps old s → is_sound new

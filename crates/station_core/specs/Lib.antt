@@ -9,3 +9,4 @@ pub mod Retries
 pub mod Step
 pub mod Tally
 pub mod Texts
+pub mod Told

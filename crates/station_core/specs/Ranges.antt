@@ -6,7 +6,7 @@ use Rattle.awb_number.specs.Number.{IsNumber}
 use Rattle.imp_fields.specs.Amount.{IsPieces, IsTenths}
 use Rattle.imp_fields.specs.Airport.{is_airport}
 use Rattle.imp_fields.specs.Flight.{IsDesignator}
-use Rattle.imp_fields.specs.Date.{IsCalendarDay, LocalMinute}
+use Rattle.station_days.specs.Date.{IsCalendarDay, LocalMinute}
 use Rattle.imp_fields.specs.Name.{is_goods}
 use Rattle.shipment_machine.specs.declared.command.CargoLine.{CargoLine}
 use Rattle.shipment_machine.specs.declared.command.InboundLine.{InboundLine}

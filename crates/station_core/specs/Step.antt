@@ -1,7 +1,7 @@
 -- The state of a station, one step of it, and a run of many.
 use Rattle.std.specs.Prelude.{ℕ, Bool, ◌&&◌, nat_le, if◌then◌else◌, Option, Some, None, Result, Ok, Err, IsSome, IfSome, List, [], ◌∷◌, ◌++◌, map, length}
 use Rattle.std.specs.Str.{bytes_eq}
-use Rattle.imp_fields.specs.Date.{LocalMinute}
+use Rattle.station_days.specs.Date.{LocalMinute}
 use Rattle.agent_stock.specs.Stock.{run_of, order_refusal, after_order}
 use Rattle.agent_stock.specs.declared.stock.Order.{Order}
 use Rattle.shipment_machine.specs.declared.moves.Part.{Part}

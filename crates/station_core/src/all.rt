@@ -1,5 +1,5 @@
 ghost use Rattle.std.specs.Prelude.{◌≡◌, ◌<◌, true, false, [], take, length, None, Some, Err, Option, IfErr, OnOk, All};
-ghost use Rattle.imp_fields.specs.Date.{LocalMinute};
+ghost use Rattle.station_days.specs.Date.{LocalMinute};
 ghost use Rattle.station_core.specs.declared.input.Input.{Input as AnyInput};
 ghost use Rattle.station_core.specs.declared.answer.ActFault.{ActFault};
 ghost use Rattle.station_core.specs.Step.{State, after_all, answers_of};
@@ -8,7 +8,7 @@ ghost use Rattle.station_core.specs.Keeping.{Answers, MayLeave, IsMemoryOrStore,
 use crate::answer::{ActFault, AllAnswers, Answer};
 use crate::input::Input;
 use crate::keeper::Keeper;
-use imp_fields::Moment;
+use station_days::Moment;
 use std::alloc::Global;
 
 /// One input, where a refusal is an answer.
@@ -17,6 +17,8 @@ pub fn answer_one<K: Keeper>(
     input: &Input<'_>,
     at: Moment,
 ) -> Result<Answer, ActFault>
+    ensures clean { K.is_clean keeper.new → K.is_clean keeper.old }
+    ensures still { K.is_sound keeper.old → K.is_clean keeper.new → K.is_sound keeper.new }
     ensures sound { K.is_sound keeper.new → K.is_sound keeper.old }
     ensures works { K.is_broken keeper.old ≡ false → OnOk result (K.is_broken keeper.new ≡ false) }
     ensures reopen { K.is_broken keeper.old ≡ true → (result ≡ Err ActFault.Reopen)
@@ -64,6 +66,8 @@ pub fn act_all<K: Keeper>(
         × (keeper.new ≡ keeper.old) }
     ensures reopen_fault { K.is_broken keeper.old ≡ true → (e : ActFault) → result.fault ≡ Some e
         → IsMemoryOrReopen e }
+    ensures clean { K.is_clean keeper.new → K.is_clean keeper.old }
+    ensures still { K.is_sound keeper.old → K.is_clean keeper.new → K.is_sound keeper.new }
     ensures sound { K.is_sound keeper.new → K.is_sound keeper.old }
 
     // A reopening finds the state after the inputs that were answered, or where it ended by

@@ -7,8 +7,8 @@ use crate::rows::{
 };
 use agent_stock::{Holder, StockRun};
 use awb_number::Awb;
-use imp_fields::Moment;
 use row_sinks::Sink;
+use station_days::Moment;
 
 /// What keeps the state of a station.
 ///
@@ -23,8 +23,11 @@ pub trait Keeper {
     /// It keeps this state: what it returns is by it.
     ghost keeps: { Self → State → Type 0 };
 
-    /// The premise of what the calls say: the disk has returned what was written, and kept what it
-    /// confirmed.
+    /// The disk has returned what was written, and kept what it confirmed.
+    ghost is_clean: { Self → Type 0 };
+
+    /// The premise of what the calls say: it is clean, and nothing else is wrong with what it lies
+    /// in. A call changes it only where the disk fails.
     ghost is_sound: { Self → Type 0 };
 
     /// It returns `Reopen`.
@@ -39,6 +42,8 @@ pub trait Keeper {
         ensures reopen { is_broken self.old ≡ true → (result ≡ Err ActFault.Reopen)
             × (self.new ≡ self.old) }
         ensures breaks { is_broken self.old ≡ false → Breaks result (is_broken self.new) }
+        ensures clean { is_clean self.new → is_clean self.old }
+        ensures still { is_sound self.old → is_clean self.new → is_sound self.new }
         ensures sound { is_sound self.new → is_sound self.old }
 
         // The answer and the state are those of the step.
@@ -53,7 +58,7 @@ pub trait Keeper {
         ensures reopen { is_broken self.old ≡ true → (result ≡ Err ActFault.Reopen)
             × (self.new ≡ self.old) }
         ensures fault { is_broken self.old ≡ false → IfErr result IsReadersFault }
-        ensures reads { OnlyReads keeps is_sound is_broken may_find self.old self.new }
+        ensures reads { OnlyReads keeps is_clean is_sound is_broken may_find self.old self.new }
         ensures holder { (s : State) → keeps self.old s → is_sound self.new
             → IfOk result (λ holder. holder ≡ s.cargo.holders number.now) };
 
@@ -62,49 +67,49 @@ pub trait Keeper {
         ensures reopen { is_broken self.old ≡ true → (result ≡ Err ActFault.Reopen)
             × (self.new ≡ self.old) }
         ensures fault { is_broken self.old ≡ false → IfErr result IsReadersFault }
-        ensures reads { OnlyReads keeps is_sound is_broken may_find self.old self.new }
+        ensures reads { OnlyReads keeps is_clean is_sound is_broken may_find self.old self.new }
         ensures waybill { (s : State) → keeps self.old s → is_sound self.new
             → IfOk result (λ waybill. waybill ≡ waybill_of s.cargo number.now) };
 
     /// The stock, as its maximal runs of one holder, ascending.
     fn stock<S: Sink<StockRun>>(&mut self, sink: &mut S) -> Result<(), ActFault>
-        ensures { HandsOut keeps is_sound is_broken may_find self.old self.new result
+        ensures { HandsOut keeps is_clean is_sound is_broken may_find self.old self.new result
             S.takes (λ s rows. AreStockRuns s.holders rows) sink.old sink.new };
 
     /// The waybills with pieces in store, ascending.
     fn shed<S: Sink<ShedRow>>(&mut self, sink: &mut S) -> Result<(), ActFault>
-        ensures { HandsOut keeps is_sound is_broken may_find self.old self.new result
+        ensures { HandsOut keeps is_clean is_sound is_broken may_find self.old self.new result
             S.takes (λ s rows. rows ≡ shed_rows s) sink.old sink.new };
 
     /// The flights that are noted, with what is built on each, by their written form and then by
     /// the day.
     fn flights<S: Sink<FlightRow>>(&mut self, sink: &mut S) -> Result<(), ActFault>
-        ensures { HandsOut keeps is_sound is_broken may_find self.old self.new result
+        ensures { HandsOut keeps is_clean is_sound is_broken may_find self.old self.new result
             S.takes (λ s rows. AreFlightRows s rows) sink.old sink.new };
 
     /// What flights are to bring, by flight as `flights` has them and then by waybill.
     fn expected<S: Sink<ExpectedRow>>(&mut self, sink: &mut S) -> Result<(), ActFault>
-        ensures { HandsOut keeps is_sound is_broken may_find self.old self.new result
+        ensures { HandsOut keeps is_clean is_sound is_broken may_find self.old self.new result
             S.takes (λ s rows. AreExpectedRows s rows) sink.old sink.new };
 
     /// The waybills of which pieces are missing or were found, ascending.
     fn irregular<S: Sink<IrregularRow>>(&mut self, sink: &mut S) -> Result<(), ActFault>
-        ensures { HandsOut keeps is_sound is_broken may_find self.old self.new result
+        ensures { HandsOut keeps is_clean is_sound is_broken may_find self.old self.new result
             S.takes (λ s rows. rows ≡ irregular_rows s) sink.old sink.new };
 
     /// The movement book, in order.
     fn book<S: Sink<BookRow>>(&mut self, sink: &mut S) -> Result<(), ActFault>
-        ensures { HandsOut keeps is_sound is_broken may_find self.old self.new result
+        ensures { HandsOut keeps is_clean is_sound is_broken may_find self.old self.new result
             S.takes (λ s rows. rows ≡ book_rows s) sink.old sink.new };
 
     /// The messages that weren't confirmed yet, in order.
     fn pending<S: Sink<Message>>(&mut self, sink: &mut S) -> Result<(), ActFault>
-        ensures { HandsOut keeps is_sound is_broken may_find self.old self.new result
+        ensures { HandsOut keeps is_clean is_sound is_broken may_find self.old self.new result
             S.takes (λ s rows. rows ≡ pending_messages s) sink.old sink.new };
 
     /// The trail, in order.
     fn trail<S: Sink<TrailRow>>(&mut self, sink: &mut S) -> Result<(), ActFault>
-        ensures { HandsOut keeps is_sound is_broken may_find self.old self.new result
+        ensures { HandsOut keeps is_clean is_sound is_broken may_find self.old self.new result
             S.takes (λ s rows. rows ≡ trail_rows s) sink.old sink.new };
 
     /// A reopening finds the state that it keeps.

@@ -1,6 +1,6 @@
 //! What holds of the definitions.
 ghost use Rattle.std.specs.Prelude.{◌≡◌, ℕ, List};
-ghost use Rattle.imp_fields.specs.Date.{LocalMinute};
+ghost use Rattle.station_days.specs.Date.{LocalMinute};
 ghost use Rattle.shipment_machine.specs.Laws.{IsConserved, AreBalances};
 ghost use Rattle.station_core.specs.declared.input.Input.{Input};
 ghost use Rattle.station_core.specs.Ranges.{IsInput, AreInputs};

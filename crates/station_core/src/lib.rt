@@ -13,6 +13,7 @@ mod repeat;
 mod rows;
 mod shipment;
 mod stock;
+mod stored;
 mod tally;
 mod texts;
 
@@ -31,4 +32,5 @@ pub use rows::{
 };
 pub use shipment::shipment_of;
 pub use stock::{count_of_order, refusal_of_order};
+pub use stored::{KeptReply, Load, Sizes, WaybillBalances};
 pub use texts::{detail_text, refusal_text, reply_text};

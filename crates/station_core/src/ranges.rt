@@ -6,7 +6,7 @@ ghost use Rattle.awb_number.specs.Number.{IsNumber};
 ghost use Rattle.imp_fields.specs.Airport.{is_airport};
 ghost use Rattle.imp_fields.specs.Amount.{IsPieces};
 ghost use Rattle.imp_fields.specs.Characters.{is_line};
-ghost use Rattle.imp_fields.specs.Date.{IsCalendarDay};
+ghost use Rattle.station_days.specs.Date.{IsCalendarDay};
 ghost use Rattle.imp_fields.specs.Flight.{IsDesignator};
 ghost use Rattle.station_core.specs.Ranges.{IsCargoLine, IsInboundLine, IsContent};
 

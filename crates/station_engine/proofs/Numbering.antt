@@ -10,8 +10,8 @@ use Rattle.shipment_machine.specs.Agreement.{outcome_of}
 use Rattle.shipment_machine.specs.Effect.{carried_out}
 use Rattle.station_core.specs.Step.{has_room, sent}
 use Rattle.station_engine.specs.Room.{is_line}
-use Rattle.state_store.specs.Told.{sizes_of}
-use Rattle.state_store.specs.declared.store.Sizes.{Sizes}
+use Rattle.station_core.specs.Told.{sizes_of}
+use Rattle.station_core.specs.declared.stored.Sizes.{Sizes}
 
 -- what the changes leave of the numbered rows
 pub record IsAfter (text : List ℕ) (changes : List Change) (s : Cargo) : Type 0 where

@@ -3,7 +3,7 @@ use Rattle.std.proofs.Common.{◌≡◌, ◌∙◌, ℕ, Bool, true, false, Opti
 use Rattle.std.specs.Prelude.{⊤, ◌⊎◌}
 use Rattle.std.specs.Bool.{if◌then◌else◌}
 use Rattle.std.specs.Str.{bytes_eq}
-use Rattle.imp_fields.specs.Date.{LocalMinute}
+use Rattle.station_days.specs.Date.{LocalMinute}
 use Rattle.agent_stock.specs.Stock.{run_of, order_refusal, after_order}
 use Rattle.agent_stock.specs.declared.stock.Holder.{Holder}
 use Rattle.agent_stock.specs.declared.stock.Holder.TheVariants as holder
@@ -30,7 +30,7 @@ use Rattle.imp_fields.proofs.SameFlight.{bytes_eq-refl}
 use Rattle.station_core.proofs.StepLaw.{sent_lawful, ordered_lawful}
 use Rattle.station_core.specs.Step.{State, IsLawfulState, Stepped, stepped, accepted, refused, waybill_or_nothing, Acted, stock_acted, cargo_acted, shipment_of, acted, sent, with_notices, has_room, keeping_text, kept_with, first_time, answered, repeated, step}
 use Rattle.station_engine.specs.Serving.{IsAfter, IsPlanned, Serves}
-use Rattle.state_store.specs.Told.{with_order}
+use Rattle.station_core.specs.Told.{with_order}
 use Rattle.station_engine.specs.Written.{with_plan}
 
 -- A step, by what is known of its input.

@@ -1,6 +1,6 @@
 -- What serving an input comes to.
 use Rattle.std.specs.Prelude.{◌≡◌, ℕ, List, [], Option, Some, None, Result, Ok, Err}
-use Rattle.imp_fields.specs.Date.{LocalMinute}
+use Rattle.station_days.specs.Date.{LocalMinute}
 use Rattle.desk_commands.specs.Command.{command_text, IsCommand}
 use Rattle.shipment_machine.specs.declared.plans.Plan.{Plan}
 use Rattle.shipment_machine.specs.declared.plans.Refusal.{Refusal}

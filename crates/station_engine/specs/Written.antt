@@ -6,7 +6,7 @@ use Rattle.shipment_machine.specs.Agreement.{outcome_of}
 use Rattle.shipment_machine.specs.Cargo.{written_all}
 use Rattle.shipment_machine.specs.Effect.{carried_out}
 use Rattle.station_core.specs.Step.{State, sent}
-use Rattle.state_store.specs.Told.{on_cargo}
+use Rattle.station_core.specs.Told.{on_cargo}
 
 abbrev pub with_changes : List ℕ → List Change → State → State
 with_changes text changes = on_cargo (written_all text changes)

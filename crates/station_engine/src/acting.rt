@@ -1,6 +1,6 @@
 //! An input done once, over any store.
 ghost use Rattle.std.specs.Prelude.{◌≡◌, ◌⊎◌, ◌++◌, ◌∷◌, [], List, ℕ, Option, None, Ok, IfOk, OnOk, string_bytes, map};
-ghost use Rattle.imp_fields.specs.Date.{LocalMinute};
+ghost use Rattle.station_days.specs.Date.{LocalMinute};
 ghost use Rattle.agent_stock.specs.Stock.{order_refusal};
 ghost use Rattle.shipment_machine.specs.Agreement.{outcome_of, StaysLawful};
 ghost use Rattle.shipment_machine.specs.Cargo.{Cargo as AnyCargo};
@@ -17,12 +17,12 @@ use crate::replying::known;
 use crate::room::has_room;
 use agent_stock::{Order, StockFault};
 use desk_commands::Command;
-use imp_fields::Moment;
 use shipment_machine::{DeskRef, Notice, Plan, PlanFault, Refusal, ShipmentCommand, plan};
 use state_store::{StateStore, StoreFault, view};
 use station_core::{
     Answer, Input, NO_NUMBERS_LEFT, Reply, count_of_order, refusal_of_order, shipment_of,
 };
+use station_days::Moment;
 use std::alloc::{AllocError, Global};
 use telegrams::notice_text;
 

@@ -3,7 +3,7 @@ ghost use Rattle.std.specs.Prelude.{OnOk};
 ghost use Rattle.station_core.specs.Step.{State, kept_with};
 ghost use Rattle.station_engine.specs.Serving.{IsRequestOf};
 ghost use Rattle.state_store.specs.Store.{at_rest, inside, Survives, MayLeave};
-ghost use Rattle.state_store.specs.Told.{with_moves, with_messages};
+ghost use Rattle.station_core.specs.Told.{with_moves, with_messages};
 ghost use Rattle.station_engine.specs.Written.{with_changes, with_plan, texts_in};
 
 use crate::replying::keep;

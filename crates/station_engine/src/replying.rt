@@ -4,11 +4,11 @@ ghost use Rattle.station_core.specs.Step.{State, repeated, key_answer, text_answ
 ghost use Rattle.std.specs.Option.{option_map};
 ghost use Rattle.station_engine.specs.Serving.{IsRequestOf};
 ghost use Rattle.state_store.specs.Store.{Seen, inside, Survives};
-ghost use Rattle.state_store.specs.Told.{kept_of};
+ghost use Rattle.station_core.specs.Told.{kept_of};
 
 use desk_commands::command_text;
-use state_store::{KeptReply, StateStore, StoreFault};
-use station_core::{Answer, Input, Reply, repeated_key};
+use state_store::{StateStore, StoreFault};
+use station_core::{Answer, Input, KeptReply, Reply, repeated_key};
 use std::alloc::{AllocError, Global};
 
 /// The text by which an input is compared with one that was kept under its key.

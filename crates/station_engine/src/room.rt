@@ -6,11 +6,11 @@ ghost use Rattle.shipment_machine.specs.Agreement.{outcome_of};
 ghost use Rattle.shipment_machine.specs.Effect.{carried_out};
 ghost use Rattle.station_core.specs.Step.{has_room, sent};
 ghost use Rattle.station_engine.specs.Room.{is_line};
-ghost use Rattle.state_store.specs.Told.{sizes_of};
+ghost use Rattle.station_core.specs.Told.{sizes_of};
 ghost use Rattle.station_engine.specs.Written.{texts_in};
 
 use shipment_machine::{Change, Plan};
-use state_store::Sizes;
+use station_core::Sizes;
 
 /// How many changes add a line to the trail.
 fn lines_in(changes: &[Change<'_>]) -> usize

@@ -10,12 +10,12 @@ use crate::acting::serve;
 use crate::replying::request_of;
 use agent_stock::{Holder, StockRun};
 use awb_number::Awb;
-use imp_fields::Moment;
 use state_store::{StateStore, expected_rows, flight_rows, irregular_rows, shed_rows, waybill_in};
 use station_core::{
     ActFault, Answer, BookRow, ExpectedRow, FlightRow, Input, IrregularRow, Keeper, Message, Reply,
     ShedRow, Sink, TrailRow, Waybill, hand_out,
 };
+use station_days::Moment;
 use std::alloc::Global;
 
 /// A station over a store of its state. It takes every input.
@@ -117,6 +117,7 @@ impl<S: StateStore> StoredStation<S> {
             × (self.new ≡ self.old) }
         ensures fault { self.old.broken ≡ false → IfErr result IsReadersFault }
         ensures reads { OnlyReads ⟦<StoredStation<S> as Keeper>⟧.keeps
+            ⟦<StoredStation<S> as Keeper>⟧.is_clean
             ⟦<StoredStation<S> as Keeper>⟧.is_sound
             ⟦<StoredStation<S> as Keeper>⟧.is_broken ⟦<StoredStation<S> as Keeper>⟧.may_find
             self.old self.new }
@@ -140,6 +141,7 @@ impl<S: StateStore> StoredStation<S> {
             × (self.new ≡ self.old) }
         ensures fault { self.old.broken ≡ false → IfErr result IsReadersFault }
         ensures reads { OnlyReads ⟦<StoredStation<S> as Keeper>⟧.keeps
+            ⟦<StoredStation<S> as Keeper>⟧.is_clean
             ⟦<StoredStation<S> as Keeper>⟧.is_sound
             ⟦<StoredStation<S> as Keeper>⟧.is_broken ⟦<StoredStation<S> as Keeper>⟧.may_find
             self.old self.new }
@@ -163,6 +165,7 @@ impl<S: StateStore> StoredStation<S> {
             × (self.new ≡ self.old) }
         ensures fault { self.old.broken ≡ false → IfErr result IsReadersFault }
         ensures reads { OnlyReads ⟦<StoredStation<S> as Keeper>⟧.keeps
+            ⟦<StoredStation<S> as Keeper>⟧.is_clean
             ⟦<StoredStation<S> as Keeper>⟧.is_sound
             ⟦<StoredStation<S> as Keeper>⟧.is_broken ⟦<StoredStation<S> as Keeper>⟧.may_find
             self.old self.new }
@@ -186,6 +189,7 @@ impl<S: StateStore> StoredStation<S> {
             × (self.new ≡ self.old) }
         ensures fault { self.old.broken ≡ false → IfErr result IsReadersFault }
         ensures reads { OnlyReads ⟦<StoredStation<S> as Keeper>⟧.keeps
+            ⟦<StoredStation<S> as Keeper>⟧.is_clean
             ⟦<StoredStation<S> as Keeper>⟧.is_sound
             ⟦<StoredStation<S> as Keeper>⟧.is_broken ⟦<StoredStation<S> as Keeper>⟧.may_find
             self.old self.new }
@@ -209,6 +213,7 @@ impl<S: StateStore> StoredStation<S> {
             × (self.new ≡ self.old) }
         ensures fault { self.old.broken ≡ false → IfErr result IsReadersFault }
         ensures reads { OnlyReads ⟦<StoredStation<S> as Keeper>⟧.keeps
+            ⟦<StoredStation<S> as Keeper>⟧.is_clean
             ⟦<StoredStation<S> as Keeper>⟧.is_sound
             ⟦<StoredStation<S> as Keeper>⟧.is_broken ⟦<StoredStation<S> as Keeper>⟧.may_find
             self.old self.new }
@@ -230,6 +235,8 @@ impl<S: StateStore> Keeper for StoredStation<S> {
     ghost use Rattle.station_engine.specs.Laws.{found_is};
 
     ghost keeps = { λ k s. IsLawfulState s × S.shows k.store (at_rest s) };
+
+    ghost is_clean = { λ k. S.is_clean k.store };
 
     ghost is_sound = { λ k. S.is_sound k.store };
 

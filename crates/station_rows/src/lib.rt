@@ -5,10 +5,12 @@
 #![tactic(auto)]
 
 mod memory;
+mod reads;
 mod rows;
 mod station;
 mod stock;
 mod store;
+mod writes;
 
 pub use cargo_rows::{
     BuildRow, CountRow, ExpectedRow, FlightRow, ListedWaybillRow, MoveRow, NotedFlightRow,

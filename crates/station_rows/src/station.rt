@@ -1,8 +1,11 @@
 ghost use Rattle.std.specs.Prelude.{◌≡◌, pos, map, option_map, option_to_list, IfOk};
 ghost use Rattle.sqlite_keyed.specs.Keyed.{get_by};
+ghost use Rattle.sqlite.specs.Held.{state};
+ghost use Rattle.sqlite.specs.State.{Executes, HasCleanDisk};
 ghost use Rattle.row_schema.specs.Calls.{Alters, CommitsNothing, LeavesAll, Tells};
 ghost use Rattle.row_schema.specs.Tables.{station_id};
 ghost use Rattle.station_rows.specs.Meant.{station_meant, station_shown, station_read, confirming};
+ghost use Rattle.station_rows.specs.Ran.{confirm_params, confirm_text};
 
 use sqlite::{Alter, Connection, Error, Row, params};
 
@@ -25,6 +28,9 @@ pub(crate) fn update_confirmed<S: Alter>(
     confirmed: i64,
 ) -> Result<usize, Error>
     ensures made { Alters S.Store conn.old conn.new result (confirming confirmed) }
+    ensures ran { HasCleanDisk (state S.Store conn.new)
+        → Executes confirm_text (confirm_params confirmed) (state S.Store conn.old)
+        (state S.Store conn.new) result }
     ensures survives { CommitsNothing S.Store conn.old conn.new }
 {
     conn.execute(

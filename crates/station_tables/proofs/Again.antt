@@ -1,7 +1,7 @@
 -- A station that is opened again and given the input that may have been interrupted.
 use Rattle.std.proofs.Common.{◌≡◌, ◌⊎◌, inl, inr, Option, Some, Result, Ok, Err, sym, ap, subst, ◌∙◌}
 use Rattle.std.specs.Prelude.{IfOk, IfErr}
-use Rattle.imp_fields.specs.Date.{LocalMinute}
+use Rattle.station_days.specs.Date.{LocalMinute}
 use Rattle.station_core.specs.declared.answer.ActFault as act
 use Rattle.station_core.specs.declared.answer.ActFault.TheVariants as cause
 use Rattle.station_core.specs.declared.answer.Answer.{Answer}

@@ -3,7 +3,7 @@ use Rattle.std.proofs.Common.{◌≡◌, ◌∙◌, false, Some, Result, Ok, Err
 use Rattle.std.specs.Prelude.{IfOk, IfErr}
 use Rattle.std.proofs.lemmas.List.{length-map}
 use Rattle.sqlite.specs.Effect.{Database}
-use Rattle.found_station.specs.Reading.{Reading, read_as}
+use Rattle.table_load.specs.Reading.{Reading, read_as}
 use Rattle.table_load.specs.declared.station.FileVersion.TheVariants.{First, Second}
 use Rattle.sqlite.specs.State as sqlite
 use Rattle.station_core.specs.Step.{State, IsLawfulState}
@@ -15,7 +15,7 @@ use Rattle.row_codec.specs.Meaning.{meaning_of, IsReadable, Means}
 use Rattle.row_codec.specs.Moves.{move_by}
 use Rattle.state_store.specs.Store.{at_rest}
 use Rattle.table_state.specs.Shown.{Knows, HasThese}
-use Rattle.lawful_tables.proofs.Laws.{lawful_each}
+use Rattle.table_audits.proofs.Laws.{lawful_each}
 use Rattle.file_audit.proofs.Declared.{each_lawful, same_tables}
 use Rattle.file_audit.proofs.Judged.{fit}
 use Rattle.file_audit.proofs.Typed.{station_held_whole}

@@ -6,7 +6,7 @@ use Rattle.sqlite.specs.Tree.{Trees}
 use Rattle.sqlite.specs.State as sqlite
 use Rattle.sqlite.specs.State.{HasCleanDisk}
 use Rattle.row_laws.specs.Calls.{IsSettled, IsUndone, Stops}
-use Rattle.found_station.specs.Reading.{read_as}
+use Rattle.table_load.specs.Reading.{read_as}
 use Rattle.table_load.specs.declared.station.FileVersion.TheVariants.{First}
 use Rattle.row_schema.specs.Own.{IsOwn, IsOldOwn}
 use Rattle.row_schema.specs.Schema.{station_schema}

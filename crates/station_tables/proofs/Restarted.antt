@@ -1,7 +1,7 @@
 -- What a station that stopped may leave, and what is found of it.
 use Rattle.std.proofs.Common.{◌≡◌, inl, inr, ℕ, Bool, false, List, Option, Some, None, Result, Ok, Err, refl}
 use Rattle.std.specs.Prelude.{IfOk, IfErr}
-use Rattle.imp_fields.specs.Date.{LocalMinute}
+use Rattle.station_days.specs.Date.{LocalMinute}
 use Rattle.sqlite.specs.Tree.{Trees}
 use Rattle.sqlite.specs.Effect.{Database}
 use Rattle.sqlite.specs.Held.{state}
@@ -18,7 +18,7 @@ use Rattle.row_codec.specs.Meaning.{meaning_of, IsReadable}
 use Rattle.row_schema.specs.Own.{IsOwn}
 use Rattle.station_rows.specs.Own.{are_declared}
 use Rattle.station_rows.specs.Shown.{rows_view}
-use Rattle.found_station.specs.Reading.{read_as}
+use Rattle.table_load.specs.Reading.{read_as}
 use Rattle.table_load.specs.declared.station.FileVersion.TheVariants.{Second}
 use Rattle.station_tables.proofs.Attached.{is_lawful}
 use Rattle.station_tables.specs.Attached.{connection_in, IsBreakdown, IsStateIn, IsTypedState}

@@ -10,11 +10,11 @@ use Rattle.file_audit.specs.declared.state.FoundState.{FoundState}
 use Rattle.file_audit.specs.declared.unfit.Unfit.{Unfit}
 use Rattle.file_audit.specs.declared.unfit.Unfit.TheVariants as unfit
 use Rattle.file_audit.specs.Good.{IsStationOf}
-use Rattle.found_station.specs.Reading.{Reading, read_as}
+use Rattle.table_load.specs.Reading.{Reading, read_as}
 use Rattle.table_load.specs.declared.station.FileVersion.{FileVersion}
 use Rattle.table_load.specs.declared.station.FileVersion.TheVariants.{First, Second}
-use Rattle.lawful_tables.specs.declared.name.TableName.{TableName}
-use Rattle.lawful_tables.specs.declared.name.TableName.TheVariants.{Waybill, Waybill2}
+use Rattle.table_audits.specs.declared.name.TableName.{TableName}
+use Rattle.table_audits.specs.declared.name.TableName.TheVariants.{Waybill, Waybill2}
 use Rattle.file_audit.specs.Verdict.{IsUnfit, Tells}
 use Rattle.station_tables.specs.declared.fault.AttachFault.{AttachFault}
 use Rattle.station_tables.specs.declared.fault.AttachFault.TheVariants as fault

@@ -5,3 +5,4 @@ pub mod Repeated
 pub mod Restarted
 pub mod Lives
 pub mod Calls
+pub mod Called

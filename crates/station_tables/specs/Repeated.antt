@@ -1,6 +1,6 @@
 -- What is left by an input that is given to a station as it is opened again.
 use Rattle.std.specs.Prelude.{◌≡◌, ◌⊎◌, Option, Some}
-use Rattle.imp_fields.specs.Date.{LocalMinute}
+use Rattle.station_days.specs.Date.{LocalMinute}
 use Rattle.sqlite.specs.Effect.{Database}
 use Rattle.row_schema.specs.Store.{View}
 use Rattle.station_core.specs.declared.answer.Answer.{Answer}

@@ -1,6 +1,6 @@
 -- What is found by opening a station again after a stop.
 use Rattle.std.specs.Prelude.{◌≡◌, ℕ, Bool, false, List, Option, Some}
-use Rattle.imp_fields.specs.Date.{LocalMinute}
+use Rattle.station_days.specs.Date.{LocalMinute}
 use Rattle.sqlite.specs.Effect.{Database}
 use Rattle.shipment_machine.specs.Laws.{IsConserved, AreBalances}
 use Rattle.station_core.specs.declared.answer.ActFault.{ActFault}

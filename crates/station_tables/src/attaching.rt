@@ -3,7 +3,7 @@ ghost use Rattle.sqlite.specs.State.{HasCleanDisk, IsUnchanged, Survives};
 ghost use Rattle.row_laws.specs.Calls.{IsSettled, IsUndone, Reads};
 ghost use Rattle.sqlite.specs.Held.{state};
 ghost use Rattle.sqlite.specs.Effect.{Database};
-ghost use Rattle.found_station.specs.Reading.{read_as};
+ghost use Rattle.table_load.specs.Reading.{read_as};
 ghost use Rattle.table_load.specs.declared.station.FileVersion.TheVariants.{Second};
 ghost use Rattle.station_core.specs.Step.{State, IsLawfulState};
 ghost use Rattle.row_schema.specs.Connection.{connection_view};
@@ -17,6 +17,7 @@ ghost use Rattle.row_schema.specs.Own.{IsOwn, LiesInOrder};
 ghost use Rattle.station_rows.specs.Own.{are_declared};
 ghost use Rattle.file_audit.specs.Verdict.{IsUnfit, Tells};
 ghost use Rattle.station_tables.specs.Attached.{connection_in, IsBreakdown, IsJudged, IsStateIn, IsTypedState, Refuses};
+ghost use Rattle.station_tables.specs.Called.{HasFound};
 ghost use Rattle.station_tables.specs.Found.{Finds};
 
 use crate::fault::AttachFault;
@@ -189,10 +190,8 @@ fn settle<S: Alter>(
     }
 }
 
-/// A station over the tables that a store has already. Each table is read whole, by one statement,
-/// and they are tested in the order of `TableName`: the station goes on from the state that they
-/// mean. Nothing is written.
-pub fn attach<S: Alter>(
+/// The station over the tables that a store has, clause by clause.
+fn find_over<S: Alter>(
     alloc: Global,
     mut conn: Connection<S>,
 ) -> Result<Station<S>, (Connection<S>, AttachFault)>
@@ -264,4 +263,17 @@ pub fn attach<S: Alter>(
             Err((conn, fault))
         }
     }
+}
+
+/// A station over the tables that a store has already. Each table is read whole, by one statement,
+/// and they are tested in the order of `TableName`: the station goes on from the state that they
+/// mean. Nothing is written.
+pub fn attach<S: Alter>(
+    alloc: Global,
+    conn: Connection<S>,
+) -> Result<Station<S>, (Connection<S>, AttachFault)>
+    ensures { HasFound S.Store ⟦<Station<S> as Keeper>⟧.keeps ⟦<Station<S> as Keeper>⟧.is_sound
+        ⟦<Station<S> as Keeper>⟧.is_broken conn result }
+{
+    find_over(alloc, conn)
 }

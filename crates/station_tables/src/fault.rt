@@ -1,4 +1,4 @@
-use lawful_tables::TableName;
+use table_audits::TableName;
 
 /// Why there is no station. The connection comes back beside it.
 #[derive(Clone, Copy, Debug, PartialEq, Eq)]

@@ -1,6 +1,6 @@
 //! A file of version 1 becomes one of version 2.
 ghost use Rattle.std.specs.Prelude.{◌≡◌, ◌≢◌, ◌⊎◌, true, false, Err, IsTrue, IfOk, IfErr};
-ghost use Rattle.found_station.specs.Reading.{read_as};
+ghost use Rattle.table_load.specs.Reading.{read_as};
 ghost use Rattle.table_load.specs.declared.station.FileVersion.TheVariants.{First};
 ghost use Rattle.row_laws.specs.Calls.{IsSettled, IsUndone};
 ghost use Rattle.row_schema.specs.Connection.{connection_view};
@@ -13,6 +13,7 @@ ghost use Rattle.sqlite.specs.Tree.{Trees};
 ghost use Rattle.file_audit.specs.Verdict.{IsUnfit};
 ghost use Rattle.station_core.specs.Step.{State};
 ghost use Rattle.station_tables.specs.Attached.{IsBreakdown, IsJudged, IsOldStateIn, RefusesAs, old_name};
+ghost use Rattle.station_tables.specs.Called.{HasMoved};
 ghost use Rattle.station_tables.specs.Migrated.{HasMigrated, IsMigrated};
 ghost use Rattle.table_upgrade.specs.Upgrade.{MeansUpgraded};
 
@@ -20,10 +21,10 @@ use crate::attaching::{breakdown, judge};
 use crate::fault::AttachFault;
 use declared_tables::shows_old_station;
 use file_audit::{FoundState, Unfit};
-use lawful_tables::TableName;
 use row_schema::shows_own;
 use sqlite::{Alter, Connection};
 use std::alloc::Global;
+use table_audits::TableName;
 use table_load::FileVersion;
 use table_upgrade::upgrade_tables;
 
@@ -116,18 +117,8 @@ fn settle<S: Alter>(
     }
 }
 
-/// Makes a file of version 1 one of version 2, in one transaction: `waybill2` gets the waybills,
-/// none of them with a day, `waybill` is emptied, and the version is raised. Before it, each table
-/// is read whole and audited as a file of version 1.
-///
-/// Returns [`AttachFault::NoStation`], [`AttachFault::Version`] for every version but 1,
-/// [`AttachFault::Unlawful`] with the first table that is missing or isn't lawful,
-/// [`AttachFault::Memory`] where memory ran out in the audit, and [`AttachFault::Store`] where the
-/// store failed or a transaction was open, and no other fault. The connection comes back. After any
-/// fault but `Store` the file is as it was; a crash, and a `Store`, leave it as it was or of
-/// version 2, with one state: then `migrate` is called again, and answers `Version(2)` where it was
-/// done.
-pub fn migrate<S: Alter>(
+/// The tables of version 2 in the place of those of version 1, clause by clause.
+fn upgrade_over<S: Alter>(
     alloc: Global,
     mut conn: Connection<S>,
 ) -> Result<Connection<S>, (Connection<S>, AttachFault)>
@@ -191,4 +182,24 @@ pub fn migrate<S: Alter>(
             Err((conn, fault))
         }
     }
+}
+
+/// Makes a file of version 1 one of version 2, in one transaction: `waybill2` gets the waybills,
+/// none of them with a day, `waybill` is emptied, and the version is raised. Before it, each table
+/// is read whole and audited as a file of version 1.
+///
+/// Returns [`AttachFault::NoStation`], [`AttachFault::Version`] for every version but 1,
+/// [`AttachFault::Unlawful`] with the first table that is missing or isn't lawful,
+/// [`AttachFault::Memory`] where memory ran out in the audit, and [`AttachFault::Store`] where the
+/// store failed or a transaction was open, and no other fault. The connection comes back. After any
+/// fault but `Store` the file is as it was; a crash, and a `Store`, leave it as it was or of
+/// version 2, with one state: then `migrate` is called again, and answers `Version(2)` where it was
+/// done.
+pub fn migrate<S: Alter>(
+    alloc: Global,
+    conn: Connection<S>,
+) -> Result<Connection<S>, (Connection<S>, AttachFault)>
+    ensures { HasMoved S.Store conn result }
+{
+    upgrade_over(alloc, conn)
 }

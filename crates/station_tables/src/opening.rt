@@ -8,6 +8,7 @@ ghost use Rattle.row_schema.specs.Connection.{connection_view, IsVacant};
 ghost use Rattle.row_schema.specs.Names.{takes_name};
 ghost use Rattle.row_schema.specs.Store.{IsUnchanged};
 ghost use Rattle.station_tables.specs.Attached.{connection_in};
+ghost use Rattle.station_tables.specs.Called.{HasMade};
 ghost use Rattle.station_rows.specs.Own.{are_declared};
 ghost use Rattle.station_tables.specs.Found.{Finds};
 ghost use Rattle.table_state.specs.File.{IsFileOf};
@@ -21,15 +22,8 @@ use station_engine::StoredStation;
 use station_rows::CreateFault;
 use std::alloc::Global;
 
-/// Makes the tables of a station at an airport with nothing in it, in one transaction, in a store
-/// where none of their names is taken.
-///
-/// Returns [`AttachFault::Occupied`] where a table, an index or a view has one of these names,
-/// whatever the case of its letters, and [`AttachFault::Store`] where a transaction is open or the
-/// store fails, and no other fault. The connection comes back with it. Other tables stay beside the
-/// new ones; of what a station beside others keeps nothing is claimed, as where such tables are
-/// opened.
-pub fn create<S: Alter>(
+/// The tables of a new station, clause by clause.
+fn make_over<S: Alter>(
     alloc: Global,
     conn: Connection<S>,
     here: Airport,
@@ -83,4 +77,23 @@ pub fn create<S: Alter>(
         Err((conn, CreateFault::Occupied)) => Err((conn, AttachFault::Occupied)),
         Err((conn, CreateFault::Store)) => Err((conn, AttachFault::Store)),
     }
+}
+
+/// Makes the tables of a station at an airport with nothing in it, in one transaction, in a store
+/// where none of their names is taken.
+///
+/// Returns [`AttachFault::Occupied`] where a table, an index or a view has one of these names,
+/// whatever the case of its letters, and [`AttachFault::Store`] where a transaction is open or the
+/// store fails, and no other fault. The connection comes back with it. Other tables stay beside the
+/// new ones; of what a station beside others keeps nothing is claimed, as where such tables are
+/// opened.
+pub fn create<S: Alter>(
+    alloc: Global,
+    conn: Connection<S>,
+    here: Airport,
+) -> Result<Station<S>, (Connection<S>, AttachFault)>
+    ensures { HasMade S.Store ⟦<Station<S> as Keeper>⟧.keeps ⟦<Station<S> as Keeper>⟧.is_sound
+        ⟦<Station<S> as Keeper>⟧.is_broken conn here result }
+{
+    make_over(alloc, conn, here)
 }

@@ -13,9 +13,9 @@ ghost use Rattle.station_tables.specs.Repeated.{HasAnswered, HasRepeated, IsBefo
 use crate::attaching::attach;
 use crate::fault::AttachFault;
 use crate::station::Station;
-use imp_fields::Moment;
 use sqlite::{Alter, Connection};
 use station_core::{ActFault, Answer, Input, Keeper};
+use station_days::Moment;
 use std::alloc::Global;
 
 /// One input, where a refusal is an answer.

@@ -12,9 +12,9 @@ ghost use Rattle.station_tables.specs.Restarted.{IsRestored};
 use crate::attaching::attach;
 use crate::fault::AttachFault;
 use crate::station::Station;
-use imp_fields::Moment;
 use sqlite::{Alter, Connection};
 use station_core::{ActFault, AllAnswers, Input, Keeper, act_all};
+use station_days::Moment;
 use std::alloc::Global;
 
 /// A station that was given inputs, and what was opened after it.
@@ -47,6 +47,12 @@ pub fn act_and_restart<S: Alter>(
         → IsRestored s inputs.now (length result.given.answers.items) result.given.fault
         (state S.Store other).now
         (⟦<Station<S> as Keeper>⟧.is_broken again) (⟦<Station<S> as Keeper>⟧.keeps again)) }
+
+    // A fault doesn't change what the premise says beside the disk: the one that stopped has it
+    // exactly as long as its disk has returned what was written.
+    ensures still { ⟦<Station<S> as Keeper>⟧.is_sound station
+        → HasCleanDisk (state S.Store (connection_in result.stopped))
+        → ⟦<Station<S> as Keeper>⟧.is_sound result.stopped }
 
     // All inputs were answered, each as a step answers it, or a fault of the store or of memory
     // ended them.

@@ -11,16 +11,17 @@ ghost use Rattle.station_core.specs.Step.{State};
 ghost use Rattle.station_rows.specs.Own.{are_declared};
 ghost use Rattle.station_rows.specs.Shown.{rows_view};
 ghost use Rattle.table_state.specs.Shown.{IfGivenBack};
+ghost use Rattle.station_tables.specs.Called.{HasReleased};
 ghost use Rattle.station_tables.specs.Found.{Finds};
 
 use agent_stock::{Holder, StockRun};
 use awb_number::Awb;
-use imp_fields::Moment;
 use sqlite::{Alter, Connection};
 use station_core::{
     ActFault, BookRow, ExpectedRow, FlightRow, Input, IrregularRow, Keeper, Message, Reply,
     ShedRow, Sink, TrailRow, Waybill,
 };
+use station_days::Moment;
 use station_engine::StoredStation;
 use station_rows::Rows;
 use table_state::TableState;
@@ -76,8 +77,8 @@ impl<S: Alter> Station<S> {
         self.stored.act_on(input, at)
     }
 
-    /// Gives the connection back, whatever state it is in.
-    pub fn release(self) -> Connection<S>
+    /// The connection, clause by clause.
+    fn give_back(self) -> Connection<S>
         ensures clean { HasCleanDisk (state S.Store result)
             → HasCleanDisk (state S.Store (connection_in self)) }
 
@@ -102,6 +103,14 @@ impl<S: Alter> Station<S> {
         let Station { stored } = self;
         stored.into_store().release()
     }
+
+    /// Gives the connection back, whatever state it is in.
+    pub fn release(self) -> Connection<S>
+        ensures { HasReleased ⟦<Station<S> as Keeper>⟧.keeps ⟦<Station<S> as Keeper>⟧.is_sound
+            ⟦<Station<S> as Keeper>⟧.may_find self result }
+    {
+        self.give_back()
+    }
 }
 
 impl<S: Alter> Keeper for Station<S> {
@@ -109,6 +118,8 @@ impl<S: Alter> Keeper for Station<S> {
     ghost use Rattle.table_state.specs.Laws.{finds_what_it_shows};
 
     ghost keeps = { λ k s. ⟦<StoredStation<TableState<Rows<S>>> as Keeper>⟧.keeps k.stored s };
+
+    ghost is_clean = { λ k. ⟦<StoredStation<TableState<Rows<S>>> as Keeper>⟧.is_clean k.stored };
 
     ghost is_sound = { λ k. ⟦<StoredStation<TableState<Rows<S>>> as Keeper>⟧.is_sound k.stored };
 

@@ -1,7 +1,7 @@
 -- A stock list is a run of the station, row by row.
 use Rattle.std.proofs.Common.{ℕ, ◌+◌, ◌≡◌, ◌∙◌, sym, refl, ap, Bool, true, false, ◌&&◌, is_some, List, [], ◌∷◌, ◌++◌, map, Option, Some, None}
 use Rattle.std.specs.List.{list_all}
-use Rattle.imp_fields.specs.Date.{LocalMinute}
+use Rattle.station_days.specs.Date.{LocalMinute}
 use Rattle.agent_stock.specs.declared.stock.Order.{Order}
 use Rattle.station_core.specs.declared.input.Input.{Input}
 use Rattle.station_core.specs.Retries.{is_done}

@@ -1,7 +1,7 @@
 -- A run that is told once it is known whether its reader has failed.
 use Rattle.std.proofs.Common.{arith, ℕ, zero, suc, ◌<◌, ◌≡◌, ◌∙◌, sym, refl, ap, Bool, true, false, List, [], ◌∷◌, ◌++◌, length, ◌+◌, Option, Some, None, IfSome, Result, Ok, Err, IfOk, IfErr, OnOk, inl, inr, ⊎_elim, ◌⊎◌}
 use Rattle.std.proofs.lemmas.Bool.{false≢true}
-use Rattle.imp_fields.specs.Date.{LocalMinute}
+use Rattle.station_days.specs.Date.{LocalMinute}
 use Rattle.agent_stock.specs.declared.stock.Order.{Order}
 use Rattle.station_core.specs.Step.{State}
 use Rattle.stock_list.specs.declared.answer.RunFault.{RunFault}

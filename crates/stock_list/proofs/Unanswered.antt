@@ -1,7 +1,7 @@
 -- A row that the keeper didn't answer.
 use Rattle.std.specs.Result.{IsErrAnd}
 use Rattle.std.proofs.Common.{◌≡◌, ℕ, Bool, false, List, Option, Some, Result, Ok, Err, IfErr, subst, sym, ◌∙◌, ap, ◌⊎◌, inl, inr, ⊎_elim}
-use Rattle.imp_fields.specs.Date.{LocalMinute}
+use Rattle.station_days.specs.Date.{LocalMinute}
 use Rattle.agent_stock.specs.declared.stock.Order.{Order}
 use Rattle.station_core.specs.declared.answer.ActFault.{ActFault}
 use Rattle.station_core.specs.declared.answer.ActFault.TheVariants as act

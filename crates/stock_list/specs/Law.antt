@@ -1,7 +1,7 @@
 -- A stock list as a run of the station: the inputs that its rows ask, and their answers.
 use Rattle.std.specs.Prelude.{ℕ, ◌+◌, Bool, is_some, Option, Some, None, List, [], ◌∷◌, ◌++◌}
 use Rattle.std.specs.List.{list_all}
-use Rattle.imp_fields.specs.Date.{LocalMinute}
+use Rattle.station_days.specs.Date.{LocalMinute}
 use Rattle.agent_stock.specs.declared.stock.Order.{Order}
 use Rattle.station_core.specs.declared.answer.Answer.{Answer}
 use Rattle.station_core.specs.declared.input.Input.{Input}

@@ -1,7 +1,7 @@
 -- What a stock list is answered, line by line.
 use Rattle.std.specs.Prelude.{ℕ, ◌+◌, decimal, Bool, true, false, ◌&&◌, Option, Some, None, List, [], ◌∷◌, ◌++◌, codes}
 use Rattle.csv.specs.Reading.{default_config, records, strip_bom}
-use Rattle.imp_fields.specs.Date.{LocalMinute}
+use Rattle.station_days.specs.Date.{LocalMinute}
 use Rattle.agent_stock.specs.declared.stock.Order.{Order}
 use Rattle.desk_commands.specs.declared.command.Command.TheVariants.{Stock}
 use Rattle.station_core.specs.declared.answer.Answer.{Answer}

@@ -12,11 +12,11 @@ ghost use Rattle.stock_list.specs.Shut.{IsAnsweredShut};
 use crate::row::read_row;
 use csv::ByteRecord;
 use desk_commands::Command;
-use imp_fields::Moment;
 use input_reasons::{row_reason, tell_reason};
 use station_core::{
     ActFault, Answer, ByteOut, Input, Keeper, Key, answer_one, refusal_text, reply_text, send,
 };
+use station_days::Moment;
 use std::alloc::{AllocError, Global};
 
 /// Why a run of rows ended before its end.
@@ -115,6 +115,8 @@ pub fn answer_row<K: Keeper, W: ByteOut, E: ByteOut>(
     row: &ByteRecord,
     at: Moment,
 ) -> Result<bool, RunFault>
+    ensures clean { K.is_clean keeper.new → K.is_clean keeper.old }
+    ensures still { K.is_sound keeper.old → K.is_clean keeper.new → K.is_sound keeper.new }
     ensures sound { K.is_sound keeper.new → K.is_sound keeper.old }
     ensures works { K.is_broken keeper.old ≡ false → OnOk result (K.is_broken keeper.new ≡ false) }
     ensures breaks { K.is_broken keeper.old ≡ false

@@ -1,7 +1,7 @@
 //! What a stock list does to its station.
 ghost use Rattle.std.specs.Prelude.{◌≡◌, ◌&&◌, ℕ, List, map};
 ghost use Rattle.std.specs.List.{list_all};
-ghost use Rattle.imp_fields.specs.Date.{LocalMinute};
+ghost use Rattle.station_days.specs.Date.{LocalMinute};
 ghost use Rattle.station_core.specs.Retries.{is_done};
 ghost use Rattle.station_core.specs.Step.{State, after_all, answers_of};
 ghost use Rattle.stock_list.specs.Law.{inputs_of, answered_lines, all_ask};

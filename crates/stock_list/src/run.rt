@@ -11,8 +11,8 @@ use crate::answer::{RowPlace, RunFault, answer_row};
 use crate::lines::{LineCount, line_by_line};
 use crate::watched::Watched;
 use csv::{Error, ErrorKind, ReaderBuilder};
-use imp_fields::Moment;
 use station_core::{ByteOut, Keeper};
+use station_days::Moment;
 use std::alloc::Global;
 use std::io::Read;
 
@@ -36,6 +36,8 @@ fn run_rows<K: Keeper, R: Read + Drop, W: ByteOut, E: ByteOut>(
     lines: &LineCount,
     at: Moment,
 ) -> Result<bool, RunFault>
+    ensures clean { K.is_clean keeper.new → K.is_clean keeper.old }
+    ensures still { K.is_sound keeper.old → K.is_clean keeper.new → K.is_sound keeper.new }
     ensures sound { K.is_sound keeper.new → K.is_sound keeper.old }
     ensures works { K.is_broken keeper.old ≡ false → OnOk result (K.is_broken keeper.new ≡ false) }
     ensures breaks { K.is_broken keeper.old ≡ false
@@ -119,6 +121,8 @@ pub fn run_stock<K: Keeper, R: Watched + Read, W: ByteOut, E: ByteOut>(
     errors: &mut E,
     at: Moment,
 ) -> Result<bool, RunFault>
+    ensures clean { K.is_clean keeper.new → K.is_clean keeper.old }
+    ensures still { K.is_sound keeper.old → K.is_clean keeper.new → K.is_sound keeper.new }
     ensures sound { K.is_sound keeper.new → K.is_sound keeper.old }
     ensures works { K.is_broken keeper.old ≡ false → OnOk result (K.is_broken keeper.new ≡ false) }
     ensures breaks { K.is_broken keeper.old ≡ false

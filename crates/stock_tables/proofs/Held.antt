@@ -6,12 +6,12 @@ use Rattle.awb_number.specs.Number.{prefix_of, serial_of}
 use Rattle.agent_stock.specs.declared.stock.Run.{Run}
 use Rattle.row_schema.specs.Tables.{Stock, stock_cmp}
 use Rattle.row_codec.specs.Stock.{holders_in, AreStockRows, run_in}
-use Rattle.run_rows.specs.Rows.{rows_near}
+use Rattle.stock_tables.specs.Rows.{rows_near}
 use Rattle.station_rows.specs.declared.stock.StockRow.{StockRow}
 use Rattle.station_rows.specs.Meant.{stock_meant, is_between, last_up_to, last_rows_up_to}
-use Rattle.stock_runs.specs.Reads.{holder_at, reaches, reaching, last_to_end, are_enough}
-use Rattle.stock_runs.proofs.Meant.{same_holders, are_in_order}
-use Rattle.stock_runs.proofs.Reading.{near_read, last_have, holder_read, between_read, before_read, last_rows_read, until_read}
+use Rattle.stock_tables.specs.Reads.{holder_at, reaches, reaching, last_to_end, are_enough}
+use Rattle.stock_tables.proofs.Meant.{same_holders, are_in_order}
+use Rattle.stock_tables.proofs.Reading.{near_read, last_have, holder_read, between_read, before_read, last_rows_read, until_read}
 
 module _ (stock : FinMap stock_cmp Stock) (stocked : AreStockRows stock) where
   -- the holder of a number, by the last row that begins with it or before it

@@ -2,3 +2,12 @@ mod Doing
 mod Held
 mod Restocking
 mod Showing
+pub mod Entries
+pub mod Longest
+pub mod Lowest
+pub mod Meant
+pub mod Parted
+pub mod Places
+pub mod Reading
+pub mod Rewriting
+pub mod Standing

@@ -12,14 +12,14 @@ use Rattle.agent_stock.specs.declared.runs.StockRun.{StockRun}
 use Rattle.row_schema.specs.Store.{View, Displays, inside}
 use Rattle.row_schema.specs.Tables.{Tables, Stock, stock_cmp}
 use Rattle.row_codec.specs.Stock.{holders_in, run_in}
-use Rattle.run_rows.specs.Rows.{holders_by, StandFrom, AreRuns, AreAround, AreNear, Touches, rows_ahead, rows_near, rows_behind, end_of}
-use Rattle.run_rows.proofs.Places.{run_parts}
-use Rattle.run_rows.proofs.Parted.{parted, around, near_holders, touched}
-use Rattle.run_rows.proofs.Standing.{stand_split, stand_lower, last_end, each_split, each_join}
-use Rattle.stock_runs.specs.Runs.{key_of, IsWritable}
-use Rattle.stock_runs.specs.Writes.{begins, cleared, put_in}
-use Rattle.stock_runs.proofs.Meant.{same_holders, are_in_order}
-use Rattle.stock_runs.proofs.Rewriting.{lawful_after, holders_after, there_cleared, there_put}
+use Rattle.stock_tables.specs.Rows.{holders_by, StandFrom, AreRuns, AreAround, AreNear, Touches, rows_ahead, rows_near, rows_behind, end_of}
+use Rattle.stock_tables.proofs.Places.{run_parts}
+use Rattle.stock_tables.proofs.Parted.{parted, around, near_holders, touched}
+use Rattle.stock_tables.proofs.Standing.{stand_split, stand_lower, last_end, each_split, each_join}
+use Rattle.stock_tables.specs.Runs.{key_of, IsWritable}
+use Rattle.stock_tables.specs.Writes.{begins, cleared, put_in}
+use Rattle.stock_tables.proofs.Meant.{same_holders, are_in_order}
+use Rattle.stock_tables.proofs.Rewriting.{lawful_after, holders_after, there_cleared, there_put}
 use Rattle.stock_tables.specs.Stocked.{Stocked, Restocked, restocked, AreThere, IsCut}
 
 -- what is there is still there when more is put in

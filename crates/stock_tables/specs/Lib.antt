@@ -1,1 +1,5 @@
+pub mod Reads
+pub mod Rows
+pub mod Runs
 pub mod Stocked
+pub mod Writes

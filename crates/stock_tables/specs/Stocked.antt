@@ -9,9 +9,9 @@ use Rattle.agent_stock.specs.declared.runs.StockRun.{StockRun}
 use Rattle.row_schema.specs.Store.{View, Displays, inside}
 use Rattle.row_schema.specs.Tables.{Tables, Stock, stock_cmp}
 use Rattle.row_codec.specs.Stock.{holders_in, AreStockRows}
-use Rattle.run_rows.specs.Rows.{AreAround, end_of}
-use Rattle.stock_runs.specs.Runs.{key_of}
-use Rattle.stock_runs.specs.Writes.{begins}
+use Rattle.stock_tables.specs.Rows.{AreAround, end_of}
+use Rattle.stock_tables.specs.Runs.{key_of}
+use Rattle.stock_tables.specs.Writes.{begins}
 
 -- each row of the stock is within range, and no two have a number in common
 abbrev pub Stocked : Tables → Type 0

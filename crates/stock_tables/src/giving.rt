@@ -5,14 +5,14 @@ ghost use Rattle.agent_stock.specs.Stock.{is_run, assigned};
 ghost use Rattle.row_schema.specs.Store.{IsShowing, Survives, at_rest, inside};
 ghost use Rattle.row_schema.specs.Tables.{Tables};
 ghost use Rattle.row_codec.specs.Stock.{holders_in, run_in};
-ghost use Rattle.run_rows.specs.Rows.{rows_near};
+ghost use Rattle.stock_tables.specs.Rows.{rows_near};
 ghost use Rattle.stock_tables.specs.Stocked.{Stocked, Restocked, using_up};
 
+use crate::join_rows;
 use crate::near::{near_of, without_neighbours};
 use crate::writing::{clear, put_all};
 use agent_stock::{Holder, Run, StockRun};
 use awb_number::Awb;
-use run_rows::join_rows;
 use station_rows::{StoreFault, TableStore};
 use std::alloc::Global;
 

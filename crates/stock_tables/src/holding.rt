@@ -4,7 +4,7 @@ ghost use Rattle.row_schema.specs.Store.{Seen, IsShowing, Rests, Survives};
 ghost use Rattle.row_codec.specs.Stock.{holders_in, run_in};
 ghost use Rattle.station_rows.specs.Clauses.{ShowsStill, WasOpen};
 ghost use Rattle.station_rows.specs.Meant.{stock_meant};
-ghost use Rattle.stock_runs.specs.Reads.{holder_at};
+ghost use Rattle.stock_tables.specs.Reads.{holder_at};
 ghost use Rattle.stock_tables.specs.Stocked.{Stocked};
 
 use agent_stock::Holder;

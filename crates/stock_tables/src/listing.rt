@@ -5,12 +5,12 @@ ghost use Rattle.row_schema.specs.Store.{Seen, IsShowing, Rests, Survives};
 ghost use Rattle.row_codec.specs.Stock.{holders_in, run_in};
 ghost use Rattle.station_rows.specs.Clauses.{ShowsStill, WasOpen};
 ghost use Rattle.station_rows.specs.Meant.{stock_meant};
-ghost use Rattle.run_rows.specs.Rows.{AreRuns, holders_by};
+ghost use Rattle.stock_tables.specs.Rows.{AreRuns, holders_by};
 ghost use Rattle.stock_tables.specs.Stocked.{Stocked};
 
+use crate::maximal_runs;
 use crate::near::with_rows;
 use agent_stock::StockRun;
-use run_rows::maximal_runs;
 use station_rows::{StockRow, StoreFault, TableStore};
 use std::alloc::Global;
 

@@ -2,10 +2,10 @@
 ghost use Rattle.std.specs.Prelude.{◌≡◌, ◌++◌, map, filter, option_map, IfSome, IfOk};
 ghost use Rattle.std.specs.FinMap.{entries};
 ghost use Rattle.row_schema.specs.Store.{Survives};
-ghost use Rattle.run_rows.specs.Rows.{rows_near, end_of};
+ghost use Rattle.stock_tables.specs.Rows.{rows_near, end_of};
 ghost use Rattle.station_rows.specs.Clauses.{TellsOf, ShowsStill, WasOpen};
 ghost use Rattle.station_rows.specs.Meant.{stock_meant};
-ghost use Rattle.stock_runs.specs.Reads.{reaches, reaching, are_enough};
+ghost use Rattle.stock_tables.specs.Reads.{reaches, reaching, are_enough};
 ghost use Rattle.row_codec.specs.Stock.{run_in};
 ghost use Rattle.stock_tables.specs.Stocked.{Stocked, IsCut, EndsBehind, BeginsAhead};
 

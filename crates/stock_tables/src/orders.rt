@@ -4,13 +4,13 @@ ghost use Rattle.agent_stock.specs.Stock.{is_run, lowest_failing, refused_by, ru
 ghost use Rattle.row_schema.specs.Store.{IsShowing, Survives, at_rest};
 ghost use Rattle.row_schema.specs.Tables.{Tables};
 ghost use Rattle.row_codec.specs.Stock.{holders_in};
-ghost use Rattle.state_store.specs.Store.{RefusesBy, OnRefused};
+ghost use Rattle.agent_stock.specs.Refusing.{RefusesBy, OnRefused};
 ghost use Rattle.stock_tables.specs.Stocked.{Stocked, Restocked};
 
 use crate::giving::begin_giving;
+use crate::lowest_of;
 use crate::near::near_of;
 use agent_stock::{Order, StockFault, Terms};
-use run_rows::lowest_of;
 use station_rows::{StoreFault, TableStore};
 use std::alloc::Global;
 

@@ -4,17 +4,17 @@ ghost use Rattle.std.specs.FinMap.{get};
 ghost use Rattle.std.specs.List.{AllByRecursion};
 ghost use Rattle.row_schema.specs.Store.{IsShowing, Survives, inside};
 ghost use Rattle.row_schema.specs.Tables.{Tables, Stock};
-ghost use Rattle.run_rows.specs.Rows.{listed, written};
+ghost use Rattle.stock_tables.specs.Rows.{listed, written};
 ghost use Rattle.station_rows.specs.Clauses.{ShowsChange};
 ghost use Rattle.station_rows.specs.Meant.{stock_meant, with_stock};
-ghost use Rattle.stock_runs.specs.Runs.{IsWritable};
-ghost use Rattle.stock_runs.specs.Writes.{begins, without, cleared, put_in};
+ghost use Rattle.stock_tables.specs.Runs.{IsWritable};
+ghost use Rattle.stock_tables.specs.Writes.{begins, without, cleared, put_in};
 ghost use Rattle.stock_tables.specs.Stocked.{restocked, AreThere};
 
+use crate::Joined;
 use crate::row::row_of;
 use agent_stock::StockRun;
 use awb_number::Awb;
-use run_rows::Joined;
 use station_rows::{StockRow, StoreFault, TableStore};
 use std::alloc::Global;
 

@@ -14,7 +14,7 @@ use Rattle.row_codec.specs.Numbers.{natural, is_within, is_number, is_day}
 use Rattle.row_codec.specs.Flights.{is_designator, is_flight_text}
 use Rattle.row_codec.specs.Manifests.{expected_key, expected_by, expected_in, is_expected_row}
 use Rattle.row_codec.proofs.MapLaws.{at_key, each_entry}
-use Rattle.lawful_tables.specs.Lawful.{AreExpected, cargo_in}
+use Rattle.table_audits.specs.Lawful.{AreExpected, cargo_in}
 use Rattle.table_audits.specs.Rows.{has_waybill, is_lawful_expected}
 use Rattle.table_audits.proofs.Each.{both_lists, natural_again, amount_of, amount_back}
 use Rattle.table_audits.proofs.FlightRows.{flight_at}

@@ -13,7 +13,7 @@ use Rattle.row_schema.proofs.Keys.{flight_total, flight_same}
 use Rattle.row_codec.specs.Flights.{is_designator, flight_key, outbound_by, flights_in, is_flight_row}
 use Rattle.row_codec.specs.Meaning.{airport_in}
 use Rattle.row_codec.proofs.MapLaws.{at_key, each_entry}
-use Rattle.lawful_tables.specs.Lawful.{AreFlights, cargo_in}
+use Rattle.table_audits.specs.Lawful.{AreFlights, cargo_in}
 use Rattle.table_audits.specs.Rows.{is_lawful_flight}
 use Rattle.table_audits.proofs.Each.{both_lists}
 use Rattle.table_audits.proofs.FlightRows.{flight_at}

@@ -5,7 +5,7 @@ use Rattle.std.specs.List.{list_all}
 use Rattle.std.proofs.lemmas.Bool.{and_parts, leb-true}
 use Rattle.awb_number.specs.Digits.{is_digit, is_letter, decimal_value}
 use Rattle.awb_number.proofs.Padded.{decimal_value_bound}
-use Rattle.imp_fields.specs.Steps.{◌>>=◌, where_true}
+use Rattle.station_days.specs.Steps.{◌>>=◌, where_true}
 use Rattle.imp_fields.specs.Characters.{drop_while}
 use Rattle.imp_fields.specs.Amount.{count_of}
 use Rattle.imp_fields.specs.Flight.{Designator, is_carrier, suffix_of, flight_of, flight_text}

@@ -2,7 +2,7 @@
 use Rattle.std.proofs.Common.{◌≡◌, ℕ, zero, suc, ◌<◌, List, [], ◌∷◌, map, length, slice_index_or, refl, sym, subst, ◌∙◌, arith}
 use Rattle.std.specs.List.{AllByRecursion}
 use Rattle.std.specs.FinMap.{entries}
-use Rattle.state_store.specs.Told.{IsRequest}
+use Rattle.station_core.specs.Told.{IsRequest}
 use Rattle.row_schema.specs.Tables.{Kept, kept_cmp, Tables}
 use Rattle.row_schema.proofs.Keys.{kept_total, kept_same}
 use Rattle.table_load.specs.declared.kept_key.KeptKeyEntry.{KeptKeyEntry}

@@ -14,7 +14,7 @@ use Rattle.row_codec.specs.Manifests.{part_key, parts_in, is_part_row}
 use Rattle.row_codec.specs.Replies.{is_kept_text_row}
 use Rattle.row_codec.specs.Meaning.{meaning_of}
 use Rattle.row_codec.proofs.MapLaws.{at_key, each_entry}
-use Rattle.lawful_tables.specs.Lawful.{AreParts, AreKeptTexts}
+use Rattle.table_audits.specs.Lawful.{AreParts, AreKeptTexts}
 use Rattle.table_audits.specs.Rows.{has_text}
 use Rattle.table_audits.proofs.Each.{natural_again}
 use Rattle.table_audits.proofs.FlightRows.{flight_at}

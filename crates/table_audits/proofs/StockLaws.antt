@@ -11,7 +11,7 @@ use Rattle.agent_stock.specs.declared.stock.Holder.{Holder}
 use Rattle.agent_stock.specs.declared.stock.Holder.TheVariants as holder
 use Rattle.row_schema.specs.Tables.{Tables, Stock, StockKey}
 use Rattle.row_codec.specs.Stock.{holder_by, stands_for, holders_in, is_stock_row, are_apart}
-use Rattle.lawful_tables.specs.Lawful.{AreStocks, cargo_in}
+use Rattle.table_audits.specs.Lawful.{AreStocks, cargo_in}
 use Rattle.table_audits.specs.Rows.{has_waybill, IsLawfulStock}
 use Rattle.table_audits.proofs.Each.{found_test}
 use Rattle.table_audits.proofs.DeclaredLaws.{declared_from, declared_back}

@@ -8,7 +8,7 @@ use Rattle.imp_fields.specs.Characters.{is_line}
 use Rattle.row_schema.specs.Tables.{Tables, TrailLine, trail_id}
 use Rattle.row_codec.specs.Numbers.{natural, is_number, AreNumbered}
 use Rattle.row_codec.specs.Logs.{line_by, is_trail_row}
-use Rattle.lawful_tables.specs.Lawful.{AreTrailLines, cargo_in}
+use Rattle.table_audits.specs.Lawful.{AreTrailLines, cargo_in}
 use Rattle.table_audits.specs.Rows.{has_waybill, is_lawful_line}
 use Rattle.table_audits.proofs.Each.{both_lists, natural_again}
 use Rattle.table_audits.proofs.DeclaredLaws.{declared_from, declared_back}

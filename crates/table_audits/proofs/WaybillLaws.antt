@@ -9,7 +9,7 @@ use Rattle.shipment_machine.specs.Lawful.{IsLawfulAmount}
 use Rattle.row_schema.specs.Tables.{Tables, Waybill, waybill_id}
 use Rattle.row_codec.specs.Numbers.{natural, is_within, is_number}
 use Rattle.row_codec.specs.Waybills.{declared_by, is_waybill_row}
-use Rattle.lawful_tables.specs.Lawful.{AreWaybills, cargo_in}
+use Rattle.table_audits.specs.Lawful.{AreWaybills, cargo_in}
 use Rattle.table_audits.specs.Order.{RisesByNumber}
 use Rattle.table_audits.specs.Rows.{is_lawful_waybill}
 use Rattle.table_audits.proofs.Each.{found_passes, both_lists, each_by_number, natural_again, amount_of, amount_back}

@@ -1,2 +1,9 @@
+pub mod Audited
+pub mod Balances
+pub mod Departed
+pub mod Lawful
+pub mod Names
 pub mod Order
+pub mod Posted
 pub mod Rows
+pub mod Sums

@@ -5,8 +5,8 @@ ghost use Rattle.cargo_rows.specs.Meant.{waybill_meant};
 ghost use Rattle.table_load.specs.Held.{expected_entry};
 ghost use Rattle.table_audits.specs.Order.{RisesByNumber};
 ghost use Rattle.row_schema.specs.Tables.{Tables};
-ghost use Rattle.lawful_tables.specs.Lawful.{IsLawfulTable};
-ghost use Rattle.lawful_tables.specs.declared.name.TableName.TheVariants as table;
+ghost use Rattle.table_audits.specs.Lawful.{IsLawfulTable};
+ghost use Rattle.table_audits.specs.declared.name.TableName.TheVariants as table;
 ghost use Rattle.row_codec.specs.Manifests.{is_expected_row, expectation_by};
 ghost use Rattle.table_audits.specs.Rows.{is_lawful_expected};
 

@@ -3,8 +3,8 @@ ghost use Rattle.std.specs.List.{list_all};
 ghost use Rattle.std.specs.FinMap.{FinMap, entries, contains_key};
 ghost use Rattle.row_schema.specs.Tables.{Tables, kept_text_cmp};
 ghost use Rattle.table_load.specs.Held.{kept_text_entry, part_entry};
-ghost use Rattle.lawful_tables.specs.Lawful.{IsLawfulTable};
-ghost use Rattle.lawful_tables.specs.declared.name.TableName.TheVariants as table;
+ghost use Rattle.table_audits.specs.Lawful.{IsLawfulTable};
+ghost use Rattle.table_audits.specs.declared.name.TableName.TheVariants as table;
 ghost use Rattle.row_codec.specs.Replies.{is_kept_text_row};
 ghost use Rattle.table_audits.specs.Rows.{has_text};
 

@@ -2,8 +2,8 @@ ghost use Rattle.std.specs.Prelude.{◌≡◌, ◌↔◌, ◌≤◌, length, map
 ghost use Rattle.std.specs.List.{list_all};
 ghost use Rattle.text_rows.specs.Meant.{message_meant};
 ghost use Rattle.row_schema.specs.Tables.{Tables};
-ghost use Rattle.lawful_tables.specs.Lawful.{IsLawfulTable};
-ghost use Rattle.lawful_tables.specs.declared.name.TableName.TheVariants as table;
+ghost use Rattle.table_audits.specs.Lawful.{IsLawfulTable};
+ghost use Rattle.table_audits.specs.declared.name.TableName.TheVariants as table;
 ghost use Rattle.row_codec.specs.Logs.{is_message_row};
 ghost use Rattle.row_codec.specs.Numbers.{natural};
 ghost use Rattle.row_codec.specs.Meaning.{confirmed_in};

@@ -1,8 +1,8 @@
 ghost use Rattle.std.specs.Prelude.{◌≡◌, ◌↔◌, ◌∷◌, [], IsTrue};
 ghost use Rattle.row_schema.specs.Tables.{Tables};
 ghost use Rattle.table_load.specs.Verdict.{new_row};
-ghost use Rattle.lawful_tables.specs.Lawful.{IsLawfulTable};
-ghost use Rattle.lawful_tables.specs.declared.name.TableName.TheVariants as table;
+ghost use Rattle.table_audits.specs.Lawful.{IsLawfulTable};
+ghost use Rattle.table_audits.specs.declared.name.TableName.TheVariants as table;
 
 use imp_fields::Airport;
 use row_codec::count_of;

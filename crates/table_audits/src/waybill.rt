@@ -3,8 +3,8 @@ ghost use Rattle.std.specs.List.{list_all};
 ghost use Rattle.cargo_rows.specs.Meant.{waybill_meant};
 ghost use Rattle.row_schema.specs.Tables.{Tables};
 ghost use Rattle.table_audits.specs.Order.{RisesByNumber};
-ghost use Rattle.lawful_tables.specs.Lawful.{IsLawfulTable};
-ghost use Rattle.lawful_tables.specs.declared.name.TableName.TheVariants as table;
+ghost use Rattle.table_audits.specs.Lawful.{IsLawfulTable};
+ghost use Rattle.table_audits.specs.declared.name.TableName.TheVariants as table;
 ghost use Rattle.table_audits.specs.Rows.{is_lawful_waybill};
 
 use row_codec::waybill_by;

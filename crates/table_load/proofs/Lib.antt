@@ -1,6 +1,7 @@
-pub mod Texts
-pub mod Orders
-pub mod Values
-pub mod StationLemmas
-pub mod TypedLemmas
 pub mod Declared
+pub mod Orders
+pub mod StationLemmas
+pub mod Texts
+pub mod TypedLemmas
+pub mod Undated
+pub mod Values

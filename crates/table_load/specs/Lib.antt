@@ -1,3 +1,5 @@
+pub mod All
 pub mod Held
-pub mod Verdict
+pub mod Reading
 pub mod Typed
+pub mod Verdict

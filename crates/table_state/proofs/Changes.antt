@@ -43,8 +43,8 @@ use Rattle.row_codec.proofs.Readable.{readable_stock}
 use Rattle.row_codec.proofs.Telling.{book_told}
 use Rattle.row_codec.proofs.Written.{waybill_written, waybill_changed, flight_written, expected_written, part_written, key_kept, text_kept, line_written, message_written, mark_written, move_written}
 use Rattle.state_store.specs.Store.{at_rest, inside}
-use Rattle.state_store.specs.Told.{IsRequest, sizes_of, on_cargo, with_moves, with_messages, with_key, with_text, with_order}
-use Rattle.state_store.specs.declared.store.Sizes.{Sizes}
+use Rattle.station_core.specs.Told.{IsRequest, sizes_of, on_cargo, with_moves, with_messages, with_key, with_text, with_order}
+use Rattle.station_core.specs.declared.stored.Sizes.{Sizes}
 use Rattle.running_totals.specs.Known.{AreKnown}
 use Rattle.running_totals.specs.Posted.{WereThere}
 use Rattle.stock_tables.specs.Stocked.{Stocked, restocked, using_up, Restocked}

@@ -16,7 +16,7 @@ use Rattle.shipment_machine.specs.Book.{has_moves, balances_of, built, waybills_
 use Rattle.shipment_machine.specs.declared.amount.Amount.{Amount}
 use Rattle.shipment_machine.specs.declared.moves.Balances.{Balances}
 use Rattle.row_codec.specs.Counts.{AreCounts, AreBuilds, running}
-use Rattle.state_store.specs.declared.store.Load.{Load}
+use Rattle.station_core.specs.declared.stored.Load.{Load}
 use Rattle.shipment_machine.specs.declared.flight.FlightDate.{FlightDate}
 use Rattle.shipment_machine.specs.declared.moves.Move.{Move}
 use Rattle.shipment_machine.specs.declared.moves.Part.{Part}
@@ -48,9 +48,9 @@ use Rattle.row_codec.proofs.Reading.{declared_read, outbound_read, expected_read
 use Rattle.row_codec.proofs.Telling.{holders_told, book_told}
 use Rattle.row_codec.proofs.Noted.{expectations_told, noted_told}
 use Rattle.state_store.specs.Store.{Seen}
-use Rattle.state_store.specs.Told.{AreAllBalances, kept_of, loads_on}
-use Rattle.state_store.specs.declared.store.KeptReply.{KeptReply}
-use Rattle.state_store.specs.declared.store.WaybillBalances.{WaybillBalances}
+use Rattle.station_core.specs.Told.{AreAllBalances, kept_of, loads_on}
+use Rattle.station_core.specs.declared.stored.KeptReply.{KeptReply}
+use Rattle.station_core.specs.declared.stored.WaybillBalances.{WaybillBalances}
 use Rattle.running_totals.specs.Known.{AreKnown}
 use Rattle.running_totals.specs.declared.known.KnownSums.{KnownSums}
 use Rattle.table_state.specs.declared.counted.Counted.{Counted}

@@ -7,8 +7,8 @@ use Rattle.row_schema.specs.Tables.{Tables}
 use Rattle.row_schema.specs.Store.{View}
 use Rattle.row_codec.specs.Meaning.{Means}
 use Rattle.state_store.specs.Store.{at_rest}
-use Rattle.state_store.specs.Told.{sizes_of}
-use Rattle.state_store.specs.declared.store.Sizes.{Sizes}
+use Rattle.station_core.specs.Told.{sizes_of}
+use Rattle.station_core.specs.declared.stored.Sizes.{Sizes}
 use Rattle.table_state.specs.Shown.{Holds, Finds}
 
 -- two meanings of the same tables

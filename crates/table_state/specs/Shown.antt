@@ -9,8 +9,8 @@ use Rattle.row_codec.specs.Counts.{running}
 use Rattle.row_codec.specs.Meaning.{Means}
 use Rattle.running_totals.specs.Known.{AreKnown}
 use Rattle.state_store.specs.Store.{Seen}
-use Rattle.state_store.specs.Told.{sizes_of}
-use Rattle.state_store.specs.declared.store.Sizes.{Sizes}
+use Rattle.station_core.specs.Told.{sizes_of}
+use Rattle.station_core.specs.declared.stored.Sizes.{Sizes}
 use Rattle.table_state.specs.declared.counted.Boarded.{Boarded}
 use Rattle.table_state.specs.declared.counted.Boardings.{Boardings}
 use Rattle.table_state.specs.declared.counted.Counted.{Counted}

@@ -5,7 +5,7 @@ ghost use Rattle.shipment_machine.specs.declared.plans.Change.TheVariants.{Confi
 ghost use Rattle.station_core.specs.Step.{State};
 ghost use Rattle.row_schema.specs.Store.{Survives};
 ghost use Rattle.state_store.specs.Store.{inside};
-ghost use Rattle.state_store.specs.Told.{on_cargo};
+ghost use Rattle.station_core.specs.Told.{on_cargo};
 ghost use Rattle.table_state.specs.Shown.{Shows};
 
 use crate::state::TableState;

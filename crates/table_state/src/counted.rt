@@ -3,7 +3,7 @@ ghost use Rattle.std.specs.Prelude.{◌≤◌};
 
 use running_totals::KnownSums;
 use shipment_machine::FlightDate;
-use state_store::Sizes;
+use station_core::Sizes;
 
 /// How many waybills have something built on a flight.
 #[derive(Clone, Copy, Debug, PartialEq, Eq)]

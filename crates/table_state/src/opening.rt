@@ -18,7 +18,8 @@ ghost use Rattle.table_state.specs.Shown.{Finds, IfGivenBack};
 use crate::state::TableState;
 use imp_fields::Airport;
 use sqlite::{Alter, Connection};
-use state_store::{Sizes, StateStore};
+use state_store::StateStore;
+use station_core::Sizes;
 use station_rows::{CreateFault, Rows, TableStore};
 use std::alloc::Global;
 

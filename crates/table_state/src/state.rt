@@ -23,8 +23,11 @@ use running_totals::KnownSums;
 use shipment_machine::{
     Amount, Balances, Change, Declared, Expected, FlightDate, Move, Outbound, Part,
 };
-use state_store::{KeptReply, Load, Sizes, StateStore, StoreFault, WaybillBalances};
-use station_core::{BookRow, Expectation, Key, Message, NotedFlight, Sink, TrailRow};
+use state_store::{StateStore, StoreFault};
+use station_core::{
+    BookRow, Expectation, KeptReply, Key, Load, Message, NotedFlight, Sink, Sizes, TrailRow,
+    WaybillBalances,
+};
 use station_rows::TableStore;
 use std::alloc::Global;
 

@@ -3,7 +3,7 @@ use Rattle.std.proofs.Common.{◌≡◌, ℕ, ◌+◌, ◌<◌, ◌≤◌, Bool,
 use Rattle.std.specs.Prelude.{nat_lt, nat_le, position}
 use Rattle.std.proofs.lemmas.Bool.{ltb-false}
 use Rattle.std.proofs.lemmas.List.{length-map}
-use Rattle.imp_fields.specs.Steps.{or_else}
+use Rattle.station_days.specs.Steps.{or_else}
 use Rattle.imp_fields.specs.Message.{fault_in}
 use Rattle.imp_fields.specs.NormalText.{fault_at, first_fault, fault_of, unless_fault, from_line, is_message_line, line_fault, lines_of, normal_lines, IsFaultBy, IsFaultOf}
 use Rattle.imp_fields.specs.declared.fault.Why.{Why}

@@ -1,6 +1,6 @@
 -- The lines of notices are normal, and are read as what was written.
 use Rattle.std.proofs.Common.{◌≡◌, ℕ, List, [], ◌++◌, map, Ok, sym, ap, ◌∙◌, subst}
-use Rattle.imp_fields.specs.Date.{CalendarDay, date_on}
+use Rattle.station_days.specs.Date.{CalendarDay, date_on}
 use Rattle.imp_fields.specs.Flight.{Designator}
 use Rattle.imp_fields.specs.Message.{sent_text}
 use Rattle.imp_fields.specs.NormalText.{normal_lines}

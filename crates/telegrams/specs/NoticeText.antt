@@ -1,6 +1,6 @@
 -- The text of a notice: that of the status or the manifest which it is.
 use Rattle.std.specs.Prelude.{◌≡◌, ℕ, List, map, Some, Ok}
-use Rattle.imp_fields.specs.Date.{date_on, when_at}
+use Rattle.station_days.specs.Date.{date_on, when_at}
 use Rattle.imp_fields.specs.Message.{sent_text}
 use Rattle.imp_fields.specs.NormalText.{normal_lines}
 use Rattle.imp_fields.specs.declared.waybill_summary.WaybillSummary.{WaybillSummary}

@@ -1,13 +1,14 @@
 //! What the types of a notice keep, for the proof of what is read again. The functions do nothing.
 
 ghost use Rattle.std.specs.Prelude.{◌≤◌, All, length, map};
-ghost use Rattle.imp_fields.specs.Date.{date_on};
+ghost use Rattle.station_days.specs.Date.{date_on};
 ghost use Rattle.ffm_text.specs.Written.{IsLoad, AreWritten};
 ghost use Rattle.telegrams.specs.NoticeText.{sent_load, IsNormalManifest, IsManifestAgain};
 
 use crate::notice::load_of;
-use imp_fields::{Airport, DayMonth};
+use imp_fields::Airport;
 use shipment_machine::{FlightDate, ManifestLine, ManifestLines};
+use station_days::DayMonth;
 
 fn line_known(line: &ManifestLine)
     ensures { IsLoad (sent_load line.now) }

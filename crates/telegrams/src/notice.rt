@@ -1,7 +1,7 @@
 //! The texts of notices.
 
 ghost use Rattle.std.specs.Prelude.{◌≡◌, Ok, IfOk, map};
-ghost use Rattle.imp_fields.specs.Date.{date_on, when_at};
+ghost use Rattle.station_days.specs.Date.{date_on, when_at};
 ghost use Rattle.imp_fields.specs.Message.{sent_text};
 ghost use Rattle.imp_fields.specs.NormalText.{normal_lines};
 ghost use Rattle.fsu_text.specs.Fsu.{fsu_lines};
@@ -11,8 +11,9 @@ ghost use Rattle.telegrams.specs.NoticeText.{status_of_event, sent_update, sent_
 use crate::known::manifest_known;
 use ffm_text::{Load, write_ffm};
 use fsu_text::{Handling, SentCarriage, SentStatus, SentUpdate, write_fsu};
-use imp_fields::{Airport, DayMonth, DayTime, Moment, Name};
+use imp_fields::{Airport, Name};
 use shipment_machine::{Event, FlightDate, ManifestLine, ManifestLines, Notice};
+use station_days::{DayMonth, DayTime, Moment};
 use std::alloc::{AllocError, Global};
 
 /// RCS, NFD or DLV, written with its moment.

@@ -4,8 +4,9 @@ ghost use Rattle.imp_fields.specs.Characters.{is_line};
 ghost use Rattle.telegrams.specs.Kept.{is_text_byte};
 
 use awb_number::Awb;
-use imp_fields::{Airport, DayMonth, Flight, PartNumber};
+use imp_fields::{Airport, Flight, PartNumber};
 use shipment_machine::{CargoLine, InboundLine, Refusal, TrailLine};
+use station_days::DayMonth;
 use std::marker::Model;
 
 /// The normal text of a telegram: lines of printable ASCII, joined by newlines.

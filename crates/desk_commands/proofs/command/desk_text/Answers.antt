@@ -7,6 +7,9 @@ returns-in-Manifest c = told_of c.manifest_text.result _ _ c.in-Manifest.is c.ma
 pub returns-in-Offload : goal.returns-in-Offload
 returns-in-Offload c = told_of c.offload_text.result _ _ c.in-Offload.is c.offload_text.ensures
 
+pub returns-in-Reroute : goal.returns-in-Reroute
+returns-in-Reroute c = told_of c.reroute_text.result _ _ c.in-Reroute.is c.reroute_text.ensures
+
 pub returns-in-Depart : goal.returns-in-Depart
 returns-in-Depart c = told_of c.depart_text.result _ _ c.in-Depart.is c.depart_text.ensures
 

@@ -1,10 +1,10 @@
 use Rattle.std.proofs.Common.{◌≡◌, ◌∙◌, true, false, refl, sym, subst}
 use Rattle.std.specs.FinMap.{entries}
 use Rattle.row_codec.specs.Moves.{book_in}
-use Rattle.book_audits.specs.Sums.{ArePostings}
-use Rattle.book_audits.proofs.Made.{distinct}
-use Rattle.move_audits.specs.Audited.{flights_of}
-use Rattle.move_audits.proofs.Listed.{flights_are}
+use Rattle.table_audits.specs.Sums.{ArePostings}
+use Rattle.table_audits.proofs.Made.{distinct}
+use Rattle.table_audits.specs.Audited.{flights_of}
+use Rattle.table_audits.proofs.Listed.{flights_are}
 use Rattle.file_audit.proofs.WholeBook.{balances_of, whole_book}
 use Rattle.file_audit.proofs.book.lawful_sums.Goals as goal
 

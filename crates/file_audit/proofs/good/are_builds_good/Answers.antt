@@ -1,9 +1,9 @@
 use Rattle.std.proofs.Common.{subst}
 use Rattle.std.specs.FinMap.{entries}
 use Rattle.row_codec.specs.Moves.{book_in}
-use Rattle.move_audits.specs.Audited.{flights_of}
-use Rattle.book_audits.specs.Sums.{AreFlightsOf}
-use Rattle.move_audits.proofs.Listed.{flights_are}
+use Rattle.table_audits.specs.Audited.{flights_of}
+use Rattle.table_audits.specs.Sums.{AreFlightsOf}
+use Rattle.table_audits.proofs.Listed.{flights_are}
 use Rattle.file_audit.proofs.ReadLists.{build_none, build_is, flight_none, flight_is}
 use Rattle.file_audit.proofs.good.are_builds_good.Goals as goal
 

@@ -1,6 +1,6 @@
 use Rattle.std.specs.FinMap.{entries}
 use Rattle.row_codec.specs.Moves.{book_in}
-use Rattle.move_audits.specs.Audited.{flights_of}
+use Rattle.table_audits.specs.Audited.{flights_of}
 use Rattle.file_audit.proofs.ReadLists.{counts_none, counts_is}
 use Rattle.file_audit.proofs.good.are_counts_good.Goals as goal
 

@@ -1,4 +1,4 @@
-use Rattle.lawful_tables.specs.declared.name.TableName.TheVariants as table
+use Rattle.table_audits.specs.declared.name.TableName.TheVariants as table
 use Rattle.file_audit.specs.Made.{tables_from, NamesFirst}
 use Rattle.file_audit.proofs.Judged.{goes_past}
 use Rattle.file_audit.proofs.ReadLists.{moves_held}
@@ -7,7 +7,7 @@ use Rattle.std.specs.Prelude.{is_some}
 use Rattle.std.proofs.lemmas.Int.{to_z-of_z}
 use Rattle.table_load.specs.Verdict.{one_row}
 use Rattle.file_audit.specs.Good.{before, AreGood}
-use Rattle.book_audits.specs.declared.sums.BookSums.{BookSums}
+use Rattle.table_audits.specs.declared.sums.BookSums.{BookSums}
 use Rattle.file_audit.proofs.Judged.{stops_at}
 use Rattle.file_audit.proofs.judge.bad_move.Goals as goal
 

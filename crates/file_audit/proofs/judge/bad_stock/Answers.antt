@@ -1,4 +1,4 @@
-use Rattle.lawful_tables.specs.declared.name.TableName.TheVariants as table
+use Rattle.table_audits.specs.declared.name.TableName.TheVariants as table
 use Rattle.file_audit.specs.Made.{tables_from}
 use Rattle.file_audit.proofs.Judged.{stops_at, goes_past, airport_is}
 use Rattle.file_audit.proofs.ReadLists.{stock_held, flight_held}

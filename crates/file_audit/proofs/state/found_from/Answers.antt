@@ -2,7 +2,7 @@ use Rattle.std.proofs.Common.{refl, w64}
 use Rattle.std.proofs.lemmas.Int.{to_z-of_z}
 use Rattle.raw_rows.proofs.WholeLemmas.{at_rest}
 use Rattle.sqlite.specs.Held.{state}
-use Rattle.found_station.specs.Reading.{read_as}
+use Rattle.table_load.specs.Reading.{read_as}
 use Rattle.file_audit.specs.Made.{tables_from}
 use Rattle.file_audit.specs.Verdict.{Judges}
 use Rattle.file_audit.proofs.Judged.{is_our_row, reads_so, row_stops}

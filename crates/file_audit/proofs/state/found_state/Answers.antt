@@ -1,6 +1,6 @@
 use Rattle.std.proofs.Common.{◌∙◌, sym, ap}
 use Rattle.sqlite.specs.Held.{state}
-use Rattle.found_station.specs.Reading.{read_as}
+use Rattle.table_load.specs.Reading.{read_as}
 use Rattle.table_load.specs.Verdict.{found_meant}
 use Rattle.file_audit.proofs.Judged.{damaged_stops}
 use Rattle.file_audit.proofs.state.found_state.Goals as goal

@@ -1,6 +1,6 @@
 use Rattle.std.proofs.Common.{◌∙◌, refl, ap, sym, subst, Ok, w64}
 use Rattle.std.proofs.lemmas.Int.{to_z-of_z}
-use Rattle.lawful_tables.specs.declared.name.TableName.TheVariants as table
+use Rattle.table_audits.specs.declared.name.TableName.TheVariants as table
 use Rattle.table_load.specs.Verdict.{one_row}
 use Rattle.file_audit.specs.Good.{before, AreGood}
 use Rattle.file_audit.specs.Made.{tables_from, NamesFirst}

@@ -1,5 +1,5 @@
 use Rattle.std.proofs.Common.{sym, ap, ◌∙◌}
-use Rattle.imp_fields.specs.Date.{resolved}
+use Rattle.station_days.specs.Date.{resolved}
 use Rattle.plain_station.proofs.Meant.{meant, not_meant}
 use Rattle.plain_station.proofs.viewing.day_meant.Goals as goal
 

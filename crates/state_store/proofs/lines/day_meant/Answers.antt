@@ -1,5 +1,5 @@
 use Rattle.std.proofs.Common.{sym, ap, ◌∙◌}
-use Rattle.imp_fields.specs.Date.{resolved}
+use Rattle.station_days.specs.Date.{resolved}
 use Rattle.state_store.proofs.Meant.{meant, not_meant}
 use Rattle.state_store.proofs.lines.day_meant.Goals as goal
 

@@ -1,7 +1,7 @@
 use Rattle.std.proofs.Common.{map, sym, ap, ◌∙◌}
 use Rattle.shipment_machine.specs.Book.{waybills_on}
 use Rattle.state_store.specs.Lines.{aboard_of}
-use Rattle.state_store.specs.Told.{load_on}
+use Rattle.station_core.specs.Told.{load_on}
 use Rattle.state_store.proofs.Walks.{map_twice}
 use Rattle.state_store.proofs.lines.loads_of.Goals as goal
 

@@ -5,7 +5,7 @@ use Rattle.shipment_machine.specs.declared.moves.Balances.{Balances}
 use Rattle.shipment_machine.specs.Cargo.{Cargo}
 use Rattle.station_core.specs.declared.rows.IrregularRow.{IrregularRow}
 use Rattle.station_core.specs.Readers.{is_irregular, irregular_row}
-use Rattle.state_store.specs.Told.{irregulars_by}
+use Rattle.station_core.specs.Told.{irregulars_by}
 use Rattle.state_store.proofs.Balances.{over_all}
 use Rattle.state_store.proofs.Walks.{told_so}
 use Rattle.state_store.proofs.telling.irregular_rows.Goals as goal

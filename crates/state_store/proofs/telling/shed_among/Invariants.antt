@@ -1,6 +1,6 @@
 use Rattle.std.proofs.Common.{◌≡◌, take}
 use Rattle.std.specs.List.{flat_map}
-use Rattle.state_store.specs.Told.{sheds_by}
+use Rattle.station_core.specs.Told.{sheds_by}
 use Rattle.station_core.specs.Step.{State}
 use Rattle.state_store.specs.Store.{at_rest, Survives}
 use Rattle.state_store.proofs.telling.shed_among.Given as goal

@@ -9,7 +9,7 @@ use Rattle.shipment_machine.specs.Cargo.{Cargo}
 use Rattle.shipment_machine.specs.Views.{declaration}
 use Rattle.station_core.specs.declared.rows.ShedRow.{ShedRow}
 use Rattle.station_core.specs.Readers.{is_in_shed, shed_row}
-use Rattle.state_store.specs.Told.{sheds_by, stored_of}
+use Rattle.station_core.specs.Told.{sheds_by, stored_of}
 use Rattle.state_store.proofs.Balances.{over_all}
 use Rattle.state_store.proofs.Stored.{stored_is}
 use Rattle.state_store.proofs.Walks.{told_so}

@@ -1,6 +1,6 @@
 use Rattle.std.proofs.Common.{◌≡◌, ◌≤◌, ◌*◌, take}
 use Rattle.std.specs.List.{sum_by}
-use Rattle.state_store.specs.declared.store.Load.{Load}
+use Rattle.station_core.specs.declared.stored.Load.{Load}
 use Rattle.state_store.proofs.telling.tenths_in.Given as goal
 
 abbrev pub invariant-loop-load : goal.invariant-loop-load

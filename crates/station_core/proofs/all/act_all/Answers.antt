@@ -28,6 +28,8 @@ loop-input-preserved g c =
       idle = λ broken.
           let still : g.K.Keeper.is_broken c.loop-input.keeper ≡ true = subst (λ keeper. g.K.Keeper.is_broken keeper ≡ true) (sym (c.loop-input.invariant.idle broken).1) broken in
           absurd (never_both (c.in-Ok.ensures.reopen still).0);
+      clean = λ clean. c.loop-input.invariant.clean (c.answer_one.ensures.clean clean);
+      still = λ sound clean. c.answer_one.ensures.still (c.loop-input.invariant.still sound (c.answer_one.ensures.clean clean)) clean;
       sound = λ sound. c.loop-input.invariant.sound (c.answer_one.ensures.sound sound);
       told = λ s keeps works sound.
           let before = c.answer_one.ensures.sound sound in

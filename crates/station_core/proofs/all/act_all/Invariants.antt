@@ -10,6 +10,8 @@ invariant-loop-input g l =
       count : length l.answers.items ≡ l.input-index;
       works : keeper.is_broken l.fn.keeper ≡ false → keeper.is_broken l.keeper ≡ false;
       idle : keeper.is_broken l.fn.keeper ≡ true → (l.answers.items ≡ []) × (l.keeper ≡ l.fn.keeper);
+      clean : keeper.is_clean l.keeper → keeper.is_clean l.fn.keeper;
+      still : keeper.is_sound l.fn.keeper → keeper.is_clean l.keeper → keeper.is_sound l.keeper;
       sound : keeper.is_sound l.keeper → keeper.is_sound l.fn.keeper;
       told : (s : State) → keeper.keeps l.fn.keeper s → keeper.is_broken l.fn.keeper ≡ false → keeper.is_sound l.keeper → l.answers.items ≡ answers_of s (take l.input-index l.inputs);
       state : (s : State) → keeper.keeps l.fn.keeper s → keeper.is_broken l.fn.keeper ≡ false → keeper.is_sound l.keeper → keeper.keeps l.keeper (after_all s (take l.input-index l.inputs));

@@ -1,7 +1,7 @@
 use Rattle.std.proofs.Common.{take}
 use Rattle.station_core.specs.Step.{State}
 use Rattle.state_store.specs.Store.{inside, Survives}
-use Rattle.state_store.specs.Told.{with_messages}
+use Rattle.station_core.specs.Told.{with_messages}
 use Rattle.station_engine.specs.Written.{texts_in}
 use Rattle.station_engine.proofs.carrying.add_messages.Given as goal
 

@@ -1,7 +1,7 @@
 use Rattle.std.proofs.Common.{take}
 use Rattle.station_core.specs.Step.{State}
 use Rattle.state_store.specs.Store.{inside, Survives}
-use Rattle.state_store.specs.Told.{with_moves}
+use Rattle.station_core.specs.Told.{with_moves}
 use Rattle.station_engine.proofs.carrying.add_moves.Given as goal
 
 abbrev pub invariant-loop-movement : goal.invariant-loop-movement

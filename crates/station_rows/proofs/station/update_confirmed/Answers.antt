@@ -12,3 +12,6 @@ returns-clause-made g c clean inside =
 
 pub returns-clause-survives : goal.returns-clause-survives
 returns-clause-survives g c = confirm_survives _ _ _ c.execute.ensures.survives
+
+pub returns-clause-ran : goal.returns-clause-ran
+returns-clause-ran g c clean = rw (c.params-to_sql.ensures, to_z-of_z w64 c.args.confirmed c.ranges.confirmed) at (c.execute.ensures.runs clean)

@@ -12,3 +12,6 @@ returns-clause-made g c clean inside =
 
 pub returns-clause-survives : goal.returns-clause-survives
 returns-clause-survives g c = delete_survives _ _ _ c.execute.ensures.survives
+
+pub returns-clause-ran : goal.returns-clause-ran
+returns-clause-ran g c clean = rw (c.params-to_sql.ensures, c.params-to_sql-2.ensures, to_z-of_z w64 c.args.prefix c.ranges.prefix, to_z-of_z w64 c.args.low c.ranges.low) at (c.execute.ensures.runs clean)

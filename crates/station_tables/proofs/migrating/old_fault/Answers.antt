@@ -1,5 +1,5 @@
 use Rattle.std.proofs.Common.{subst}
-use Rattle.found_station.specs.Reading.{read_as}
+use Rattle.table_load.specs.Reading.{read_as}
 use Rattle.table_load.specs.declared.station.FileVersion.TheVariants.{First}
 use Rattle.file_audit.specs.Verdict.{IsUnfit}
 use Rattle.station_tables.proofs.migrating.old_fault.Goals as goal

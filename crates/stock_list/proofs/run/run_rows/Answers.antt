@@ -26,6 +26,8 @@ loop-row-init g c =
       left = rw (start) left;
       config = rw (start, rdr) (rw (flexible, headers) at fr.config ∙ c.new.ensures.config);
       counted = omega (arith, fits);
+      clean = λ clean. clean;
+      still = λ sound clean. sound;
       sound = λ sound. sound;
       works = λ works. works;
       untroubled = record { failures = refl; idle = refl };
@@ -51,6 +53,12 @@ overflow_add-number g c =
 pub returns-in_err-accepted-in-Ok-clause-sound : goal.returns-in_err-accepted-in-Ok-clause-sound
 returns-in_err-accepted-in-Ok-clause-sound g c = λ sound. c.loop-row.invariant.sound (c.answer_row.ensures.sound sound)
 
+pub returns-in_err-accepted-in-Ok-clause-clean : goal.returns-in_err-accepted-in-Ok-clause-clean
+returns-in_err-accepted-in-Ok-clause-clean g c = λ clean. c.loop-row.invariant.clean (c.answer_row.ensures.clean clean)
+
+pub returns-in_err-accepted-in-Ok-clause-still : goal.returns-in_err-accepted-in-Ok-clause-still
+returns-in_err-accepted-in-Ok-clause-still g c = λ sound clean. c.answer_row.ensures.still (c.loop-row.invariant.still sound (c.answer_row.ensures.clean clean)) clean
+
 pub loop-row-preserved : goal.loop-row-preserved
 loop-row-preserved g c =
     let inv = c.loop-row.invariant in
@@ -66,6 +74,8 @@ loop-row-preserved g c =
       left = step.2;
       config = step.0.2 ∙ inv.config;
       counted = omega (arith, bound, fewer);
+      clean = λ clean. inv.clean (c.answer_row.ensures.clean clean);
+      still = λ sound clean. c.answer_row.ensures.still (inv.still sound (c.answer_row.ensures.clean clean)) clean;
       sound = λ sound. inv.sound (c.answer_row.ensures.sound sound);
       works = λ works. c.in_ok-accepted-in-Ok.ensures.works (inv.works works);
       untroubled = untroubled_more (g.W.ByteOut.taken c.args.writer.now) (g.W.ByteOut.taken c.loop-row.writer) (g.W.ByteOut.taken c.answer_row.new.writer)
@@ -89,8 +99,20 @@ loop-row-preserved g c =
       );
     }
 
+pub returns-in-Err-clause-clean : goal.returns-in-Err-clause-clean
+returns-in-Err-clause-clean g c = c.loop-row.invariant.clean
+
+pub returns-in-Err-clause-still : goal.returns-in-Err-clause-still
+returns-in-Err-clause-still g c = c.loop-row.invariant.still
+
 pub returns-in-Err-clause-sound : goal.returns-in-Err-clause-sound
 returns-in-Err-clause-sound g c = c.loop-row.invariant.sound
+
+pub returns-clause-clean : goal.returns-clause-clean
+returns-clause-clean g c = c.loop-row.invariant.clean
+
+pub returns-clause-still : goal.returns-clause-still
+returns-clause-still g c = c.loop-row.invariant.still
 
 pub returns-clause-sound : goal.returns-clause-sound
 returns-clause-sound g c = c.loop-row.invariant.sound

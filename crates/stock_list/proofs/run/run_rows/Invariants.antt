@@ -18,6 +18,8 @@ invariant-loop-row g l =
       left : 0 < l.row-iterator.left;
       config : l.row-iterator.rdr.config ≡ default_config;
       counted : l.number + l.row-iterator.left ≤ 18446744073709551615;
+      clean : g.K.Keeper.is_clean l.keeper → g.K.Keeper.is_clean l.fn.keeper;
+      still : g.K.Keeper.is_sound l.fn.keeper → g.K.Keeper.is_clean l.keeper → g.K.Keeper.is_sound l.keeper;
       sound : g.K.Keeper.is_sound l.keeper → g.K.Keeper.is_sound l.fn.keeper;
       works : g.K.Keeper.is_broken l.fn.keeper ≡ false → g.K.Keeper.is_broken l.keeper ≡ false;
       untroubled : IsUntroubled (g.W.ByteOut.taken l.fn.writer) (g.W.ByteOut.taken l.writer);

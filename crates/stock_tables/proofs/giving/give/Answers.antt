@@ -1,5 +1,5 @@
-use Rattle.run_rows.specs.Rows.{written}
-use Rattle.stock_runs.specs.Writes.{cleared}
+use Rattle.stock_tables.specs.Rows.{written}
+use Rattle.stock_tables.specs.Writes.{cleared}
 use Rattle.stock_tables.specs.Stocked.{restocked}
 use Rattle.stock_tables.proofs.Restocking.{ahead_of, after_of, runs_are, around_is, near_touch, there_are, restocked_is}
 use Rattle.stock_tables.proofs.giving.give.Goals as goal

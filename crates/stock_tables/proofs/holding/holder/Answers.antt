@@ -8,7 +8,7 @@ use Rattle.row_schema.specs.Tables.{Tables}
 use Rattle.row_codec.specs.Stock.{holders_in, run_in}
 use Rattle.station_rows.specs.declared.stock.StockRow.{StockRow}
 use Rattle.station_rows.specs.Meant.{stock_meant, last_up_to}
-use Rattle.stock_runs.specs.Reads.{holder_at}
+use Rattle.stock_tables.specs.Reads.{holder_at}
 use Rattle.stock_tables.proofs.Held.{held_is}
 use Rattle.stock_tables.proofs.holding.holder.Goals as goal
 

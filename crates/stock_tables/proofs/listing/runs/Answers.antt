@@ -3,10 +3,10 @@ use Rattle.std.specs.FinMap.{entries}
 use Rattle.agent_stock.specs.Runs.{AreStockRuns}
 use Rattle.agent_stock.specs.Stock.{Holders}
 use Rattle.row_schema.specs.Tables.{Tables, Stock, StockKey}
-use Rattle.run_rows.specs.Rows.{AreRuns, holders_by}
+use Rattle.stock_tables.specs.Rows.{AreRuns, holders_by}
 use Rattle.station_rows.specs.Meant.{stock_meant}
 use Rattle.row_codec.specs.Stock.{run_in}
-use Rattle.stock_runs.proofs.Meant.{same_holders, are_in_order}
+use Rattle.stock_tables.proofs.Meant.{same_holders, are_in_order}
 use Rattle.stock_tables.proofs.listing.runs.Goals as goal
 
 pub returns-clause-value : goal.returns-clause-value

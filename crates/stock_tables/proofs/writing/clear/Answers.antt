@@ -4,9 +4,9 @@ use Rattle.std.proofs.lemmas.List.{drop_all}
 use Rattle.agent_stock.specs.declared.runs.StockRun.{StockRun}
 use Rattle.row_schema.specs.Store.{IsShowing, inside}
 use Rattle.row_schema.specs.Tables.{Stock, stock_cmp}
-use Rattle.run_rows.specs.Rows.{written}
-use Rattle.run_rows.proofs.Lowest.{at_place}
-use Rattle.stock_runs.specs.Writes.{without, cleared}
+use Rattle.stock_tables.specs.Rows.{written}
+use Rattle.stock_tables.proofs.Lowest.{at_place}
+use Rattle.stock_tables.specs.Writes.{without, cleared}
 use Rattle.stock_tables.specs.Stocked.{restocked}
 use Rattle.stock_tables.proofs.Showing.{survives_itself, survives_goes_on}
 use Rattle.stock_tables.proofs.writing.clear.Goals as goal

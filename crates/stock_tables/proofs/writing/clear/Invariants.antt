@@ -2,8 +2,8 @@ use Rattle.std.proofs.Common.{◌≡◌, drop}
 use Rattle.std.specs.FinMap.{FinMap}
 use Rattle.row_schema.specs.Store.{IsShowing, Survives, inside}
 use Rattle.row_schema.specs.Tables.{Tables, Stock, stock_cmp}
-use Rattle.run_rows.specs.Rows.{written}
-use Rattle.stock_runs.specs.Writes.{cleared}
+use Rattle.stock_tables.specs.Rows.{written}
+use Rattle.stock_tables.specs.Writes.{cleared}
 use Rattle.stock_tables.specs.Stocked.{restocked}
 use Rattle.stock_tables.proofs.writing.clear.Given as goal
 

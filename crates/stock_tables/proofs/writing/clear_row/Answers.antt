@@ -4,9 +4,9 @@ use Rattle.std.specs.FinMap.{FinMap, remove}
 use Rattle.awb_number.specs.Number.{prefix_of, serial_of}
 use Rattle.row_schema.specs.Store.{IsShowing, inside}
 use Rattle.row_schema.specs.Tables.{Stock, stock_cmp}
-use Rattle.run_rows.specs.Rows.{written}
-use Rattle.stock_runs.specs.Runs.{key_of}
-use Rattle.stock_runs.specs.Writes.{begins, without}
+use Rattle.stock_tables.specs.Rows.{written}
+use Rattle.stock_tables.specs.Runs.{key_of}
+use Rattle.stock_tables.specs.Writes.{begins, without}
 use Rattle.stock_tables.specs.Stocked.{restocked}
 use Rattle.stock_tables.proofs.writing.clear_row.Goals as goal
 

@@ -4,7 +4,7 @@ use Rattle.std.specs.FinMap.{get}
 use Rattle.row_schema.specs.Store.{IsShowing, inside}
 use Rattle.row_schema.specs.Tables.{Stock, StockKey}
 use Rattle.station_rows.specs.Meant.{stock_meant, with_stock}
-use Rattle.stock_runs.specs.Runs.{key_of, entry_of}
+use Rattle.stock_tables.specs.Runs.{key_of, entry_of}
 use Rattle.stock_tables.proofs.writing.put.Goals as goal
 
 is_there : (o : Option Stock) → is_some o ≡ true → (was : Stock) × (o ≡ Some was)

@@ -4,11 +4,11 @@ use Rattle.std.specs.FinMap.{FinMap, get}
 use Rattle.agent_stock.specs.declared.runs.StockRun.{StockRun}
 use Rattle.row_schema.specs.Store.{IsShowing, inside}
 use Rattle.row_schema.specs.Tables.{Stock, stock_cmp}
-use Rattle.run_rows.specs.Rows.{listed}
-use Rattle.run_rows.proofs.Standing.{each_split}
-use Rattle.stock_runs.specs.Runs.{key_of}
-use Rattle.stock_runs.specs.Writes.{begins, put_in}
-use Rattle.stock_runs.proofs.Rewriting.{put_both}
+use Rattle.stock_tables.specs.Rows.{listed}
+use Rattle.stock_tables.proofs.Standing.{each_split}
+use Rattle.stock_tables.specs.Runs.{key_of}
+use Rattle.stock_tables.specs.Writes.{begins, put_in}
+use Rattle.stock_tables.proofs.Rewriting.{put_both}
 use Rattle.stock_tables.specs.Stocked.{restocked}
 use Rattle.stock_tables.proofs.Restocking.{still_there}
 use Rattle.stock_tables.proofs.writing.put_all.Goals as goal

@@ -1,5 +1,5 @@
 use Rattle.std.proofs.Common.{sym, refl, true≢false, subst, arith, below_more}
-use Rattle.state_store.specs.Told.{IsRequest}
+use Rattle.station_core.specs.Told.{IsRequest}
 use Rattle.table_audits.proofs.KeptKeyLaws.{asks_from, asks_here, asks_at}
 use Rattle.table_audits.proofs.kept_key.are_requests.Goals as goal
 

@@ -1,26 +1,18 @@
-use Rattle.std.proofs.Common.{arith}
-use Rattle.sqlite.specs.State.{HasCleanDisk}
 use Rattle.sqlite.specs.Held.{state}
-use Rattle.station_rows.proofs.Views.{works_still, owned_still, so_true}
+use Rattle.station_rows.proofs.Views.{working_after, owned_after, so_true}
 use Rattle.station_rows.proofs.rows.RowsTableStore.hand_out_moves.Goals as goal
 
 pub invariant_of-self : goal.invariant_of-self
-invariant_of-self g c = record {
-  works = λ on clean declared lies.
-      let old = state g.S.Store c.args.self.now.conn in
-      let mid = state g.S.Store c.hand_out_moves.new.conn in
-      let new = state g.S.Store c.goes_on.new.conn in
-      let same = c.goes_on.ensures.same (so_true c.goes_on.result on) clean in
-      let clean_mid : HasCleanDisk mid = omega (arith, c.goes_on.ensures.survives.clean) in
-      let clean_old : HasCleanDisk old = omega (arith, c.hand_out_moves.ensures.survives.clean, c.goes_on.ensures.survives.clean) in
-      let was = c.args.self.now.works c.if-self.false clean_old declared lies in
-      works_still old mid new was (c.is_autocommit-inside.ensures.settled (so_true c.is_autocommit-inside.result same.0)) (c.in-Err.ensures.hands clean_mid was.station).1 same.1;
-  leaves = λ clean declared lies.
-      let old = state g.S.Store c.args.self.now.conn in
-      let mid = state g.S.Store c.hand_out_moves.new.conn in
-      let new = state g.S.Store c.goes_on.new.conn in
-      let clean_mid : HasCleanDisk mid = omega (arith, c.goes_on.ensures.survives.clean) in
-      let clean_old : HasCleanDisk old = omega (arith, c.hand_out_moves.ensures.survives.clean, c.goes_on.ensures.survives.clean) in
-      let was = c.args.self.now.works c.if-self.false clean_old declared lies in
-      owned_still old mid new was.station (c.args.self.now.leaves clean_old declared lies) clean_mid clean c.hand_out_moves.ensures.survives c.goes_on.ensures.survives;
-}
+invariant_of-self g c =
+    let old = state g.S.Store c.args.self.now.conn in
+    let mid = state g.S.Store c.hand_out_moves.new.conn in
+    let new = state g.S.Store c.goes_on.new.conn in
+    let one = c.hand_out_moves.ensures.survives in
+    let two = c.goes_on.ensures.survives in
+    let was = c.args.self.now.works c.if-self.false in
+    record {
+      works = λ on. working_after old mid new one two was (λ clean station. (c.in-Err.ensures.hands clean station).1) (λ clean.
+          let same = c.goes_on.ensures.same (so_true c.goes_on.result on) clean in
+          (c.is_autocommit-inside.ensures.settled (so_true c.is_autocommit-inside.result same.0), same.1));
+      leaves = owned_after old mid new one two was c.args.self.now.leaves;
+    }

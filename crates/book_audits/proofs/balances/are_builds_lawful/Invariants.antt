@@ -1,9 +1,0 @@
-use Rattle.std.proofs.Common.{◌≡◌, map}
-use Rattle.std.specs.List.{list_all}
-use Rattle.table_load.specs.Held.{flight_entry}
-use Rattle.book_audits.specs.Balances.{is_lawful_build}
-use Rattle.book_audits.proofs.balances.are_builds_lawful.Given as goal
-
--- the sums are lawful where those ahead are
-abbrev pub invariant-loop-place : goal.invariant-loop-place
-invariant-loop-place l = list_all (is_lawful_build (map flight_entry l.fn.flights)) l.fn.sums.builds.entries ≡ list_all (is_lawful_build (map flight_entry l.fn.flights)) l.place-iterator

@@ -1,5 +1,0 @@
-use Rattle.std.proofs.Common.{codes}
-use Rattle.cli_line.proofs.telling.tell_body.Goals as goal
-
-pub returns : goal.returns
-returns g c = c.tell_reason.ensures (codes "body: ") c.body_reason.ensures

@@ -1,0 +1,59 @@
+-- How a run of a report ends, by how the report ended.
+use Rattle.std.proofs.Common.{◌≡◌, ℕ, Result, Ok, Err, OnOk, List, []}
+use Rattle.station_core.specs.Given.{Given}
+use Rattle.station_core.specs.Ends.{HasCause}
+use Rattle.station_core.specs.Step.{State}
+use Rattle.station_core.specs.declared.answer.ActFault.{ActFault}
+use Rattle.station_core.specs.declared.answer.ActFault.TheVariants as act
+use Rattle.reports.specs.Ended.{HasEnded, HasEndedBy, HasTold, StopsBy, StopsWriting}
+use Rattle.reports.specs.declared.fault.ReportCause.{ReportCause}
+use Rattle.reports.specs.declared.fault.ReportCause.TheVariants as cause
+use Rattle.reports.specs.declared.fault.ReportFault.{ReportFault}
+use Rattle.stock_list.specs.declared.answer.RunFault.{RunFault}
+use Rattle.stock_list.specs.declared.answer.RunFault.TheVariants as fault
+use Rattle.stock_list.specs.Ended.{run_fault}
+use Rattle.reports.specs.declared.report.Report.{Report}
+use Rattle.reports.specs.Reports.{IsReport}
+use Rattle.cli_run.specs.Report.{cause_fault, run_ended, HasReported, StopsReport}
+
+no_write : (e : ActFault) → run_fault e ≡ fault.Write → ⊥
+no_write act.Memory is = cc
+no_write (act.Refused refusal) is = cc
+no_write act.Store is = cc
+no_write act.Reopen is = cc
+
+no_read : (e : ActFault) → run_fault e ≡ fault.Read → ⊥
+no_read act.Memory is = cc
+no_read (act.Refused refusal) is = cc
+no_read act.Store is = cc
+no_read act.Reopen is = cc
+
+told_write : (why : ReportCause) (old new : Given) → HasTold why old new → cause_fault why ≡ fault.Write → HasCause old new
+told_write cause.Write old new told is = told
+told_write (cause.Act e) old new told is = absurd (no_write e is)
+
+never_read : (why : ReportCause) → cause_fault why ≡ fault.Read → ⊥
+never_read cause.Write is = cc
+never_read (cause.Act e) is = no_read e is
+
+pub reported : (open_station : Type 0) (text : List ℕ) (old new : Given) (r : Result (Unit {0}) ReportFault) → HasEnded open_station text old new r → HasReported text old new (run_ended r)
+reported open_station text old new (Ok x) ended = ended
+reported open_station text old new (Err e) ended = ((e.sent, ended.0.0.1), told_write e.cause old new ended.0.1, never_read e.cause)
+
+-- one text is the report
+pub report_told : (open_station : Type 0) (s : State) (report : Report) (old new : Given) (r : Result (Unit {0}) ReportFault)
+    → HasEndedBy open_station (IsReport s report) [] old new r
+    → OnOk (run_ended r) ((text : List ℕ) × IsReport s report text × HasReported text old new (run_ended r))
+report_told open_station s report old new (Ok x) ended = ended
+report_told open_station s report old new (Err e) ended = tt
+
+stops_by : (why : ReportCause) (sent : ℕ) (old new : Given) → StopsBy [] why sent old new → StopsReport old new (Err (cause_fault why))
+stops_by cause.Write sent old new stops = stops
+stops_by (cause.Act act.Memory) sent old new stops = stops.0
+stops_by (cause.Act (act.Refused refusal)) sent old new stops = stops.0
+stops_by (cause.Act act.Store) sent old new stops = stops.0
+stops_by (cause.Act act.Reopen) sent old new stops = stops.0
+
+pub stops_writing : (old new : Given) (r : Result (Unit {0}) ReportFault) → StopsWriting [] old new r → StopsReport old new (run_ended r)
+stops_writing old new (Ok x) stops = stops
+stops_writing old new (Err e) stops = stops_by e.cause e.sent old new stops

@@ -1,0 +1,58 @@
+use Rattle.std.proofs.Common.{refl, inr}
+use Rattle.cli_run.specs.Asked.{IsTelegramAsked}
+use Rattle.cli_run.proofs.Reasons.{explained_run, unexplained, quiet_run}
+use Rattle.cli_run.proofs.Ran.{has_run, has_run_shut, not_come, works_unheard, passed_on, each_heard}
+use Rattle.cli_run.proofs.take.run_take.Goals as goal
+
+pub returns-in-Ok-clause-ran : goal.returns-in-Ok-clause-ran
+returns-in-Ok-clause-ran g c = λ s keeps works sound.
+    has_run IsTelegramAsked s c.args.at (g.I.ByteIn.given c.args.reader.now) (g.I.ByteIn.given c.read_input.new.reader) (g.O.ByteOut.taken c.args.writer.now).bytes
+    (g.O.ByteOut.taken c.answer_asked.new.writer).bytes (g.K.Keeper.keeps c.answer_asked.new.keeper) (g.K.Keeper.may_find c.answer_asked.new.keeper)
+    c.in_ok-bytes.bytes.items c.in-Ok.asked c.answer_asked.result c.in_ok-bytes.ensures.come (rw c.as_slice.ensures.value at c.in-Ok.ensures)
+    (c.answer_asked.ensures.answered s keeps works sound) (c.answer_asked.ensures.stopped s keeps works sound)
+
+pub returns-in-Ok-clause-reopen : goal.returns-in-Ok-clause-reopen
+returns-in-Ok-clause-reopen g c = λ broken.
+    has_run_shut IsTelegramAsked (g.I.ByteIn.given c.args.reader.now) (g.I.ByteIn.given c.read_input.new.reader) (g.O.ByteOut.taken c.args.writer.now)
+    (g.O.ByteOut.taken c.answer_asked.new.writer) c.in_ok-bytes.bytes.items c.in-Ok.asked c.answer_asked.result c.in_ok-bytes.ensures.come
+    (rw c.as_slice.ensures.value at c.in-Ok.ensures) (c.answer_asked.ensures.reopen broken)
+
+pub returns-in_err-bytes-clause-reopen : goal.returns-in_err-bytes-clause-reopen
+returns-in_err-bytes-clause-reopen g c = λ broken.
+    not_come IsTelegramAsked (g.I.ByteIn.given c.args.reader.now) (g.I.ByteIn.given c.read_input.new.reader) (g.O.ByteOut.taken c.args.writer.now)
+    c.from_residual.result c.in_err-bytes.field-0.0 c.from_residual.ensures.1 c.in_err-bytes.ensures.fault
+
+pub returns-in_err-bytes-clause-breaks : goal.returns-in_err-bytes-clause-breaks
+returns-in_err-bytes-clause-breaks g c = λ works.
+    works_unheard c.from_residual.result c.in_err-bytes.field-0.0 _ c.from_residual.ensures.1 c.in_err-bytes.ensures.fault works
+
+pub returns-in_err-bytes-clause-read_told : goal.returns-in_err-bytes-clause-read_told
+returns-in_err-bytes-clause-read_told g c = passed_on c.from_residual.result c.in_err-bytes.field-0.0 _ c.from_residual.ensures.1 c.in_err-bytes.ensures.told
+
+pub returns-in_err-bytes-clause-write_told : goal.returns-in_err-bytes-clause-write_told
+returns-in_err-bytes-clause-write_told g c =
+    passed_on c.from_residual.result c.in_err-bytes.field-0.0 _ c.from_residual.ensures.1 (inr (record { failures = refl; idle = refl }))
+
+pub returns-in_err-bytes-clause-unwritten : goal.returns-in_err-bytes-clause-unwritten
+returns-in_err-bytes-clause-unwritten g c = passed_on c.from_residual.result c.in_err-bytes.field-0.0 _ c.from_residual.ensures.1 (inr refl)
+
+pub returns-in-Ok-clause-read_told : goal.returns-in-Ok-clause-read_told
+returns-in-Ok-clause-read_told g c = each_heard c.answer_asked.result _ _ c.in_ok-bytes.ensures.come.failures
+
+pub returns-in-Ok-clause-quiet : goal.returns-in-Ok-clause-quiet
+returns-in-Ok-clause-quiet g c =
+    quiet_run g.K.Keeper.keeps g.K.Keeper.is_sound g.K.Keeper.is_broken c.in-Ok.asked c.args.at c.args.keeper.now c.answer_asked.new.keeper
+    g.E.ByteOut.taken c.args.errors.now c.answer_asked.new.errors c.answer_asked.result c.answer_asked.ensures.reasons
+
+pub returns-in-Ok-clause-reasons : goal.returns-in-Ok-clause-reasons
+returns-in-Ok-clause-reasons g c =
+    explained_run IsTelegramAsked g.K.Keeper.keeps g.K.Keeper.is_sound g.K.Keeper.is_broken c.args.at c.args.keeper.now c.answer_asked.new.keeper
+    (g.I.ByteIn.given c.args.reader.now) (g.I.ByteIn.given c.read_input.new.reader) g.E.ByteOut.taken c.args.errors.now c.answer_asked.new.errors
+    c.in_ok-bytes.bytes.items c.in-Ok.asked c.answer_asked.result c.in_ok-bytes.ensures.come (rw c.as_slice.ensures.value at c.in-Ok.ensures)
+    c.answer_asked.ensures.reasons
+
+pub returns-in_err-bytes-clause-reasons : goal.returns-in_err-bytes-clause-reasons
+returns-in_err-bytes-clause-reasons g c =
+    unexplained IsTelegramAsked g.K.Keeper.keeps g.K.Keeper.is_sound g.K.Keeper.is_broken c.args.at c.args.keeper.now c.args.keeper.now
+    (g.I.ByteIn.given c.args.reader.now) (g.I.ByteIn.given c.read_input.new.reader) g.E.ByteOut.taken c.args.errors.now
+    c.from_residual.result c.in_err-bytes.field-0.0 c.from_residual.ensures.1

@@ -1,0 +1,54 @@
+-- What the input of a command asks, and what it is answered.
+use Rattle.std.specs.Prelude.{◌≡◌, ℕ, ◌≤◌, Bool, false, List, [], ◌∷◌, ◌++◌, length, codes, Some, IsUtf8}
+use Rattle.serde_json.specs.Data.{Data}
+use Rattle.serde_json.specs.Read.{read}
+use Rattle.station_days.specs.Date.{LocalMinute}
+use Rattle.imp_fields.specs.declared.fault.TextFault.{TextFault}
+use Rattle.desk_commands.specs.Body.{IsBodyOf}
+use Rattle.desk_commands.specs.declared.command.Command.{Command}
+use Rattle.desk_commands.specs.declared.verb.Verb.{Verb}
+use Rattle.telegrams.specs.Meaning.{Meant, IsTelegram, telegram_fault, refusal_of}
+use Rattle.station_core.specs.declared.input.Input.TheVariants.{Keyed, Wire}
+use Rattle.station_core.specs.Retries.{is_done}
+use Rattle.station_core.specs.Step.{State, step}
+use Rattle.station_core.specs.Texts.{refusal_text}
+use Rattle.stock_list.specs.Lines.{answer_text}
+use Rattle.cli_run.specs.declared.asked.Asked.{Asked}
+use Rattle.cli_run.specs.declared.asked.Asked.TheVariants as asked
+use Rattle.cli_run.specs.Came.{longest}
+
+-- the bytes are this telegram, or they are refused by their fault
+abbrev pub IsTelegramAsked : List ℕ → Asked → Type 0
+IsTelegramAsked bytes (asked.Input i) = (t : Meant) × IsTelegram bytes t × (i ≡ Wire t)
+IsTelegramAsked bytes (asked.Refused refusal) = (told : TextFault) × (telegram_fault bytes ≡ Some told) × (refusal ≡ refusal_of told)
+IsTelegramAsked bytes (asked.Bad verb body) = ⊥
+
+-- the bytes are a body of JSON that says this command of the verb
+abbrev pub IsSaid : Verb → List ℕ → Command → Type 0
+IsSaid verb bytes command = (length bytes ≤ longest) × IsUtf8 bytes × ((d : Data) × (read bytes ≡ Some d) × IsBodyOf verb d command)
+
+-- they say this command, under the key, or none
+abbrev pub IsCommandAsked : Verb → List ℕ → List ℕ → Asked → Type 0
+IsCommandAsked verb key bytes (asked.Input i) = (command : Command) × IsSaid verb bytes command × (i ≡ Keyed key command)
+IsCommandAsked verb key bytes (asked.Bad other body) = (command : Command) → ¬ (IsSaid verb bytes command)
+IsCommandAsked verb key bytes (asked.Refused refusal) = ⊥
+
+-- the text of what is asked at a moment: the answer of the station's step, or a text that wants no
+-- station
+abbrev pub asked_text : State → Asked → LocalMinute → List ℕ
+asked_text s (asked.Input i) at = answer_text (step s i at).answer
+asked_text s (asked.Refused refusal) at = refusal_text refusal
+asked_text s (asked.Bad verb body) at = codes "body bad"
+
+abbrev pub asked_line : State → Asked → LocalMinute → List ℕ
+asked_line s asks at = asked_text s asks at ++ 10 ∷ []
+
+-- whether it was accepted
+abbrev pub asked_good : State → Asked → LocalMinute → Bool
+asked_good s (asked.Input i) at = is_done (step s i at).answer
+asked_good s _ at = false
+
+-- the state after it
+abbrev pub asked_after : State → Asked → LocalMinute → State
+asked_after s (asked.Input i) at = (step s i at).state
+asked_after s _ at = s

@@ -1,0 +1,60 @@
+//! What the input of a command asks.
+ghost use Rattle.std.specs.Prelude.{IfOk};
+ghost use Rattle.cli_run.specs.Asked.{IsTelegramAsked, IsCommandAsked};
+
+use crate::reading::LONGEST;
+use desk_commands::{BadBody, Verb, read_command};
+use serde_json::Value;
+use shipment_machine::Refusal;
+use station_core::{Input, Key};
+use std::alloc::{AllocError, Global};
+use telegrams::{TelegramFault, read_telegram};
+
+/// What the input of a command asks.
+#[derive(Drop)]
+pub enum Asked<'a> {
+    /// It is no telegram, and is refused.
+    Refused(Refusal),
+    /// It is no body of this verb.
+    Bad { verb: Verb, body: &'a [u8] },
+    /// It is for the station.
+    Input(Input<'a>),
+}
+
+/// What a telegram asks.
+pub(crate) fn telegram_asked<'a>(alloc: Global, bytes: &'a [u8]) -> Result<Asked<'a>, AllocError>
+    ensures { IfOk result (IsTelegramAsked bytes.entry.now) }
+{
+    match read_telegram(alloc, bytes) {
+        Ok(telegram) => Ok(Asked::Input(Input::Wire(telegram))),
+        Err(TelegramFault::Refused(refusal)) => Ok(Asked::Refused(refusal)),
+        Err(TelegramFault::Memory) => Err(AllocError),
+    }
+}
+
+/// What a body of JSON asks under a key.
+pub(crate) fn command_asked<'a>(
+    alloc: Global,
+    verb: Verb,
+    key: Key,
+    body: &'a [u8],
+) -> Result<Asked<'a>, AllocError>
+    ensures { IfOk result (IsCommandAsked verb key body.entry.now) }
+{
+    if body.len() > LONGEST {
+        return Ok(Asked::Bad { verb, body });
+    }
+    match Value::from_slice(alloc, body) {
+        Ok(value) => match read_command(verb, &value) {
+            Ok(command) => Ok(Asked::Input(Input::Keyed(key, command))),
+            Err(BadBody) => Ok(Asked::Bad { verb, body }),
+        },
+        Err(e) => {
+            if e.is_memory() {
+                Err(AllocError)
+            } else {
+                Ok(Asked::Bad { verb, body })
+            }
+        }
+    }
+}

@@ -1,0 +1,87 @@
+ghost use Rattle.std.specs.Prelude.{◌≡◌, ◌⊎◌, true, false, Ok, Err, IfErr, OnOk};
+ghost use Rattle.station_core.specs.Ends.{HasCause};
+ghost use Rattle.station_core.specs.Step.{State};
+ghost use Rattle.stock_list.specs.Ended.{IsShutAfter, IsUntroubled};
+ghost use Rattle.cli_run.specs.Asked.{IsTelegramAsked};
+ghost use Rattle.cli_run.specs.Came.{HasFailed, IsWithin, most_bytes};
+ghost use Rattle.cli_run.specs.Ended.{HasRun};
+ghost use Rattle.cli_run.specs.Explained.{HasExplainedRun};
+ghost use Rattle.cli_run.specs.Shut.{HasRunShut};
+
+use crate::answer::answer_asked;
+use crate::asked::telegram_asked;
+use crate::reading::read_input;
+use station_core::{ByteIn, ByteOut, Keeper};
+use station_days::Moment;
+use std::alloc::Global;
+use stock_list::RunFault;
+
+/// Reads one telegram, hands it to the station at a moment, and writes the line of its answer: `ok
+/// 10`, `refused 213 LH400/2026-01-12/FRA/1`, or `refused 301 4 ending` where it can't be read. Of
+/// an input with more than 65,536 bytes, which is refused, only a beginning is read. Why a telegram
+/// can't be read (301, 302) is written on `errors`, behind the line. `Ok` says whether it was
+/// accepted.
+///
+/// Returns [`RunFault::Read`] where the reader fails, and [`RunFault::Memory`] where memory runs
+/// out before the station is asked: nothing was done or written. Returns [`RunFault::Store`] where
+/// the store fails, or failed before: nothing was written, and the telegram was taken wholly or not
+/// at all. Returns [`RunFault::Write`] where the writer fails: the telegram was answered, and a
+/// beginning of the line was written. Returns [`RunFault::Memory`] too where memory for the line
+/// runs out: the telegram was answered, and nothing was written.
+pub fn run_take<K: Keeper, I: ByteIn, O: ByteOut, E: ByteOut>(
+    alloc: Global,
+    keeper: &mut K,
+    reader: &mut I,
+    writer: &mut O,
+    errors: &mut E,
+    at: Moment,
+) -> Result<bool, RunFault>
+    ensures clean { K.is_clean keeper.new → K.is_clean keeper.old }
+    ensures still { K.is_sound keeper.old → K.is_clean keeper.new → K.is_sound keeper.new }
+    ensures sound { K.is_sound keeper.new → K.is_sound keeper.old }
+    ensures works { K.is_broken keeper.old ≡ false → OnOk result (K.is_broken keeper.new ≡ false) }
+    ensures breaks { K.is_broken keeper.old ≡ false
+        → IfErr result (λ e. IsShutAfter e (K.is_broken keeper.new)) }
+    ensures ran { (s : State) → K.keeps keeper.old s → K.is_broken keeper.old ≡ false
+        → K.is_sound keeper.new
+        → HasRun IsTelegramAsked s at (I.given reader.old) (I.given reader.new)
+        (O.taken writer.old).bytes (O.taken writer.new).bytes
+        (K.keeps keeper.new) (K.may_find keeper.new) result }
+    ensures unread { result ≡ Err RunFault.Read → (keeper.new ≡ keeper.old)
+        × (O.taken writer.new ≡ O.taken writer.old) }
+    ensures read_cause { result ≡ Err RunFault.Read
+        → HasFailed (I.given reader.old) (I.given reader.new) }
+    ensures read_told { IfErr result (λ e. (e ≡ RunFault.Read)
+        ⊎ ((I.given reader.new).failures ≡ (I.given reader.old).failures)) }
+    ensures write_cause { result ≡ Err RunFault.Write
+        → HasCause (O.taken writer.old) (O.taken writer.new) }
+    ensures write_told { IfErr result (λ e. (e ≡ RunFault.Write)
+        ⊎ IsUntroubled (O.taken writer.old) (O.taken writer.new)) }
+    ensures untroubled { OnOk result (IsUntroubled (O.taken writer.old) (O.taken writer.new)) }
+
+    // At any fault but the writer's nothing was written.
+    ensures unwritten { IfErr result (λ e. (e ≡ RunFault.Write)
+        ⊎ (O.taken writer.new ≡ O.taken writer.old)) }
+
+    // Of an input that is too long only a beginning is read.
+    ensures most { IsWithin most_bytes (I.given reader.old) (I.given reader.new) }
+
+    // Behind its line a telegram that can't be read has its reason, or a beginning of it, and
+    // nothing else goes there.
+    ensures quiet { result ≡ Ok true → errors.new ≡ errors.old }
+    ensures reasons { HasExplainedRun IsTelegramAsked K.keeps K.is_sound K.is_broken at
+        keeper.old keeper.new (I.given reader.old) (I.given reader.new)
+        E.taken errors.old errors.new result }
+
+    // A station that has to be opened again stays as it is, and nothing is asked of it.
+    ensures same { K.is_broken keeper.old ≡ true → keeper.new ≡ keeper.old }
+    ensures reopen { K.is_broken keeper.old ≡ true
+        → HasRunShut IsTelegramAsked (I.given reader.old) (I.given reader.new) (O.taken writer.old)
+        (O.taken writer.new) result }
+{
+    let bytes = read_input(alloc, reader)?;
+    match telegram_asked(alloc, bytes.as_slice()) {
+        Ok(asked) => answer_asked(alloc, keeper, writer, errors, &asked, at),
+        Err(_) => Err(RunFault::Memory),
+    }
+}

@@ -1,0 +1,49 @@
+//! Why an input can't be read, on standard error.
+ghost use Rattle.std.specs.Prelude.{codes};
+ghost use Rattle.input_reasons.specs.Reason.{HasReason, is_unread};
+ghost use Rattle.cli_run.specs.Explained.{answered_unread, reason_head, HasToldWhy};
+
+use crate::asked::Asked;
+use desk_commands::Verb;
+use input_reasons::{body_reason, is_unread, telegram_reason, tell_reason};
+use shipment_machine::Refusal;
+use station_core::{Answer, ByteOut, Input};
+use std::alloc::Global;
+
+/// Writes why a body is bad.
+pub(crate) fn tell_body<E: ByteOut>(alloc: Global, errors: &mut E, verb: Verb, body: &[u8])
+    ensures { HasReason (codes "body: ") (E.taken errors.old).bytes (E.taken errors.new).bytes }
+{
+    tell_reason(errors, body_reason(alloc, verb, body));
+}
+
+/// Writes why a telegram can't be read, where its refusal says that.
+pub(crate) fn tell_refusal<E: ByteOut>(alloc: Global, errors: &mut E, refusal: &Refusal)
+    ensures { HasToldWhy E.taken (is_unread refusal.now) (codes "telegram: ") errors.old
+        errors.new }
+{
+    if !is_unread(refusal) {
+        return;
+    }
+    tell_reason(errors, telegram_reason(alloc, refusal));
+}
+
+/// Writes why a telegram can't be read, where its answer says that. Of a command nothing is
+/// written.
+pub(crate) fn tell_answer<E: ByteOut>(
+    alloc: Global,
+    errors: &mut E,
+    input: &Input<'_>,
+    answer: &Answer,
+)
+    ensures { HasToldWhy E.taken (answered_unread input.now answer.now)
+        (reason_head (Asked.Input input.now)) errors.old errors.new }
+{
+    match input {
+        Input::Keyed(_, _) => {}
+        Input::Wire(_) => match answer {
+            Answer::Done(_) => {}
+            Answer::Refused(refusal) => tell_refusal(alloc, errors, refusal),
+        },
+    }
+}

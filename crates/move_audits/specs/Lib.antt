@@ -1,3 +1,0 @@
-pub mod Audited
-pub mod Posted
-pub mod Departed

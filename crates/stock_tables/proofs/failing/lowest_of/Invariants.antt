@@ -1,0 +1,10 @@
+use Rattle.std.proofs.Common.{◌≡◌, ℕ, drop}
+use Rattle.std.specs.Prelude.{IsTrue}
+use Rattle.agent_stock.specs.Stock.{Holders, covers}
+use Rattle.stock_tables.specs.Rows.{StandFrom, holders_by}
+use Rattle.stock_tables.proofs.Lowest.{Left}
+use Rattle.stock_tables.proofs.failing.lowest_of.Given as goal
+
+-- what is looked for is among the rows ahead
+abbrev pub invariant-loop-row : goal.invariant-loop-row
+invariant-loop-row l = (h : Holders) → StandFrom 0 l.near → ((q : ℕ) → IsTrue (covers l.run q) → holders_by l.near q ≡ h q) → Left h l.run l.test l.near (drop l.row-index l.near) l.next

@@ -1,0 +1,15 @@
+//! What rows of the stock's table say as runs.
+ghost use Rattle.std.specs.Prelude.{◌≡◌, map};
+ghost use Rattle.std.specs.FinMap.{FinMap, entries};
+ghost use Rattle.row_schema.specs.Tables.{Stock, stock_cmp};
+ghost use Rattle.row_codec.specs.Stock.{AreStockRows, holders_in, run_in};
+ghost use Rattle.stock_tables.specs.Rows.{AreRuns, holders_by};
+
+/// Rows within range that are apart are runs in ascending order, and say who has each number as the
+/// table does.
+pub fn rows_law()
+    ensures holders { (stock : FinMap stock_cmp Stock) → AreStockRows stock
+        → holders_in stock ≡ holders_by (map run_in (entries stock)) }
+    ensures order { (stock : FinMap stock_cmp Stock) → AreStockRows stock
+        → AreRuns (map run_in (entries stock)) }
+{}

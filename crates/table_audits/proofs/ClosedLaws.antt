@@ -1,0 +1,151 @@
+-- Flights are closed exactly where they departed, row by row.
+use Rattle.std.proofs.Common.{◌≡◌, ◌↔◌, Bool, true, false, cond, ◌||◌, is_some, Option, Some, None, option_map, List, [], ◌∷◌, map, length, refl, sym, ap, ap₂, subst, ◌∙◌, true≢false}
+use Rattle.std.specs.Prelude.{IsSome, IsTrue}
+use Rattle.std.specs.List.{AllByRecursion, list_all}
+use Rattle.std.specs.FinMap.{entries, get}
+use Rattle.std.proofs.lemmas.Bool.{and_parts, cond-true}
+use Rattle.std.proofs.lemmas.List.{length-map}
+use Rattle.sqlite_keyed.proofs.ListLemmas.{all_from_test, map-map}
+use Rattle.table_load.specs.declared.flight.FlightEntry.{FlightEntry}
+use Rattle.table_load.specs.Held.{flight_entry}
+use Rattle.shipment_machine.specs.Book.{same_place}
+use Rattle.shipment_machine.specs.Effect.{is_closed}
+use Rattle.shipment_machine.specs.declared.flight.FlightDate.{FlightDate}
+use Rattle.shipment_machine.specs.declared.moves.Move.{Move}
+use Rattle.shipment_machine.specs.declared.moves.Outbound.{Outbound}
+use Rattle.shipment_machine.specs.declared.moves.Place.TheVariants.{Built, Departed}
+use Rattle.shipment_machine.specs.Lawful.{departs_with, StaysDeparted}
+use Rattle.shipment_machine.proofs.FlightKeys.{same-is}
+use Rattle.row_schema.specs.Tables.{Tables, Flight, FlightKey, flight_cmp}
+use Rattle.row_schema.proofs.Keys.{flight_total, flight_same}
+use Rattle.row_codec.specs.Numbers.{is_set}
+use Rattle.row_codec.specs.Flights.{is_designator, flight_key, flights_in, outbound_by, is_flight_row}
+use Rattle.row_codec.specs.Moves.{book_in}
+use Rattle.row_codec.proofs.MapLaws.{at_key, each_entry}
+use Rattle.running_totals.proofs.Tests.{same_bool, is_false}
+use Rattle.table_audits.specs.declared.sums.Spot.{Spot}
+use Rattle.table_audits.specs.declared.sums.Spot.TheVariants.{Plain, OnFlight}
+use Rattle.table_audits.specs.declared.sums.Posting.{Posting}
+use Rattle.table_audits.specs.Sums.{AreDistinct, IsSpot, ArePostings}
+use Rattle.table_audits.proofs.Made.{distinct}
+use Rattle.table_audits.specs.Audited.{flight_in, AreDepartures}
+use Rattle.table_audits.specs.Departed.{departs_in, IsDeparted, IsWalked}
+use Rattle.table_audits.specs.Posted.{listed_in}
+use Rattle.table_audits.proofs.Listed.{IsNamed, named, named_by, listed_noted, flights_are}
+use Rattle.table_audits.proofs.DepartedLaws.{plain_off}
+
+-- ---- lists
+
+first_is : (x y : Bool) (xs ys : List Bool) → ◌≡◌ {A = List Bool} (x ∷ xs) (y ∷ ys) → x ≡ y
+first_is x y xs ys h = cc
+
+rest_is : (x y : Bool) (xs ys : List Bool) → ◌≡◌ {A = List Bool} (x ∷ xs) (y ∷ ys) → xs ≡ ys
+rest_is x y xs ys h = cc
+
+each_same : {X : Type 0} (f g : X → Bool) (xs : List X) → map f xs ≡ map g xs → AllByRecursion (λ x. f x ≡ g x) xs
+each_same f g [] h = tt
+each_same f g (x ∷ xs) h = (first_is (f x) (g x) (map f xs) (map g xs) h, each_same f g xs (rest_is (f x) (g x) (map f xs) (map g xs) h))
+
+all_same : {X : Type 0} (f g : X → Bool) (xs : List X) → AllByRecursion (λ x. f x ≡ g x) xs → map f xs ≡ map g xs
+all_same f g [] h = refl
+all_same f g (x ∷ xs) h = ap₂ (λ y ys. y ∷ ys) h.0 (all_same f g xs h.1)
+
+map_itself : (xs : List Bool) → map (λ x. x) xs ≡ xs
+map_itself [] = refl
+map_itself (x ∷ xs) = ap (λ l. x ∷ l) (map_itself xs)
+
+-- ---- flights
+
+abbrev pub is_closed_row : FlightKey × Flight → Bool
+is_closed_row row = is_set row.1.closed
+
+module _ (t : Tables) (within : list_all is_flight_row (entries t.flights) ≡ true) where
+  abbrev book : List Move
+  book = book_in t.moves
+
+  abbrev IsSameAt : FlightKey × Flight → Type 0
+  IsSameAt row = is_closed_row row ≡ departs_in book (flight_in row)
+
+  -- a flight with which a move departs is noted
+  noted_departing : (f : FlightDate) (ps : List Posting) (moves : List Move) → ArePostings (listed_in t) ps moves → departs_in moves f ≡ true → IsSome (flights_in t.flights f)
+  noted_departing f [] [] are h = absurd (true≢false (sym h))
+  noted_departing f [] (m ∷ moves) are h = absurd are
+  noted_departing f (p ∷ ps) [] are h = absurd are
+  noted_departing f (p ∷ ps) (m ∷ moves) are h = go (departs_with f m) refl h (noted_departing f ps moves are.1)
+    where
+      at : (spot : Spot) → IsSpot (listed_in t) spot m.from → same_place m.from (Built f) ≡ true → IsSome (flights_in t.flights f)
+      at (Plain code) from e = absurd (true≢false (sym e ∙ plain_off m.from f from.0))
+      at (OnFlight i) from e =
+          let one : from.0 ≡ f = same-is from.0 f (ap (λ q. same_place q (Built f)) (sym from.1) ∙ e) in
+          subst (λ (g : FlightDate). IsSome (flights_in t.flights g)) one (listed_noted t.flights within i from.0 from.2)
+
+      go : (b : Bool) → departs_with f m ≡ b → (b || departs_in moves f) ≡ true → (departs_in moves f ≡ true → IsSome (flights_in t.flights f)) → IsSome (flights_in t.flights f)
+      go true e k more = at p.from are.0.from_is (and_parts (same_place m.from (Built f)) (same_place m.to Departed) e).0
+      go false e k more = more k
+
+  closed_is : (ps : List Posting) → ArePostings (listed_in t) ps book → AllByRecursion IsSameAt (entries t.flights) → (f : FlightDate) → is_closed (flights_in t.flights f) ≡ departs_in book f
+  closed_is ps are each f = go (is_designator f.flight) refl (get t.flights (flight_key f)) refl
+    where
+      none : flights_in t.flights f ≡ None → departs_in book f ≡ false
+      none e = is_false (departs_in book f) (λ h. sym (sym (noted_departing f ps book are h) ∙ ap (λ (o : Option Outbound). is_some o) e))
+
+      at : (b : Bool) (o : Option Flight) → is_designator f.flight ≡ b → get t.flights (flight_key f) ≡ o → flights_in t.flights f ≡ cond b (option_map outbound_by o) None
+      at b o x y = ap₂ (λ (c : Bool) (v : Option Flight). cond c (option_map outbound_by v) None) x y
+
+      go : (b : Bool) → is_designator f.flight ≡ b → (o : Option Flight) → get t.flights (flight_key f) ≡ o → is_closed (flights_in t.flights f) ≡ departs_in book f
+      go false x o y = ap is_closed (at false o x y) ∙ sym (none (at false o x y))
+      go true x None y = ap is_closed (at true None x y) ∙ sym (none (at true None x y))
+      go true x (Some row) y = ap is_closed (at true (Some row) x y)
+          ∙ at_key flight_cmp flight_total flight_same IsSameAt t.flights each (flight_key f) row y
+          ∙ ap (departs_in book) (named_by f row x)
+
+  each_closed : ((f : FlightDate) → IsTrue (is_closed (flights_in t.flights f)) ↔ IsTrue (departs_in book f)) → AllByRecursion IsSameAt (entries t.flights)
+  each_closed law = each_entry flight_cmp flight_total flight_same IsSameAt t.flights go
+    where
+      go : (key : FlightKey) (row : Flight) → get t.flights key ≡ Some row → IsSameAt (key, row)
+      go key row has =
+          let one : IsNamed (key, row) = named (key, row) (at_key flight_cmp flight_total flight_same (λ e. is_flight_row e ≡ true) t.flights (all_from_test is_flight_row (entries t.flights) within) key row has) in
+          let f : FlightDate = flight_in (key, row) in
+          let seen : flights_in t.flights f ≡ Some (outbound_by row) = cond-true (is_designator f.flight) (option_map outbound_by (get t.flights (flight_key f))) None one.designator ∙ ap (option_map outbound_by) (ap (get t.flights) one.key ∙ has) in
+          sym (ap is_closed seen) ∙ same_bool (is_closed (flights_in t.flights f)) (departs_in book f) (law f).0 (law f).1
+
+  module _ (fs : List FlightEntry) (is : entries t.flights ≡ map flight_entry fs) (marks : List Bool) (departed : IsDeparted (listed_in t) book marks) where
+    abbrev IsAlike : Type 0
+    IsAlike = map (λ row. is_closed_row (flight_entry row)) fs ≡ map (λ mark. mark) marks
+
+    left : map (λ row. is_closed_row (flight_entry row)) fs ≡ map is_closed_row (entries t.flights)
+    left = sym (map-map is_closed_row flight_entry fs) ∙ sym (ap (map is_closed_row) is)
+
+    right : map (λ (mark : Bool). mark) marks ≡ map (λ row. departs_in book (flight_in row)) (entries t.flights)
+    right = map_itself marks ∙ departed.marks_are ∙ map-map (departs_in book) flight_in (entries t.flights)
+
+    marks_closed : (ps : List Posting) → ArePostings (listed_in t) ps book → (b : Bool) → (IsTrue b ↔ IsAlike) → IsTrue b ↔ AreDepartures t
+    marks_closed ps are b says = (
+      λ h.
+          let same : (f : FlightDate) → is_closed (flights_in t.flights f) ≡ departs_in book f = closed_is ps are (each_same is_closed_row (λ row. departs_in book (flight_in row)) (entries t.flights) (sym left ∙ says.0 h ∙ right)) in
+          record { closed = λ f. (λ k. sym (same f) ∙ k, λ k. same f ∙ k); departed = departed.stays },
+      λ law. says.1 (left ∙ all_same is_closed_row (λ row. departs_in book (flight_in row)) (entries t.flights) (each_closed law.closed) ∙ sym right),
+    )
+
+    pub closed_so : (ps : List Posting) → ArePostings (listed_in t) ps book → (b : Bool) (seen : List Bool) → seen ≡ marks → (IsTrue b ↔ (map (λ row. is_closed_row (flight_entry row)) fs ≡ map (λ mark. mark) seen))
+        → IsTrue b ↔ AreDepartures t
+    closed_so ps are b seen same says = marks_closed ps are b (subst (λ l. IsTrue b ↔ (map (λ row. is_closed_row (flight_entry row)) fs ≡ map (λ mark. mark) l)) same says)
+
+-- ---- what a walk found
+
+pub found_marks : {V : Type 0} (items : V → List Bool) (flights : List FlightDate) (moves : List Move) (o : Option V) (v : V) → o ≡ Some v → IsWalked flights moves (option_map items o) → IsDeparted flights moves (items v)
+found_marks items flights moves o v is h = subst (λ x. IsWalked flights moves (option_map items x)) is h
+
+pub found_none : {V : Type 0} (items : V → List Bool) (flights : List FlightDate) (moves : List Move) (o : Option V) → o ≡ None → IsWalked flights moves (option_map items o) → ((f : FlightDate) → StaysDeparted f moves) → ⊥
+found_none items flights moves o is h = subst (λ x. IsWalked flights moves (option_map items x)) is h
+
+pub never_departed : (t : Tables) → (((f : FlightDate) → StaysDeparted f (book_in t.moves)) → ⊥) → IsTrue false ↔ AreDepartures t
+never_departed t never = (λ h. absurd (true≢false (sym h)), λ law. absurd (never law.departed))
+
+-- ---- the flights that are listed
+
+pub listed_distinct : (t : Tables) → list_all is_flight_row (entries t.flights) ≡ true → AreDistinct (listed_in t)
+listed_distinct t within = distinct (listed_in t) (entries t.flights) (flights_are t.flights within)
+
+pub listed_long : (t : Tables) (fs : List FlightEntry) → entries t.flights ≡ map flight_entry fs → length (listed_in t) ≡ length fs
+listed_long t fs is = length-map (entries t.flights) flight_in ∙ ap length is ∙ length-map fs flight_entry

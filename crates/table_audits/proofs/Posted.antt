@@ -1,0 +1,228 @@
+-- What an amount that is posted makes of the sums.
+use Rattle.std.proofs.Common.{◌≡◌, ◌≢◌, ℕ, ℤ, pos, negsuc, neg_ℤ, ◌==◌, Bool, true, false, cond, ◌&&◌, List, [], ◌∷◌, ◌++◌, Option, Some, None, option_map, refl, sym, ap, ap₂, subst, ◌∙◌, true≢false, arith, int_eq, int_cmp, nat_cmp, slice_get}
+use Rattle.std.proofs.lemmas.Bool.Decides.{nat_tests}
+use Rattle.std.specs.Ordering.{eq_by_cmp}
+use Rattle.std.specs.Cmp.{eq_by_cmp_equiv}
+use Rattle.std.specs.BTreeMap.{get}
+use Rattle.shipment_machine.specs.Book.{same_place}
+use Rattle.shipment_machine.specs.Flights.{same_flight_date}
+use Rattle.shipment_machine.specs.declared.flight.FlightDate.{FlightDate}
+use Rattle.shipment_machine.specs.declared.moves.Move.{Move}
+use Rattle.shipment_machine.specs.declared.moves.Place.{Place}
+use Rattle.shipment_machine.specs.declared.moves.Place.TheVariants.{Hand, Surplus, Free, Built, Departed, Delivered, Missing, Transferred}
+use Rattle.shipment_machine.proofs.FlightKeys.{same-is, same-refl}
+use Rattle.row_laws.proofs.Keys.{pair_eq, int_tied, first_true, second_true}
+use Rattle.row_schema.specs.Tables.{Count, CountKey, count_cmp, Build}
+use Rattle.row_codec.specs.Counts.{Running, running, is_nothing, unless_nothing, running_in, running_on, count_row, build_row}
+use Rattle.row_codec.specs.Moves.{place_code, plain_place}
+use Rattle.running_totals.specs.Sums.{Sums, plus, posting, come, gone, is_built, count_in, count_here}
+use Rattle.running_totals.specs.Stored as stored
+use Rattle.running_totals.proofs.Storing.{comes_to_sum}
+use Rattle.running_totals.proofs.Tests.{same_bool, is_false, and_no, some_is, none_is, int_pos, is_nat}
+use Rattle.running_totals.proofs.Codes as codes
+use Rattle.running_totals.proofs.Keeping.{counts_total}
+use Rattle.running_totals.proofs.Moved.{sums_then}
+use Rattle.table_audits.specs.declared.tally.Tally.{Tally}
+use Rattle.table_audits.specs.declared.sums.CountPlace.{CountPlace}
+use Rattle.table_audits.specs.declared.sums.BuildPlace.{BuildPlace}
+use Rattle.table_audits.specs.declared.sums.BookSums.{BookSums}
+use Rattle.table_audits.specs.declared.sums.Posting.{Posting}
+use Rattle.table_audits.specs.Sums.{meant, unless_zero, come_to, count_of, build_of, count_place_cmp, build_place_cmp, count_told, build_told, build_due, AreDistinct, AreSums, IsPosting}
+
+-- ---- no moves
+
+pub no_sums : (flights : List FlightDate) (sums : BookSums) → sums.counts.entries ≡ [] → sums.builds.entries ≡ [] → AreSums flights sums (running [])
+no_sums flights sums c b = record {
+  counts = λ q. no_count q;
+  builds = λ i awb. no_build i awb;
+  others = λ w f none. refl;
+}
+  where
+    none_here : (w : ℕ) (o : Option Place) → ◌≡◌ {A = Option Count} None (count_here (running []) w o)
+    none_here w None = refl
+    none_here w (Some p) = refl
+
+    no_count : (q : CountKey) → count_told sums q ≡ count_in (running []) q
+    no_count (pos w, code) = rw (c) (none_here w (plain_place code))
+    no_count (negsuc n, code) = rw (c) refl
+
+    none_due : (awb : ℤ) (o : Option FlightDate) → ◌≡◌ {A = Option Build} None (build_due (running []) awb o)
+    none_due (pos w) None = refl
+    none_due (pos w) (Some f) = refl
+    none_due (negsuc n) o = refl
+
+    no_build : (i : ℕ) (awb : ℤ) → build_told sums i awb ≡ build_due (running []) awb (slice_get flights i)
+    no_build i awb = rw (b) (none_due awb (slice_get flights i))
+
+-- ---- an amount more
+
+pub mapped : {X Y : Type 0} (f : X → Y) (b : Bool) (x y : Option X) → option_map f (cond b x y) ≡ cond b (option_map f x) (option_map f y)
+mapped f true x y = refl
+mapped f false x y = refl
+
+count_there : (b : Bool) (t : Tally) → option_map count_of (cond b None (Some t)) ≡ option_map count_row (cond b None (Some (meant t)))
+count_there true t = refl
+count_there false t = refl
+
+build_there : (b : Bool) (t : Tally) → option_map build_of (cond b None (Some t)) ≡ option_map build_row (cond b None (Some (meant t)))
+build_there true t = refl
+build_there false t = refl
+
+count_comes : (o : Option Tally) (by : Tally) → meant (come_to o by) ≡ stored.come_to running_in (option_map count_of o) (meant by)
+count_comes None by = refl
+count_comes (Some t) by = refl
+
+build_comes : (o : Option Tally) (by : Tally) → meant (come_to o by) ≡ stored.come_to running_on (option_map build_of o) (meant by)
+build_comes None by = refl
+build_comes (Some t) by = refl
+
+sum_count : (o : Option Tally) (r : Running) (by : Tally) → option_map count_of o ≡ option_map count_row (unless_nothing r) → option_map count_of (unless_zero (come_to o by)) ≡ option_map count_row (unless_nothing (plus r (meant by)))
+sum_count o r by h =
+    count_there (is_nothing (meant (come_to o by))) (come_to o by)
+    ∙ ap (λ x. option_map count_row (unless_nothing x)) (count_comes o by ∙ ap (λ v. stored.come_to running_in v (meant by)) h ∙ comes_to_sum count_row running_in (λ r. refl) r (meant by))
+
+sum_build : (o : Option Tally) (r : Running) (by : Tally) → option_map build_of o ≡ option_map build_row (unless_nothing r) → option_map build_of (unless_zero (come_to o by)) ≡ option_map build_row (unless_nothing (plus r (meant by)))
+sum_build o r by h =
+    build_there (is_nothing (meant (come_to o by))) (come_to o by)
+    ∙ ap (λ x. option_map build_row (unless_nothing x)) (build_comes o by ∙ ap (λ v. stored.come_to running_on v (meant by)) h ∙ comes_to_sum build_row running_on (λ r. refl) r (meant by))
+
+off : (f : FlightDate) (p : Place) → is_built p ≡ false → same_place (Built f) p ≡ false
+off f Hand h = refl
+off f Surplus h = refl
+off f Free h = refl
+off f (Built g) h = absurd (true≢false h)
+off f Departed h = refl
+off f Delivered h = refl
+off f Missing h = refl
+off f Transferred h = refl
+
+not_posted : (s : Sums) (a : ℕ) (p : Place) (r : Running) (w : ℕ) (at : Place) → same_place at p ≡ false → posting a p r s w at ≡ s w at
+not_posted s a p r w at h = ap (λ b. cond b (plus (s w at) r) (s w at)) (ap (λ b. (a == w) && b) h ∙ and_no (a == w))
+
+-- at a place that isn't built
+
+module _ (s : Sums) (a : ℕ) (p : Place) (r : Running) (plain : is_built p ≡ false) where
+  due_stays : (awb : ℤ) (o : Option FlightDate) → build_due s awb o ≡ build_due (posting a p r s) awb o
+  due_stays (pos w) None = refl
+  due_stays (pos w) (Some f) = ap (λ x. option_map build_row (unless_nothing x)) (sym (not_posted s a p r w (Built f) (off f p plain)))
+  due_stays (negsuc n) o = refl
+
+pub posted_count : (flights : List FlightDate) (old new : BookSums) (s : Sums) (key : CountPlace) (by : Tally) → AreSums flights old s
+    → ((q : CountPlace) → get count_place_cmp new.counts q ≡ cond (eq_by_cmp count_place_cmp key q) (unless_zero (come_to (get count_place_cmp old.counts key) by)) (get count_place_cmp old.counts q))
+    → new.builds ≡ old.builds → (a : ℕ) (p : Place) → key.awb ≡ pos a → key.place ≡ pos (place_code p) → is_built p ≡ false
+    → AreSums flights new (posting a p (meant by) s)
+posted_count flights old new s key by are told same a p awb_is place_is plain = record {
+  counts = λ q. count_at q;
+  builds = λ i awb. ap (λ m. option_map build_of (get build_place_cmp m (record { flight = i; awb = awb }))) same ∙ are.builds i awb ∙ due_stays s a p (meant by) plain awb (slice_get flights i);
+  others = λ w f none. ap unless_nothing (not_posted s a p (meant by) w (Built f) (off f p plain)) ∙ are.others w f none;
+}
+  where
+    key_is : ◌≡◌ {A = CountKey} (key.awb, key.place) (pos a, pos (place_code p))
+    key_is = λ i. (awb_is i, place_is i)
+
+    count_at : (q : CountKey) → count_told new q ≡ count_in (posting a p (meant by) s) q
+    count_at (w, c) =
+        ap (option_map count_of) (told (record { awb = w; place = c }))
+        ∙ mapped count_of (eq_by_cmp count_cmp (key.awb, key.place) (w, c)) (unless_zero (come_to (get count_place_cmp old.counts key) by)) (get count_place_cmp old.counts (record { awb = w; place = c }))
+        ∙ ap₂ (λ x y. cond (eq_by_cmp count_cmp (key.awb, key.place) (w, c)) x y)
+        (sum_count (get count_place_cmp old.counts key) (s a p) by (are.counts (key.awb, key.place) ∙ ap (count_in s) key_is ∙ codes.at_key s a p (meant by) plain))
+        (are.counts (w, c))
+        ∙ ap (λ b. cond b (option_map count_row (unless_nothing (plus (s a p) (meant by)))) (count_in s (w, c)))
+        ((eq_by_cmp_equiv counts_total).symm (key.awb, key.place) (w, c) ∙ ap (λ k. eq_by_cmp count_cmp (w, c) k) key_is)
+        ∙ sym (codes.after s a p (meant by) plain (w, c))
+
+-- on a flight
+
+nat_tied : (a b : ℕ) → eq_by_cmp nat_cmp a b ≡ (a == b)
+nat_tied a b = grind (arith, nat_tests)
+
+nat_turned : (a b : ℕ) → (a == b) ≡ (b == a)
+nat_turned a b = grind (arith, nat_tests)
+
+nat_itself : (a b : ℕ) → a ≡ b → (a == b) ≡ true
+nat_itself a b h = grind (arith, nat_tests)
+
+turned : (x y : Bool) → (x && y) ≡ (y && x)
+turned true true = refl
+turned true false = refl
+turned false true = refl
+turned false false = refl
+
+pub key_eq : (i j : ℕ) (a w : ℤ) → eq_by_cmp build_place_cmp (record { flight = i; awb = a }) (record { flight = j; awb = w }) ≡ ((i == j) && int_eq a w)
+key_eq i j a w = pair_eq nat_cmp int_cmp (i, a) (j, w) ∙ ap₂ ◌&&◌ (nat_tied i j) (int_tied a w)
+
+module _ (flights : List FlightDate) (distinct : AreDistinct flights) (s : Sums) (a : ℕ) (f : FlightDate) (r : Running) (at : ℕ) (is : slice_get flights at ≡ Some f) where
+  abbrev pub sum : Option Build
+  sum = option_map build_row (unless_nothing (plus (s a (Built f)) r))
+
+  where_same : (w : ℕ) (g : FlightDate) (b : Bool) → ((a == w) && same_flight_date g f) ≡ b
+      → option_map build_row (unless_nothing (cond b (plus (s w (Built g)) r) (s w (Built g)))) ≡ cond b sum (option_map build_row (unless_nothing (s w (Built g))))
+  where_same w g true e =
+      let waybill : a ≡ w = is_nat a w (first_true (a == w) (same_flight_date g f) e) in
+      let flight : g ≡ f = same-is g f (second_true (a == w) (same_flight_date g f) e) in
+      ap₂ (λ x y. option_map build_row (unless_nothing (plus (s x (Built y)) r))) (sym waybill) flight
+  where_same w g false e = refl
+
+  same_index : (i : ℕ) (g : FlightDate) → slice_get flights i ≡ Some g → (at == i) ≡ same_flight_date g f
+  same_index i g here = same_bool _ _
+      (λ e. let one : f ≡ g = some_is f g (sym is ∙ ap (slice_get flights) (is_nat at i e) ∙ here) in ap (λ x. same_flight_date x f) (sym one) ∙ same-refl f)
+      (λ e. nat_itself at i (distinct at i f is (here ∙ ap (λ x. Some x) (same-is g f e))))
+
+  no_index : (i : ℕ) → slice_get flights i ≡ None → (at == i) ≡ false
+  no_index i none = is_false _ (λ e. none_is f (sym none ∙ ap (slice_get flights) (sym (is_nat at i e)) ∙ is))
+
+  pub due_after : (i : ℕ) (awb : ℤ) → build_due (posting a (Built f) r s) awb (slice_get flights i) ≡ cond ((at == i) && int_eq (pos a) awb) sum (build_due s awb (slice_get flights i))
+  due_after i (pos w) = go (slice_get flights i) refl
+    where
+      go : (o : Option FlightDate) → slice_get flights i ≡ o → build_due (posting a (Built f) r s) (pos w) o ≡ cond ((at == i) && int_eq (pos a) (pos w)) sum (build_due s (pos w) o)
+      go None e = ap (λ b. cond (b && int_eq (pos a) (pos w)) sum None) (sym (no_index i e))
+      go (Some g) e = where_same w g ((a == w) && same_flight_date g f) refl
+          ∙ ap (λ b. cond b sum (option_map build_row (unless_nothing (s w (Built g)))))
+          (turned (a == w) (same_flight_date g f) ∙ ap₂ ◌&&◌ (sym (same_index i g e)) (nat_turned a w ∙ sym (int_pos a w)))
+  due_after i (negsuc n) = ap (λ b. cond b sum None) (sym (and_no (at == i)))
+
+  pub due_at : build_due s (pos a) (slice_get flights at) ≡ option_map build_row (unless_nothing (s a (Built f)))
+  due_at = ap (build_due s (pos a)) is
+
+  pub none_other : (w : ℕ) (g : FlightDate) → ((i : ℕ) → slice_get flights i ≢ Some g) → posting a (Built f) r s w (Built g) ≡ s w (Built g)
+  none_other w g none = not_posted s a (Built f) r w (Built g) (is_false _ (λ e. absurd (none at (is ∙ ap (λ x. Some x) (sym (same-is g f e))))))
+
+count_of_flight : (flights : List FlightDate) (s : Sums) (a : ℕ) (f : FlightDate) (r : Running) (q : CountKey) → count_in s q ≡ count_in (posting a (Built f) r s) q
+count_of_flight flights s a f r q = sym (codes.counts_stay s a f r q)
+
+pub posted_build : (flights : List FlightDate) (old new : BookSums) (s : Sums) (key : BuildPlace) (by : Tally) → AreDistinct flights → AreSums flights old s
+    → ((q : BuildPlace) → get build_place_cmp new.builds q ≡ cond (eq_by_cmp build_place_cmp key q) (unless_zero (come_to (get build_place_cmp old.builds key) by)) (get build_place_cmp old.builds q))
+    → new.counts ≡ old.counts → (a : ℕ) (f : FlightDate) → key.awb ≡ pos a → slice_get flights key.flight ≡ Some f
+    → AreSums flights new (posting a (Built f) (meant by) s)
+posted_build flights old new s key by distinct are told same a f awb_is flight_is = record {
+  counts = λ q. ap (λ m. option_map count_of (get count_place_cmp m (record { awb = q.0; place = q.1 }))) same ∙ are.counts q ∙ count_of_flight flights s a f (meant by) q;
+  builds = λ i awb. build_at i awb;
+  others = λ w g none. ap unless_nothing (none_other flights distinct s a f (meant by) key.flight flight_is w g none) ∙ are.others w g none;
+}
+  where
+    old_at : option_map build_of (get build_place_cmp old.builds key) ≡ option_map build_row (unless_nothing (s a (Built f)))
+    old_at = are.builds key.flight key.awb ∙ ap (λ z. build_due s z (slice_get flights key.flight)) awb_is ∙ due_at flights distinct s a f (meant by) key.flight flight_is
+
+    build_at : (i : ℕ) (awb : ℤ) → build_told new i awb ≡ build_due (posting a (Built f) (meant by) s) awb (slice_get flights i)
+    build_at i awb =
+        ap (option_map build_of) (told (record { flight = i; awb = awb }))
+        ∙ mapped build_of (eq_by_cmp build_place_cmp key (record { flight = i; awb = awb })) (unless_zero (come_to (get build_place_cmp old.builds key) by)) (get build_place_cmp old.builds (record { flight = i; awb = awb }))
+        ∙ ap₂ (λ x y. cond (eq_by_cmp build_place_cmp key (record { flight = i; awb = awb })) x y) (sum_build (get build_place_cmp old.builds key) (s a (Built f)) by old_at) (are.builds i awb)
+        ∙ ap (λ b. cond b (option_map build_row (unless_nothing (plus (s a (Built f)) (meant by)))) (build_due s awb (slice_get flights i)))
+        (key_eq key.flight i key.awb awb ∙ ap (λ z. (key.flight == i) && int_eq z awb) awb_is)
+        ∙ sym (due_after flights distinct s a f (meant by) key.flight flight_is i awb)
+
+-- ---- a move
+
+pub moved : (flights : List FlightDate) (book : List Move) (m : Move) (p : Posting) (back : Tally) (new : BookSums) → IsPosting flights p m
+    → back ≡ record { pieces = neg_ℤ p.amount.pieces; tenths = neg_ℤ p.amount.tenths }
+    → AreSums flights new (posting m.awb m.to (meant p.amount) (posting m.awb m.from (meant back) (running book)))
+    → AreSums flights new (running (book ++ m ∷ []))
+moved flights book m p back new is back_is are =
+    let came : meant p.amount ≡ come m = λ i. record { pieces = is.pieces_is i; tenths = is.tenths_is i } in
+    let went : meant back ≡ gone m = ap meant back_is ∙ (λ i. record { pieces = neg_ℤ (is.pieces_is i); tenths = neg_ℤ (is.tenths_is i) }) in
+    subst (AreSums flights new)
+    (ap (λ r. posting m.awb m.to r (posting m.awb m.from (meant back) (running book))) came
+    ∙ ap (λ r. posting m.awb m.to (come m) (posting m.awb m.from r (running book))) went
+    ∙ sums_then book m)
+    are

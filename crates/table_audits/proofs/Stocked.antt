@@ -1,0 +1,217 @@
+-- What a sum at a place says of the place.
+use Rattle.std.proofs.Common.{◌≡◌, ◌≢◌, ℕ, zero, suc, ◌+◌, ◌-◌, ◌<◌, ◌≤◌, ◌==◌, arith, ℤ, pos, negsuc, ◌-ℤ◌, ◌<ℤ◌, ◌≤ℤ◌, neg_ℤ, Bool, true, false, cond, ◌&&◌, nat_lt, List, Option, Some, None, option_map, refl, sym, ap, ap₂, ◌∙◌, true≢false, int_eq}
+use Rattle.std.specs.Prelude.{int_le, nat_le, unsigned_abs}
+use Rattle.std.proofs.lemmas.Bool.{and_parts, and_from}
+use Rattle.std.proofs.lemmas.Bool.Decides.{nat_tests}
+use Rattle.std.proofs.lemmas.Int.{ints}
+use Rattle.shipment_machine.specs.declared.flight.FlightDate.{FlightDate}
+use Rattle.shipment_machine.specs.declared.moves.Move.{Move}
+use Rattle.shipment_machine.specs.declared.moves.Place.{Place}
+use Rattle.shipment_machine.specs.declared.moves.Place.TheVariants.{Hand, Built}
+use Rattle.shipment_machine.specs.Amount.{amount}
+use Rattle.shipment_machine.specs.Book.{pieces_of, tenths_of, same_place, moved_in, moved_out, built, drawn}
+use Rattle.shipment_machine.specs.Lawful.{IsStocked, IsCovered}
+use Rattle.row_codec.specs.Counts.{Running, running, is_nothing, unless_nothing, running_in, running_on, count_row, build_row}
+use Rattle.row_codec.specs.Numbers.{natural}
+use Rattle.running_totals.proofs.Tests.{some_is, is_int}
+use Rattle.table_audits.specs.declared.tally.Tally.{Tally}
+use Rattle.table_audits.specs.declared.sums.BookSums.{BookSums}
+use Rattle.table_audits.specs.Sums.{meant, count_of, build_of}
+use Rattle.table_audits.specs.Balances.{is_covered, is_left, overdrawn, drawn_by, drawn_at, is_within}
+
+-- ---- rows and what they mean
+
+pub meant_count : (o : Option Tally) (u : Option Running) → option_map count_of o ≡ option_map count_row u → option_map meant o ≡ u
+meant_count None None h = refl
+meant_count None (Some r) h = absurd (cc)
+meant_count (Some t) None h = absurd (cc)
+meant_count (Some t) (Some r) h = ap (option_map running_in) h
+
+pub meant_build : (o : Option Tally) (u : Option Running) → option_map build_of o ≡ option_map build_row u → option_map meant o ≡ u
+meant_build None None h = refl
+meant_build None (Some r) h = absurd (cc)
+meant_build (Some t) None h = absurd (cc)
+meant_build (Some t) (Some r) h = ap (option_map running_on) h
+
+-- ---- numbers
+
+-- what came in is a, of weight c; what went out is b, of weight d
+more_in : (a b c d : ℕ) → int_le (pos 1) (pos a -ℤ pos b) ≡ true → int_le (pos a -ℤ pos b) (pos c -ℤ pos d) ≡ true → (b < a) × (d ≤ c) × (a - b ≤ c - d)
+more_in a b c d h k = (grind (arith, ints), grind (arith, ints), grind (arith, ints))
+
+some_left : (a b : ℕ) → b < a → int_le (pos 1) (pos a -ℤ pos b) ≡ true
+some_left a b h = grind (arith, ints)
+
+heavy_left : (a b c d : ℕ) → b ≤ a → d ≤ c → a - b ≤ c - d → int_le (pos a -ℤ pos b) (pos c -ℤ pos d) ≡ true
+heavy_left a b c d h k l = grind (arith, ints)
+
+all_gone : (a b : ℕ) → pos a -ℤ pos b ≡ pos 0 → a ≡ b
+all_gone a b h = omega (arith, ints, h)
+
+none_left : (a b : ℕ) → a ≡ b → int_eq (pos a -ℤ pos b) (pos 0) ≡ true
+none_left a b h = grind (arith, ints)
+
+pub over_is : (z : ℤ) (a b : ℕ) → z ≡ pos a -ℤ pos b → natural (neg_ℤ z) ≡ b - a
+over_is (pos zero) a b h = let x : 0 ≡ b - a = omega (arith, ints, h) in x
+over_is (pos (suc n)) a b h = let x : 0 ≡ b - a = omega (arith, ints, h) in x
+over_is (negsuc n) a b h = let x : suc n ≡ b - a = omega (arith, ints, h) in x
+
+-- how much more went than came
+pub more_went : (z : ℤ) → z <ℤ pos 0 → unsigned_abs z ≡ overdrawn z
+more_went (pos n) h = absurd (let no : ⊥ = omega (arith, ints, h) in no)
+more_went (negsuc n) h = refl
+
+pub more_came : (z : ℤ) → pos 0 ≤ℤ z → 0 ≡ overdrawn z
+more_came (pos zero) h = refl
+more_came (pos (suc n)) h = refl
+more_came (negsuc n) h = absurd (let no : ⊥ = omega (arith, ints, h) in no)
+
+-- ---- a place
+
+module _ (book : List Move) (w : ℕ) (p : Place) where
+  abbrev came : ℕ
+  came = moved_in pieces_of book w (same_place p)
+
+  abbrev went : ℕ
+  went = moved_out pieces_of book w (same_place p)
+
+  abbrev came_weight : ℕ
+  came_weight = moved_in tenths_of book w (same_place p)
+
+  abbrev went_weight : ℕ
+  went_weight = moved_out tenths_of book w (same_place p)
+
+  pub stocked_even : is_nothing (running book w p) ≡ true → IsStocked book w p
+  stocked_even h =
+      let two = and_parts _ _ h in
+      let a = all_gone came went (is_int (pos came -ℤ pos went) (pos 0) two.0) in
+      let b = all_gone came_weight went_weight (is_int (pos came_weight -ℤ pos went_weight) (pos 0) two.1) in
+      let low : went ≤ came = omega (arith, a) in
+      let low_weight : went_weight ≤ came_weight = omega (arith, b) in
+      let heavy : came - went ≤ came_weight - went_weight = omega (arith, a, b) in
+      let nothing : came_weight - went_weight ≡ 0 = omega (arith, b) in
+      record { pieces = low; tenths = low_weight; tenth_a_piece = heavy; no_weight_alone = λ e. nothing }
+
+  pub stocked_left : is_left (running book w p) ≡ true → IsStocked book w p
+  stocked_left h =
+      let two = and_parts _ _ h in
+      let three = more_in came went came_weight went_weight two.0 two.1 in
+      let a : went < came = three.0 in
+      let b : went_weight ≤ came_weight = three.1 in
+      let c : came - went ≤ came_weight - went_weight = three.2 in
+      let low : went ≤ came = omega (arith, a) in
+      record { pieces = low; tenths = b; tenth_a_piece = c; no_weight_alone = λ e. absurd (some_there a e) }
+    where
+      some_there : went < came → came - went ≡ 0 → ⊥
+      some_there a e = omega (arith, a, e)
+
+  pub left_stocked : IsStocked book w p → is_nothing (running book w p) ≡ false → is_left (running book w p) ≡ true
+  left_stocked is h =
+      let a : went ≤ came = is.pieces in
+      let b : went_weight ≤ came_weight = is.tenths in
+      let c : came - went ≤ came_weight - went_weight = is.tenth_a_piece in
+      go a b c (came == went) refl
+    where
+      go : went ≤ came → went_weight ≤ came_weight → came - went ≤ came_weight - went_weight → (e : Bool) → (came == went) ≡ e → is_left (running book w p) ≡ true
+      go a b c true e =
+          let even : came ≡ went = grind (arith, nat_tests) in
+          let none : came - went ≡ 0 = omega (arith, even) in
+          let light : came_weight - went_weight ≡ 0 = is.no_weight_alone none in
+          let same : came_weight ≡ went_weight = omega (arith, light, b) in
+          absurd (true≢false (sym (and_from _ _ (none_left came went even) (none_left came_weight went_weight same)) ∙ h))
+      go a b c false e =
+          let apart : came ≢ went = grind (arith, nat_tests) in
+          let more : went < came = omega (arith, a, apart) in
+          and_from _ _ (some_left came went more) (heavy_left came went came_weight went_weight a b c)
+
+  -- a sum and the place
+  even_where : (b : Bool) (r : Running) → ◌≡◌ {A = Option Running} None (cond b None (Some r)) → b ≡ true
+  even_where true r h = refl
+  even_where false r h = absurd (cc)
+
+  left_where : (b : Bool) (r s : Running) → Some s ≡ cond b None (Some r) → (b ≡ false) × (s ≡ r)
+  left_where true r s h = absurd (cc)
+  left_where false r s h = (refl, some_is s r h)
+
+  pub told_even : None ≡ unless_nothing (running book w p) → is_nothing (running book w p) ≡ true
+  told_even h = even_where (is_nothing (running book w p)) (running book w p) h
+
+  pub told_left : (t : Tally) → Some (meant t) ≡ unless_nothing (running book w p) → (is_nothing (running book w p) ≡ false) × (meant t ≡ running book w p)
+  told_left t h = left_where (is_nothing (running book w p)) (running book w p) (meant t) h
+
+  pub told_stocked : (o : Option Tally) → option_map meant o ≡ unless_nothing (running book w p) → ((t : Tally) → o ≡ Some t → is_left (meant t) ≡ true) → IsStocked book w p
+  told_stocked None h lawful = stocked_even (told_even h)
+  told_stocked (Some t) h lawful = stocked_left (ap is_left (sym (told_left t h).1) ∙ lawful t refl)
+
+  pub stocked_told : (t : Tally) → Some (meant t) ≡ unless_nothing (running book w p) → IsStocked book w p → is_left (meant t) ≡ true
+  stocked_told t h is = ap is_left (told_left t h).1 ∙ left_stocked is (told_left t h).0
+
+  -- what came from a place outside
+  pub told_drawn : (o : Option Tally) → option_map meant o ≡ unless_nothing (running book w p) → drawn_by o ≡ drawn book w (same_place p)
+  told_drawn None h =
+      let two = and_parts _ _ (told_even h) in
+      let a = all_gone came went (is_int (pos came -ℤ pos went) (pos 0) two.0) in
+      let b = all_gone came_weight went_weight (is_int (pos came_weight -ℤ pos went_weight) (pos 0) two.1) in
+      let c : 0 ≡ went - came = omega (arith, a) in
+      let d : 0 ≡ went_weight - came_weight = omega (arith, b) in
+      ap₂ amount c d
+  told_drawn (Some t) h =
+      let same = (told_left t h).1 in
+      ap₂ amount (over_is t.pieces came went (ap (λ (r : Running). r.pieces) same)) (over_is t.tenths came_weight went_weight (ap (λ (r : Running). r.tenths) same))
+
+-- ---- what went back to who brought it
+
+no_more : (a b : ℕ) → int_le (pos a -ℤ pos b) (pos 0) ≡ true → a ≤ b
+no_more a b h = grind (arith, ints)
+
+none_more : (a b : ℕ) → a ≤ b → int_le (pos a -ℤ pos b) (pos 0) ≡ true
+none_more a b h = grind (arith, ints)
+
+module _ (book : List Move) (w : ℕ) where
+  covered_back : is_covered (running book w Hand) ≡ true → IsCovered book w
+  covered_back h =
+      let two = and_parts _ _ h in
+      record { pieces = no_more (came book w Hand) (went book w Hand) two.0; tenths = no_more (came_weight book w Hand) (went_weight book w Hand) two.1 }
+
+  pub told_covered : (o : Option Tally) → option_map meant o ≡ unless_nothing (running book w Hand) → ((t : Tally) → o ≡ Some t → is_covered (meant t) ≡ true) → IsCovered book w
+  told_covered None h lawful =
+      let two = and_parts _ _ (told_even book w Hand h) in
+      let a = all_gone (came book w Hand) (went book w Hand) (is_int _ (pos 0) two.0) in
+      let b = all_gone (came_weight book w Hand) (went_weight book w Hand) (is_int _ (pos 0) two.1) in
+      record { pieces = omega (arith, a); tenths = omega (arith, b) }
+  told_covered (Some t) h lawful = covered_back (ap is_covered (sym (told_left book w Hand t h).1) ∙ lawful t refl)
+
+  pub covered_told : (t : Tally) → Some (meant t) ≡ unless_nothing (running book w Hand) → IsCovered book w → is_covered (meant t) ≡ true
+  covered_told t h is = ap is_covered (told_left book w Hand t h).1 ∙ and_from _ _ (none_more _ _ is.pieces) (none_more _ _ is.tenths)
+
+-- ---- both places outside
+
+module _ (sums : BookSums) (z awb : ℤ) (same : z ≡ awb) (a b c d : ℕ) (hand : a ≡ (drawn_at sums z (pos 0)).pieces) (surplus : b ≡ (drawn_at sums z (pos 1)).pieces)
+    (hand_weight : c ≡ (drawn_at sums z (pos 0)).tenths) (surplus_weight : d ≡ (drawn_at sums z (pos 1)).tenths) where
+  both_are : (nat_le (a + b) 9999 && nat_le (c + d) 999_999) ≡ is_within sums awb
+  both_are = (λ i. nat_le (hand i + surplus i) 9999 && nat_le (hand_weight i + surplus_weight i) 999_999) ∙ ap (is_within sums) same
+
+  pub within_then : (r : Bool) → true ≡ nat_le (a + b) 9999 → r ≡ nat_le (c + d) 999_999 → r ≡ is_within sums awb
+  within_then r pieces tenths = tenths ∙ ap (λ x. x && nat_le (c + d) 999_999) pieces ∙ both_are
+
+  pub within_else : (r : Bool) → r ≡ false → r ≡ nat_le (a + b) 9999 → r ≡ is_within sums awb
+  within_else r not pieces = not ∙ ap (λ x. x && nat_le (c + d) 999_999) (sym not ∙ pieces) ∙ both_are
+
+-- ---- on a flight
+
+module _ (book : List Move) (w : ℕ) (f : FlightDate) where
+  pub built_none : None ≡ unless_nothing (running book w (Built f)) → (built book w f).pieces ≡ 0
+  built_none h =
+      let two = and_parts _ _ (told_even book w (Built f) h) in
+      let a = all_gone (came book w (Built f)) (went book w (Built f)) (is_int _ (pos 0) two.0) in
+      omega (arith, a)
+
+  pub built_some : (t : Tally) → Some (meant t) ≡ unless_nothing (running book w (Built f)) → is_left (meant t) ≡ true → nat_lt 0 (built book w f).pieces ≡ true
+  built_some t h left =
+      let same = (told_left book w (Built f) t h).1 in
+      let two = and_parts _ _ (ap is_left (sym same) ∙ left) in
+      let three = more_in (came book w (Built f)) (went book w (Built f)) (came_weight book w (Built f)) (went_weight book w (Built f)) two.0 two.1 in
+      positive (came book w (Built f)) (went book w (Built f)) three.0
+    where
+      positive : (a b : ℕ) → b < a → nat_lt 0 (a - b) ≡ true
+      positive a b h = let more : 0 < a - b = omega (arith, h) in grind (arith, nat_tests)

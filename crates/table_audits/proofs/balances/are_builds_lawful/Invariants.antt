@@ -1,0 +1,9 @@
+use Rattle.std.proofs.Common.{◌≡◌, map}
+use Rattle.std.specs.List.{list_all}
+use Rattle.table_load.specs.Held.{flight_entry}
+use Rattle.table_audits.specs.Balances.{is_lawful_build}
+use Rattle.table_audits.proofs.balances.are_builds_lawful.Given as goal
+
+-- the sums are lawful where those ahead are
+abbrev pub invariant-loop-place : goal.invariant-loop-place
+invariant-loop-place l = list_all (is_lawful_build (map flight_entry l.fn.flights)) l.fn.sums.builds.entries ≡ list_all (is_lawful_build (map flight_entry l.fn.flights)) l.place-iterator

@@ -1,0 +1,60 @@
+-- What a row of `moves` is posted as, and what a walk over postings finds.
+use Rattle.std.specs.Prelude.{◌≡◌, pos, true, Option, Some, None, List}
+use Rattle.std.specs.List.{list_all, AllByRecursion, AllZip}
+use Rattle.std.specs.FinMap.{entries}
+use Rattle.shipment_machine.specs.declared.flight.FlightDate.{FlightDate}
+use Rattle.shipment_machine.specs.declared.moves.Move.{Move}
+use Rattle.shipment_machine.specs.declared.moves.Place.{Place}
+use Rattle.shipment_machine.specs.Lawful.{IsNoted, IsLawfulMove}
+use Rattle.row_schema.specs.Tables as table
+use Rattle.row_codec.specs.Flights.{is_flight_row}
+use Rattle.row_codec.specs.Moves.{move_by, is_move_row}
+use Rattle.table_audits.specs.Lawful.{cargo_in}
+use Rattle.table_audits.specs.Order.{RisesByNumber}
+use Rattle.table_audits.specs.declared.sums.Spot.{Spot}
+use Rattle.table_audits.specs.declared.sums.Posting.{Posting}
+use Rattle.table_audits.specs.Sums.{IsSpot, IsPosting}
+use Rattle.table_audits.specs.Audited.{flights_of}
+
+-- the tables beside the rows: waybills in the order of their numbers, and flights within range
+pub record AreBeside (t : table.Tables) (waybills : List table.Waybill) (flights : List (table.FlightKey × table.Flight)) : Type 0 where
+  pub up : RisesByNumber waybills
+  pub waybills_are : t.waybills ≡ waybills
+  pub within : list_all is_flight_row (entries t.flights) ≡ true
+  pub flights_are : entries t.flights ≡ flights
+
+-- the flights that a table lists
+abbrev pub listed_in : table.Tables → List FlightDate
+listed_in t = flights_of (entries t.flights)
+
+-- a place as it is posted, which is noted where it is built
+pub record IsSpotOf (t : table.Tables) (place : Place) (spot : Spot) : Type 0 where
+  pub spot_is : IsSpot (listed_in t) spot place
+  pub noted : IsNoted (cargo_in t) place
+
+abbrev pub IsSpotFound : table.Tables → Place → Option Spot → Type 0
+IsSpotFound t place None = IsNoted (cargo_in t) place → ⊥
+IsSpotFound t place (Some spot) = IsSpotOf t place spot
+
+-- a move as a posting, from one place to another
+abbrev pub posting_in : Move → Spot → Spot → Posting
+posting_in m from to = record { awb = pos m.awb; from = from; to = to; amount = record { pieces = pos m.pieces; tenths = pos m.tenths } }
+
+-- a row within range, and a lawful move by itself
+pub record IsGoodRow (t : table.Tables) (row : table.Move) : Type 0 where
+  pub within : is_move_row row ≡ true
+  pub lawful : IsLawfulMove (cargo_in t) (move_by row)
+
+-- a row as it is posted
+pub record IsPosted (t : table.Tables) (row : table.Move) (posting : Posting) : Type 0 where
+  pub good : IsGoodRow t row
+  pub posted : IsPosting (listed_in t) posting (move_by row)
+
+abbrev pub IsPostedOr : table.Tables → table.Move → Option Posting → Type 0
+IsPostedOr t row None = IsGoodRow t row → ⊥
+IsPostedOr t row (Some posting) = IsPosted t row posting
+
+-- the rows as they are posted, where each is good
+abbrev pub ArePosted : table.Tables → List table.Move → Option (List Posting) → Type 0
+ArePosted t rows None = AllByRecursion (IsGoodRow t) rows → ⊥
+ArePosted t rows (Some postings) = AllZip (IsPosted t) rows postings

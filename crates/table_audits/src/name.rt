@@ -1,0 +1,63 @@
+ghost use Rattle.std.specs.Prelude.{◌≡◌, codes, string_bytes};
+ghost use Rattle.table_audits.specs.Names.{name_text};
+
+use std::fmt;
+
+/// The tables of a station, in the order in which they are audited: each is tested against those
+/// before it.
+#[derive(Clone, Copy, Debug, PartialEq, Eq)]
+pub enum TableName {
+    /// The station's one row: its airport, the version of the file, the last message that was
+    /// confirmed.
+    Station,
+    /// What was declared of each air waybill in files of version 1: it is empty.
+    Waybill,
+    /// What is declared of each air waybill, and since when.
+    Waybill2,
+    /// The stock of air waybill numbers, by runs.
+    Stock,
+    /// Outbound flights.
+    Flight,
+    /// The movement book.
+    Moves,
+    /// What inbound flights are to bring.
+    Expected,
+    /// The parts of the manifests that were read.
+    Part,
+    /// The lines of status messages.
+    Trail,
+    /// The messages sent.
+    Outbox,
+    /// What was accepted under each key.
+    KeptKey,
+    /// The telegrams that were accepted.
+    KeptText,
+    /// The running counts of each waybill, by place.
+    Counts,
+    /// What is built on each flight.
+    Build,
+}
+
+impl TableName {
+    /// The table's name in the database.
+    pub fn as_str(&self) -> &'static str
+        ensures { result.now ≡ name_text self.now }
+    {
+        match self {
+            TableName::Station => "station",
+            TableName::Waybill => "waybill",
+            TableName::Waybill2 => "waybill2",
+            TableName::Stock => "stock",
+            TableName::Flight => "flight",
+            TableName::Moves => "moves",
+            TableName::Expected => "expected",
+            TableName::Part => "part",
+            TableName::Trail => "trail",
+            TableName::Outbox => "outbox",
+            TableName::KeptKey => "kept_key",
+            TableName::KeptText => "kept_text",
+            TableName::Counts => "counts",
+            TableName::Build => "build",
+        }
+    }
+}

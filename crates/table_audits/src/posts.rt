@@ -1,0 +1,42 @@
+ghost use Rattle.std.specs.Prelude.{◌≡◌, OnOk, IfOk, cond, Option};
+ghost use Rattle.std.specs.Ordering.{eq_by_cmp};
+ghost use Rattle.std.specs.BTreeMap.{get};
+ghost use Rattle.table_audits.specs.Sums.{come_to, unless_zero};
+
+use crate::tally::{NoRoom, Tally};
+use std::alloc::Global;
+use std::collections::BTreeMap;
+
+/// What stands under a key with an amount more.
+fn come_to<K: Ord + Drop>(tallies: &BTreeMap<K, Tally>, key: &K, by: Tally) -> Result<Tally, NoRoom>
+    ensures { IfOk result (λ sum. sum ≡ come_to (get K.cmp tallies.now key.now) by) }
+{
+    match tallies.get(key) {
+        None => Ok(by),
+        Some(tally) => match tally.plus(&by) {
+            Some(sum) => Ok(sum),
+            None => Err(NoRoom),
+        },
+    }
+}
+
+/// Adds an amount under a key. Nothing stands under a key whose amounts come to nothing.
+pub(crate) fn post<K: Ord + Drop>(
+    tallies: &mut BTreeMap<K, Tally>,
+    key: K,
+    by: Tally,
+) -> Result<(), NoRoom>
+    ensures { OnOk result ((q : K)
+        → get K.cmp tallies.new q ≡ cond (eq_by_cmp K.cmp key q)
+        (unless_zero (come_to (get K.cmp tallies.old key) by)) (get K.cmp tallies.old q)) }
+{
+    let sum = come_to(tallies, &key, by)?;
+    if sum.is_nothing() {
+        tallies.remove(&key);
+        return Ok(());
+    }
+    match tallies.insert(key, sum) {
+        Ok(_) => Ok(()),
+        Err(_) => Err(NoRoom),
+    }
+}

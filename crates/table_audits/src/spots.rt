@@ -1,0 +1,53 @@
+ghost use Rattle.std.specs.Prelude.{◌≡◌, map, true, List};
+ghost use Rattle.cargo_rows.specs.Meant.{move_meant};
+ghost use Rattle.shipment_machine.specs.Lawful.{NamesFlight};
+ghost use Rattle.shipment_machine.specs.declared.moves.Place.{Place};
+ghost use Rattle.table_load.specs.Held.{flight_entry};
+ghost use Rattle.row_schema.specs.Tables.{Tables, Waybill};
+ghost use Rattle.row_codec.specs.Flights.{flight_date_of};
+ghost use Rattle.row_codec.specs.Moves.{are_flight_columns};
+ghost use Rattle.running_totals.specs.Sums.{is_built};
+ghost use Rattle.table_audits.specs.Posted.{AreBeside, IsSpotFound};
+
+use crate::Spot;
+use crate::lookups::flight_place;
+use row_codec::place_code;
+use shipment_machine::Place;
+use station_rows::MoveRow;
+use table_load::FlightEntry;
+
+/// Whether a place is built.
+fn is_built(place: &Place) -> bool
+    ensures { result ≡ is_built place.now }
+{
+    matches!(place, Place::Built(_))
+}
+
+/// The flight of a move's row, by the place of its row in the table.
+fn flight_spot(row: &MoveRow, flights: &[FlightEntry]) -> Option<Spot>
+    ensures { (t : Tables) (ws : List Waybill) (place : Place)
+        → AreBeside t ws (map flight_entry flights.now)
+        → are_flight_columns (move_meant row.now).flight row.now.fday ≡ true
+        → is_built place ≡ true
+        → NamesFlight place (flight_date_of (move_meant row.now).flight row.now.fday)
+        → IsSpotFound t place result }
+{
+    match flight_place(flights, &row.flight, &row.fday) {
+        Ok(at) => Some(Spot::OnFlight(at)),
+        Err(_) => None,
+    }
+}
+
+/// A place of the move in a row, as it is posted. `None`: the flight on which it is built has no
+/// row.
+pub(crate) fn spot_of(place: &Place, row: &MoveRow, flights: &[FlightEntry]) -> Option<Spot>
+    ensures { (t : Tables) (ws : List Waybill) → AreBeside t ws (map flight_entry flights.now)
+        → are_flight_columns (move_meant row.now).flight row.now.fday ≡ true
+        → NamesFlight place.now (flight_date_of (move_meant row.now).flight row.now.fday)
+        → IsSpotFound t place.now result }
+{
+    if is_built(place) {
+        return flight_spot(row, flights);
+    }
+    Some(Spot::Plain(place_code(place)))
+}

@@ -1,0 +1,129 @@
+ghost use Rattle.std.specs.Prelude.{◌≡◌, ◌∷◌, [], ◌++◌, ℕ, pos, neg_ℤ, false, List, Some, OnOk, IfOk, slice_get};
+ghost use Rattle.shipment_machine.specs.declared.flight.FlightDate.{FlightDate};
+ghost use Rattle.shipment_machine.specs.declared.moves.Move.{Move};
+ghost use Rattle.shipment_machine.specs.declared.moves.Place.{Place};
+ghost use Rattle.shipment_machine.specs.declared.moves.Place.TheVariants.{Built};
+ghost use Rattle.row_codec.specs.Counts.{running};
+ghost use Rattle.row_codec.specs.Moves.{place_code};
+ghost use Rattle.running_totals.specs.Sums.{Sums, posting, is_built};
+ghost use Rattle.table_audits.specs.Sums.{meant, AreDistinct, AreSums, IsSpot, IsPosting, ArePostings};
+
+use crate::posts::post;
+use crate::tally::{NoRoom, Tally};
+use std::alloc::Global;
+use std::collections::BTreeMap;
+
+/// A waybill and the code of a place that isn't built.
+#[derive(Clone, Copy, Debug, PartialEq, Eq, PartialOrd, Ord)]
+pub(crate) struct CountPlace {
+    pub(crate) awb: i64,
+    pub(crate) place: i64,
+}
+
+/// A flight, by its place in a list of flights, and a waybill that is built on it.
+#[derive(Clone, Copy, Debug, PartialEq, Eq, PartialOrd, Ord)]
+pub(crate) struct BuildPlace {
+    pub(crate) flight: usize,
+    pub(crate) awb: i64,
+}
+
+/// Where pieces come from or go to.
+#[derive(Clone, Copy, Debug, PartialEq, Eq)]
+pub enum Spot {
+    /// A place that isn't built, by its code.
+    Plain(i64),
+    /// Built for a flight, by the flight's place in a list of flights.
+    OnFlight(usize),
+}
+
+/// A move as it is posted.
+#[derive(Clone, Copy, Debug, PartialEq, Eq)]
+pub struct Posting {
+    /// The waybill's number.
+    pub awb: i64,
+    pub from: Spot,
+    pub to: Spot,
+    pub amount: Tally,
+}
+
+/// What the moves of a book come to, for each waybill at each place.
+#[derive(Drop)]
+pub struct BookSums {
+    pub(crate) counts: BTreeMap<CountPlace, Tally>,
+    pub(crate) builds: BTreeMap<BuildPlace, Tally>,
+}
+
+impl BookSums {
+    /// The sums of no moves.
+    #[tactic(auto, using(crate::proofs::Posted::no_sums))]
+    fn new(alloc: Global) -> BookSums
+        ensures { (flights : List FlightDate) → AreSums flights result (running []) }
+    {
+        BookSums {
+            counts: BTreeMap::new(alloc),
+            builds: BTreeMap::new(alloc),
+        }
+    }
+
+    /// Adds an amount to what a waybill has at a place that isn't built.
+    fn post_count(&mut self, key: CountPlace, by: Tally) -> Result<(), NoRoom>
+        ensures { (flights : List FlightDate) (s : Sums) → AreSums flights self.old s
+            → (a : ℕ) (p : Place) → key.awb ≡ pos a → key.place ≡ pos (place_code p)
+            → is_built p ≡ false
+            → OnOk result (AreSums flights self.new (posting a p (meant by) s)) }
+    {
+        post(&mut self.counts, key, by)
+    }
+
+    /// Adds an amount to what is built of a waybill on a flight.
+    fn post_build(&mut self, key: BuildPlace, by: Tally) -> Result<(), NoRoom>
+        ensures { (flights : List FlightDate) (s : Sums) → AreDistinct flights
+            → AreSums flights self.old s → (a : ℕ) (f : FlightDate) → key.awb ≡ pos a
+            → slice_get flights key.flight ≡ Some f
+            → OnOk result (AreSums flights self.new (posting a (Built f) (meant by) s)) }
+    {
+        post(&mut self.builds, key, by)
+    }
+
+    /// Adds an amount to what a waybill has at a place.
+    fn post_at(&mut self, awb: i64, spot: &Spot, by: Tally) -> Result<(), NoRoom>
+        ensures { (flights : List FlightDate) (s : Sums) → AreDistinct flights
+            → AreSums flights self.old s → (a : ℕ) (p : Place) → awb ≡ pos a
+            → IsSpot flights spot.now p
+            → OnOk result (AreSums flights self.new (posting a p (meant by) s)) }
+    {
+        match *spot {
+            Spot::Plain(place) => self.post_count(CountPlace { awb, place }, by),
+            Spot::OnFlight(flight) => self.post_build(BuildPlace { flight, awb }, by),
+        }
+    }
+
+    /// Takes what a move moves from the place that it leaves, and brings it to the place that it
+    /// comes to.
+    #[tactic(auto, using(crate::proofs::Posted::moved))]
+    fn add(&mut self, movement: &Posting) -> Result<(), NoRoom>
+        ensures { (flights : List FlightDate) (book : List Move) (m : Move) → AreDistinct flights
+            → AreSums flights self.old (running book) → IsPosting flights movement.now m
+            → OnOk result (AreSums flights self.new (running (book ++ m ∷ []))) }
+    {
+        let Some(gone) = movement.amount.negated() else {
+            return Err(NoRoom);
+        };
+        self.post_at(movement.awb, &movement.from, gone)?;
+        self.post_at(movement.awb, &movement.to, movement.amount)
+    }
+}
+
+/// What the moves of a book come to.
+#[tactic(auto, using(crate::proofs::Walk::begun, crate::proofs::Walk::ended))]
+pub fn sums_of(alloc: Global, moves: &[Posting]) -> Result<BookSums, NoRoom>
+    ensures { (flights : List FlightDate) (book : List Move) → AreDistinct flights
+        → ArePostings flights moves.now book
+        → IfOk result (λ sums. AreSums flights sums (running book)) }
+{
+    let mut sums = BookSums::new(alloc);
+    for movement in moves {
+        sums.add(movement)?;
+    }
+    Ok(sums)
+}

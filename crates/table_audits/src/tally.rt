@@ -1,0 +1,45 @@
+ghost use Rattle.std.specs.Prelude.{◌≡◌, neg_ℤ, IfSome};
+ghost use Rattle.row_codec.specs.Counts.{is_nothing};
+ghost use Rattle.table_audits.specs.Sums.{meant, plus_tally};
+
+/// There is no room for a book's sums: out of memory, or a sum doesn't fit 64 bits, which takes
+/// more than 10^12 moves.
+#[derive(Clone, Copy, Debug, PartialEq, Eq)]
+pub struct NoRoom;
+
+/// Pieces and tenths of a kilogram that came to a place, less those that left it.
+#[derive(Clone, Copy, Debug, PartialEq, Eq)]
+pub struct Tally {
+    pub pieces: i64,
+    pub tenths: i64,
+}
+
+impl Tally {
+    /// Two amounts together. `None`: a sum doesn't fit 64 bits.
+    pub(crate) fn plus(&self, other: &Tally) -> Option<Tally>
+        ensures { IfSome result (λ sum. sum ≡ plus_tally self.now other.now) }
+    {
+        Some(Tally {
+            pieces: self.pieces.checked_add(other.pieces)?,
+            tenths: self.tenths.checked_add(other.tenths)?,
+        })
+    }
+
+    /// As much the other way. `None`: it doesn't fit 64 bits.
+    pub(crate) fn negated(&self) -> Option<Tally>
+        ensures { IfSome result (λ back. back ≡ record
+            { pieces = neg_ℤ self.now.pieces; tenths = neg_ℤ self.now.tenths }) }
+    {
+        Some(Tally {
+            pieces: self.pieces.checked_neg()?,
+            tenths: self.tenths.checked_neg()?,
+        })
+    }
+
+    /// Whether it comes to nothing.
+    pub(crate) fn is_nothing(&self) -> bool
+        ensures { result ≡ is_nothing (meant self.now) }
+    {
+        self.pieces == 0 && self.tenths == 0
+    }
+}
