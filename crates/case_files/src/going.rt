@@ -1,8 +1,8 @@
 //! Going through a file of cases.
 use crate::case::read_case;
 use std::alloc::Global;
-use std::io;
 use std::io::Print;
+use std::{fs, io};
 
 /// What answers cases, one after another.
 pub trait Answers {
@@ -53,4 +53,26 @@ pub fn go_through<R: AllocGlobal + Print, A: Answers>(
         println!(rt; "{file}: {cases} cases as told")?;
     }
     Ok(faults == 0)
+}
+
+/// Goes through `FOLDER/FILE.cases`, as `go_through` does. A file that can't be read is printed,
+/// and came out otherwise.
+///
+/// # Errors
+///
+/// Where nothing can be printed, or memory is out.
+pub fn go_through_file<A: Answers>(
+    rt: &HostRuntime,
+    folder: &str,
+    file: &str,
+    answers: &mut A,
+) -> Result<bool, io::Error> {
+    let path = format!(in rt.alloc(); "{folder}/{file}.cases")?;
+    match fs::read_to_string(rt, path.as_str()) {
+        Ok(text) => go_through(rt, file, text.as_str(), answers),
+        Err(_) => {
+            println!(rt; "{path}: can't be read")?;
+            Ok(false)
+        }
+    }
 }

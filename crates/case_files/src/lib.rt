@@ -6,4 +6,4 @@ mod case;
 mod going;
 
 pub use case::{Case, read_case};
-pub use going::{Answers, go_through};
+pub use going::{Answers, go_through, go_through_file};

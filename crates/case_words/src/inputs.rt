@@ -1,7 +1,7 @@
 //! Commands as inputs of a station.
 use desk_commands::read_command_text;
-use imp_fields::Moment;
 use station_core::{Answer, Input, Keeper, Key, answer_one};
+use station_days::Moment;
 
 /// A command, as a text, under a key.
 pub fn keyed<'a>(key: &str, command: &str) -> Option<Input<'a>> {

@@ -1,9 +1,9 @@
 //! What answers are made of.
 use agent_stock::{Holder, StockRun};
 use desk_commands::day_text;
-use imp_fields::LocalDay;
 use shipment_machine::Amount;
 use station_core::Waybill;
+use station_days::LocalDay;
 use std::alloc::Global;
 use std::str::SplitWhitespace;
 

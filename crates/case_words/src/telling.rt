@@ -2,8 +2,8 @@
 use crate::said::{holder_said, known_said, runs_said, say};
 use agent_stock::StockRun;
 use awb_number::Awb;
-use imp_fields::Moment;
 use station_core::{Answer, Input, Keeper, Sink, answer_one, refusal_text, reply_text};
+use station_days::Moment;
 use std::alloc::Global;
 use std::slice;
 

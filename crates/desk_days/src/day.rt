@@ -1,8 +1,10 @@
 //! What a script asks of a station, and what it says will be printed.
 use awb_number::Awb;
 use desk_commands::Verb;
-use imp_fields::{Airport, Moment};
+use imp_fields::Airport;
+use reports::Report;
 use station_core::Key;
+use station_days::Moment;
 use station_tables::AttachFault;
 use std::alloc::AllocError;
 
@@ -31,19 +33,6 @@ pub enum Form {
     Lf,
     /// They are digits of bytes, two a byte.
     Hex,
-}
-
-/// A report by its name.
-#[derive(Clone, Copy, Debug, PartialEq, Eq)]
-pub enum Report {
-    Stock,
-    Shed,
-    Flights,
-    Expected,
-    Irregularities,
-    Movements,
-    Trail,
-    Pending,
 }
 
 /// What a statement asks.

@@ -1,14 +1,16 @@
 //! A day, played on a station.
+use crate::asking::{cut_pending, report_text, served};
 use crate::compare::compare;
 use crate::day::{Ask, Day, DayFault, Form, Repeated, Step};
-use crate::desk::{Desk, Kind};
+use crate::desk::{Desk, Job, Kind};
 use crate::objects::{holder_object, waybill_object};
 use crate::telegram::bytes_of;
 use awb_number::Awb;
 use desk_commands::{Verb, read_command, read_command_text};
-use imp_fields::{Airport, Moment};
+use imp_fields::Airport;
 use serde_json::Value;
-use station_core::{ActFault, Answer, Input, Key, refusal_text, reply_text};
+use station_core::{ActFault, Answer, Input, Keeper, Key, answer_one, refusal_text, reply_text};
+use station_days::Moment;
 use std::alloc::{AllocError, Global};
 use telegrams::{TelegramFault, read_telegram};
 
@@ -64,20 +66,20 @@ fn answer_text(alloc: Global, answer: &Result<Answer, ActFault>) -> Result<Strin
 }
 
 /// An input of the desk.
-fn act(
+fn act<K: Keeper>(
     alloc: Global,
-    desk: &mut Desk,
+    keeper: &mut K,
     input: &Input<'_>,
     at: Moment,
 ) -> Result<String, AllocError> {
-    let answer = desk.answer(input, at);
+    let answer = answer_one(keeper, input, at);
     answer_text(alloc, &answer)
 }
 
 /// A command by its body.
-fn act_body(
+fn act_body<K: Keeper>(
     alloc: Global,
-    desk: &mut Desk,
+    keeper: &mut K,
     verb: Verb,
     key: Key,
     body: &str,
@@ -89,15 +91,20 @@ fn act_body(
         Err(_) => return String::from_str(alloc, "body bad"),
     };
     match read_command(verb, &value) {
-        Ok(command) => act(alloc, desk, &Input::Keyed(key, command), at),
+        Ok(command) => act(alloc, keeper, &Input::Keyed(key, command), at),
         Err(_) => String::from_str(alloc, "body bad"),
     }
 }
 
 /// A telegram.
-fn take(alloc: Global, desk: &mut Desk, bytes: &[u8], at: Moment) -> Result<String, AllocError> {
+fn take<K: Keeper>(
+    alloc: Global,
+    keeper: &mut K,
+    bytes: &[u8],
+    at: Moment,
+) -> Result<String, AllocError> {
     match read_telegram(alloc, bytes) {
-        Ok(telegram) => act(alloc, desk, &Input::Wire(telegram), at),
+        Ok(telegram) => act(alloc, keeper, &Input::Wire(telegram), at),
         Err(TelegramFault::Refused(refusal)) => refusal_text(alloc, &refusal),
         Err(TelegramFault::Memory) => Err(AllocError),
     }
@@ -116,17 +123,17 @@ fn put_run(
 }
 
 /// Each beginning of some bytes, as a telegram.
-fn take_beginnings(
+fn take_beginnings<K: Keeper>(
     alloc: Global,
-    desk: &mut Desk,
+    keeper: &mut K,
     bytes: &[u8],
     at: Moment,
     out: &mut Vec<u8>,
 ) -> Result<(), AllocError> {
     let mut from = 0;
-    let mut before = take(alloc, desk, b"", at)?;
+    let mut before = take(alloc, keeper, b"", at)?;
     for to in 1..=bytes.len() {
-        let answer = take(alloc, desk, &bytes[..to], at)?;
+        let answer = take(alloc, keeper, &bytes[..to], at)?;
         if answer.as_str() != before.as_str() {
             put_run(alloc, out, from, to - 1, before.as_str())?;
             from = to;
@@ -164,9 +171,9 @@ fn row_text(alloc: Global, row: &str) -> Result<Option<(Key, String)>, AllocErro
 }
 
 /// A row of a stock list, counted from 1.
-fn act_row(
+fn act_row<K: Keeper>(
     alloc: Global,
-    desk: &mut Desk,
+    keeper: &mut K,
     number: u32,
     row: &str,
     at: Moment,
@@ -174,16 +181,16 @@ fn act_row(
     if let Some((key, text)) = row_text(alloc, row)?
         && let Some(command) = read_command_text(text.as_bytes())
     {
-        let answer = act(alloc, desk, &Input::Keyed(key, command), at)?;
+        let answer = act(alloc, keeper, &Input::Keyed(key, command), at)?;
         return format!(in alloc; "{key} {answer}");
     }
     format!(in alloc; "row {number} bad")
 }
 
 /// The rows of a stock list.
-fn act_rows(
+fn act_rows<K: Keeper>(
     alloc: Global,
-    desk: &mut Desk,
+    keeper: &mut K,
     rows: &[Repeated<'_>],
     at: Moment,
     out: &mut Vec<u8>,
@@ -192,7 +199,7 @@ fn act_rows(
     for row in rows {
         for _ in 0..row.times {
             number = number.saturating_add(1);
-            let answer = act_row(alloc, desk, number, row.text, at)?;
+            let answer = act_row(alloc, keeper, number, row.text, at)?;
             put_text(out, &answer)?;
         }
     }
@@ -200,8 +207,12 @@ fn act_rows(
 }
 
 /// Who has a number.
-pub fn holder_text(alloc: Global, desk: &mut Desk, number: &Awb) -> Result<String, AllocError> {
-    match desk.holder(number) {
+pub fn holder_text<K: Keeper>(
+    alloc: Global,
+    keeper: &mut K,
+    number: &Awb,
+) -> Result<String, AllocError> {
+    match keeper.holder(number) {
         Ok(Some(holder)) => holder_object(alloc, number, &holder),
         Ok(None) => String::from_str(alloc, "none"),
         Err(fault) => fault_text(alloc, &fault),
@@ -209,8 +220,12 @@ pub fn holder_text(alloc: Global, desk: &mut Desk, number: &Awb) -> Result<Strin
 }
 
 /// What is known of a waybill.
-pub fn waybill_text(alloc: Global, desk: &mut Desk, number: &Awb) -> Result<String, AllocError> {
-    match desk.waybill(number) {
+pub fn waybill_text<K: Keeper>(
+    alloc: Global,
+    keeper: &mut K,
+    number: &Awb,
+) -> Result<String, AllocError> {
+    match keeper.waybill(number) {
         Ok(Some(waybill)) => waybill_object(alloc, number, &waybill),
         Ok(None) => String::from_str(alloc, "none"),
         Err(fault) => fault_text(alloc, &fault),
@@ -224,14 +239,14 @@ pub fn put_text(out: &mut Vec<u8>, text: &str) -> Result<(), AllocError> {
 }
 
 /// The answer to a request over HTTP.
-fn answered(
+fn answered<K: Keeper>(
     alloc: Global,
-    desk: &mut Desk,
+    keeper: &mut K,
     lines: &[Repeated<'_>],
     at: Moment,
 ) -> Result<Vec<u8>, DayFault> {
     let request = bytes_of(alloc, Form::CrLf, lines)?;
-    match desk.serve(alloc, &request, at) {
+    match served(alloc, keeper, &request, at) {
         Some(answer) => Ok(answer),
         None => Ok(b"no answer".to_vec(alloc)?),
     }
@@ -239,8 +254,12 @@ fn answered(
 
 /// What goes out of the messages to a writer of so many bytes, and a line with the bytes that the
 /// fault tells.
-fn cut_outbox(alloc: Global, desk: &mut Desk, room: usize) -> Result<Vec<u8>, AllocError> {
-    let (mut out, sent) = desk.cut_outbox(alloc, room);
+fn cut_outbox<K: Keeper>(
+    alloc: Global,
+    keeper: &mut K,
+    room: usize,
+) -> Result<Vec<u8>, AllocError> {
+    let (mut out, sent) = cut_pending(alloc, keeper, room);
     let line = match sent {
         Some(sent) => format!(in alloc; "fault after {sent}\n")?,
         None => String::from_str(alloc, "no fault\n")?,
@@ -250,35 +269,50 @@ fn cut_outbox(alloc: Global, desk: &mut Desk, room: usize) -> Result<Vec<u8>, Al
 }
 
 /// What is printed at a statement.
-fn printed(alloc: Global, desk: &mut Desk, step: &Step<'_>) -> Result<Vec<u8>, DayFault> {
+fn printed<K: Keeper>(alloc: Global, keeper: &mut K, step: &Step<'_>) -> Result<Vec<u8>, DayFault> {
     let mut out = Vec::new(alloc);
     match &step.ask {
         Ask::Station(_) => {}
         Ask::Act(verb, key) => {
             put_text(
                 &mut out,
-                &act_body(alloc, desk, *verb, *key, step.body, step.at)?,
+                &act_body(alloc, keeper, *verb, *key, step.body, step.at)?,
             )?;
         }
         Ask::Take(form) => {
             let bytes = bytes_of(alloc, *form, &step.lines)?;
-            put_text(&mut out, &take(alloc, desk, &bytes, step.at)?)?;
+            put_text(&mut out, &take(alloc, keeper, &bytes, step.at)?)?;
         }
         Ask::Beginnings => {
             let bytes = bytes_of(alloc, Form::Lf, &step.lines)?;
-            take_beginnings(alloc, desk, &bytes, step.at, &mut out)?;
+            take_beginnings(alloc, keeper, &bytes, step.at, &mut out)?;
         }
-        Ask::Stock => act_rows(alloc, desk, &step.lines, step.at, &mut out)?,
-        Ask::Waybill(number) => put_text(&mut out, &waybill_text(alloc, desk, number)?)?,
-        Ask::Holder(number) => put_text(&mut out, &holder_text(alloc, desk, number)?)?,
-        Ask::CutOutbox(room) => return Ok(cut_outbox(alloc, desk, *room)?),
-        Ask::Request => return answered(alloc, desk, &step.lines, step.at),
-        Ask::Report(report) => match desk.report(alloc, *report) {
+        Ask::Stock => act_rows(alloc, keeper, &step.lines, step.at, &mut out)?,
+        Ask::Waybill(number) => put_text(&mut out, &waybill_text(alloc, keeper, number)?)?,
+        Ask::Holder(number) => put_text(&mut out, &holder_text(alloc, keeper, number)?)?,
+        Ask::CutOutbox(room) => return Ok(cut_outbox(alloc, keeper, *room)?),
+        Ask::Request => return answered(alloc, keeper, &step.lines, step.at),
+        Ask::Report(report) => match report_text(alloc, keeper, *report) {
             Ok(text) => return Ok(text),
             Err(fault) => put_text(&mut out, &fault_text(alloc, &fault)?)?,
         },
     }
     Ok(out)
+}
+
+/// What a keeper prints at a statement.
+#[derive(Drop)]
+struct Printing<'a> {
+    alloc: Global,
+    step: &'a Step<'a>,
+}
+
+impl Job for Printing<'_> {
+    type Out = Result<Vec<u8>, DayFault>;
+
+    fn run<K: Keeper>(self, keeper: &mut K) -> Result<Vec<u8>, DayFault> {
+        printed(self.alloc, keeper, self.step)
+    }
 }
 
 /// A new station for a statement at this line.
@@ -334,7 +368,7 @@ pub fn play(
         if let Ask::Station(here) = step.ask {
             desk = new_desk(alloc, kind, here, step.line)?;
         }
-        let printed = printed(alloc, &mut desk, step)?;
+        let printed = desk.ask(Printing { alloc, step })?;
         let differences = compare(alloc, name, kind, step, &printed, &mut played.log)?;
         played.differences = played.differences.saturating_add(differences);
     }

@@ -1,7 +1,8 @@
 //! Scripts, line by line.
 use crate::day::{Ask, Day, DayFault, Repeated, Step, Wanted};
 use crate::statement::{Statement, body, first_word, read_statement};
-use imp_fields::{Airport, Moment};
+use imp_fields::Airport;
+use station_days::Moment;
 use std::alloc::Global;
 
 /// What was read of a script.

@@ -1,12 +1,16 @@
 //! Inputs by a fixed rule: each keeper has to give the same answers, one by one and to the list of
 //! all, and to hand out the same rows.
-use crate::day::Report;
-use crate::desk::{Desk, Kind};
+use crate::asking::report_text;
+use crate::desk::{Desk, Job, Kind};
 use crate::play::{holder_text, put_text, waybill_text};
 use awb_number::Awb;
 use desk_commands::read_command_text;
-use imp_fields::{Airport, Moment};
-use station_core::{ActFault, Answer, Input, Key, refusal_text, reply_text};
+use imp_fields::Airport;
+use reports::Report;
+use station_core::{
+    ActFault, Answer, Input, Keeper, Key, act_all, answer_one, refusal_text, reply_text,
+};
+use station_days::Moment;
 use std::alloc::{AllocError, Global};
 use telegrams::read_telegram;
 
@@ -17,6 +21,16 @@ pub enum Inputs {
     Mixed,
     /// Two thousand orders on the stock, whose runs are split and joined again and again.
     Orders,
+}
+
+impl Inputs {
+    /// What they are called where they are printed.
+    pub fn name(self) -> &'static str {
+        match self {
+            Inputs::Mixed => "by-rule",
+            Inputs::Orders => "orders-by-rule",
+        }
+    }
 }
 
 /// How many inputs of every kind there are.
@@ -86,11 +100,13 @@ fn booking_text(alloc: Global, awb: Awb) -> Option<String> {
 fn outbound_text(alloc: Global, rule: &mut Rule, awb: Awb) -> Option<String> {
     let pieces = rule.between(1, 5);
     let day = rule.between(12, 13);
-    match rule.between(0, 6) {
+    match rule.between(0, 8) {
         0 | 1 => format!(in alloc; "receive\n{awb}\n{pieces}\n250\nACME").ok(),
         2 | 3 => { format!(in alloc; "manifest\n{awb}\nLH400\n2026-01-{day}\nJFK\n{pieces}").ok() }
         4 => format!(in alloc; "offload\n{awb}\nLH400\n2026-01-{day}\n{pieces}").ok(),
         5 => format!(in alloc; "transfer\n{awb}\n{pieces}\nBA").ok(),
+        6 => format!(in alloc; "withdraw\n{awb}\n{pieces}\nACME").ok(),
+        7 => format!(in alloc; "reroute\nLH400\n2026-01-{day}\nCDG").ok(),
         _ => format!(in alloc; "depart\nLH400\n2026-01-{day}").ok(),
     }
 }
@@ -228,18 +244,56 @@ fn answer_told(alloc: Global, answer: &Answer, out: &mut Vec<u8>) -> Option<bool
     Some(matches!(answer, Answer::Done(_)))
 }
 
-/// Gives an input, and prints the answer. Whether it accepts.
-fn give(
+/// An input, which a keeper has to answer.
+#[derive(Drop)]
+struct Given<'a> {
     alloc: Global,
-    desk: &mut Desk,
-    input: &Input<'_>,
+    input: &'a Input<'a>,
     at: Moment,
-    out: &mut Vec<u8>,
-) -> Option<bool> {
-    let answer = desk.answer(input, at);
-    match &answer {
-        Ok(answer) => answer_told(alloc, answer, out),
-        Err(_) => None,
+}
+
+impl Job for Given<'_> {
+    type Out = Option<(Vec<u8>, bool)>;
+
+    /// The line of the answer, and whether it accepts.
+    fn run<K: Keeper>(self, keeper: &mut K) -> Option<(Vec<u8>, bool)> {
+        let answer = answer_one(keeper, self.input, self.at).ok()?;
+        let mut line = Vec::new(self.alloc);
+        let accepts = answer_told(self.alloc, &answer, &mut line)?;
+        Some((line, accepts))
+    }
+}
+
+/// Inputs, which a keeper has to answer as one list.
+#[derive(Drop)]
+struct List<'a> {
+    alloc: Global,
+    inputs: &'a [(Input<'a>, Moment)],
+}
+
+impl Job for List<'_> {
+    type Out = Option<Vec<Answer>>;
+
+    fn run<K: Keeper>(self, keeper: &mut K) -> Option<Vec<Answer>> {
+        let all = act_all(self.alloc, keeper, self.inputs);
+        match all.fault {
+            None => Some(all.answers),
+            Some(_) => None,
+        }
+    }
+}
+
+/// All rows that a keeper's readers hand out, and what it knows of each waybill and number.
+#[derive(Drop)]
+struct AllRows {
+    alloc: Global,
+}
+
+impl Job for AllRows {
+    type Out = Result<Vec<u8>, ActFault>;
+
+    fn run<K: Keeper>(self, keeper: &mut K) -> Result<Vec<u8>, ActFault> {
+        rows_told(self.alloc, keeper)
     }
 }
 
@@ -256,7 +310,13 @@ fn one_by_one(
         if kind == Kind::Reopened {
             desk = desk.opened_again(alloc).ok()?;
         }
-        if give(alloc, &mut desk, input, *at, out)? {
+        let (line, accepts) = desk.ask(Given {
+            alloc,
+            input,
+            at: *at,
+        })?;
+        out.extend_from_slice(line.as_slice()).ok()?;
+        if accepts {
             accepted = accepted.saturating_add(1);
         }
     }
@@ -270,7 +330,7 @@ fn at_once(
     inputs: &[(Input<'_>, Moment)],
     out: &mut Vec<u8>,
 ) -> Option<(Desk, usize)> {
-    let answers = desk.answer_all(alloc, inputs)?;
+    let answers = desk.ask(List { alloc, inputs })?;
     let mut accepted: usize = 0;
     for answer in &answers {
         if answer_told(alloc, answer, out)? {
@@ -281,7 +341,8 @@ fn at_once(
 }
 
 /// All rows that the readers hand out, and what is known of each waybill and number.
-fn rows_told(alloc: Global, desk: &mut Desk, out: &mut Vec<u8>) -> Result<(), ActFault> {
+fn rows_told<K: Keeper>(alloc: Global, keeper: &mut K) -> Result<Vec<u8>, ActFault> {
+    let mut out = Vec::new(alloc);
     for report in [
         Report::Stock,
         Report::Shed,
@@ -292,17 +353,17 @@ fn rows_told(alloc: Global, desk: &mut Desk, out: &mut Vec<u8>) -> Result<(), Ac
         Report::Trail,
         Report::Pending,
     ] {
-        let text = desk.report(alloc, report)?;
+        let text = report_text(alloc, keeper, report)?;
         if out.extend_from_slice(&text).is_err() {
             return Err(ActFault::Memory);
         }
     }
     for serial in FIRST..FIRST + 16 {
-        if number_told(alloc, desk, serial, out).is_err() {
+        if number_told(alloc, keeper, serial, &mut out).is_err() {
             return Err(ActFault::Memory);
         }
     }
-    Ok(())
+    Ok(out)
 }
 
 /// Whether a text is an object, or says that there is none: any other is a fault's.
@@ -311,17 +372,17 @@ fn is_told(text: &str) -> bool {
 }
 
 /// What is known of a number. On error the keeper failed, or memory is out.
-fn number_told(
+fn number_told<K: Keeper>(
     alloc: Global,
-    desk: &mut Desk,
+    keeper: &mut K,
     serial: u32,
     out: &mut Vec<u8>,
 ) -> Result<(), AllocError> {
     let Some(number) = Awb::new(20, serial) else {
         return Ok(());
     };
-    let waybill = waybill_text(alloc, desk, &number)?;
-    let holder = holder_text(alloc, desk, &number)?;
+    let waybill = waybill_text(alloc, keeper, &number)?;
+    let holder = holder_text(alloc, keeper, &number)?;
     if !is_told(waybill.as_str()) || !is_told(holder.as_str()) {
         return Err(AllocError);
     }
@@ -347,7 +408,8 @@ fn told(
     if !is_mixed(inputs.len(), accepted) {
         return None;
     }
-    rows_told(alloc, &mut desk, &mut out).ok()?;
+    let rows = desk.ask(AllRows { alloc }).ok()?;
+    out.extend_from_slice(&rows).ok()?;
     Some(out)
 }
 

@@ -1,10 +1,12 @@
 //! The statements of a script.
-use crate::day::{Ask, Form, Report};
+use crate::day::{Ask, Form};
 use awb_number::Awb;
 use desk_commands::Verb;
-use imp_fields::{Airport, Moment};
+use imp_fields::Airport;
 use jiff::civil::DateTime;
+use reports::Report;
 use station_core::Key;
+use station_days::Moment;
 
 /// What a line says that is neither empty nor a comment, and belongs to no statement above it.
 #[derive(Clone, Copy, Debug, PartialEq, Eq)]
@@ -43,20 +45,6 @@ fn form(rest: &str) -> Option<Form> {
     }
 }
 
-/// A report by its name.
-fn report(rest: &str) -> Option<Report> {
-    match rest {
-        "stock" => Some(Report::Stock),
-        "shed" => Some(Report::Shed),
-        "flights" => Some(Report::Flights),
-        "expected" => Some(Report::Expected),
-        "irregularities" => Some(Report::Irregularities),
-        "movements" => Some(Report::Movements),
-        "trail" => Some(Report::Trail),
-        _ => None,
-    }
-}
-
 /// A waybill's number.
 fn number(rest: &str) -> Option<Awb> {
     let text = <[u8; 12]>::try_from(rest.as_bytes()).ok()?;
@@ -75,7 +63,7 @@ fn ask(word: &str, rest: &str) -> Option<Ask> {
         ("holder", _) => Some(Ask::Holder(number(rest)?)),
         ("outbox", "") => Some(Ask::Report(Report::Pending)),
         ("outbox", room) => Some(Ask::CutOutbox(room.parse::<usize>().ok()?)),
-        ("report", _) => Some(Ask::Report(report(rest)?)),
+        ("report", _) => Some(Ask::Report(Report::read(rest.as_bytes())?)),
         ("request", "") => Some(Ask::Request),
         _ => None,
     }

@@ -89,7 +89,11 @@ impl FoundAnswers {
             }
             "take" => self.give(&Input::Wire(read_telegram(self.alloc, text).ok()?)),
             "waybill" | "holder" | "stock" | "book" | "pending" | "trail" => {
-                told(self.alloc, self.station.as_mut()?, asked, text)
+                said_by(
+                    self.alloc,
+                    self.station.as_mut()?,
+                    Call::Reader(asked, text),
+                )
             }
             "told-as-day" => self.tell_as_day(),
             _ => found(self.alloc, self.damaged(text)?),
@@ -217,7 +221,7 @@ impl FoundAnswers {
 
     /// The answer to an input.
     fn give(&mut self, input: &Input<'_>) -> Option<String> {
-        answered(self.alloc, self.station.as_mut()?, input)
+        said_by(self.alloc, self.station.as_mut()?, Call::Act(input))
     }
 
     /// Whether the readers of the station tell what they tell over the day's tables.
@@ -225,8 +229,8 @@ impl FoundAnswers {
         let Ok(mut day) = attach(self.alloc, self.day_tables()?) else {
             return None;
         };
-        let wanted = all_told(self.alloc, &mut day)?;
-        let came = all_told(self.alloc, self.station.as_mut()?)?;
+        let wanted = said_by(self.alloc, &mut day, Call::AllReaders)?;
+        let came = said_by(self.alloc, self.station.as_mut()?, Call::AllReaders)?;
         if came.as_str() == wanted.as_str() {
             say(self.alloc, "the same")
         } else {
@@ -270,6 +274,34 @@ fn found_in_file(alloc: Global, bytes: &[u8]) -> Option<String> {
     let mut files = FileBytes::new(alloc);
     files.db.extend_from_slice(bytes).ok()?;
     found_in(alloc, &files, &[])
+}
+
+/// What a station in memory says to a call. Nothing else hands it on: each function that does costs
+/// the check as much as twenty others.
+fn said_by(alloc: Global, station: &mut Station<MemStore>, call: Call<'_>) -> Option<String> {
+    call.said_by(alloc, station)
+}
+
+/// A call of a station.
+#[derive(Drop)]
+enum Call<'a> {
+    /// An input.
+    Act(&'a Input<'a>),
+    /// One reader, with the text that says of what.
+    Reader(&'a str, &'a [u8]),
+    /// Each reader that `ASKED` has.
+    AllReaders,
+}
+
+impl Call<'_> {
+    /// What a station says to it.
+    fn said_by<K: Keeper>(self, alloc: Global, station: &mut K) -> Option<String> {
+        match self {
+            Call::Act(input) => answered(alloc, station, input),
+            Call::Reader(asked, text) => told(alloc, station, asked, text),
+            Call::AllReaders => all_told(alloc, station),
+        }
+    }
 }
 
 /// What a reader tells of a number, or hands out to a sink of so many rows.

@@ -2,8 +2,8 @@
 use crate::readers::pending;
 use awb_number::Awb;
 use case_words::{answer_said, is_done, keyed, noon, say};
-use imp_fields::Moment;
 use station_core::{ActFault, Input, Keeper, answer_one};
+use station_days::Moment;
 use std::alloc::Global;
 
 /// The commands of a day, each with its key: numbers are taken in, and four of ten pieces that

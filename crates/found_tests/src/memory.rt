@@ -5,20 +5,17 @@
 use crate::errands::build_up_all;
 use crate::fused::Fused;
 use crate::listing::{all_rows, old_rows};
+use crate::tables::{Job, over_tables};
 use awb_number::Awb;
 use case_words::{answer_said, is_done, keyed, noon, say};
-use imp_fields::{Airport, Moment};
 use sqlite::{Connection, MemStore};
+use state_store::StateStore;
 use station_core::{ActFault, Answer, Input, Keeper, answer_one};
+use station_days::Moment;
 use station_engine::StoredStation;
-use station_rows::{Rows, open_memory};
 use station_tables::{AttachFault, attach_and_repeat, migrate};
 use std::alloc::Global;
-use table_state::TableState;
 use telegrams::read_telegram;
-
-/// The tables of a station in memory, whose calls are counted.
-type CountedTables = Fused<TableState<Rows<MemStore>>>;
 
 /// How many calls the tables serve: more than are made.
 const CALLS: u32 = 1_000_000;
@@ -137,15 +134,71 @@ fn prepare<K: Keeper>(alloc: Global, station: &mut K, run: Run) -> Option<()> {
     }
 }
 
+/// Gives a station over a store what is there before an input. Whether it could, and the store.
+fn prepare_over<T: StateStore>(alloc: Global, store: T, run: Run) -> (Option<()>, T) {
+    let mut station = StoredStation::over(alloc, store);
+    let prepared = prepare(alloc, &mut station, run);
+    (prepared, station.into_store())
+}
+
+/// Gives an input to a station over a store: its answer, how many calls of the store were made for
+/// it, and the store.
+fn give_over<T: StateStore>(
+    alloc: Global,
+    store: T,
+    input: &Input<'_>,
+    at: Moment,
+) -> (Result<Answer, ActFault>, u32, T) {
+    let mut station = StoredStation::over(alloc, Fused::new(store, CALLS));
+    let answer = answer_one(&mut station, input, at);
+    let left = station.into_store();
+    let made = CALLS.saturating_sub(left.left());
+    (answer, made, left.into_store())
+}
+
+/// What is there before an input.
+#[derive(Drop)]
+struct Preparing {
+    run: Run,
+}
+
+impl Job for Preparing {
+    type Out = ();
+
+    fn run<T: StateStore>(self, alloc: Global, store: T) -> (Option<()>, T) {
+        prepare_over(alloc, store, self.run)
+    }
+}
+
+/// What is there before an input, and the input.
+#[derive(Drop)]
+struct Giving<'a> {
+    run: Run,
+    input: &'a Input<'a>,
+    at: Moment,
+}
+
+impl Job for Giving<'_> {
+    /// Its answer, and how many calls of the store were made for it.
+    type Out = (Result<Answer, ActFault>, u32);
+
+    fn run<T: StateStore>(
+        self,
+        alloc: Global,
+        store: T,
+    ) -> (Option<(Result<Answer, ActFault>, u32)>, T) {
+        let (prepared, store) = prepare_over(alloc, store, self.run);
+        if prepared.is_none() {
+            return (None, store);
+        }
+        let (answer, made, store) = give_over(alloc, store, self.input, self.at);
+        (Some((answer, made)), store)
+    }
+}
+
 /// The tables before an input.
-fn tables(alloc: Global, run: Run) -> Option<CountedTables> {
-    let conn = open_memory(alloc).ok()?;
-    let Ok(tables) = table_state::create(alloc, conn, Airport::read(b"FRA")?) else {
-        return None;
-    };
-    let mut station = StoredStation::over(alloc, Fused::new(tables, CALLS));
-    prepare(alloc, &mut station, run)?;
-    Some(station.into_store())
+fn tables(alloc: Global, run: Run) -> Option<Connection<MemStore>> {
+    Some(over_tables(alloc, Preparing { run })?.1)
 }
 
 /// What an input left: its answer, how many calls of the tables were made for it, and their
@@ -157,28 +210,21 @@ struct Given {
     conn: Connection<MemStore>,
 }
 
-/// Gives an input to a station over tables.
-fn give(alloc: Global, tables: CountedTables, input: &Input<'_>, at: Moment) -> Given {
-    let before = tables.left();
-    let mut station = StoredStation::over(alloc, tables);
-    let answer = answer_one(&mut station, input, at);
-    let left = station.into_store();
-    Given {
-        answer,
-        made: before.saturating_sub(left.left()),
-        conn: left.into_store().release(),
-    }
+/// Gives an input to a station over the tables that are there before it.
+fn give(alloc: Global, run: Run, input: &Input<'_>) -> Option<Given> {
+    let at = noon()?;
+    let ((answer, made), conn) = over_tables(alloc, Giving { run, input, at })?;
+    Some(Given { answer, made, conn })
 }
 
 /// All rows before an input.
 fn rows_before(alloc: Global, run: Run) -> Option<String> {
-    let mut conn = tables(alloc, run)?.into_store().release();
-    all_rows(alloc, &mut conn)
+    all_rows(alloc, &mut tables(alloc, run)?)
 }
 
 /// All rows that an input leaves where nothing is refused.
 fn rows_after(alloc: Global, run: Run, input: &Input<'_>) -> Option<String> {
-    let mut given = give(alloc, tables(alloc, run)?, input, noon()?);
+    let mut given = give(alloc, run, input)?;
     match given.answer {
         Ok(Answer::Done(_)) => all_rows(alloc, &mut given.conn),
         _ => None,
@@ -253,7 +299,7 @@ fn after_answer(
 fn try_run(alloc: Global, run: Run) -> Option<Told> {
     let text = text_of(alloc, run)?;
     let input = input_of(alloc, run, text.as_str())?;
-    let Given { answer, made, conn } = give(alloc, tables(alloc, run)?, &input, noon()?);
+    let Given { answer, made, conn } = give(alloc, run, &input)?;
     match answer {
         Ok(answer) => after_answer(alloc, run, &input, &answer, conn),
         Err(fault) => after_fault(alloc, run, &input, &fault, made, conn),
@@ -276,7 +322,7 @@ const BACK: &str = "INSERT INTO waybill
 
 /// The tables of version 1 of a station with twenty waybills on a flight.
 fn old_tables(alloc: Global) -> Option<Connection<MemStore>> {
-    let mut conn = tables(alloc, Run::Departure)?.into_store().release();
+    let mut conn = tables(alloc, Run::Departure)?;
     conn.execute_batch(BACK).ok()?;
     Some(conn)
 }

@@ -6,7 +6,8 @@ use crate::stopping::{Before, stops};
 use crate::work::{InputForm, Work};
 use awb_number::Awb;
 use case_words::{say, shown};
-use imp_fields::{Airport, Moment};
+use imp_fields::Airport;
+use station_days::Moment;
 use std::alloc::Global;
 
 /// The day of the calls: 12 January 2026.

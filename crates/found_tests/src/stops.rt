@@ -4,13 +4,14 @@ use crate::disks::{Calls, FailingFile, FileBytes, Visited, found_in, visit};
 use crate::errands::{Came, Errand};
 use crate::finding::found;
 use crate::fused::Fused;
+use crate::tables::{Job, over_tables};
 use crate::work::Work;
 use awb_number::Awb;
 use case_words::say;
 use imp_fields::Airport;
+use state_store::StateStore;
 use station_core::{ActFault, Keeper};
 use station_engine::StoredStation;
-use station_rows::open_memory;
 use std::alloc::Global;
 
 /// What is found where there is no station: no table, no index.
@@ -115,16 +116,28 @@ fn commands_done<K: Keeper>(alloc: Global, station: &mut K) -> Option<usize> {
     }
 }
 
+/// A day over a store that serves so many calls.
+#[derive(Drop)]
+struct FailingDay {
+    calls: u32,
+}
+
+impl Job for FailingDay {
+    /// How many steps were done.
+    type Out = usize;
+
+    fn run<T: StateStore>(self, alloc: Global, store: T) -> (Option<usize>, T) {
+        let mut station = StoredStation::over(alloc, Fused::new(store, self.calls));
+        let commands = commands_done(alloc, &mut station);
+        let store = station.into_store().into_store();
+        (commands.map(|commands| commands.saturating_add(1)), store)
+    }
+}
+
 /// Plays the day over tables in memory that serve so many calls of the station. How many steps
 /// were done, and what is found then: nothing where the station goes on after a failed call.
 fn play_in_memory(alloc: Global, calls: u32) -> Option<(usize, String)> {
-    let tables = match table_state::create(alloc, open_memory(alloc).ok()?, here()?) {
-        Ok(tables) => tables,
-        Err(_) => return None,
-    };
-    let mut station = StoredStation::over(alloc, Fused::new(tables, calls));
-    let steps = commands_done(alloc, &mut station)?.saturating_add(1);
-    let conn = station.into_store().into_store().release();
+    let (steps, conn) = over_tables(alloc, FailingDay { calls })?;
     let (said, _) = found(alloc, conn, &[number()?])?;
     Some((steps, said))
 }

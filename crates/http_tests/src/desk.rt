@@ -3,10 +3,10 @@ use crate::ends::{Sent, Stop, Taken};
 use crate::script::{Ask, ScriptFault, Step, Story};
 use desk_commands::{Verb, read_command};
 use http_desk::{ServeFault, Served, serve_one};
-use imp_fields::Moment;
 use plain_station::PlainStation;
 use serde_json::Value;
 use station_core::{Answer, Counted, Input, Key, answer_one};
+use station_days::Moment;
 use std::alloc::{AllocError, Global};
 
 /// What is looked at of a station.

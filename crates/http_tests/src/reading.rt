@@ -2,9 +2,10 @@
 use crate::line::{first_word, put_line};
 use crate::script::{Ask, Care, ScriptFault, Step, Story};
 use desk_commands::Verb;
-use imp_fields::{Airport, Moment};
+use imp_fields::Airport;
 use jiff::civil::DateTime;
 use station_core::Key;
+use station_days::Moment;
 use std::alloc::Global;
 
 /// A statement.

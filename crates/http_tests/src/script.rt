@@ -1,7 +1,8 @@
 //! What a script asks of a station, and what it says will be answered.
 use desk_commands::Verb;
-use imp_fields::{Airport, Moment};
+use imp_fields::Airport;
 use station_core::Key;
+use station_days::Moment;
 use std::alloc::AllocError;
 
 /// Why a script can't be played.

@@ -204,8 +204,13 @@ fn play_all(rt: &HostRuntime, here: Airport) -> io::Result<()> {
     )
 }
 
-/// All cases.
-pub fn play_service(rt: &HostRuntime) -> io::Result<()> {
+/// Serves stations over loopback, asks them, and prints each answer: what is printed is compared
+/// with the `stdout` of the program that calls this.
+///
+/// # Errors
+///
+/// Where a socket fails, nothing can be printed, or memory is out.
+pub fn run_service(rt: &HostRuntime) -> io::Result<()> {
     let Some(here) = Airport::read(b"FRA") else {
         return Err(io::Error::from(ErrorKind::InvalidInput));
     };

@@ -3,8 +3,9 @@ use crate::said::{next_number, next_small_number, say, shown};
 use agent_stock::{AgentCode, Order, Run, RunCount};
 use awb_number::Awb;
 use desk_commands::{Command, Verb, command_text, read_command_text};
-use imp_fields::{Airport, Flight, Goods, LocalDay, Name, Pieces, Tenths};
+use imp_fields::{Airport, Flight, Goods, Name, Pieces, Tenths};
 use shipment_machine::{Airline, DeskCommand, FlightDate, PieceCount};
+use station_days::LocalDay;
 use std::alloc::Global;
 use std::str::SplitWhitespace;
 
@@ -85,7 +86,7 @@ fn tenths(words: &mut SplitWhitespace<'_>) -> Option<Tenths> {
 
 fn command(asked: &str, words: &mut SplitWhitespace<'_>, last: &str) -> Option<DeskCommand> {
     match asked {
-        "book" | "receive" | "notify" | "deliver" | "transfer" => at_the_desk(
+        "book" | "receive" | "withdraw" | "notify" | "deliver" | "transfer" => at_the_desk(
             asked,
             words,
             last.as_bytes(),
@@ -116,6 +117,11 @@ fn at_the_desk(asked: &str, words: &mut SplitWhitespace<'_>, last: &[u8]) -> Opt
             tenths: tenths(words)?,
             name: Name::read(last)?,
         }),
+        "withdraw" => Some(DeskCommand::Withdraw {
+            awb,
+            pieces: pieces(words)?,
+            name: Name::read(last)?,
+        }),
         "notify" => Some(DeskCommand::Notify {
             awb,
             name: Name::read(last)?,
@@ -138,6 +144,11 @@ fn with_flight(asked: &str, words: &mut SplitWhitespace<'_>) -> Option<DeskComma
     if asked == "depart" {
         let flight = flight(words)?;
         return Some(DeskCommand::Depart { flight });
+    }
+    if asked == "reroute" {
+        let flight = flight(words)?;
+        let unload = airport(words)?;
+        return Some(DeskCommand::Reroute { flight, unload });
     }
     let awb = number(words)?;
     let flight = flight(words)?;

@@ -2,9 +2,8 @@
 use crate::said::{fault_said, quantity_said, shown, token_said, words};
 use awb_number::Awb;
 use ffm_text::{Ffm, FfmLine, Load, read, write_ffm};
-use imp_fields::{
-    Airport, BookTenths, DayMonth, Flight, Goods, Lines, Pieces, TextFault, normal_text,
-};
+use imp_fields::{Airport, BookTenths, Flight, Goods, Lines, Pieces, TextFault, normal_text};
+use station_days::DayMonth;
 use std::alloc::Global;
 
 /// What comes of what is asked.

@@ -1,9 +1,9 @@
 //! The fields of messages: amounts, airports, flights, names, dates and days.
 use crate::said::{next_number, next_small_number, printed_or_none, say, shown, words};
 use imp_fields::{
-    Airport, BookTenths, DayMonth, DayTime, Flight, Goods, LocalDay, Moment, Name, PartNumber,
-    Pieces, Tenths, book_weight, resolve, share,
+    Airport, BookTenths, Flight, Goods, Name, PartNumber, Pieces, Tenths, book_weight, share,
 };
+use station_days::{DayMonth, DayTime, LocalDay, Moment, resolve};
 use std::alloc::Global;
 
 /// What comes of what is asked.

@@ -1,10 +1,9 @@
 //! The texts of notices.
 use crate::said::{next_number, next_small_number, words};
 use awb_number::Awb;
-use imp_fields::{
-    Airport, BookTenths, Discrepancy, Flight, Goods, LocalDay, Moment, Name, Pieces, WaybillSummary,
-};
+use imp_fields::{Airport, BookTenths, Discrepancy, Flight, Goods, Name, Pieces, WaybillSummary};
 use shipment_machine::{Event, FlightDate, ManifestLine, ManifestLines, Notice};
+use station_days::{LocalDay, Moment};
 use std::alloc::Global;
 use std::slice;
 use std::str::SplitWhitespace;

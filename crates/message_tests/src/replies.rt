@@ -2,11 +2,12 @@
 use crate::said::{next_number, next_small_number, say, shown, yes_or_no};
 use agent_stock::{Order, Run, RunCount};
 use awb_number::Awb;
-use imp_fields::{Airport, Flight, LocalDay, PartNumber, Why};
+use imp_fields::{Airport, Flight, PartNumber, Why};
 use shipment_machine::{Detail, FlightDate, Part, Refusal};
 use station_core::{
     Key, Reply, RowText, count_of_order, detail_text, refusal_of_order, refusal_text, reply_text,
 };
+use station_days::LocalDay;
 use std::alloc::Global;
 use std::str::SplitWhitespace;
 

@@ -3,9 +3,9 @@ use crate::said::words;
 use awb_number::Awb;
 use fsu_text::{Handling, SentCarriage, SentStatus, SentUpdate, read, write_fsu};
 use imp_fields::{
-    Airport, BookTenths, DayMonth, DayTime, Discrepancy, Flight, Name, Pieces, WaybillSummary,
-    normal_text,
+    Airport, BookTenths, Discrepancy, Flight, Name, Pieces, WaybillSummary, normal_text,
 };
+use station_days::{DayMonth, DayTime};
 use std::alloc::Global;
 use std::str::SplitWhitespace;
 

@@ -3,10 +3,11 @@ use crate::sinks::{RowCount, Taken};
 use awb_number::Awb;
 use case_words::{count_said, shown};
 use desk_commands::Command;
-use imp_fields::{Airport, Flight, Goods, LocalDay, Moment, Name, Pieces, Tenths};
+use imp_fields::{Airport, Flight, Goods, Name, Pieces, Tenths};
 use plain_station::PlainStation;
 use shipment_machine::{Amount, DeskCommand, FlightDate};
 use station_core::{ActFault, Input, Keeper, Key};
+use station_days::{LocalDay, Moment};
 use std::alloc::Global;
 
 /// What the commands name.

@@ -4,13 +4,70 @@ use awb_number::Awb;
 use ffm_text::{Load, write_ffm};
 use fsu_text::{Handling, SentStatus, SentUpdate, write_fsu};
 use imp_fields::{
-    Airport, BookTenths, DayMonth, DayTime, Flight, Goods, LocalDay, Moment, Name, Pieces,
-    TextFault, WaybillSummary, Why, normal_text,
+    Airport, BookTenths, Flight, Goods, Name, Pieces, TextFault, WaybillSummary, Why, normal_text,
 };
 use shipment_machine::{Event, FlightDate, ManifestLine, ManifestLines, Notice};
+use station_days::{DayMonth, DayTime, LocalDay, Moment};
 use std::alloc::Global;
 use std::slice;
 use telegrams::{TelegramFault, notice_text, read_telegram};
+
+/// A message that is written or read, or both.
+#[derive(Clone, Copy, Debug, PartialEq, Eq)]
+pub enum Message {
+    Manifest,
+    Update,
+    Waybill,
+    Arrival,
+    ManifestNotice,
+    ReceiptNotice,
+}
+
+impl Message {
+    /// Each of them, in the order in which they are gone through.
+    pub const ALL: [Message; 6] = [
+        Message::Manifest,
+        Message::Update,
+        Message::Waybill,
+        Message::Arrival,
+        Message::ManifestNotice,
+        Message::ReceiptNotice,
+    ];
+
+    /// What it is called.
+    pub fn name(self) -> &'static str {
+        match self {
+            Message::Manifest => "a manifest",
+            Message::Update => "a status update",
+            Message::Waybill => "a waybill's data",
+            Message::Arrival => "a manifest that arrives",
+            Message::ManifestNotice => "a notice of a manifest",
+            Message::ReceiptNotice => "a notice of a receipt",
+        }
+    }
+
+    /// Whether it is written and read, or running out of memory is reported.
+    pub fn is_told(self, alloc: Global) -> bool {
+        match self {
+            Message::Manifest => is_manifest_told(alloc),
+            Message::Update => is_update_told(alloc),
+            Message::Waybill => is_waybill_told(alloc),
+            Message::Arrival => is_arrival_told(alloc),
+            Message::ManifestNotice => is_manifest_notice_told(alloc),
+            Message::ReceiptNotice => is_receipt_notice_told(alloc),
+        }
+    }
+
+    /// The same so many times.
+    pub fn is_told_often(self, alloc: Global, times: u64) -> bool {
+        for _ in 0..times {
+            if !self.is_told(alloc) {
+                return false;
+            }
+        }
+        true
+    }
+}
 
 fn fault(line: u32, why: Why) -> TextFault {
     TextFault { line, why }
@@ -45,7 +102,7 @@ fn three_loads() -> Option<[Load; 3]> {
 }
 
 /// Whether three loads are written and read, or running out of memory is reported.
-pub fn is_manifest_told(alloc: Global) -> bool {
+fn is_manifest_told(alloc: Global) -> bool {
     let Some(loads) = three_loads() else {
         return false;
     };
@@ -97,7 +154,7 @@ fn receipt() -> Option<SentUpdate> {
 }
 
 /// Whether a receipt is written and read, or running out of memory is reported.
-pub fn is_update_told(alloc: Global) -> bool {
+fn is_update_told(alloc: Global) -> bool {
     let Some(update) = receipt() else {
         return false;
     };
@@ -168,7 +225,7 @@ fn is_read_or_unheard(alloc: Global, text: &[u8]) -> bool {
 }
 
 /// Whether a telegram with a waybill's data is read, or running out of memory is reported.
-pub fn is_waybill_told(alloc: Global) -> bool {
+fn is_waybill_told(alloc: Global) -> bool {
     is_read_or_unheard(
         alloc,
         b"QK FRACGXX\r\nFWB/16\r\n020-12345675FRAJFK/T10K100MC0.5\r\nSHP\r\n/ACME TOOLS\r\n",
@@ -176,7 +233,7 @@ pub fn is_waybill_told(alloc: Global) -> bool {
 }
 
 /// The same of a manifest.
-pub fn is_arrival_told(alloc: Global) -> bool {
+fn is_arrival_told(alloc: Global) -> bool {
     is_read_or_unheard(
         alloc,
         b"FFM/8\r\n1/LH0400/12JAN1030/FRA\r\nJFK\r\n020-12345675FRAJFK/T10K100.0/CARGO\r\nLAST\r\n",
@@ -184,7 +241,7 @@ pub fn is_arrival_told(alloc: Global) -> bool {
 }
 
 /// Whether the notice of a manifest has its length, or there was no memory for it.
-pub fn is_manifest_notice_told(alloc: Global) -> bool {
+fn is_manifest_notice_told(alloc: Global) -> bool {
     match manifest(alloc) {
         Some(text) => text.len() == 74,
         None => true,
@@ -192,7 +249,7 @@ pub fn is_manifest_notice_told(alloc: Global) -> bool {
 }
 
 /// The same of the notice of a receipt.
-pub fn is_receipt_notice_told(alloc: Global) -> bool {
+fn is_receipt_notice_told(alloc: Global) -> bool {
     match receipt_text(alloc) {
         Some(text) => text.len() == 72,
         None => true,

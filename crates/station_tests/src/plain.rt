@@ -3,9 +3,10 @@ use crate::sinks::{RowCount, Taken};
 use crate::tables::answers_said;
 use awb_number::Awb;
 use case_words::{count_said, is_done, keyed, say, shown};
-use imp_fields::{Airport, Moment};
+use imp_fields::Airport;
 use plain_station::PlainStation;
 use station_core::{ActFault, Answer, Input, Keeper, act_all, answer_one};
+use station_days::Moment;
 use station_rows::open_memory;
 use station_tables::{AttachFault, create};
 use std::alloc::Global;
@@ -208,22 +209,26 @@ fn take_update(alloc: Global, station: &mut impl Keeper) -> Option<()> {
     }
 }
 
-/// What comes of a trail of two rows that is read over tables, and of one that is read again where
-/// that failed.
-fn two_rows_told(alloc: Global) -> Option<String> {
-    let conn = open_memory(alloc).ok()?;
-    let Ok(mut station) = create(alloc, conn, Airport::read(b"FRA")?) else {
-        return None;
-    };
-    take_update(alloc, &mut station)?;
-    let (rows, is_given) = trail_rows(&mut station);
+/// What comes of a trail of two rows that is read, and of one that is read again where that failed.
+fn two_rows_of(alloc: Global, station: &mut impl Keeper) -> Option<String> {
+    take_update(alloc, station)?;
+    let (rows, is_given) = trail_rows(station);
     if is_given && rows == 2 {
         return say(alloc, "told");
     }
-    if is_given || !matches!(trail_rows(&mut station), (2, true)) {
+    if is_given || !matches!(trail_rows(station), (2, true)) {
         return say(alloc, "not told");
     }
     format!(in alloc; "told {rows}, then a fault, then told").ok()
+}
+
+/// The same over tables.
+fn two_rows_told(alloc: Global) -> Option<String> {
+    let conn = open_memory(alloc).ok()?;
+    match create(alloc, conn, Airport::read(b"FRA")?) {
+        Ok(mut station) => two_rows_of(alloc, &mut station),
+        Err(_) => None,
+    }
 }
 
 /// The same, from the beginning where memory was refused before the trail was read.

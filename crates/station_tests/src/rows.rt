@@ -121,7 +121,8 @@ fn stock_summed(alloc: Global, mut conn: Connection<MemStore>) -> Option<String>
     format!(in alloc; "{count} {low} {holder}").ok()
 }
 
-fn called(alloc: Global, rows: &mut Rows<MemStore>, asked: &str, text: &str) -> Option<String> {
+/// What comes of a call on tables.
+fn called<R: TableStore>(alloc: Global, rows: &mut R, asked: &str, text: &str) -> Option<String> {
     let mut words = text.split_whitespace();
     match asked {
         "begin" => done(alloc, rows.begin()),
@@ -163,9 +164,9 @@ fn stock_row(alloc: Global, words: &mut SplitWhitespace<'_>) -> Option<StockRow>
     })
 }
 
-fn insert_kept(
+fn insert_kept<R: TableStore>(
     alloc: Global,
-    rows: &mut Rows<MemStore>,
+    rows: &mut R,
     words: &mut SplitWhitespace<'_>,
 ) -> Option<String> {
     let (key, count) = (words.next()?, next_whole(words)?);
@@ -176,7 +177,7 @@ fn insert_kept(
 }
 
 /// The command and the count of a key.
-fn kept(alloc: Global, rows: &mut Rows<MemStore>, key: &str) -> Option<String> {
+fn kept<R: TableStore>(alloc: Global, rows: &mut R, key: &str) -> Option<String> {
     match rows.kept_row(key) {
         Ok(Some(kept)) => format!(in alloc; "{} {}", kept.command, kept.count).ok(),
         Ok(None) => say(alloc, "none"),
@@ -185,9 +186,9 @@ fn kept(alloc: Global, rows: &mut Rows<MemStore>, key: &str) -> Option<String> {
 }
 
 /// The rows of a prefix from one serial to another.
-fn between(
+fn between<R: TableStore>(
     alloc: Global,
-    rows: &mut Rows<MemStore>,
+    rows: &mut R,
     words: &mut SplitWhitespace<'_>,
 ) -> Option<String> {
     let prefix = next_whole(words)?;

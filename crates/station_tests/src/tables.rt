@@ -41,14 +41,21 @@ impl TableAnswers {
             "made-inside" => made_inside(alloc),
             "made-again" => fault_of(alloc, self.station.take()?.release()),
             "runs-of-row" => runs_of_row(alloc, shown(text)),
-            "list" => list(alloc, self.station.as_mut()?),
-            "act" => told(alloc, self.station.as_mut()?, &asked_by(shown(text))?),
-            "holder" => holder(alloc, self.station.as_mut()?, text),
-            "stock" => stock(alloc, self.station.as_mut()?, shown(text)),
-            "waybill" => waybill(alloc, self.station.as_mut()?, text),
-            "cargo-rows" => cargo_rows(alloc, self.station.as_mut()?),
-            _ => None,
+            _ => answer_of(alloc, self.station.as_mut()?, asked, text),
         }
+    }
+}
+
+/// What comes of what is asked of a station.
+fn answer_of(alloc: Global, keeper: &mut impl Keeper, asked: &str, text: &[u8]) -> Option<String> {
+    match asked {
+        "list" => list(alloc, keeper),
+        "act" => told(alloc, keeper, &asked_by(shown(text))?),
+        "holder" => holder(alloc, keeper, text),
+        "stock" => stock(alloc, keeper, shown(text)),
+        "waybill" => waybill(alloc, keeper, text),
+        "cargo-rows" => cargo_rows(alloc, keeper),
+        _ => None,
     }
 }
 
@@ -189,21 +196,19 @@ fn runs_of_row(alloc: Global, text: &str) -> Option<String> {
         holder: next_whole(&mut words)?,
         agent: String::from_str(alloc, words.next().unwrap_or("")).ok()?,
     };
-    let mut store = store_of(alloc, &row)?;
-    match stock_tables::runs(alloc, &mut store) {
-        Ok(runs) => runs_said(alloc, &runs),
-        Err(_) => say(alloc, "fault"),
+    match Rows::create(open_memory(alloc).ok()?, "FRA") {
+        Ok(mut rows) => runs_with(alloc, &mut rows, &row),
+        Err(_) => None,
     }
 }
 
-/// Tables with one row of stock.
-fn store_of(alloc: Global, row: &StockRow) -> Option<Rows<MemStore>> {
-    let mut store = match Rows::create(open_memory(alloc).ok()?, "FRA") {
-        Ok(rows) => rows,
-        Err(_) => return None,
-    };
-    store.begin().ok()?;
-    store.insert_stock(row).ok()?;
-    store.commit().ok()?;
-    Some(store)
+/// The runs of the stock of tables after a row is inserted.
+fn runs_with<R: TableStore>(alloc: Global, rows: &mut R, row: &StockRow) -> Option<String> {
+    rows.begin().ok()?;
+    rows.insert_stock(row).ok()?;
+    rows.commit().ok()?;
+    match stock_tables::runs(alloc, rows) {
+        Ok(runs) => runs_said(alloc, &runs),
+        Err(_) => say(alloc, "fault"),
+    }
 }

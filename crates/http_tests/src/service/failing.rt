@@ -1,12 +1,12 @@
 //! A station whose store fails.
 use agent_stock::{Holder, StockRun};
 use awb_number::Awb;
-use imp_fields::Moment;
 use plain_station::PlainStation;
 use station_core::{
     ActFault, BookRow, ExpectedRow, FlightRow, Input, IrregularRow, Keeper, Message, Reply,
     ShedRow, Sink, TrailRow, Waybill,
 };
+use station_days::Moment;
 
 /// A station in memory that answers so many inputs. At the next one it answers as where a store
 /// fails, and from then on it has to be opened again.
@@ -32,6 +32,8 @@ impl Keeper for Failing {
     ghost use Rattle.station_core.specs.Step.{State};
 
     ghost keeps = { λ k s. ⟦<PlainStation as Keeper>⟧.keeps k.station s };
+
+    ghost is_clean = { λ k. Unit {0} };
 
     ghost is_sound = { λ k. Unit {0} };
 

@@ -1,0 +1,164 @@
+//! Days at a cargo station, as scripts. Each one is played on every keeper of a station's state,
+//! and each line that the station prints is compared with the line that the script says.
+//!
+//! A script is plain text. Its statements, one a line:
+//!
+//! - `station FRA`: a new station with nothing in it;
+//! - `at 2026-01-12 10:30`: the moment of all that follows;
+//! - `act VERB KEY BODY`: a command, its body one line of JSON;
+//! - `take`, `take lf`, `take hex`: a telegram, from the `|` lines below;
+//! - `beginnings`: each beginning of the bytes of the `|` lines, from none to all, as a telegram.
+//!   It prints a line for each run of equal answers;
+//! - `stock`: the `|` lines below as rows of a stock list: key, verb, prefix, serial, count and
+//!   agent;
+//! - `waybill NUMBER`, `holder NUMBER`: what is known of a waybill, and who has a number, as
+//!   objects of JSON, or `none`;
+//! - `outbox`, `report NAME`: a report;
+//! - `outbox 20`: what of the messages goes out to a writer that takes so many bytes and then
+//!   fails, and how many bytes the fault tells;
+//! - `request`: a request over HTTP, from the `|` lines below, each ended by CR and LF. What
+//!   stands behind its body isn't read.
+//!
+//! A line `| TEXT` belongs to the statement above it. `take` sends such lines ended by CR and LF,
+//! `take lf` and `beginnings` by LF, and `take hex` sends the bytes that their digits write. `|998
+//! TEXT` stands for 998 such lines. A line `= TEXT` is what must be printed, one for each line,
+//! where a CR at the end of a printed line doesn't count. Empty lines and those that begin with
+//! `#` are for the reader.
+//!
+//! One of the keepers has its tables opened again before each statement, and in a long day before
+//! each tenth.
+//!
+//! `run_by_rule` gives each keeper two hundred inputs by a fixed rule, one by one and as one list:
+//! their answers, and all that their readers hand out, have to be equal. Or it does so with two
+//! thousand orders on the stock.
+#![tactic(auto)]
+
+mod asking;
+mod compare;
+mod day;
+mod desk;
+mod objects;
+mod play;
+mod reading;
+mod rule;
+mod statement;
+mod telegram;
+
+use day::{Day, DayFault};
+use desk::Kind;
+use play::Played;
+pub use rule::Inputs;
+use std::alloc::{AllocError, Global};
+use std::{fs, io};
+
+/// The scripts, in the order in which they are played: `days/NAME.day`.
+pub const FILES: &[&str] = &[
+    "small_desk",
+    "stock",
+    "orders",
+    "declared",
+    "departure",
+    "full_flight",
+    "arrival",
+    "desk",
+    "transfer",
+    "mistakes",
+    "lists",
+    "repeats",
+    "bodies",
+    "telegrams",
+    "calendar",
+    "http",
+];
+
+/// What is printed of a day that was played: its differences, or that there is none.
+fn verdict(
+    alloc: Global,
+    name: &str,
+    day: &Day<'_>,
+    played: &Played,
+) -> Result<String, AllocError> {
+    let told = day.told();
+    let differences = played.differences;
+    if differences > 0 {
+        let log = &played.log;
+        return format!(in alloc; "{log}{name}: lines that differ: {differences}\n");
+    }
+    let openings = played.openings;
+    format!(in alloc; "{name}: {told} lines as told, opened again {openings} times\n")
+}
+
+/// Plays a day on each keeper.
+fn play_on_all(alloc: Global, name: &str, day: &Day<'_>) -> Result<Played, DayFault> {
+    let mut played = Played::new(alloc);
+    play::play(alloc, name, day, Kind::Plain, &mut played)?;
+    play::play(alloc, name, day, Kind::Tables, &mut played)?;
+    play::play(alloc, name, day, Kind::Reopened, &mut played)?;
+    Ok(played)
+}
+
+/// Why a day wasn't played.
+fn fault_text(alloc: Global, name: &str, fault: &DayFault) -> Result<String, AllocError> {
+    match fault {
+        DayFault::Bad { line, why } => format!(in alloc; "{name}:{line}: {why}\n"),
+        DayFault::Unopened { line, fault } => {
+            format!(in alloc; "{name}:{line}: can't be opened again: {fault:?}\n")
+        }
+        DayFault::Memory => format!(in alloc; "{name}: out of memory\n"),
+    }
+}
+
+/// Reads and plays a script: whether it went as it says, and what is printed of it.
+fn play_script(alloc: Global, name: &str, script: &str) -> Result<(bool, String), AllocError> {
+    let day = match reading::read_day(alloc, script) {
+        Ok(day) => day,
+        Err(fault) => return Ok((false, fault_text(alloc, name, &fault)?)),
+    };
+    match play_on_all(alloc, name, &day) {
+        Ok(played) => {
+            let is_told = played.differences == 0;
+            Ok((is_told, verdict(alloc, name, &day, &played)?))
+        }
+        Err(fault) => Ok((false, fault_text(alloc, name, &fault)?)),
+    }
+}
+
+/// Plays a script on each keeper, and prints each line that differs, or how many went as the script
+/// says. Whether all did. A script that can't be read didn't.
+///
+/// # Errors
+///
+/// Where nothing can be printed, or memory is out.
+pub fn run_file(rt: &HostRuntime, file: &str) -> Result<bool, io::Error> {
+    let name = format!(in rt.alloc(); "{file}.day")?;
+    let path = format!(in rt.alloc(); "days/{name}")?;
+    let Ok(script) = fs::read_to_string(rt, path.as_str()) else {
+        println!(rt; "{path}: can't be read")?;
+        return Ok(false);
+    };
+    let (is_told, text) = play_script(rt.alloc(), name.as_str(), script.as_str())?;
+    print!(rt; "{text}")?;
+    Ok(is_told)
+}
+
+/// What is printed of inputs by a rule.
+fn rule_told(given: Inputs, are_equal: Option<bool>) -> &'static str {
+    match (are_equal, given) {
+        (Some(true), Inputs::Mixed) => "200 inputs with equal answers and rows",
+        (Some(true), Inputs::Orders) => "2,000 orders with equal answers and rows",
+        (Some(false), _) => "answers or rows differ",
+        (None, _) => "a keeper failed, or too few inputs were accepted or refused",
+    }
+}
+
+/// Gives each keeper inputs by a rule, and prints what came of them. Whether all their answers and
+/// rows are equal.
+///
+/// # Errors
+///
+/// Where nothing can be printed, or memory is out.
+pub fn run_by_rule(rt: &HostRuntime, given: Inputs) -> Result<bool, io::Error> {
+    let are_equal = rule::are_equal(rt.alloc(), given);
+    println!(rt; "{}: {}", given.name(), rule_told(given, are_equal))?;
+    Ok(are_equal == Some(true))
+}

@@ -1,0 +1,99 @@
+//! The tests of public calls, which go through data: days, requests over HTTP and files of cases.
+//! Each part of them is a library. The words choose what is run:
+//!
+//! - `days`, `messages`, `station`, `found`, `lines`, `http`: each file of the folder of that name;
+//! - such a name and a file, as `days/stock`: that file alone;
+//! - `by-rule`, `orders-by-rule`: inputs by a fixed rule on each keeper;
+//! - `station-memory`, `found-memory`: what wants memory alone, to be run with each allocation
+//!   failing in turn;
+//! - `service`: the service on a port of this machine;
+//! - `first-steps`: the lines of Rust of the README;
+//! - `bench`: how fast messages are written and read, by hand.
+#![tactic(auto)]
+
+mod first_steps;
+
+use desk_days::Inputs;
+use std::process::ExitCode;
+use std::{env, io};
+
+/// The files of a part, in the order in which they are gone through; none where a word is no such
+/// part.
+fn files_of(part: &str) -> &'static [&'static str] {
+    match part {
+        "days" => desk_days::FILES,
+        "messages" => message_tests::FILES,
+        "station" => station_tests::FILES,
+        "found" => found_tests::FILES,
+        "lines" => line_tests::FILES,
+        "http" => http_tests::FILES,
+        _ => &[],
+    }
+}
+
+/// Goes through a file of a part. Whether all came out as it must, if there is such a part.
+fn run_file(rt: &HostRuntime, part: &str, file: &str) -> Result<Option<bool>, io::Error> {
+    Ok(Some(match part {
+        "days" => desk_days::run_file(rt, file)?,
+        "messages" => message_tests::run_file(rt, file)?,
+        "station" => station_tests::run_file(rt, file)?,
+        "found" => found_tests::run_file(rt, file)?,
+        "lines" => line_tests::run_file(rt, file)?,
+        "http" => http_tests::run_file(rt, file)?,
+        _ => return Ok(None),
+    }))
+}
+
+/// Goes through each file of a part. Whether all came out as they must, if there is such a part.
+fn run_files(rt: &HostRuntime, part: &str) -> Result<Option<bool>, io::Error> {
+    let files = files_of(part);
+    let mut all = true;
+    for file in files {
+        all &= run_file(rt, part, file)? == Some(true);
+    }
+    Ok(if files.is_empty() { None } else { Some(all) })
+}
+
+/// Runs what a word names. Whether all came out as it must, if there is such a word.
+fn run_word(rt: &HostRuntime, word: &str) -> Result<Option<bool>, io::Error> {
+    if let Some((part, file)) = word.split_once('/') {
+        return run_file(rt, part, file);
+    }
+    Ok(Some(match word {
+        "by-rule" => desk_days::run_by_rule(rt, Inputs::Mixed)?,
+        "orders-by-rule" => desk_days::run_by_rule(rt, Inputs::Orders)?,
+        "station-memory" => station_tests::run_memory(rt)?,
+        "found-memory" => found_tests::run_memory(rt)?,
+        "service" => {
+            http_tests::run_service(rt)?;
+            true
+        }
+        "first-steps" => first_steps::run(rt)?,
+        "bench" => station_tests::run_bench(rt)?,
+        _ => return run_files(rt, word),
+    }))
+}
+
+/// Status 0: all came out as it must; 1: something came out otherwise; 2: a word that names
+/// nothing, or no word.
+fn main(rt: HostRuntime) -> Result<ExitCode, io::Error> {
+    let words: Vec<String> = env::args(&rt)?.collect(rt.alloc())?;
+    let mut status = 0;
+    if words.len() < 2 {
+        eprintln!(rt; "usage: desk_tests PART.. (the parts are in README.md)")?;
+        status = 2;
+    }
+    for word in words.iter().skip(1) {
+        println!(rt; "# {word}")?;
+        let own = match run_word(&rt, word.as_str())? {
+            Some(true) => 0,
+            Some(false) => 1,
+            None => {
+                eprintln!(rt; "unknown part '{word}'")?;
+                2
+            }
+        };
+        status = own.max(status);
+    }
+    Ok(ExitCode::from(status))
+}

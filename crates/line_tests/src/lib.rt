@@ -1,0 +1,58 @@
+//! Calls of the program: what their words are read as, what they print, and how they end. Each is
+//! asked as a file of cases says.
+//!
+//! The station of `--db` is in memory, and is the same for all calls of a file of cases.
+#![tactic(auto)]
+
+mod calls;
+mod clock;
+mod desk;
+mod samples;
+mod words;
+
+use case_files::{Answers, go_through_file};
+use desk::Desk;
+use std::alloc::Global;
+use std::io;
+
+/// The files of cases, in the order in which they are gone through.
+pub const FILES: &[&str] = &["words", "clock", "calls", "cut-calls", "reasons"];
+
+/// What answers the cases of a file.
+#[derive(Drop)]
+struct FileAnswers<'a> {
+    alloc: Global,
+    file: &'a str,
+    desk: Desk,
+}
+
+impl Answers for FileAnswers<'_> {
+    fn answer(&mut self, asked: &str, text: &[u8]) -> Option<String> {
+        match self.file {
+            "words" => words::answer(self.alloc, asked, text),
+            "clock" => clock::answer(self.alloc, asked, text),
+            "calls" | "cut-calls" | "reasons" => calls::answer(
+                self.alloc,
+                &mut self.desk,
+                asked,
+                text,
+            ),
+            _ => None,
+        }
+    }
+}
+
+/// Goes through a file of cases, and prints those that came out otherwise, or how many there were.
+/// Whether all came out as they must.
+///
+/// # Errors
+///
+/// Where nothing can be printed, or memory is out.
+pub fn run_file(rt: &HostRuntime, file: &str) -> Result<bool, io::Error> {
+    let mut answers = FileAnswers {
+        alloc: rt.alloc(),
+        file,
+        desk: Desk::new(),
+    };
+    go_through_file(rt, "lines", file, &mut answers)
+}
