@@ -1,8 +1,8 @@
 # Completion for bash: source it, or put it into /usr/share/bash-completion/completions/cargo_desk.
 _cargo_desk_options='--db --station --zone --help --version'
 _cargo_desk_commands='init migrate stock take act outbox report waybill holder serve help'
-_cargo_desk_verbs='take-in issue return void book receive manifest offload depart check-in notify deliver
-    transfer missing found confirm'
+_cargo_desk_verbs='take-in issue return void book receive withdraw manifest offload reroute depart check-in notify
+    deliver transfer missing found confirm'
 _cargo_desk() {
     local cur=${COMP_WORDS[COMP_CWORD]} word command= i=1
     COMPREPLY=()

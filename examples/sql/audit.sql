@@ -1,7 +1,8 @@
 -- Each row of a station's file of version 2 that isn't lawful, with its table, its key and the reason:
 --     sqlite3 -readonly fra.db < examples/sql/audit.sql
--- It prints nothing where it finds nothing. It is written from the table in docs/STATION.md alone, so it is a second opinion
--- on `fault 601`. It doesn't test texts (kept commands, parts), nor what a place held in the middle of the book.
+-- If it finds nothing it prints nothing. It is written from the table in docs/STATION.md alone, so it is a second opinion
+-- on `fault 601`. It doesn't test the texts of keys, commands, telegrams, parts, flights and names, fractions in columns
+-- without STRICT, nor what a place or a flight held in the middle of the book.
 .headers off
 .mode list
 .separator "  "
@@ -23,6 +24,7 @@ departed(flight, day, last) AS (
 ),
 found(name, key, reason) AS (
   SELECT 'station', id, 'id isn''t 1' FROM station WHERE id <> 1
+  UNION ALL SELECT 'station', count(*), 'there isn''t exactly one row' FROM station HAVING count(*) <> 1
   UNION ALL SELECT 'station', id, 'airport isn''t three letters' FROM station
     WHERE airport NOT GLOB '[A-Z][A-Z][A-Z]'
   UNION ALL SELECT 'station', id, 'version isn''t 2' FROM station WHERE version <> 2
@@ -61,7 +63,7 @@ found(name, key, reason) AS (
     WHERE place <> number
   UNION ALL SELECT 'moves', number, 'the waybill isn''t declared' FROM moves WHERE awb NOT IN (SELECT awb FROM waybill2)
   UNION ALL SELECT 'moves', number, 'no move goes from ' || src || ' to ' || dst FROM moves
-    WHERE (src, dst) NOT IN (VALUES (0,2),(0,6),(1,2),(2,3),(3,2),(3,4),(2,5),(2,6),(6,2),(2,7))
+    WHERE (src, dst) NOT IN (VALUES (0,2),(0,6),(1,2),(2,0),(2,3),(3,2),(3,4),(2,5),(2,6),(6,2),(2,7))
   UNION ALL SELECT 'moves', number, 'pieces or tenths are out of range' FROM moves
     WHERE pieces NOT BETWEEN 1 AND 9999 OR tenths NOT BETWEEN 0 AND 999999
   UNION ALL SELECT 'moves', number, 'its flight isn''t noted' FROM moves m
@@ -78,6 +80,8 @@ found(name, key, reason) AS (
       SELECT number, row_number() OVER (ORDER BY number) AS place FROM trail)
     WHERE place <> number
   UNION ALL SELECT 'trail', number, 'the waybill isn''t declared' FROM trail WHERE awb NOT IN (SELECT awb FROM waybill2)
+  UNION ALL SELECT 'trail', number, 'more than 255 characters, or one that isn''t printable ASCII' FROM trail
+    WHERE length(line) > 255 OR line GLOB '*[^ -~]*'
   UNION ALL SELECT 'outbox', number, 'its number isn''t its place' FROM (
       SELECT number, row_number() OVER (ORDER BY number) AS place FROM outbox)
     WHERE place <> number
@@ -97,5 +101,11 @@ found(name, key, reason) AS (
     WHERE (b.pieces, b.tenths) IS NOT (c.pieces, c.tenths)
   UNION ALL SELECT 'counts', awb || '/' || place, 'below nothing, or fewer tenths than pieces, or tenths alone' FROM counts
     WHERE place NOT IN (0, 1) AND (pieces < 0 OR tenths < pieces OR (pieces = 0) <> (tenths = 0))
+  UNION ALL SELECT 'counts', awb || '/0', 'more went back to hand than came from it' FROM counts
+    WHERE place = 0 AND (pieces > 0 OR tenths > 0)
+  UNION ALL SELECT 'counts', awb, 'received and found are above 9999 pieces or 999999 tenths' FROM counts
+    WHERE place IN (0, 1) GROUP BY awb HAVING sum(pieces) < -9999 OR sum(tenths) < -999999
+  UNION ALL SELECT 'build', flight || '/' || day, 'more than 500 waybills are on the flight' FROM build
+    GROUP BY flight, day HAVING count(*) > 500
 )
 SELECT * FROM found;
