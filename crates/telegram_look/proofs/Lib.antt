@@ -1,0 +1,4 @@
+pub mod Front
+pub mod LookLaws
+pub mod LowerLines
+pub mod Texts

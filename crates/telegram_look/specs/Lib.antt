@@ -1,0 +1,4 @@
+pub mod Doubt
+pub mod Look
+pub mod LookText
+pub mod LookObject

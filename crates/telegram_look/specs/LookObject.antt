@@ -1,0 +1,91 @@
+-- What is seen of a telegram, as an object of JSON.
+use Rattle.std.specs.Prelude.{ℕ, Bool, List, ◌++◌, map, filter_map, Option, Some, None, codes, decimal}
+use Rattle.std.specs.List.{join_by}
+use Rattle.serde_json.specs.Data.{boolean, string}
+use Rattle.serde_json.specs.Written.{compact_text}
+use Rattle.awb_number.specs.Number.{number_text}
+use Rattle.imp_fields.specs.Flight.{flight_text}
+use Rattle.station_days.specs.Date.{date_text}
+use Rattle.shipment_machine.specs.declared.command.CargoLine.{CargoLine}
+use Rattle.telegrams.specs.declared.telegram.PartContent.{PartContent}
+use Rattle.telegrams.specs.declared.telegram.Content.{Content}
+use Rattle.telegrams.specs.declared.telegram.Content.TheVariants as content
+use Rattle.telegram_look.specs.Look.{has_doubt}
+use Rattle.telegram_look.specs.declared.line.DroppedLine.{DroppedLine}
+use Rattle.telegram_look.specs.declared.line.LinePart.{LinePart}
+use Rattle.telegram_look.specs.declared.line.LinePart.TheVariants.{Declared, Loaded, Status, Passed}
+use Rattle.telegram_look.specs.declared.line.SeenLine.{SeenLine}
+use Rattle.telegram_look.specs.declared.look.Look.{Look}
+
+-- which part of which manifest the message is
+abbrev pub part_members : PartContent → List ℕ
+part_members part =
+    codes "\"part\":" ++ (decimal part.sequence ++ (codes ",\"flight\":\"" ++ (flight_text part.flight
+    ++ (codes "\",\"date\":\"" ++ (date_text part.date ++ (codes "\",\"loaded\":\"" ++ (part.loaded ++ codes "\"")))))))
+
+-- what the message is: the members at the front of the object
+abbrev pub message_members : Content → List ℕ
+message_members (content.Fwb cargo) = codes "\"kind\":\"FWB\""
+message_members (content.Ffm part) = codes "\"kind\":\"FFM\"," ++ part_members part
+message_members (content.Fsu status) = codes "\"kind\":\"FSU\",\"awb\":\"" ++ (number_text status.awb ++ codes "\"")
+
+-- the pieces of the whole consignment, if they are given
+abbrev pub total_value : Option ℕ → List ℕ
+total_value None = codes "null"
+total_value (Some total) = decimal total
+
+-- the number of a line, and what its consignment is
+abbrev pub route_members : ℕ → CargoLine → List ℕ
+route_members number cargo =
+    codes "\"line\":" ++ (decimal number ++ (codes ",\"awb\":\"" ++ (number_text cargo.awb ++ (codes "\",\"origin\":\""
+    ++ (cargo.origin ++ (codes "\",\"destination\":\"" ++ (cargo.destination ++ codes "\"")))))))
+
+abbrev pub cargo_members : ℕ → CargoLine → List ℕ
+cargo_members number cargo =
+    route_members number cargo ++ (codes ",\"pieces\":" ++ (decimal cargo.pieces ++ (codes ",\"tenths\":"
+    ++ (decimal cargo.tenths ++ (codes ",\"total\":" ++ total_value cargo.total)))))
+
+-- the text of a line, and whether it is doubtful
+abbrev pub text_members : List ℕ → Bool → List ℕ
+text_members text doubtful =
+    codes "\"text\":" ++ (compact_text (string text) ++ (codes ",\"doubtful\":" ++ compact_text (boolean doubtful)))
+
+-- a line and its text
+abbrev pub text_object : ℕ → List ℕ → Bool → List ℕ
+text_object number text doubtful =
+    codes "{\"line\":" ++ (decimal number ++ (codes "," ++ (text_members text doubtful ++ codes "}")))
+
+-- what is read of a line
+abbrev pub read_part : ℕ → List ℕ → Bool → LinePart → Option (List ℕ)
+read_part number text doubtful (Declared cargo) = Some (codes "{" ++ (cargo_members number cargo ++ codes "}"))
+read_part number text doubtful (Loaded line) =
+    Some (codes "{" ++ (cargo_members number line.cargo ++ (codes ",\"unload\":\"" ++ (line.unload ++ codes "\"}"))))
+read_part number text doubtful Status = Some (text_object number text doubtful)
+read_part number text doubtful _ = None
+
+abbrev pub read_object : SeenLine → Option (List ℕ)
+read_object l = read_part l.number l.text l.doubtful l.part
+
+-- a line that is passed over
+abbrev pub passed_part : ℕ → List ℕ → Bool → LinePart → Option (List ℕ)
+passed_part number text doubtful Passed = Some (text_object number text doubtful)
+passed_part number text doubtful _ = None
+
+abbrev pub passed_object : SeenLine → Option (List ℕ)
+passed_object l = passed_part l.number l.text l.doubtful l.part
+
+-- a line before the message
+abbrev pub dropped_object : DroppedLine → List ℕ
+dropped_object l = codes "{" ++ (text_members l.text l.doubtful ++ codes "}")
+
+-- a list of objects
+abbrev pub list_text : List (List ℕ) → List ℕ
+list_text objects = codes "[" ++ (join_by (λ object. object) (codes ",") objects ++ codes "]")
+
+-- the object
+abbrev pub look_object : Look → List ℕ
+look_object look =
+    codes "{" ++ (message_members look.telegram.content ++ (codes ",\"dropped\":" ++ (list_text (map dropped_object look.dropped.items)
+    ++ (codes ",\"read\":" ++ (list_text (filter_map read_object look.lines.items) ++ (codes ",\"passed\":"
+    ++ (list_text (filter_map passed_object look.lines.items) ++ (codes ",\"doubtful\":"
+    ++ (compact_text (boolean (has_doubt look)) ++ codes "}")))))))))

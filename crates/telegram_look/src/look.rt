@@ -1,0 +1,87 @@
+//! A look at a telegram.
+
+ghost use Rattle.std.specs.Prelude.{◌≡◌, IfOk, IfErr};
+ghost use Rattle.std.specs.List.{list_any};
+ghost use Rattle.telegrams.specs.Meaning.{RefusesText, kind_said};
+ghost use Rattle.telegram_look.specs.Look.{IsLook, has_doubt};
+
+use crate::dropped::dropped_lines;
+use crate::line::{DroppedLine, SeenLine};
+use crate::seen::seen_lines;
+use imp_fields::{MessageKind, normal_text};
+use std::alloc::Global;
+use telegrams::{Content, Telegram, TelegramFault, read_telegram};
+
+/// Whether some line before the message is doubtful.
+fn is_dropped_doubtful(lines: &[DroppedLine<'_>]) -> bool
+    ensures { result ≡ list_any (λ line. line.doubtful) lines.now }
+{
+    lines.iter().any(|line| line.doubtful)
+}
+
+/// Whether some line of the message is doubtful.
+fn is_seen_doubtful(lines: &[SeenLine<'_>]) -> bool
+    ensures { result ≡ list_any (λ line. line.doubtful) lines.now }
+{
+    lines.iter().any(|line| line.doubtful)
+}
+
+/// A telegram, and what each of its lines is to the reader of its message.
+#[derive(Drop)]
+pub struct Look<'a> {
+    /// The telegram as it is taken.
+    pub telegram: Telegram<'a>,
+    /// The lines before the message line, which are dropped.
+    pub dropped: Vec<DroppedLine<'a>>,
+    /// The lines of the normal text, each once. The message line is the first.
+    pub lines: Vec<SeenLine<'a>>,
+}
+
+impl<'a> Look<'a> {
+    /// The kind of the message.
+    pub fn kind(&self) -> MessageKind
+        ensures { result ≡ kind_said self.now.telegram.content }
+    {
+        match self.telegram.content() {
+            Content::Fwb(_) => MessageKind::Fwb,
+            Content::Ffm(_) => MessageKind::Ffm,
+            Content::Fsu(_) => MessageKind::Fsu,
+        }
+    }
+
+    /// Whether some line is doubtful.
+    pub fn is_doubtful(&self) -> bool
+        ensures { result ≡ has_doubt self.now }
+    {
+        is_dropped_doubtful(self.dropped.as_slice()) || is_seen_doubtful(self.lines.as_slice())
+    }
+}
+
+/// Reads bytes as a telegram, and says what each of its lines is to the reader of its message. The
+/// telegram is the one that `read_telegram` returns.
+///
+/// # Errors
+/// Those of `read_telegram`.
+pub fn look_at<'a>(alloc: Global, bytes: &'a [u8]) -> Result<Look<'a>, TelegramFault>
+    ensures seen { IfOk result (IsLook bytes.now) }
+    ensures refused { IfErr result (RefusesText bytes.now) }
+{
+    let telegram = match read_telegram(alloc, bytes) {
+        Ok(telegram) => telegram,
+        Err(fault) => return Err(fault),
+    };
+    let Ok(normal) = normal_text(alloc, bytes) else {
+        return Err(TelegramFault::Memory);
+    };
+    let Ok(dropped) = dropped_lines(alloc, bytes) else {
+        return Err(TelegramFault::Memory);
+    };
+    match seen_lines(alloc, telegram.content(), &normal) {
+        Ok(lines) => Ok(Look {
+            telegram,
+            dropped,
+            lines,
+        }),
+        Err(_) => Err(TelegramFault::Memory),
+    }
+}
