@@ -1,6 +1,5 @@
 -- How a report ends whose rows are known by what they are.
 use Rattle.std.proofs.Common.{◌≡◌, ap, sym, subst, inl, inr, ℕ, ◌+◌, Some, None, Result, Ok, Err, List, [], ◌++◌, length, take, OnOk, OnErr, IfErr}
-use Rattle.std.specs.List.{flat_map}
 use Rattle.std.proofs.lemmas.List.{length-take-le}
 use Rattle.station_core.specs.Given.{Given}
 use Rattle.station_core.specs.Ends.{Sent}
@@ -10,7 +9,7 @@ use Rattle.station_core.specs.declared.answer.ActFault.{ActFault}
 use Rattle.reports.specs.declared.fault.ReportCause.{ReportCause}
 use Rattle.reports.specs.declared.fault.ReportCause.TheVariants as cause
 use Rattle.reports.specs.declared.fault.ReportFault.{ReportFault}
-use Rattle.reports.specs.Lines.{report_text}
+use Rattle.reports.specs.Pieces.{pieces_of, whole_text}
 use Rattle.reports.specs.Progress.{Progress, Ends}
 use Rattle.reports.specs.Ended.{IsBegun, HaveGone, HasEnded, HasEndedBy, HasEndedEach}
 use Rattle.reports.proofs.Telling.{Handed, start_whole, handed, unfinished, Took, SameName, reported}
@@ -33,13 +32,13 @@ fault_of start text n p q e r cut unread (inl w) = (_, (unread w.cause).0)
 fault_of start text n p q e r cut unread (inr c) = (_, (cut c.why c.cause).0)
 
 -- Rows of a report, each with its line; `AreRows` says which they are.
-module _ {S N Row : Type 0} (P : S → Progress) (line : Row → List ℕ) (name : S → N) (AreRows : List Row → Type 0) where
+module _ {S N Row : Type 0} (P : S → Progress) (piece : ℕ → Row → List ℕ) (end : ℕ → List ℕ) (name : S → N) (AreRows : List Row → Type 0) where
   -- the report's text
   abbrev pub IsText : List ℕ → Type 0
-  IsText text = (rows : List Row) × AreRows rows × (text ≡ report_text line rows)
+  IsText text = (rows : List Row) × AreRows rows × (text ≡ whole_text piece end rows)
 
   abbrev Hands : List Row → S → S → Type 0
-  Hands rows old new = HandedOut (Took P line (SameName P line name)) rows old new
+  Hands rows old new = HandedOut (Took P piece (SameName P piece name)) rows old new
 
   pub reported_by : (read : Result (Unit {0}) ActFault) (r : Result (Unit {0}) ReportFault) (Open : Type 0) (old mid new : S)
       → (P old).rows ≡ 0 → (P old).sent ≡ 0 → (P old).cause ≡ None
@@ -49,24 +48,24 @@ module _ {S N Row : Type 0} (P : S → Progress) (line : Row → List ℕ) (name
       → (Open → IfErr read IsReadersFault)
       → ((why : ReportCause) → (P mid).cause ≡ Some why → (r ≡ Err (record { sent = (P mid).sent; cause = why })) × (new ≡ mid))
       → ((P mid).cause ≡ None → IfErr read (λ e. (r ≡ Err (record { sent = (P mid).sent; cause = cause.Act e })) × (new ≡ mid)))
-      → ((P mid).cause ≡ None → OnOk read (Ends (P mid) (P new) r))
+      → ((P mid).cause ≡ None → OnOk read (Ends end (P mid) (P new) r))
       → HasEndedBy Open IsText (P old).waiting (P old).given (P new).given r
   reported_by (Ok x) r Open old mid new no_rows none_sent no_cause took (rows, are, all) part fault cut unread ends =
-      let end = reported P line name (Ok x) r Open rows old mid new no_rows none_sent no_cause all tt fault cut unread ends in
-      of_one Open IsText (P old).waiting (report_text line rows) (P old).given (P new).given r (rows, are, λ _. report_text line rows) end
+      let done = reported P piece name end (Ok x) r Open rows old mid new no_rows none_sent no_cause all tt fault cut unread ends in
+      of_one Open IsText (P old).waiting (whole_text piece end rows) (P old).given (P new).given r (rows, are, λ _. whole_text piece end rows) done
   reported_by (Err e) r Open old mid new no_rows none_sent no_cause took all part fault cut unread ends =
       let front : List ℕ = (P old).waiting in
       let start = start_whole (P old) no_rows none_sent no_cause in
-      let told = handed P line (SameName P line name) took.0 (P old).given front 0 old mid took.1 start in
+      let told = handed P piece (SameName P piece name) took.0 (P old).given front 0 old mid took.1 start in
       let cut_p : (why : ReportCause) → (P mid).cause ≡ Some why → (r ≡ Err (record { sent = (P mid).sent; cause = why })) × (P new ≡ P mid) = λ why is. ((cut why is).0, ap P (cut why is).1) in
       let unread_p : (P mid).cause ≡ None → (r ≡ Err (record { sent = (P mid).sent; cause = cause.Act e })) × (P new ≡ P mid) = λ none. ((unread none).0, ap P (unread none).1) in
-      let failed = fault_of (P old).given (front ++ flat_map line took.0) (0 + length took.0) (P mid) (P new) e r cut_p unread_p told in
-      let any = unfinished (P old).given (front ++ flat_map line took.0) (0 + length took.0) (P mid) (P new) Open e [] r cut_p unread_p fault told in
-      let any_f = subst (HasEnded Open ((front ++ flat_map line took.0) ++ []) (P old).given (P new).given) failed.1 any in
+      let failed = fault_of (P old).given (front ++ pieces_of piece 0 took.0) (0 + length took.0) (P mid) (P new) e r cut_p unread_p told in
+      let any = unfinished (P old).given (front ++ pieces_of piece 0 took.0) (0 + length took.0) (P mid) (P new) Open end e [] r cut_p unread_p fault told in
+      let any_f = subst (HasEnded Open ((front ++ pieces_of piece 0 took.0) ++ []) (P old).given (P new).given) failed.1 any in
       let each : (text : List ℕ) → IsText text → IsBegun (front ++ text) failed.0 (P old).given (P new).given =
       λ text is.
-      let end = reported P line name (Err e) r Open is.0 old mid new no_rows none_sent no_cause tt (part is.0 is.1) fault cut unread ends in
-      let now = subst (λ t. HasEnded Open (front ++ t) (P old).given (P new).given r) (sym is.2) end in
+      let done = reported P piece name end (Err e) r Open is.0 old mid new no_rows none_sent no_cause tt (part is.0 is.1) fault cut unread ends in
+      let now = subst (λ t. HasEnded Open (front ++ t) (P old).given (P new).given r) (sym is.2) done in
       (subst (HasEnded Open (front ++ text) (P old).given (P new).given) failed.1 now).0 in
       subst (HasEndedBy Open IsText front (P old).given (P new).given) (sym failed.1) (inr each, have_gone _ failed.0.sent (P old).given (P new).given any_f.0.0, any_f.0.1, any_f.1)
 
@@ -91,10 +90,10 @@ module _ {S N Row : Type 0} (P : S → Progress) (line : Row → List ℕ) (name
       → (Open → IfErr read IsReadersFault)
       → ((why : ReportCause) → (P mid).cause ≡ Some why → (r ≡ Err (record { sent = (P mid).sent; cause = why })) × (new ≡ mid))
       → ((P mid).cause ≡ None → IfErr read (λ e. (r ≡ Err (record { sent = (P mid).sent; cause = cause.Act e })) × (new ≡ mid)))
-      → ((P mid).cause ≡ None → OnOk read (Ends (P mid) (P new) r))
+      → ((P mid).cause ≡ None → OnOk read (Ends end (P mid) (P new) r))
       → HasEndedEach Open IsText (P old).waiting (P old).given (P new).given r
   reported_each one read r Open old mid new no_rows none_sent no_cause all part fault cut unread ends = record {
     text = λ text is.
         subst (λ t. HasEnded Open ((P old).waiting ++ t) (P old).given (P new).given r) (sym is.2)
-        (reported P line name read r Open is.0 old mid new no_rows none_sent no_cause (all_of one read old mid is.0 is.1 all) (part_of read old mid is.0 is.1 part) fault cut unread ends);
+        (reported P piece name end read r Open is.0 old mid new no_rows none_sent no_cause (all_of one read old mid is.0 is.1 all) (part_of read old mid is.0 is.1 part) fault cut unread ends);
   }

@@ -1,78 +1,17 @@
 -- How the writing of a report ends, whatever the station keeps.
-use Rattle.std.proofs.Common.{arith, ◌≡◌, ◌∙◌, ap, sym, refl, subst, inl, inr, ℕ, ◌+◌, ◌<◌, ◌≤◌, Bool, true, false, Some, None, Result, Ok, Err, List, [], ◌∷◌, ◌++◌, length, take, length-append, OnOk, IfErr}
-use Rattle.std.specs.Prelude.{◌⊎◌, ◌-◌, decimal, codes}
-use Rattle.std.specs.List.{join_with_byte}
+use Rattle.std.proofs.Common.{arith, ◌≡◌, ◌∙◌, ap, sym, refl, subst, inl, inr, ℕ, ◌+◌, ◌<◌, ◌≤◌, true, false, Some, None, Result, Ok, Err, List, [], ◌∷◌, ◌++◌, length, take, length-append, OnOk, IfErr}
+use Rattle.std.specs.Prelude.{◌⊎◌}
 use Rattle.std.proofs.lemmas.List.{length-take-le}
-use Rattle.awb_number.specs.Digits.{padded}
-use Rattle.awb_number.specs.Number.{number_text, prefix_of, serial_of}
-use Rattle.agent_stock.specs.declared.runs.StockRun.{StockRun}
 use Rattle.station_core.specs.Given.{Given}
 use Rattle.station_core.specs.declared.answer.ActFault.{ActFault}
-use Rattle.station_core.specs.declared.rows.IrregularRow.{IrregularRow}
-use Rattle.station_core.specs.declared.rows.ShedRow.{ShedRow}
-use Rattle.station_core.specs.declared.rows.FlightRow.{FlightRow}
-use Rattle.station_core.specs.declared.rows.ExpectedRow.{ExpectedRow}
-use Rattle.station_core.specs.declared.rows.BookRow.{BookRow}
-use Rattle.station_core.specs.declared.rows.Message.{Message}
-use Rattle.station_core.specs.declared.rows.TrailRow.{TrailRow}
 use Rattle.row_sinks.specs.Handed.{HandedOut}
 use Rattle.reports.specs.declared.fault.ReportCause.{ReportCause}
 use Rattle.reports.specs.declared.fault.ReportCause.TheVariants as cause
 use Rattle.reports.specs.declared.fault.ReportFault.{ReportFault}
 use Rattle.station_core.specs.Ends.{NoneFailed, OneFailed}
 use Rattle.reports.specs.Ended.{StopsBy, StopsWriting}
-use Rattle.station_core.specs.Texts.{flight_date_text}
-use Rattle.reports.specs.Layout.{right, left}
-use Rattle.reports.specs.Lines.{line, holder_text, amount_text, moment_text, places_text, flight_or_none, notified_or_none, open_or, stock_line, shed_line, flight_line, expected_line, irregular_line, book_line, message_lines, trail_line, end_line}
-use Rattle.reports.specs.Progress.{Progress, IsWhy, Waits, HasGone, HasStuck, Takes, Ends}
+use Rattle.reports.specs.Progress.{Progress, Waits, HasGone, HasStuck, Takes, Ends}
 use Rattle.reports.proofs.Telling.{Took, SameName}
-
--- Each line has a byte at least, its end.
-
-line_some : (fields : List (List ℕ)) → 0 < length (line fields)
-line_some fields = omega (arith, length-append (join_with_byte 32 fields) (10 ∷ []))
-
-pub stock_some : (row : StockRun) → 0 < length (stock_line row)
-stock_some row =
-    line_some (padded 3 (prefix_of row.first) ∷ padded 7 (serial_of row.first) ∷ padded 7 (serial_of row.first + row.count - 1)
-    ∷ right 8 (decimal row.count) ∷ holder_text row.holder ∷ [])
-
-pub shed_some : (row : ShedRow) → 0 < length (shed_line row)
-shed_some row =
-    line_some (number_text row.awb ∷ (row.origin ++ row.destination) ∷ codes "free" ∷ amount_text row.free.pieces row.free.tenths
-    ∷ codes "built" ∷ amount_text row.built.pieces row.built.tenths ∷ notified_or_none row.notified ∷ [])
-
-pub flight_some : (row : FlightRow) → 0 < length (flight_line row)
-flight_some row =
-    line_some (left 18 (flight_date_text row.noted.flight) ∷ row.noted.outbound.unload ∷ right 4 (decimal row.waybills)
-    ∷ amount_text row.pieces row.tenths ∷ open_or row.noted.outbound.closed (codes "closed") ∷ [])
-
-pub expected_some : (row : ExpectedRow) → 0 < length (expected_line row)
-expected_some row =
-    line_some (left 18 (flight_date_text row.expectation.flight) ∷ number_text row.expectation.awb ∷ (row.origin ++ row.destination)
-    ∷ amount_text row.expectation.expected.pieces row.expectation.expected.tenths
-    ∷ open_or row.expectation.expected.checked (codes "checked") ∷ [])
-
-pub irregular_some : (row : IrregularRow) → 0 < length (irregular_line row)
-irregular_some row =
-    line_some (number_text row.awb ∷ (row.origin ++ row.destination) ∷ codes "missing" ∷ amount_text row.missing.pieces row.missing.tenths
-    ∷ codes "found" ∷ amount_text row.found.pieces row.found.tenths ∷ [])
-
-pub book_some : (row : BookRow) → 0 < length (book_line row)
-book_some row =
-    line_some (right 8 (decimal row.number) ∷ moment_text row.movement.at ∷ number_text row.movement.awb
-    ∷ places_text row.movement.from row.movement.to ∷ amount_text row.movement.pieces row.movement.tenths
-    ∷ flight_or_none row.movement.flight ∷ [])
-
-abbrev message_head : Message → List ℕ
-message_head message = line (codes "MESSAGE" ∷ decimal message.number ∷ decimal (length message.text) ∷ [])
-
-pub message_some : (row : Message) → 0 < length (message_lines row)
-message_some row =
-    omega (arith, length-append (message_head row) row.text, line_some (codes "MESSAGE" ∷ decimal row.number ∷ decimal (length row.text) ∷ []))
-
-pub trail_some : (row : TrailRow) → 0 < length (trail_line row)
-trail_some row = line_some (number_text row.awb ∷ row.line ∷ [])
 
 -- all goes well: what stands in front went out with a byte behind it, or waits
 pub record GoesOn (start : Given) (front : List ℕ) (p : Progress) : Type 0 where
@@ -131,21 +70,21 @@ goes_on : (start : Given) (front line : List ℕ) (p q : Progress) → 0 < lengt
 goes_on start front line p q some g (inl stays, rows, same) = waits_on start front line p q g stays same
 goes_on start front line p q some g (inr went, rows, same) = gone_on start front line p q some g went same
 
-module _ {S Row N : Type 0} (P : S → Progress) (line : Row → List ℕ) (name : S → N) (some : (row : Row) → 0 < length (line row)) where
+module _ {S Row N : Type 0} (P : S → Progress) (piece : ℕ → Row → List ℕ) (end : ℕ → List ℕ) (name : S → N) (some : (n : ℕ) (row : Row) → 0 < length (piece n row)) where
   -- what was handed out so far
-  stands : (rows : List Row) (start : Given) (front : List ℕ) (old new : S) → HandedOut (Took P line (SameName P line name)) rows old new → GoesOn start front (P old) → Stands start front (P new)
+  stands : (rows : List Row) (start : Given) (front : List ℕ) (old new : S) → HandedOut (Took P piece (SameName P piece name)) rows old new → GoesOn start front (P old) → Stands start front (P new)
   stands [] start front old new h g = inl (subst (λ (s : S). GoesOn start front (P s)) (sym h) g)
-  stands (row ∷ rows) start front old new (true, mid, took, more) g = stands rows start front mid new more (goes_on start front (line row) (P old) (P mid) (some row) g took.1)
+  stands (row ∷ rows) start front old new (true, mid, took, more) g = stands rows start front mid new more (goes_on start front (piece (P old).rows row) (P old) (P mid) (some (P old).rows row) g took.1)
   stands (row ∷ rows) start front old new (false, mid, took, more) g =
       let why : ReportCause = took.1.0 in
-      let stop : HasStopped start front (P mid) = record { why = why; cause = took.1.1; stops = stuck_at start front (line row) why (P old) (P mid) g took.1.2 } in
+      let stop : HasStopped start front (P mid) = record { why = why; cause = took.1.1; stops = stuck_at start front (piece (P old).rows row) why (P old) (P mid) g took.1.2 } in
       inr (subst (λ (s : S). HasStopped start front (P s)) (sym more) stop)
 
   -- by how the sink ended
   ended : (start : Given) (front : List ℕ) (read : Result (Unit {0}) ActFault) (r : Result (Unit {0}) ReportFault) (mid new : S)
       → ((why : ReportCause) → (P mid).cause ≡ Some why → (r ≡ Err (record { sent = (P mid).sent; cause = why })) × (new ≡ mid))
       → ((P mid).cause ≡ None → IfErr read (λ e. (r ≡ Err (record { sent = (P mid).sent; cause = cause.Act e })) × (new ≡ mid)))
-      → ((P mid).cause ≡ None → OnOk read (Ends (P mid) (P new) r))
+      → ((P mid).cause ≡ None → OnOk read (Ends end (P mid) (P new) r))
       → Stands start front (P mid) → StopsWriting front start (P new).given r
   ended start front read r mid new cut unread ends (inr h) =
       let told = cut h.why h.cause in
@@ -156,15 +95,15 @@ module _ {S Row N : Type 0} (P : S → Progress) (line : Row → List ℕ) (name
   ended start front (Ok x) (Ok y) mid new cut unread ends (inl g) = let went = ends g.cause in none_behind start (P mid).given (P new).given g.none went.failures went.idle
   ended start front (Ok x) (Err f) mid new cut unread ends (inl g) =
       let went = ends g.cause in
-      subst (λ n. StopsBy front f.cause n start (P new).given) (sym went.1) (stuck_at start front (end_line (P mid).rows) f.cause (P mid) (P new) g went.0)
+      subst (λ n. StopsBy front f.cause n start (P new).given) (sym went.1) (stuck_at start front (end (P mid).rows) f.cause (P mid) (P new) g went.0)
 
   -- how the writing of a report ends, by how its rows were handed out and how the sink ended
   pub stops : (read : Result (Unit {0}) ActFault) (r : Result (Unit {0}) ReportFault) (old mid new : S)
       → (P old).sent ≡ 0 → (P old).cause ≡ None
-      → ((rows : List Row) × HandedOut (Took P line (SameName P line name)) rows old mid)
+      → ((rows : List Row) × HandedOut (Took P piece (SameName P piece name)) rows old mid)
       → ((why : ReportCause) → (P mid).cause ≡ Some why → (r ≡ Err (record { sent = (P mid).sent; cause = why })) × (new ≡ mid))
       → ((P mid).cause ≡ None → IfErr read (λ e. (r ≡ Err (record { sent = (P mid).sent; cause = cause.Act e })) × (new ≡ mid)))
-      → ((P mid).cause ≡ None → OnOk read (Ends (P mid) (P new) r))
+      → ((P mid).cause ≡ None → OnOk read (Ends end (P mid) (P new) r))
       → StopsWriting (P old).waiting (P old).given (P new).given r
   stops read r old mid new none_sent no_cause took cut unread ends =
       let held : length (P old).waiting ≤ (P old).sent + length (P old).waiting = omega arith in

@@ -1,9 +1,7 @@
 -- What goes out while rows are taken.
 use Rattle.std.proofs.Common.{arith, ◌≡◌, ◌∙◌, ap, sym, refl, subst, ◌⊎◌, inl, inr, ℕ, ◌+◌, ◌≤◌, Bool, true, false, Some, None, Result, Ok, Err, List, [], ◌∷◌, ◌++◌, length, take, drop, append_assoc, length-append, OnOk, OnErr, IfErr}
-use Rattle.std.specs.List.{flat_map}
 use Rattle.std.proofs.Math.Seq.{take-append-add, take-append_seam}
 use Rattle.std.proofs.lemmas.List.{take-append-le, take-append-drop}
-use Rattle.std.proofs.lemmas.Grind.{flat_map-append}
 use Rattle.station_core.specs.Given.{Given}
 use Rattle.station_core.specs.Keeping.{IsReadersFault}
 use Rattle.row_sinks.specs.Handed.{HandedOut}
@@ -13,7 +11,7 @@ use Rattle.reports.specs.declared.fault.ReportCause.TheVariants as cause
 use Rattle.reports.specs.declared.fault.ReportFault.{ReportFault}
 use Rattle.reports.specs.Progress.{Progress, IsWhy, Waits, HasGone, HasStuck, Takes, Ends}
 use Rattle.reports.specs.Ended.{HasTold, IsBegun, IsCause, HasEnded}
-use Rattle.reports.specs.Lines.{end_line, report_text}
+use Rattle.reports.specs.Pieces.{pieces_of, whole_text}
 
 -- all of the text went out, but for what waits
 pub record IsWhole (start : Given) (text : List ℕ) (rows : ℕ) (p : Progress) : Type 0 where
@@ -111,30 +109,39 @@ none_more n = omega arith
 one_more : {A : Type 0} (n : ℕ) (x : A) (xs : List A) → (n + 1) + length xs ≡ n + length (x ∷ xs)
 one_more n x xs = omega arith
 
-module _ {S Row : Type 0} (P : S → Progress) (line : Row → List ℕ) (same : S → S → Type 0) where
-  abbrev pub Took : S → Row → Bool → S → Type 0
-  Took old row go new = same old new × Takes (line row) (P old) go (P new)
+-- pieces of rows behind one another
+pieces_append : {Row : Type 0} (piece : ℕ → Row → List ℕ) (n : ℕ) (xs ys : List Row) → pieces_of piece n (xs ++ ys) ≡ pieces_of piece n xs ++ pieces_of piece (n + length xs) ys
+pieces_append piece n [] ys = ap (λ k. pieces_of piece k ys) (none_more n)
+pieces_append piece n (x ∷ xs) ys =
+    ap (λ t. piece n x ++ t) (pieces_append piece (n + 1) xs ys) ∙ sym (append_assoc (piece n x) (pieces_of piece (n + 1) xs) (pieces_of piece ((n + 1) + length xs) ys))
+    ∙ ap (λ k. (piece n x ++ pieces_of piece (n + 1) xs) ++ pieces_of piece k ys) (one_more n x xs)
 
-  pub handed : (rows : List Row) (start : Given) (text : List ℕ) (n : ℕ) (old new : S) → HandedOut Took rows old new → IsWhole start text n (P old) → Handed start (text ++ flat_map line rows) (n + length rows) (P new)
+module _ {S Row : Type 0} (P : S → Progress) (piece : ℕ → Row → List ℕ) (same : S → S → Type 0) where
+  abbrev pub Took : S → Row → Bool → S → Type 0
+  Took old row go new = same old new × Takes (piece (P old).rows row) (P old) go (P new)
+
+  pub handed : (rows : List Row) (start : Given) (text : List ℕ) (n : ℕ) (old new : S) → HandedOut Took rows old new → IsWhole start text n (P old) → Handed start (text ++ pieces_of piece n rows) (n + length rows) (P new)
   handed [] start text n old new h w =
       let same_text = sym (append_nil text) in
       inl (subst (λ (s : S). IsWhole start (text ++ []) (n + 0) (P s)) (sym h) (subst (λ t. IsWhole start t (n + 0) (P old)) same_text (subst (λ k. IsWhole start text k (P old)) (none_more n) w)))
   handed (row ∷ rows) start text n old new (true, mid, took, more) w =
-      let next = added start text (line row) n (P old) (P mid) w took.1 in
-      let rest = handed rows start (text ++ line row) (n + 1) mid new more next in
-      subst (λ t. Handed start t (n + length (row ∷ rows)) (P new)) (append_assoc text (line row) (flat_map line rows))
-      (subst (λ k. Handed start ((text ++ line row) ++ flat_map line rows) k (P new)) (one_more n row rows) rest)
+      let one : Takes (piece n row) (P old) true (P mid) = subst (λ k. Takes (piece k row) (P old) true (P mid)) w.rows_are took.1 in
+      let next = added start text (piece n row) n (P old) (P mid) w one in
+      let rest = handed rows start (text ++ piece n row) (n + 1) mid new more next in
+      subst (λ t. Handed start t (n + length (row ∷ rows)) (P new)) (append_assoc text (piece n row) (pieces_of piece (n + 1) rows))
+      (subst (λ k. Handed start ((text ++ piece n row) ++ pieces_of piece (n + 1) rows) k (P new)) (one_more n row rows) rest)
   handed (row ∷ rows) start text n old new (false, mid, took, more) w =
-      let why : ReportCause = took.1.0 in
-      let got = took.1.2 in
-      let cut : IsCut start (text ++ flat_map line (row ∷ rows)) (P mid) = record {
+      let one : Takes (piece n row) (P old) false (P mid) = subst (λ k. Takes (piece k row) (P old) false (P mid)) w.rows_are took.1 in
+      let why : ReportCause = one.0 in
+      let got = one.2 in
+      let cut : IsCut start (text ++ pieces_of piece n (row ∷ rows)) (P mid) = record {
         why = why;
-        cause = took.1.1;
+        cause = one.1;
         fault = why_cause why (P old).given (P mid).given got.cause;
-        begun = subst (λ t. IsBegun t (record { sent = (P mid).sent; cause = why }) start (P mid).given) (append_assoc text (line row) (flat_map line rows))
-            (longer (text ++ line row) (flat_map line rows) (record { sent = (P mid).sent; cause = why }) start (P mid).given (stuck start text (line row) n why (P old) (P mid) w got));
+        begun = subst (λ t. IsBegun t (record { sent = (P mid).sent; cause = why }) start (P mid).given) (append_assoc text (piece n row) (pieces_of piece (n + 1) rows))
+            (longer (text ++ piece n row) (pieces_of piece (n + 1) rows) (record { sent = (P mid).sent; cause = why }) start (P mid).given (stuck start text (piece n row) n why (P old) (P mid) w got));
       } in
-      inr (subst (λ (s : S). IsCut start (text ++ flat_map line (row ∷ rows)) (P s)) (sym more) cut)
+      inr (subst (λ (s : S). IsCut start (text ++ pieces_of piece n (row ∷ rows)) (P s)) (sym more) cut)
 
 -- nothing went out yet
 pub start_whole : (p : Progress) → p.rows ≡ 0 → p.sent ≡ 0 → p.cause ≡ None → IsWhole p.given p.waiting 0 p
@@ -146,16 +153,16 @@ whole_begun start text n p e w =
     let part : w.out ≡ take p.sent text = sym (take-append_seam w.out p.waiting) ∙ ap (λ k. take k (w.out ++ p.waiting)) (sym w.sent) ∙ ap (λ t. take p.sent t) w.whole in
     ((fits, w.bytes ∙ ap (λ t. start.bytes ++ t) part), (w.failures, w.idle))
 
-module _ (start : Given) (text : List ℕ) (n : ℕ) (p q : Progress) (Open : Type 0) where
-  whole_ends : (r : Result (Unit {0}) ReportFault) → IsWhole start text n p → Ends p q r → HasEnded Open (text ++ end_line n) start q.given r
+module _ (start : Given) (text : List ℕ) (n : ℕ) (p q : Progress) (Open : Type 0) (end : ℕ → List ℕ) where
+  whole_ends : (r : Result (Unit {0}) ReportFault) → IsWhole start text n p → Ends end p q r → HasEnded Open (text ++ end n) start q.given r
   whole_ends (Ok x) w g =
-      g.bytes ∙ ap (λ k. p.given.bytes ++ (p.waiting ++ end_line k)) w.rows_are ∙ ap (λ t. t ++ (p.waiting ++ end_line n)) w.bytes
-      ∙ append_assoc start.bytes w.out (p.waiting ++ end_line n)
-      ∙ ap (λ t. start.bytes ++ t) (sym (append_assoc w.out p.waiting (end_line n)) ∙ ap (λ t. t ++ end_line n) w.whole)
+      g.bytes ∙ ap (λ k. p.given.bytes ++ (p.waiting ++ end k)) w.rows_are ∙ ap (λ t. t ++ (p.waiting ++ end n)) w.bytes
+      ∙ append_assoc start.bytes w.out (p.waiting ++ end n)
+      ∙ ap (λ t. start.bytes ++ t) (sym (append_assoc w.out p.waiting (end n)) ∙ ap (λ t. t ++ end n) w.whole)
   whole_ends (Err e) w s =
-      let begun = stuck start text (end_line p.rows) n e.cause p q w s.0 in
-      let sent = subst (λ k. IsBegun (text ++ end_line p.rows) (record { sent = k; cause = e.cause }) start q.given) (sym s.1) begun in
-      (subst (λ k. IsBegun (text ++ end_line k) e start q.given) w.rows_are sent, λ _. why_cause e.cause p.given q.given s.0.cause)
+      let begun = stuck start text (end p.rows) n e.cause p q w s.0 in
+      let sent = subst (λ k. IsBegun (text ++ end p.rows) (record { sent = k; cause = e.cause }) start q.given) (sym s.1) begun in
+      (subst (λ k. IsBegun (text ++ end k) e start q.given) w.rows_are sent, λ _. why_cause e.cause p.given q.given s.0.cause)
 
   -- a sink that takes no more
   cut_ends : (more : List ℕ) (r : Result (Unit {0}) ReportFault) (c : IsCut start text p) → r ≡ Err (record { sent = p.sent; cause = c.why }) → q ≡ p → HasEnded Open (text ++ more) start q.given r
@@ -166,9 +173,9 @@ module _ (start : Given) (text : List ℕ) (n : ℕ) (p q : Progress) (Open : Ty
 
   pub finished : (r : Result (Unit {0}) ReportFault)
       → ((why : ReportCause) → p.cause ≡ Some why → (r ≡ Err (record { sent = p.sent; cause = why })) × (q ≡ p))
-      → (p.cause ≡ None → Ends p q r) → Handed start text n p → HasEnded Open (text ++ end_line n) start q.given r
+      → (p.cause ≡ None → Ends end p q r) → Handed start text n p → HasEnded Open (text ++ end n) start q.given r
   finished r cut ends (inl w) = whole_ends r w (ends w.cause)
-  finished r cut ends (inr c) = let told = cut c.why c.cause in cut_ends (end_line n) r c told.0 told.1
+  finished r cut ends (inr c) = let told = cut c.why c.cause in cut_ends (end n) r c told.0 told.1
 
   -- the reader ended before its end
   pub unfinished : (e : ActFault) (more : List ℕ) (r : Result (Unit {0}) ReportFault)
@@ -195,40 +202,40 @@ module _ {S Row : Type 0} (takes : S → Row → Bool → S → Type 0) (these :
   part_of_these (Ok x) handed = tt
   part_of_these (Err e) handed = handed these refl
 
-module _ {S Row N : Type 0} (P : S → Progress) (line : Row → List ℕ) (name : S → N) where
+module _ {S Row N : Type 0} (P : S → Progress) (piece : ℕ → Row → List ℕ) (name : S → N) where
   abbrev pub SameName : S → S → Type 0
   SameName old new = name new ≡ name old
 
   -- the sink keeps its writer
-  pub handed_same : (rows : List Row) (old new : S) → HandedOut (Took P line SameName) rows old new → name new ≡ name old
+  pub handed_same : (rows : List Row) (old new : S) → HandedOut (Took P piece SameName) rows old new → name new ≡ name old
   handed_same [] old new h = ap name h
   handed_same (row ∷ rows) old new (true, mid, took, more) = handed_same rows mid new more ∙ took.0
   handed_same (row ∷ rows) old new (false, mid, took, more) = ap name more ∙ took.0
 
   -- how a report ends, by how its rows were handed out and how the sink ended
-  pub reported : (read : Result (Unit {0}) ActFault) (r : Result (Unit {0}) ReportFault) (Open : Type 0) (rows : List Row) (old mid new : S)
+  pub reported : (end : ℕ → List ℕ) (read : Result (Unit {0}) ActFault) (r : Result (Unit {0}) ReportFault) (Open : Type 0) (rows : List Row) (old mid new : S)
       → (P old).rows ≡ 0 → (P old).sent ≡ 0 → (P old).cause ≡ None
-      → OnOk read (HandedOut (Took P line SameName) rows old mid) → OnErr read ((n : ℕ) × HandedOut (Took P line SameName) (take n rows) old mid)
+      → OnOk read (HandedOut (Took P piece SameName) rows old mid) → OnErr read ((n : ℕ) × HandedOut (Took P piece SameName) (take n rows) old mid)
       → (Open → IfErr read IsReadersFault)
       → ((why : ReportCause) → (P mid).cause ≡ Some why → (r ≡ Err (record { sent = (P mid).sent; cause = why })) × (new ≡ mid))
       → ((P mid).cause ≡ None → IfErr read (λ e. (r ≡ Err (record { sent = (P mid).sent; cause = cause.Act e })) × (new ≡ mid)))
-      → ((P mid).cause ≡ None → OnOk read (Ends (P mid) (P new) r))
-      → HasEnded Open ((P old).waiting ++ report_text line rows) (P old).given (P new).given r
-  reported (Ok x) r Open rows old mid new no_rows none_sent no_cause all part fault cut unread ends =
+      → ((P mid).cause ≡ None → OnOk read (Ends end (P mid) (P new) r))
+      → HasEnded Open ((P old).waiting ++ whole_text piece end rows) (P old).given (P new).given r
+  reported end (Ok x) r Open rows old mid new no_rows none_sent no_cause all part fault cut unread ends =
       let start = start_whole (P old) no_rows none_sent no_cause in
-      let told = handed P line SameName rows (P old).given (P old).waiting 0 old mid all start in
-      let end = finished (P old).given ((P old).waiting ++ flat_map line rows) (0 + length rows) (P mid) (P new) Open r
+      let told = handed P piece SameName rows (P old).given (P old).waiting 0 old mid all start in
+      let done = finished (P old).given ((P old).waiting ++ pieces_of piece 0 rows) (0 + length rows) (P mid) (P new) Open end r
       (λ why is. let told = cut why is in (told.0, ap P told.1)) ends told in
-      let counted = subst (λ k. HasEnded Open (((P old).waiting ++ flat_map line rows) ++ end_line k) (P old).given (P new).given r) (zero_more (length rows)) end in
-      subst (λ t. HasEnded Open t (P old).given (P new).given r) (append_assoc (P old).waiting (flat_map line rows) (end_line (length rows))) counted
-  reported (Err e) r Open rows old mid new no_rows none_sent no_cause all part fault cut unread ends =
+      let counted = subst (λ k. HasEnded Open (((P old).waiting ++ pieces_of piece 0 rows) ++ end k) (P old).given (P new).given r) (zero_more (length rows)) done in
+      subst (λ t. HasEnded Open t (P old).given (P new).given r) (append_assoc (P old).waiting (pieces_of piece 0 rows) (end (length rows))) counted
+  reported end (Err e) r Open rows old mid new no_rows none_sent no_cause all part fault cut unread ends =
       let n : ℕ = part.0 in
       let front : List ℕ = (P old).waiting in
-      let more : List ℕ = flat_map line (drop n rows) ++ end_line (length rows) in
+      let more : List ℕ = pieces_of piece (0 + length (take n rows)) (drop n rows) ++ end (length rows) in
       let start = start_whole (P old) no_rows none_sent no_cause in
-      let told = handed P line SameName (take n rows) (P old).given front 0 old mid part.1 start in
-      let end = unfinished (P old).given (front ++ flat_map line (take n rows)) (0 + length (take n rows)) (P mid) (P new) Open e more r
+      let told = handed P piece SameName (take n rows) (P old).given front 0 old mid part.1 start in
+      let done = unfinished (P old).given (front ++ pieces_of piece 0 (take n rows)) (0 + length (take n rows)) (P mid) (P new) Open end e more r
       (λ why is. let told = cut why is in (told.0, ap P told.1)) (λ none. let told = unread none in (told.0, ap P told.1)) fault told in
-      let lines : flat_map line (take n rows) ++ flat_map line (drop n rows) ≡ flat_map line rows = sym (flat_map-append line (take n rows) (drop n rows)) ∙ ap (flat_map line) (take-append-drop n rows) in
-      let whole = append_assoc front (flat_map line (take n rows)) more ∙ ap (λ t. front ++ t) (sym (append_assoc (flat_map line (take n rows)) (flat_map line (drop n rows)) (end_line (length rows))) ∙ ap (λ t. t ++ end_line (length rows)) lines) in
-      subst (λ t. HasEnded Open t (P old).given (P new).given r) whole end
+      let lines : pieces_of piece 0 (take n rows) ++ pieces_of piece (0 + length (take n rows)) (drop n rows) ≡ pieces_of piece 0 rows = sym (pieces_append piece 0 (take n rows) (drop n rows)) ∙ ap (pieces_of piece 0) (take-append-drop n rows) in
+      let whole = append_assoc front (pieces_of piece 0 (take n rows)) more ∙ ap (λ t. front ++ t) (sym (append_assoc (pieces_of piece 0 (take n rows)) (pieces_of piece (0 + length (take n rows)) (drop n rows)) (end (length rows))) ∙ ap (λ t. t ++ end (length rows)) lines) in
+      subst (λ t. HasEnded Open t (P old).given (P new).given r) whole done

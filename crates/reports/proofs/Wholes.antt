@@ -1,0 +1,120 @@
+-- Members behind one another are an object's.
+use Rattle.std.proofs.Common.{◌≡◌, ◌∙◌, ap, ℕ, ◌+◌, ◌-◌, List, [], ◌∷◌, ◌++◌, append_assoc, codes, decimal}
+use Rattle.serde_json.proofs.OnLiterals.{serde_json_on_literals}
+use Rattle.serde_json.specs.Data.{boolean, string}
+use Rattle.serde_json.specs.Written.{compact_text}
+use Rattle.awb_number.specs.Digits.{padded}
+use Rattle.awb_number.specs.Number.{number_text, prefix_of, serial_of}
+use Rattle.imp_fields.specs.Flight.{flight_text}
+use Rattle.station_days.specs.Date.{LocalMinute}
+use Rattle.desk_commands.specs.Day.{day_line}
+use Rattle.agent_stock.specs.declared.runs.StockRun.{StockRun}
+use Rattle.agent_stock.specs.declared.stock.Holder.{Holder}
+use Rattle.shipment_machine.specs.declared.flight.FlightDate.{FlightDate}
+use Rattle.shipment_machine.specs.declared.moves.Place.{Place}
+use Rattle.station_core.specs.declared.rows.Message.{Message}
+use Rattle.station_core.specs.declared.rows.TrailRow.{TrailRow}
+use Rattle.station_core.specs.declared.rows.IrregularRow.{IrregularRow}
+use Rattle.station_core.specs.declared.rows.ShedRow.{ShedRow}
+use Rattle.station_core.specs.declared.rows.FlightRow.{FlightRow}
+use Rattle.station_core.specs.declared.rows.ExpectedRow.{ExpectedRow}
+use Rattle.station_core.specs.declared.rows.BookRow.{BookRow}
+use Rattle.reports.specs.Layout.{clock_text}
+use Rattle.reports.specs.Lines.{place_text}
+use Rattle.reports.specs.Members.{amount_members, flight_members, holder_members, moment_members, numbered_members, place_members, route_members, serial_members}
+use Rattle.reports.specs.Objects.{amount_data, book_data, expected_data, flight_data, flight_or_null, holder_word, holder_name, irregular_data, message_data, trail_data, shed_data, stock_data}
+
+two : (k a l b x : List ℕ) → (k ++ (a ++ (l ++ b))) ++ x ≡ k ++ (a ++ (l ++ (b ++ x)))
+two k a l b x = simp append_assoc
+
+three : (k a l b m c x : List ℕ) → (k ++ (a ++ (l ++ (b ++ (m ++ c))))) ++ x ≡ k ++ (a ++ (l ++ (b ++ (m ++ (c ++ x)))))
+three k a l b m c x = simp append_assoc
+
+put : (old k a l t x : List ℕ) → ((old ++ (k ++ (a ++ l))) ++ t) ++ x ≡ old ++ (k ++ (a ++ (l ++ (t ++ x))))
+put old k a l t x = simp append_assoc
+
+route_more : (w : ℕ) (origin destination x : List ℕ) → route_members w origin destination ++ x
+    ≡ codes "\"awb\":" ++ (compact_text (string (number_text w)) ++ (codes ",\"origin\":" ++ (compact_text (string origin) ++ (codes ",\"destination\":" ++ (compact_text (string destination) ++ x)))))
+route_more w origin destination x =
+    three (codes "\"awb\":") (compact_text (string (number_text w))) (codes ",\"origin\":") (compact_text (string origin)) (codes ",\"destination\":") (compact_text (string destination)) x
+
+amount_more : (pieces tenths : ℕ) (x : List ℕ) → amount_members pieces tenths ++ x ≡ codes "\"pieces\":" ++ (decimal pieces ++ (codes ",\"tenths\":" ++ (decimal tenths ++ x)))
+amount_more pieces tenths x = two (codes "\"pieces\":") (decimal pieces) (codes ",\"tenths\":") (decimal tenths) x
+
+pub shed_whole : (row : ShedRow) → codes "{" ++ (route_members row.awb row.origin row.destination ++ (codes ",\"free\":" ++ (compact_text (amount_data row.free)
+    ++ (codes ",\"built\":" ++ (compact_text (amount_data row.built) ++ (codes ",\"notified\":" ++ (compact_text (boolean row.notified) ++ codes "}"))))))) ≡ compact_text (shed_data row)
+unfolding serde_json_on_literals
+shed_whole row = ap (λ t. codes "{" ++ t) (route_more row.awb row.origin row.destination _)
+
+pub irregular_whole : (row : IrregularRow) → codes "{" ++ (route_members row.awb row.origin row.destination ++ (codes ",\"missing\":" ++ (compact_text (amount_data row.missing)
+    ++ (codes ",\"found\":" ++ (compact_text (amount_data row.found) ++ codes "}"))))) ≡ compact_text (irregular_data row)
+unfolding serde_json_on_literals
+irregular_whole row = ap (λ t. codes "{" ++ t) (route_more row.awb row.origin row.destination _)
+
+serial_more : (run : StockRun) (x : List ℕ) → serial_members run ++ x
+    ≡ codes "\"prefix\":" ++ (compact_text (string (padded 3 (prefix_of run.first))) ++ (codes ",\"first\":" ++ (compact_text (string (padded 7 (serial_of run.first)))
+    ++ (codes ",\"last\":" ++ (compact_text (string (padded 7 (serial_of run.first + run.count - 1))) ++ x)))))
+serial_more run x =
+    three (codes "\"prefix\":") (compact_text (string (padded 3 (prefix_of run.first)))) (codes ",\"first\":") (compact_text (string (padded 7 (serial_of run.first)))) (codes ",\"last\":") (compact_text (string (padded 7 (serial_of run.first + run.count - 1)))) x
+
+holder_more : (holder : Holder) (x : List ℕ) → holder_members holder ++ x ≡ codes "\"holder\":" ++ (compact_text (string (holder_word holder)) ++ (codes ",\"name\":" ++ (compact_text (string (holder_name holder)) ++ x)))
+holder_more holder x = two (codes "\"holder\":") (compact_text (string (holder_word holder))) (codes ",\"name\":") (compact_text (string (holder_name holder))) x
+
+flight_more : (f : FlightDate) (x : List ℕ) → flight_members f ++ x ≡ codes "\"flight\":" ++ (compact_text (string (flight_text f.flight)) ++ (codes ",\"date\":" ++ (compact_text (string (day_line f.day)) ++ x)))
+flight_more f x = two (codes "\"flight\":") (compact_text (string (flight_text f.flight))) (codes ",\"date\":") (compact_text (string (day_line f.day))) x
+
+moment_more : (at : LocalMinute) (x : List ℕ) → moment_members at ++ x ≡ codes "\"date\":" ++ (compact_text (string (day_line at.day)) ++ (codes ",\"time\":" ++ (compact_text (string (clock_text at.minute)) ++ x)))
+moment_more at x = two (codes "\"date\":") (compact_text (string (day_line at.day))) (codes ",\"time\":") (compact_text (string (clock_text at.minute))) x
+
+place_more : (from to : Place) (x : List ℕ) → place_members from to ++ x ≡ codes "\"from\":" ++ (compact_text (string (place_text from)) ++ (codes ",\"to\":" ++ (compact_text (string (place_text to)) ++ x)))
+place_more from to x = two (codes "\"from\":") (compact_text (string (place_text from))) (codes ",\"to\":") (compact_text (string (place_text to))) x
+
+pub stock_whole : (row : StockRun) → codes "{" ++ (serial_members row ++ (codes ",\"count\":" ++ (decimal row.count ++ (codes "," ++ (holder_members row.holder ++ (codes "}"))))))
+    ≡ compact_text (stock_data row)
+unfolding serde_json_on_literals
+stock_whole row =
+    ap (λ t. codes "{" ++ (serial_members row ++ (codes ",\"count\":" ++ (decimal row.count ++ (codes "," ++ t))))) (holder_more row.holder (codes "}"))
+    ∙ ap (λ t. codes "{" ++ t) (serial_more row _)
+
+pub flight_whole : (row : FlightRow) → codes "{" ++ (flight_members row.noted.flight ++ (codes ",\"unload\":" ++ (compact_text (string row.noted.outbound.unload) ++ (codes ",\"waybills\":" ++ (decimal row.waybills ++ (codes "," ++ (amount_members row.pieces row.tenths ++ (codes ",\"closed\":" ++ (compact_text (boolean row.noted.outbound.closed) ++ (codes "}"))))))))))
+    ≡ compact_text (flight_data row)
+unfolding serde_json_on_literals
+flight_whole row =
+    ap (λ t. codes "{" ++ (flight_members row.noted.flight ++ (codes ",\"unload\":" ++ (compact_text (string row.noted.outbound.unload) ++ (codes ",\"waybills\":" ++ (decimal row.waybills ++ (codes "," ++ t)))))))
+    (amount_more row.pieces row.tenths (codes ",\"closed\":" ++ (compact_text (boolean row.noted.outbound.closed) ++ codes "}")))
+    ∙ ap (λ t. codes "{" ++ t) (flight_more row.noted.flight _)
+
+pub expected_whole : (row : ExpectedRow) → codes "{" ++ (flight_members row.expectation.flight ++ (codes "," ++ (route_members row.expectation.awb row.origin row.destination ++ (codes "," ++ (amount_members row.expectation.expected.pieces row.expectation.expected.tenths ++ (codes ",\"checked\":" ++ (compact_text (boolean row.expectation.expected.checked) ++ (codes "}"))))))))
+    ≡ compact_text (expected_data row)
+unfolding serde_json_on_literals
+expected_whole row =
+    let e = row.expectation in
+    let last : List ℕ = codes ",\"checked\":" ++ (compact_text (boolean e.expected.checked) ++ codes "}") in
+    ap (λ t. codes "{" ++ (flight_members e.flight ++ (codes "," ++ (route_members e.awb row.origin row.destination ++ (codes "," ++ t))))) (amount_more e.expected.pieces e.expected.tenths last)
+    ∙ ap (λ t. codes "{" ++ (flight_members e.flight ++ (codes "," ++ t))) (route_more e.awb row.origin row.destination _)
+    ∙ ap (λ t. codes "{" ++ t) (flight_more e.flight _)
+
+numbered_more : (row : BookRow) (x : List ℕ) → numbered_members row ++ x
+    ≡ codes "\"number\":" ++ (decimal row.number ++ (codes "," ++ (moment_members row.movement.at ++ (codes ",\"awb\":" ++ (compact_text (string (number_text row.movement.awb)) ++ x)))))
+numbered_more row x = three (codes "\"number\":") (decimal row.number) (codes ",") (moment_members row.movement.at) (codes ",\"awb\":") (compact_text (string (number_text row.movement.awb))) x
+
+pub book_whole : (row : BookRow) → codes "{" ++ (numbered_members row ++ (codes "," ++ (place_members row.movement.from row.movement.to
+    ++ (codes "," ++ (amount_members row.movement.pieces row.movement.tenths ++ (codes ",\"flight\":" ++ (compact_text (flight_or_null row.movement.flight) ++ codes "}"))))))) ≡ compact_text (book_data row)
+unfolding serde_json_on_literals
+book_whole row =
+    let m = row.movement in
+    let last : List ℕ = codes ",\"flight\":" ++ (compact_text (flight_or_null m.flight) ++ codes "}") in
+    ap (λ t. codes "{" ++ (numbered_members row ++ (codes "," ++ (place_members m.from m.to ++ (codes "," ++ t))))) (amount_more m.pieces m.tenths last)
+    ∙ ap (λ t. codes "{" ++ (numbered_members row ++ (codes "," ++ t))) (place_more m.from m.to _)
+    ∙ ap (λ t. codes "{" ++ t) (numbered_more row _)
+    ∙ ap (λ t. codes "{\"number\":" ++ (decimal row.number ++ (codes "," ++ t))) (moment_more m.at _)
+
+-- a number and a text, as they are put
+pub message_put : (old : List ℕ) (row : Message) → ((old ++ (codes "{\"number\":" ++ (decimal row.number ++ codes ",\"text\":"))) ++ compact_text (string row.text)) ++ 125 ∷ [] ≡ old ++ compact_text (message_data row)
+unfolding serde_json_on_literals
+message_put old row = put old (codes "{\"number\":") (decimal row.number) (codes ",\"text\":") (compact_text (string row.text)) (125 ∷ [])
+
+-- a waybill and a line
+pub trail_put : (old : List ℕ) (row : TrailRow) → ((old ++ (codes "{\"awb\":" ++ (compact_text (string (number_text row.awb)) ++ codes ",\"line\":"))) ++ compact_text (string row.line)) ++ 125 ∷ [] ≡ old ++ compact_text (trail_data row)
+unfolding serde_json_on_literals
+trail_put old row = put old (codes "{\"awb\":") (compact_text (string (number_text row.awb))) (codes ",\"line\":") (compact_text (string row.line)) (125 ∷ [])

@@ -1,0 +1,14 @@
+use Rattle.std.proofs.Common.{◌∙◌, ap, ℕ, List, ◌++◌, codes, string_bytes}
+use Rattle.serde_json.specs.Data.{string}
+use Rattle.serde_json.specs.Written.{compact_text}
+use Rattle.desk_commands.proofs.Written.{told}
+use Rattle.reports.proofs.objects.holder_members.Goals as goal
+
+pub returns : goal.returns
+returns c =
+    let text : List ℕ → List ℕ = λ t. compact_text (string t) in
+    let word = c.in_ok-word.ensures ∙ ap text c.holder_word.ensures in
+    let name = c.in_ok-name.ensures ∙ ap text c.holder_name.ensures in
+    told string_bytes c.format.result _ _
+    (λ i. codes "\"holder\":" ++ (word i ++ (codes ",\"name\":" ++ (name i))))
+    c.format.ensures.ok

@@ -1,0 +1,20 @@
+use Rattle.std.proofs.Common.{rules, ◌≡◌, ◌∙◌, ap, ℕ, List, ◌++◌, codes, string_bytes}
+use Rattle.serde_json.specs.Data.{string}
+use Rattle.serde_json.specs.Written.{compact_text}
+use Rattle.awb_number.specs.Digits.{padded}
+use Rattle.awb_number.specs.Number.{prefix_of, serial_of}
+use Rattle.desk_commands.proofs.Written.{told}
+use Rattle.reports.proofs.objects.serial_members.Goals as goal
+
+pub returns : goal.returns
+returns c =
+    let text : List ℕ → List ℕ = λ t. compact_text (string t) in
+    let row = c.args.run.now in
+    let prefix_is : c.ascii_text.result.now ≡ padded 3 (prefix_of row.first) = search rules in
+    let first_is : c.ascii_text-2.result.now ≡ padded 7 (serial_of row.first) = search rules in
+    let prefix = c.in_ok-prefix.ensures ∙ ap text prefix_is in
+    let first = c.in_ok-first.ensures ∙ ap text first_is in
+    let last = c.in_ok-last.ensures ∙ ap text (c.ascii_text-3.ensures ∙ c.last_serial-last.ensures.value) in
+    told string_bytes c.format.result _ _
+    (λ i. codes "\"prefix\":" ++ (prefix i ++ (codes ",\"first\":" ++ (first i ++ (codes ",\"last\":" ++ (last i))))))
+    c.format.ensures.ok

@@ -1,0 +1,11 @@
+use Rattle.std.proofs.Common.{◌∙◌, ◌++◌, codes, string_bytes}
+use Rattle.reports.proofs.Wholes.{shed_whole}
+use Rattle.desk_commands.proofs.Written.{told}
+use Rattle.reports.proofs.objects.shed_object.Goals as goal
+
+pub returns : goal.returns
+returns c =
+    told string_bytes c.format.result _ _
+    ((λ i. codes "{" ++ (c.in_ok-route.ensures i ++ (codes ",\"free\":" ++ (c.in_ok-free.ensures i ++ (codes ",\"built\":" ++ (c.in_ok-built.ensures i ++ (codes ",\"notified\":" ++ (c.flag-notified.ensures i ++ (codes "}")))))))))
+    ∙ shed_whole c.args.row.now)
+    c.format.ensures.ok

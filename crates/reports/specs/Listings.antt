@@ -1,0 +1,107 @@
+-- Listings of a station's rows: a report, or some rows of one, in the form of lines or of JSON.
+use Rattle.std.specs.Prelude.{◌≡◌, ℕ, ◌==◌, Bool, false, not, nat_lt, if◌then◌else◌, Option, Some, List, [], ◌∷◌, ◌++◌, length, filter, drop, codes, option_map}
+use Rattle.std.specs.Str.{bytes_eq}
+use Rattle.serde_json.specs.Data.{Data, array, Items, item, no_items}
+use Rattle.serde_json.specs.Written.{compact_text}
+use Rattle.agent_stock.specs.Runs.{AreStockRuns}
+use Rattle.agent_stock.specs.declared.runs.StockRun.{StockRun}
+use Rattle.agent_stock.specs.declared.stock.Holder.{Holder}
+use Rattle.agent_stock.specs.declared.stock.Holder.TheVariants.{Agent}
+use Rattle.station_core.specs.declared.rows.FlightRow.{FlightRow}
+use Rattle.station_core.specs.declared.rows.ExpectedRow.{ExpectedRow}
+use Rattle.station_core.specs.declared.rows.BookRow.{BookRow}
+use Rattle.station_core.specs.declared.rows.TrailRow.{TrailRow}
+use Rattle.station_core.specs.Readers.{shed_rows, AreFlightRows, AreExpectedRows, irregular_rows, book_rows, pending_messages, trail_rows}
+use Rattle.station_core.specs.Step.{State}
+use Rattle.reports.specs.Lines.{stock_line, shed_line, flight_line, expected_line, irregular_line, book_line, message_lines, trail_line, report_text}
+use Rattle.reports.specs.Objects.{object_of, count_data, stock_data, shed_data, flight_data, expected_data, irregular_data, book_data, message_data, trail_data}
+use Rattle.reports.specs.Reports.{report_called}
+use Rattle.reports.specs.declared.form.Form.{Form}
+use Rattle.reports.specs.declared.form.Form.TheVariants as form
+use Rattle.reports.specs.declared.listing.Listing.{Listing}
+use Rattle.reports.specs.declared.listing.Listing.TheVariants as listing
+use Rattle.reports.specs.declared.report.Report.{Report}
+use Rattle.reports.specs.declared.report.Report.TheVariants as report
+
+-- The forms.
+
+-- the rows, in order
+abbrev pub items_of : {Row : Type 0} → (Row → Data) → List Row → Items
+items_of data_of [] = no_items
+items_of data_of (row ∷ rows) = item (data_of row) (items_of data_of rows)
+
+-- one object: the rows, and how many there are
+abbrev pub rows_data : {Row : Type 0} → (Row → Data) → List Row → Data
+rows_data data_of rows = object_of ((codes "rows", array (items_of data_of rows)) ∷ (codes "count", count_data (length rows)) ∷ [])
+
+-- lines, and the last line; or JSON, and the end of a line
+abbrev pub rows_text : {Row : Type 0} → Form → (Row → List ℕ) → (Row → Data) → List Row → List ℕ
+rows_text form.Text line_of data_of rows = report_text line_of rows
+rows_text form.Json line_of data_of rows = compact_text (rows_data data_of rows) ++ 10 ∷ []
+
+-- the text has those of the rows that are picked
+abbrev pub IsTextOf : {Row : Type 0} → Form → (Row → List ℕ) → (Row → Data) → (List Row → Type 0) → (List Row → List Row) → List ℕ → Type 0
+IsTextOf {Row} f line_of data_of AreRows picked text = (rows : List Row) × AreRows rows × (text ≡ rows_text f line_of data_of (picked rows))
+
+-- Which rows are listed.
+
+-- a noted flight that hasn't departed
+abbrev pub is_open : FlightRow → Bool
+is_open row = not row.noted.outbound.closed
+
+-- what a flight is to bring that wasn't checked in
+abbrev pub is_awaited : ExpectedRow → Bool
+is_awaited row = not row.expectation.expected.checked
+
+-- a run that this agent holds
+abbrev pub is_agent : List ℕ → Holder → Bool
+is_agent code (Agent other) = bytes_eq other code
+is_agent code _ = false
+
+abbrev pub is_held_by : List ℕ → StockRun → Bool
+is_held_by code run = is_agent code run.holder
+
+-- a movement of this waybill, and one with a greater number
+abbrev pub moves_waybill : ℕ → BookRow → Bool
+moves_waybill w row = row.movement.awb == w
+
+abbrev pub is_after : ℕ → BookRow → Bool
+is_after n row = nat_lt n row.number
+
+-- a line of this waybill's
+abbrev pub tells_of : ℕ → TrailRow → Bool
+tells_of w row = row.awb == w
+
+-- The listings.
+
+-- a whole report in a form
+abbrev pub IsWhole : Form → State → Report → List ℕ → Type 0
+IsWhole f s report.Stock text = (rows : List StockRun) × AreStockRuns s.cargo.holders rows × (text ≡ rows_text f stock_line stock_data rows)
+IsWhole f s report.Shed text = text ≡ rows_text f shed_line shed_data (shed_rows s.cargo)
+IsWhole f s report.Flights text = (rows : List FlightRow) × AreFlightRows s.cargo rows × (text ≡ rows_text f flight_line flight_data rows)
+IsWhole f s report.Expected text = (rows : List ExpectedRow) × AreExpectedRows s.cargo rows × (text ≡ rows_text f expected_line expected_data rows)
+IsWhole f s report.Irregularities text = text ≡ rows_text f irregular_line irregular_data (irregular_rows s.cargo)
+IsWhole f s report.Movements text = text ≡ rows_text f book_line book_data (book_rows s.cargo)
+IsWhole f s report.Trail text = text ≡ rows_text f trail_line trail_data (trail_rows s.cargo)
+IsWhole f s report.Pending text = text ≡ rows_text f message_lines message_data (pending_messages s.cargo)
+
+-- the text is that listing of the state in that form
+abbrev pub IsListing : Form → State → Listing → List ℕ → Type 0
+IsListing f s (listing.All r) text = IsWhole f s r text
+IsListing f s listing.OpenFlights text =
+    (rows : List FlightRow) × AreFlightRows s.cargo rows × (text ≡ rows_text f flight_line flight_data (filter is_open rows))
+IsListing f s listing.OpenExpected text =
+    (rows : List ExpectedRow) × AreExpectedRows s.cargo rows × (text ≡ rows_text f expected_line expected_data (filter is_awaited rows))
+IsListing f s (listing.AgentStock code) text =
+    (rows : List StockRun) × AreStockRuns s.cargo.holders rows × (text ≡ rows_text f stock_line stock_data (filter (is_held_by code) rows))
+IsListing f s (listing.Movements w) text = text ≡ rows_text f book_line book_data (filter (moves_waybill w) (book_rows s.cargo))
+IsListing f s (listing.MovementsAfter n) text = text ≡ rows_text f book_line book_data (filter (is_after n) (book_rows s.cargo))
+IsListing f s (listing.Trail w) text = text ≡ rows_text f trail_line trail_data (filter (tells_of w) (trail_rows s.cargo))
+IsListing f s (listing.TrailAfter n) text = text ≡ rows_text f trail_line trail_data (drop n (trail_rows s.cargo))
+
+-- the listing of a name: a report's, or one of open rows
+abbrev pub listing_called : List ℕ → Option Listing
+listing_called name =
+    if bytes_eq name (codes "open-flights") then Some listing.OpenFlights
+    else if bytes_eq name (codes "open-expected") then Some listing.OpenExpected
+    else option_map listing.All (report_called name)

@@ -1,0 +1,109 @@
+-- The rows of the reports as JSON objects. Their members follow a line's fields, and each weight is
+-- in tenths of a kilogram.
+use Rattle.std.specs.Prelude.{ℕ, ◌+◌, ◌-◌, Option, Some, None, List, [], ◌∷◌, codes}
+use Rattle.serde_json.specs.Data.{Data, null, boolean, number, unsigned, string, object, Members, member, no_members}
+use Rattle.awb_number.specs.Digits.{padded}
+use Rattle.awb_number.specs.Number.{number_text, prefix_of, serial_of}
+use Rattle.imp_fields.specs.Flight.{flight_text}
+use Rattle.desk_commands.specs.Day.{day_line}
+use Rattle.agent_stock.specs.declared.runs.StockRun.{StockRun}
+use Rattle.agent_stock.specs.declared.stock.Holder.{Holder}
+use Rattle.agent_stock.specs.declared.stock.Holder.TheVariants.{Desk, Agent, Used, Void}
+use Rattle.shipment_machine.specs.declared.amount.Amount.{Amount}
+use Rattle.shipment_machine.specs.declared.flight.FlightDate.{FlightDate}
+use Rattle.station_core.specs.Texts.{flight_date_text}
+use Rattle.station_core.specs.declared.rows.IrregularRow.{IrregularRow}
+use Rattle.station_core.specs.declared.rows.ShedRow.{ShedRow}
+use Rattle.station_core.specs.declared.rows.FlightRow.{FlightRow}
+use Rattle.station_core.specs.declared.rows.ExpectedRow.{ExpectedRow}
+use Rattle.station_core.specs.declared.rows.BookRow.{BookRow}
+use Rattle.station_core.specs.declared.rows.Message.{Message}
+use Rattle.station_core.specs.declared.rows.TrailRow.{TrailRow}
+use Rattle.reports.specs.Layout.{clock_text}
+use Rattle.reports.specs.Lines.{place_text}
+
+-- an object of these members, in order
+abbrev pub members_of : List (List ℕ × Data) → Members
+members_of [] = no_members
+members_of (m ∷ ms) = member m.0 m.1 (members_of ms)
+
+abbrev pub object_of : List (List ℕ × Data) → Data
+object_of ms = object (members_of ms)
+
+abbrev pub count_data : ℕ → Data
+count_data n = number (unsigned n)
+
+-- Stock: the prefix, the first and the last serial, how many there are, and who has them.
+abbrev pub holder_word : Holder → List ℕ
+holder_word Desk = codes "desk"
+holder_word (Agent code) = codes "agent"
+holder_word Used = codes "used"
+holder_word Void = codes "void"
+
+-- an agent's code
+abbrev pub holder_name : Holder → List ℕ
+holder_name (Agent code) = code
+holder_name _ = []
+
+abbrev pub stock_data : StockRun → Data
+stock_data row =
+    object_of ((codes "prefix", string (padded 3 (prefix_of row.first))) ∷ (codes "first", string (padded 7 (serial_of row.first)))
+    ∷ (codes "last", string (padded 7 (serial_of row.first + row.count - 1))) ∷ (codes "count", count_data row.count)
+    ∷ (codes "holder", string (holder_word row.holder)) ∷ (codes "name", string (holder_name row.holder)) ∷ [])
+
+-- Pieces and their weight.
+abbrev pub amount_data : Amount → Data
+amount_data a = object_of ((codes "pieces", count_data a.pieces) ∷ (codes "tenths", count_data a.tenths) ∷ [])
+
+-- The shed: the waybill, its route, what is free and what is built, and whether the consignee was
+-- notified.
+abbrev pub shed_data : ShedRow → Data
+shed_data row =
+    object_of ((codes "awb", string (number_text row.awb)) ∷ (codes "origin", string row.origin) ∷ (codes "destination", string row.destination)
+    ∷ (codes "free", amount_data row.free) ∷ (codes "built", amount_data row.built) ∷ (codes "notified", boolean row.notified) ∷ [])
+
+-- Irregularities: the waybill, its route, and what is missing and was found.
+abbrev pub irregular_data : IrregularRow → Data
+irregular_data row =
+    object_of ((codes "awb", string (number_text row.awb)) ∷ (codes "origin", string row.origin) ∷ (codes "destination", string row.destination)
+    ∷ (codes "missing", amount_data row.missing) ∷ (codes "found", amount_data row.found) ∷ [])
+
+-- Flights: the flight, its day, where it unloads, how many waybills are built on it, their pieces
+-- and weight, and whether it has departed.
+abbrev pub flight_data : FlightRow → Data
+flight_data row =
+    object_of ((codes "flight", string (flight_text row.noted.flight.flight)) ∷ (codes "date", string (day_line row.noted.flight.day))
+    ∷ (codes "unload", string row.noted.outbound.unload) ∷ (codes "waybills", count_data row.waybills)
+    ∷ (codes "pieces", count_data row.pieces) ∷ (codes "tenths", count_data row.tenths)
+    ∷ (codes "closed", boolean row.noted.outbound.closed) ∷ [])
+
+-- What flights are to bring: the flight, its day, the waybill, its route, what is expected, and
+-- whether it was checked in.
+abbrev pub expected_data : ExpectedRow → Data
+expected_data row =
+    object_of ((codes "flight", string (flight_text row.expectation.flight.flight)) ∷ (codes "date", string (day_line row.expectation.flight.day))
+    ∷ (codes "awb", string (number_text row.expectation.awb)) ∷ (codes "origin", string row.origin) ∷ (codes "destination", string row.destination)
+    ∷ (codes "pieces", count_data row.expectation.expected.pieces) ∷ (codes "tenths", count_data row.expectation.expected.tenths)
+    ∷ (codes "checked", boolean row.expectation.expected.checked) ∷ [])
+
+-- Movements: the number, the day, the time, the waybill, from where to where, how much, and the
+-- flight.
+abbrev pub flight_or_null : Option FlightDate → Data
+flight_or_null None = null
+flight_or_null (Some flight) = string (flight_date_text flight)
+
+abbrev pub book_data : BookRow → Data
+book_data row =
+    object_of ((codes "number", count_data row.number) ∷ (codes "date", string (day_line row.movement.at.day))
+    ∷ (codes "time", string (clock_text row.movement.at.minute)) ∷ (codes "awb", string (number_text row.movement.awb))
+    ∷ (codes "from", string (place_text row.movement.from)) ∷ (codes "to", string (place_text row.movement.to))
+    ∷ (codes "pieces", count_data row.movement.pieces) ∷ (codes "tenths", count_data row.movement.tenths)
+    ∷ (codes "flight", flight_or_null row.movement.flight) ∷ [])
+
+-- Pending messages: the number and the text.
+abbrev pub message_data : Message → Data
+message_data row = object_of ((codes "number", count_data row.number) ∷ (codes "text", string row.text) ∷ [])
+
+-- The trail: the waybill and the line that arrived.
+abbrev pub trail_data : TrailRow → Data
+trail_data row = object_of ((codes "awb", string (number_text row.awb)) ∷ (codes "line", string row.line) ∷ [])

@@ -1,0 +1,310 @@
+//! The rows as JSON objects.
+ghost use Rattle.std.specs.Prelude.{◌≡◌, ◌+◌, ◌-◌, IfOk, string_bytes};
+ghost use Rattle.std.specs.Str.{IsAscii};
+ghost use Rattle.awb_number.specs.Digits.{padded};
+ghost use Rattle.serde_json.specs.Data.{boolean, string};
+ghost use Rattle.serde_json.specs.Written.{compact_text};
+ghost use Rattle.awb_number.specs.Number.{number_text, serial_of};
+ghost use Rattle.imp_fields.specs.Flight.{flight_text};
+ghost use Rattle.desk_commands.specs.Day.{day_line};
+ghost use Rattle.reports.specs.Layout.{clock_text};
+ghost use Rattle.reports.specs.Lines.{place_text};
+ghost use Rattle.reports.specs.Members.{amount_members, flight_members, holder_members, moment_members, numbered_members, place_members, route_members, serial_members};
+ghost use Rattle.reports.specs.Objects.{amount_data, book_data, expected_data, flight_data, flight_or_null, holder_name, holder_word, irregular_data, shed_data, stock_data};
+
+use crate::layout::{clock, seven_digits};
+use crate::quoting::quoted;
+use crate::rows::place_name;
+use agent_stock::{Holder, StockRun};
+use awb_number::{Awb, ascii_text};
+use imp_fields::{Airport, BookTenths, Flight, Pieces};
+use shipment_machine::{Amount, FlightDate, Place};
+use station_core::{BookRow, Expectation, ExpectedRow, FlightRow, IrregularRow, ShedRow};
+use station_days::{LocalDay, Moment};
+use std::alloc::{AllocError, Global};
+
+/// A waybill number.
+pub(crate) fn awb_text(alloc: Global, awb: &Awb) -> Result<String, AllocError>
+    ensures { IfOk result (λ text. string_bytes text ≡ compact_text
+        (string (number_text awb.now))) }
+{
+    quoted(alloc, awb.to_string(alloc)?.as_str())
+}
+
+/// An airport.
+fn airport_text(alloc: Global, airport: &Airport) -> Result<String, AllocError>
+    ensures { IfOk result (λ text. string_bytes text ≡ compact_text (string airport.now)) }
+{
+    quoted(alloc, airport.to_string(alloc)?.as_str())
+}
+
+/// A flight.
+fn designator_text(alloc: Global, flight: &Flight) -> Result<String, AllocError>
+    ensures { IfOk result (λ text. string_bytes text ≡ compact_text
+        (string (flight_text flight.now))) }
+{
+    quoted(alloc, flight.to_string(alloc)?.as_str())
+}
+
+/// A day.
+fn date_text(alloc: Global, day: LocalDay) -> Result<String, AllocError>
+    ensures { IfOk result (λ text. string_bytes text ≡ compact_text (string (day_line day))) }
+{
+    quoted(alloc, day.to_string(alloc)?.as_str())
+}
+
+/// A minute of a day.
+fn time_text(alloc: Global, minute: u16) -> Result<String, AllocError>
+    ensures { IfOk result (λ text. string_bytes text ≡ compact_text (string (clock_text minute))) }
+{
+    let time = clock(minute);
+    quoted(alloc, ascii_text(&time))
+}
+
+/// A place, by its name.
+fn place(alloc: Global, place: &Place) -> Result<String, AllocError>
+    ensures { IfOk result (λ text. string_bytes text ≡ compact_text
+        (string (place_text place.now))) }
+{
+    quoted(alloc, place_name(place))
+}
+
+/// A waybill, and its route.
+fn route_members(
+    alloc: Global,
+    awb: &Awb,
+    origin: &Airport,
+    destination: &Airport,
+) -> Result<String, AllocError>
+    ensures { IfOk result (λ text. string_bytes text ≡ route_members awb.now origin.now
+        destination.now) }
+{
+    let awb = awb_text(alloc, awb)?;
+    let origin = airport_text(alloc, origin)?;
+    let destination = airport_text(alloc, destination)?;
+    format!(in alloc; "\"awb\":{awb},\"origin\":{origin},\"destination\":{destination}")
+}
+
+/// A flight, and its day.
+fn flight_members(alloc: Global, flight: &FlightDate) -> Result<String, AllocError>
+    ensures { IfOk result (λ text. string_bytes text ≡ flight_members flight.now) }
+{
+    let date = date_text(alloc, flight.day)?;
+    let flight = designator_text(alloc, &flight.flight)?;
+    format!(in alloc; "\"flight\":{flight},\"date\":{date}")
+}
+
+/// The day of a moment.
+fn day_text(alloc: Global, at: &Moment) -> Result<String, AllocError>
+    ensures { IfOk result (λ text. string_bytes text ≡ compact_text
+        (string (day_line at.now.day))) }
+{
+    let Some(day) = LocalDay::new(at.day) else {
+        unreachable!();
+    };
+    date_text(alloc, day)
+}
+
+/// The time of a moment.
+fn minute_text(alloc: Global, at: &Moment) -> Result<String, AllocError>
+    ensures { IfOk result (λ text. string_bytes text ≡ compact_text
+        (string (clock_text at.now.minute))) }
+{
+    time_text(alloc, at.minute)
+}
+
+/// A moment's day, and its time.
+fn moment_members(alloc: Global, at: &Moment) -> Result<String, AllocError>
+    ensures { IfOk result (λ text. string_bytes text ≡ moment_members at.now) }
+{
+    let date = day_text(alloc, at)?;
+    let time = minute_text(alloc, at)?;
+    format!(in alloc; "\"date\":{date},\"time\":{time}")
+}
+
+/// From where, and to where.
+fn place_members(alloc: Global, from: &Place, to: &Place) -> Result<String, AllocError>
+    ensures { IfOk result (λ text. string_bytes text ≡ place_members from.now to.now) }
+{
+    let from = place(alloc, from)?;
+    let to = place(alloc, to)?;
+    format!(in alloc; "\"from\":{from},\"to\":{to}")
+}
+
+/// Pieces, and their weight.
+fn amount_members(alloc: Global, pieces: u64, tenths: u64) -> Result<String, AllocError>
+    ensures { IfOk result (λ text. string_bytes text ≡ amount_members pieces tenths) }
+{
+    format!(in alloc; "\"pieces\":{pieces},\"tenths\":{tenths}")
+}
+
+/// Pieces that were moved or announced, and their weight.
+fn part_members(alloc: Global, pieces: Pieces, tenths: BookTenths) -> Result<String, AllocError>
+    ensures { IfOk result (λ text. string_bytes text ≡ amount_members pieces tenths) }
+{
+    amount_members(
+        alloc,
+        u64::from(pieces.number()),
+        u64::from(tenths.number()),
+    )
+}
+
+/// Pieces and their weight.
+fn amount_object(alloc: Global, amount: &Amount) -> Result<String, AllocError>
+    ensures { IfOk result (λ text. string_bytes text ≡ compact_text (amount_data amount.now)) }
+{
+    let (pieces, tenths) = (amount.pieces, amount.tenths);
+    format!(in alloc; "{{\"pieces\":{pieces},\"tenths\":{tenths}}}")
+}
+
+/// Yes or no.
+fn flag(yes: bool) -> &'static str
+    ensures { result.now ≡ compact_text (boolean yes) }
+{
+    if yes { "true" } else { "false" }
+}
+
+/// The word of a holder.
+fn holder_word(holder: &Holder) -> &'static str
+    ensures { result.now ≡ holder_word holder.now }
+{
+    match holder {
+        Holder::Desk => "desk",
+        Holder::Agent(_) => "agent",
+        Holder::Used => "used",
+        Holder::Void => "void",
+    }
+}
+
+/// The code of a holder that is an agent.
+fn holder_name(holder: &Holder) -> &str
+    ensures { result.now ≡ holder_name holder.now }
+{
+    match holder {
+        Holder::Agent(code) => code.as_str(),
+        _ => "",
+    }
+}
+
+/// The flight of a movement, or null.
+fn flight_or_null(alloc: Global, flight: &Option<FlightDate>) -> Result<String, AllocError>
+    ensures { IfOk result (λ text. string_bytes text ≡ compact_text (flight_or_null flight.now)) }
+{
+    match flight {
+        Some(flight) => quoted(alloc, flight.to_string(alloc)?.as_str()),
+        None => format!(in alloc; "null"),
+    }
+}
+
+/// The last serial of a run.
+fn last_serial(run: &StockRun) -> [u8; 7]
+    ensures value { result ≡ padded 7 (serial_of run.now.first + run.now.count - 1) }
+    ensures ascii { IsAscii result }
+{
+    let behind = u64::from(run.first.serial()) + u64::from(run.count);
+    seven_digits(behind.saturating_sub(1))
+}
+
+/// The prefix, and the first and the last serial of a run.
+fn serial_members(alloc: Global, run: &StockRun) -> Result<String, AllocError>
+    ensures { IfOk result (λ text. string_bytes text ≡ serial_members run.now) }
+{
+    let number = run.first.write();
+    let prefix = quoted(alloc, ascii_text(&number[..3]))?;
+    let first = quoted(alloc, ascii_text(&number[4..11]))?;
+    let last = last_serial(run);
+    let last = quoted(alloc, ascii_text(&last))?;
+    format!(in alloc; "\"prefix\":{prefix},\"first\":{first},\"last\":{last}")
+}
+
+/// Who has numbers.
+fn holder_members(alloc: Global, holder: &Holder) -> Result<String, AllocError>
+    ensures { IfOk result (λ text. string_bytes text ≡ holder_members holder.now) }
+{
+    let word = quoted(alloc, holder_word(holder))?;
+    let name = quoted(alloc, holder_name(holder))?;
+    format!(in alloc; "\"holder\":{word},\"name\":{name}")
+}
+
+/// A run of the stock.
+pub(crate) fn stock_object(alloc: Global, row: &StockRun) -> Result<String, AllocError>
+    ensures { IfOk result (λ text. string_bytes text ≡ compact_text (stock_data row.now)) }
+{
+    let serials = serial_members(alloc, row)?;
+    let count = row.count;
+    let holder = holder_members(alloc, &row.holder)?;
+    format!(in alloc; "{{{serials},\"count\":{count},{holder}}}")
+}
+
+/// A waybill with pieces in store.
+pub(crate) fn shed_object(alloc: Global, row: &ShedRow) -> Result<String, AllocError>
+    ensures { IfOk result (λ text. string_bytes text ≡ compact_text (shed_data row.now)) }
+{
+    let route = route_members(alloc, &row.awb, &row.origin, &row.destination)?;
+    let free = amount_object(alloc, &row.free)?;
+    let built = amount_object(alloc, &row.built)?;
+    let notified = flag(row.notified);
+    format!(in alloc; "{{{route},\"free\":{free},\"built\":{built},\"notified\":{notified}}}")
+}
+
+/// A waybill of which pieces are missing or were found.
+pub(crate) fn irregular_object(alloc: Global, row: &IrregularRow) -> Result<String, AllocError>
+    ensures { IfOk result (λ text. string_bytes text ≡ compact_text (irregular_data row.now)) }
+{
+    let route = route_members(alloc, &row.awb, &row.origin, &row.destination)?;
+    let missing = amount_object(alloc, &row.missing)?;
+    let found = amount_object(alloc, &row.found)?;
+    format!(in alloc; "{{{route},\"missing\":{missing},\"found\":{found}}}")
+}
+
+/// A flight, and what is built on it.
+pub(crate) fn flight_object(alloc: Global, row: &FlightRow) -> Result<String, AllocError>
+    ensures { IfOk result (λ text. string_bytes text ≡ compact_text (flight_data row.now)) }
+{
+    let flight = flight_members(alloc, &row.noted.flight)?;
+    let unload = airport_text(alloc, &row.noted.outbound.unload)?;
+    let waybills = row.waybills;
+    let amount = amount_members(alloc, row.pieces, row.tenths)?;
+    let closed = flag(row.noted.outbound.closed);
+    format!(in alloc;
+        "{{{flight},\"unload\":{unload},\"waybills\":{waybills},{amount},\"closed\":{closed}}}"
+    )
+}
+
+/// What a flight is to bring of a waybill.
+pub(crate) fn expected_object(alloc: Global, row: &ExpectedRow) -> Result<String, AllocError>
+    ensures { IfOk result (λ text. string_bytes text ≡ compact_text (expected_data row.now)) }
+{
+    let Expectation {
+        flight,
+        awb,
+        expected,
+    } = row.expectation;
+    let flight = flight_members(alloc, &flight)?;
+    let route = route_members(alloc, &awb, &row.origin, &row.destination)?;
+    let amount = part_members(alloc, expected.pieces, expected.tenths)?;
+    let checked = flag(expected.checked);
+    format!(in alloc; "{{{flight},{route},{amount},\"checked\":{checked}}}")
+}
+
+/// The number of a movement, its moment and its waybill.
+fn numbered_members(alloc: Global, row: &BookRow) -> Result<String, AllocError>
+    ensures { IfOk result (λ text. string_bytes text ≡ numbered_members row.now) }
+{
+    let number = row.number;
+    let moment = moment_members(alloc, &row.movement.at)?;
+    let awb = awb_text(alloc, &row.movement.awb)?;
+    format!(in alloc; "\"number\":{number},{moment},\"awb\":{awb}")
+}
+
+/// A row of the movement book.
+pub(crate) fn book_object(alloc: Global, row: &BookRow) -> Result<String, AllocError>
+    ensures { IfOk result (λ text. string_bytes text ≡ compact_text (book_data row.now)) }
+{
+    let movement = &row.movement;
+    let numbered = numbered_members(alloc, row)?;
+    let places = place_members(alloc, &movement.from, &movement.to)?;
+    let amount = part_members(alloc, movement.pieces, movement.tenths)?;
+    let flight = flight_or_null(alloc, &movement.flight)?;
+    format!(in alloc; "{{{numbered},{places},{amount},\"flight\":{flight}}}")
+}

@@ -1,0 +1,78 @@
+//! Texts as JSON strings.
+ghost use Rattle.std.specs.Prelude.{◌≡◌, ◌++◌, ◌<◌, ◌≤◌, OnOk, IfOk, string_bytes, take};
+ghost use Rattle.std.specs.Char.{digit_char};
+ghost use Rattle.json.specs.Print.{escape_letter, escape_byte, escape, quoted};
+ghost use Rattle.serde_json.specs.Data.{string};
+ghost use Rattle.serde_json.specs.Written.{compact_text};
+
+use serde_json::json;
+use std::alloc::{AllocError, Global};
+
+/// A text as a JSON string.
+pub(crate) fn quoted(alloc: Global, text: &str) -> Result<String, AllocError>
+    ensures { IfOk result (λ quoted. string_bytes quoted ≡ compact_text (string text.now)) }
+{
+    json!(in alloc; text)?.to_string(alloc)
+}
+
+/// The letter of a byte's short escape, or 0 if it has none.
+fn escape_letter(byte: u8) -> u8
+    ensures { result ≡ escape_letter byte }
+{
+    match byte {
+        b'"' | b'\\' => byte,
+        8 => b'b',
+        12 => b'f',
+        b'\n' => b'n',
+        b'\r' => b'r',
+        b'\t' => b't',
+        _ => 0,
+    }
+}
+
+/// A hexadecimal digit.
+fn hex_digit(digit: u8) -> u8
+    requires { digit < 16 }
+    ensures { result ≡ digit_char digit }
+{
+    if digit < 10 {
+        b'0' + digit
+    } else {
+        b'a' + (digit - 10)
+    }
+}
+
+/// Puts what a JSON string has for a byte behind what is there.
+#[tactic(auto, unfolding(json::specs::Print::escape_byte))]
+fn put_escaped(out: &mut Vec<u8>, byte: u8) -> Result<(), AllocError>
+    ensures { OnOk result (out.new.items ≡ out.old.items ++ escape_byte byte) }
+{
+    let letter = escape_letter(byte);
+    if letter > 0 {
+        return out.extend_from_slice(&[b'\\', letter]);
+    }
+    if byte < 0x20 {
+        let (high, low) = (hex_digit(byte / 16), hex_digit(byte % 16));
+        return out.extend_from_slice(&[b'\\', b'u', b'0', b'0', high, low]);
+    }
+    out.extend_from_slice(&[byte])
+}
+
+/// Puts what a JSON string has for each byte behind what is there.
+fn put_all_escaped(out: &mut Vec<u8>, text: &[u8]) -> Result<(), AllocError>
+    ensures { OnOk result (out.new.items ≡ out.old.items ++ escape text.now) }
+{
+    for byte in text {
+        put_escaped(out, *byte)?;
+    }
+    Ok(())
+}
+
+/// Puts bytes as a JSON string behind what is there.
+pub(crate) fn put_quoted(out: &mut Vec<u8>, text: &[u8]) -> Result<(), AllocError>
+    ensures { OnOk result (out.new.items ≡ out.old.items ++ compact_text (string text.now)) }
+{
+    out.extend_from_slice(b"\"")?;
+    put_all_escaped(out, text)?;
+    out.extend_from_slice(b"\"")
+}

@@ -1,0 +1,136 @@
+//! What a keeper hands out for each report.
+ghost use Rattle.std.specs.Prelude.{◌≡◌};
+ghost use Rattle.agent_stock.specs.Runs.{AreStockRuns};
+ghost use Rattle.station_core.specs.Readers.{shed_rows, AreFlightRows, AreExpectedRows, irregular_rows, book_rows, pending_messages, trail_rows};
+
+use agent_stock::StockRun;
+use station_core::{
+    ActFault, BookRow, ExpectedRow, FlightRow, IrregularRow, Keeper, Message, ShedRow, Sink,
+    TrailRow,
+};
+
+/// A reader of rows.
+pub(crate) trait Reading<Row> {
+    ghost use Rattle.std.specs.Prelude.{List};
+    ghost use Rattle.shipment_machine.specs.Cargo.{Cargo};
+    ghost use Rattle.station_core.specs.Keeping.{HandsOut};
+
+    /// The rows are these.
+    ghost rows: { Cargo → List Row → Type 0 };
+
+    /// Has a keeper hand out the rows.
+    fn hand_out<K: Keeper, S: Sink<Row>>(keeper: &mut K, sink: &mut S) -> Result<(), ActFault>
+        ensures { HandsOut K.keeps K.is_clean K.is_sound K.is_broken K.may_find
+            keeper.old keeper.new result S.takes rows sink.old sink.new };
+}
+
+/// The runs of the stock.
+#[derive(Drop)]
+pub(crate) struct StockReading;
+
+impl Reading<StockRun> for StockReading {
+    ghost rows = { λ s rows. AreStockRuns s.holders rows };
+
+    fn hand_out<K: Keeper, S: Sink<StockRun>>(
+        keeper: &mut K,
+        sink: &mut S,
+    ) -> Result<(), ActFault> {
+        keeper.stock(sink)
+    }
+}
+
+/// The waybills in store.
+#[derive(Drop)]
+pub(crate) struct ShedReading;
+
+impl Reading<ShedRow> for ShedReading {
+    ghost rows = { λ s rows. rows ≡ shed_rows s };
+
+    fn hand_out<K: Keeper, S: Sink<ShedRow>>(keeper: &mut K, sink: &mut S) -> Result<(), ActFault> {
+        keeper.shed(sink)
+    }
+}
+
+/// The noted flights.
+#[derive(Drop)]
+pub(crate) struct FlightReading;
+
+impl Reading<FlightRow> for FlightReading {
+    ghost rows = { λ s rows. AreFlightRows s rows };
+
+    fn hand_out<K: Keeper, S: Sink<FlightRow>>(
+        keeper: &mut K,
+        sink: &mut S,
+    ) -> Result<(), ActFault> {
+        keeper.flights(sink)
+    }
+}
+
+/// What flights are to bring.
+#[derive(Drop)]
+pub(crate) struct ExpectedReading;
+
+impl Reading<ExpectedRow> for ExpectedReading {
+    ghost rows = { λ s rows. AreExpectedRows s rows };
+
+    fn hand_out<K: Keeper, S: Sink<ExpectedRow>>(
+        keeper: &mut K,
+        sink: &mut S,
+    ) -> Result<(), ActFault> {
+        keeper.expected(sink)
+    }
+}
+
+/// The waybills of which pieces are missing or were found.
+#[derive(Drop)]
+pub(crate) struct IrregularReading;
+
+impl Reading<IrregularRow> for IrregularReading {
+    ghost rows = { λ s rows. rows ≡ irregular_rows s };
+
+    fn hand_out<K: Keeper, S: Sink<IrregularRow>>(
+        keeper: &mut K,
+        sink: &mut S,
+    ) -> Result<(), ActFault> {
+        keeper.irregular(sink)
+    }
+}
+
+/// The movement book.
+#[derive(Drop)]
+pub(crate) struct BookReading;
+
+impl Reading<BookRow> for BookReading {
+    ghost rows = { λ s rows. rows ≡ book_rows s };
+
+    fn hand_out<K: Keeper, S: Sink<BookRow>>(keeper: &mut K, sink: &mut S) -> Result<(), ActFault> {
+        keeper.book(sink)
+    }
+}
+
+/// The pending messages.
+#[derive(Drop)]
+pub(crate) struct PendingReading;
+
+impl Reading<Message> for PendingReading {
+    ghost rows = { λ s rows. rows ≡ pending_messages s };
+
+    fn hand_out<K: Keeper, S: Sink<Message>>(keeper: &mut K, sink: &mut S) -> Result<(), ActFault> {
+        keeper.pending(sink)
+    }
+}
+
+/// The trail.
+#[derive(Drop)]
+pub(crate) struct TrailReading;
+
+impl Reading<TrailRow> for TrailReading {
+    ghost rows = { λ s rows. rows ≡ trail_rows s };
+
+    fn hand_out<K: Keeper, S: Sink<TrailRow>>(
+        keeper: &mut K,
+        sink: &mut S,
+    ) -> Result<(), ActFault> {
+        keeper.trail(sink)
+    }
+}
