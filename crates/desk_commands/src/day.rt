@@ -60,9 +60,11 @@ fn if_written(day: u32, text: &[u8]) -> Option<LocalDay>
     }
 }
 
-/// The day that ten bytes such as `2026-01-12` write, where it is a day of a moment.
+/// Reads a day such as `2026-01-12`, as `day_text` writes it.
+///
+/// Returns `None` for any other text, and for a day before 2000-01-01 or after 2099-12-31.
 #[tactic(auto, unfolding(crate::specs::Day::day_of))]
-pub(crate) fn read_day(text: &[u8]) -> Option<LocalDay>
+pub fn read_day(text: &[u8]) -> Option<LocalDay>
     ensures { result ≡ day_of text.now }
 {
     let (date, year) = read_date(text)?;

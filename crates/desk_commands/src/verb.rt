@@ -266,61 +266,61 @@ pub(crate) fn places(verb: Verb) -> [Option<Field>; 6]
 }
 
 const TAKE_IN: &str = "\
-Numbers that aren't in stock come to the desk
+Adds numbers to the stock, at the desk
 Fields: prefix, serial, count
 Body: {\"prefix\":\"020\",\"serial\":\"1234567\",\"count\":10}
-Refused: 105 the count isn't 1 to 1,000,000, or the run goes past serial 9999999
-         101 a number is in stock already";
+Refused: 105 the count isn't 1 to 1,000,000, or the run passes serial 9999999
+         101 a number is already in stock";
 
 const ISSUE: &str = "\
-Numbers of the desk go to an agent
+Issues numbers from the desk to an agent
 Fields: prefix, serial, count, agent
 Body: {\"prefix\":\"020\",\"serial\":\"1234570\",\"count\":3,\"agent\":\"ACME\"}
-Refused: 105 the count isn't 1 to 1,000,000, or the run goes past serial 9999999
+Refused: 105 the count isn't 1 to 1,000,000, or the run passes serial 9999999
          102 a number isn't at the desk";
 
 const RETURN: &str = "\
-Numbers of an agent come back to the desk
+Returns numbers from an agent to the desk
 Fields: prefix, serial, count, agent
 Body: {\"prefix\":\"020\",\"serial\":\"1234570\",\"count\":3,\"agent\":\"ACME\"}
-Refused: 105 the count isn't 1 to 1,000,000, or the run goes past serial 9999999
+Refused: 105 the count isn't 1 to 1,000,000, or the run passes serial 9999999
          103 a number isn't with that agent";
 
 const VOID: &str = "\
-Numbers of the desk or of any agent become void
+Voids numbers that the desk or any agent holds
 Fields: prefix, serial, count
 Body: {\"prefix\":\"020\",\"serial\":\"1234567\",\"count\":1}
-Refused: 105 the count isn't 1 to 1,000,000, or the run goes past serial 9999999
+Refused: 105 the count isn't 1 to 1,000,000, or the run passes serial 9999999
          104 a number is used, void or not in stock";
 
 const BOOK: &str = "\
-A waybill is declared, or declared anew while it has no moves
+Declares a waybill, or changes its declaration while it has no moves
 Fields: awb, origin, destination, pieces, tenths, goods
 Body: {\"awb\":\"020-12345675\",\"origin\":\"FRA\",\"destination\":\"JFK\",\"pieces\":10,\"tenths\":1000,\"goods\":\"CARGO\"}
-Refused: 217 past 9,999 pieces or 999,999 tenths
-         202 it is declared, and has moves
-         203 its number is in stock with the desk, or void";
+Refused: 217 more than 9,999 pieces or 999,999 tenths
+         202 it is already declared and has moves
+         203 its number is at the desk, or void";
 
 const RECEIVE: &str = "\
-Pieces of a waybill are taken over
+Receives pieces of a waybill at its origin
 Fields: awb, pieces, tenths, name
 Body: {\"awb\":\"020-12345675\",\"pieces\":10,\"tenths\":1000,\"name\":\"ACME\"}
 Refused: 201 unknown waybill
          204 its origin isn't here
-         205 more taken over than declared
-         217 past 9,999 pieces or 999,999 tenths";
+         205 more received than declared
+         217 more than 9,999 pieces or 999,999 tenths";
 
 const WITHDRAW: &str = "\
-Free pieces go back to who brought them
+Hands free pieces back to whoever brought them
 Fields: awb, pieces, name
 Body: {\"awb\":\"020-12345675\",\"pieces\":4,\"name\":\"ACME\"}
 Refused: 201 unknown waybill
          204 its origin isn't here
          206 not enough free pieces
-         223 more than was taken over";
+         223 more than was received";
 
 const MANIFEST: &str = "\
-Pieces are built on a flight
+Builds free pieces on a flight
 Fields: awb, flight, date, unload, pieces
 Body: {\"awb\":\"020-12345675\",\"flight\":\"LH400\",\"date\":\"2026-01-12\",\"unload\":\"JFK\",\"pieces\":4}
 Refused: 201 unknown waybill
@@ -328,43 +328,43 @@ Refused: 201 unknown waybill
          208 the flight is closed
          218 the flight unloads elsewhere
          206 not enough free pieces
-         219 500 waybills are on the flight already";
+         219 the flight already has 500 waybills";
 
 const OFFLOAD: &str = "\
-Pieces are taken off a flight
+Takes pieces off a flight that hasn't departed
 Fields: awb, flight, date, pieces
 Body: {\"awb\":\"020-12345675\",\"flight\":\"LH400\",\"date\":\"2026-01-12\",\"pieces\":1}
 Refused: 201 unknown waybill
          208 the flight is closed
-         207 not enough of it on that flight";
+         207 not enough pieces of it on that flight";
 
 const REROUTE: &str = "\
-A flight with nothing on it unloads elsewhere
+Changes where a flight with nothing on it unloads
 Fields: flight, date, unload
 Body: {\"flight\":\"LH400\",\"date\":\"2026-01-12\",\"unload\":\"ORD\"}
-Refused: 221 nothing was built on that flight yet
+Refused: 221 no manifest has named that flight yet
          208 the flight is closed
          204 the flight would be unloaded here
          222 something is built on the flight";
 
 const DEPART: &str = "\
-A flight leaves with all that is built on it
+Records that a flight left, with all that is built on it
 Fields: flight, date
 Body: {\"flight\":\"LH400\",\"date\":\"2026-01-12\"}
 Refused: 208 the flight is closed
          209 nothing is on that flight";
 
 const CHECK_IN: &str = "\
-The pieces that a flight brought of a waybill are counted
+Checks in a waybill: counts the pieces that a flight brought
 Fields: awb, flight, date, counted
 Body: {\"awb\":\"020-12345675\",\"flight\":\"LH400\",\"date\":\"2026-01-12\",\"counted\":7}
 Refused: 201 unknown waybill
          211 not expected on that flight
-         212 checked in already
-         217 past 9,999 pieces or 999,999 tenths";
+         212 already checked in
+         217 more than 9,999 pieces or 999,999 tenths";
 
 const NOTIFY: &str = "\
-The consignee is notified of what is free
+Notifies the consignee that pieces are ready
 Fields: awb, name
 Body: {\"awb\":\"020-12345675\",\"name\":\"BROWN\"}
 Refused: 201 unknown waybill
@@ -372,7 +372,7 @@ Refused: 201 unknown waybill
          206 no free pieces";
 
 const DELIVER: &str = "\
-Pieces go to the consignee
+Delivers free pieces to the consignee
 Fields: awb, pieces, name
 Body: {\"awb\":\"020-12345675\",\"pieces\":7,\"name\":\"BROWN\"}
 Refused: 201 unknown waybill
@@ -381,7 +381,7 @@ Refused: 201 unknown waybill
          206 not enough free pieces";
 
 const TRANSFER: &str = "\
-Pieces go to another airline, which carries them on
+Transfers free pieces to the airline that carries them on
 Fields: awb, pieces, airline
 Body: {\"awb\":\"020-12345675\",\"pieces\":4,\"airline\":\"BA\"}
 Refused: 201 unknown waybill
@@ -389,21 +389,21 @@ Refused: 201 unknown waybill
          206 not enough free pieces";
 
 const MISSING: &str = "\
-Free pieces are missing
-Fields: awb, pieces, and flight and date or neither
+Reports free pieces as missing
+Fields: awb, pieces, and both or neither of flight and date
 Body: {\"awb\":\"020-12345675\",\"pieces\":1,\"flight\":\"LH400\",\"date\":\"2026-01-12\"}
 Refused: 201 unknown waybill
          206 not enough free pieces";
 
 const FOUND: &str = "\
-Pieces are found: those that are missing first, and others beside them
-Fields: awb, pieces, tenths, and flight and date or neither
+Reports pieces as found: missing pieces first, the rest as surplus
+Fields: awb, pieces, tenths, and both or neither of flight and date
 Body: {\"awb\":\"020-12345675\",\"pieces\":1,\"tenths\":100,\"flight\":\"LH400\",\"date\":\"2026-01-12\"}
 Refused: 201 unknown waybill
-         217 past 9,999 pieces or 999,999 tenths";
+         217 more than 9,999 pieces or 999,999 tenths";
 
 const CONFIRM: &str = "\
-The messages up to a number are confirmed
+Confirms all messages up to a number
 Fields: upto
 Body: {\"upto\":3}
-Refused: 401 below the mark of what was confirmed, or past the last message";
+Refused: 401 below the last confirmed message, or above the last message";

@@ -3,10 +3,8 @@ use Rattle.std.proofs.Common.{◌≡◌, ◌<◌, ℕ, true, List, [], ◌∷◌
 use Rattle.std.proofs.lemmas.Bool.{and_parts}
 use Rattle.std.proofs.lemmas.Bool.Decides.{nat_tests}
 use Rattle.std.specs.Str.{IsAscii}
-use Rattle.std.proofs.lemmas.Str.{IsAscii-append}
-use Rattle.std.proofs.lemmas.Str.Ascii.{IsAscii-push}
-use Rattle.awb_number.specs.Ascii.{IsAscii-tested, IsAscii-padded, ascii-letter_or_digit}
-use Rattle.awb_number.specs.Digits.{is_letter, is_letter_or_digit, padded}
+use Rattle.awb_number.specs.Ascii.{IsAscii-tested, ascii-letter_or_digit}
+use Rattle.awb_number.specs.Digits.{is_letter, is_letter_or_digit}
 use Rattle.imp_fields.specs.Airport.{is_airport}
 use Rattle.imp_fields.specs.Characters.{is_printable}
 use Rattle.imp_fields.specs.Flight.{Designator, IsDesignator, flight_text, is_carrier}

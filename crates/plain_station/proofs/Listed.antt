@@ -1,11 +1,11 @@
 -- The flights that are noted and what flights are to bring, listed in order.
-use Rattle.std.proofs.Common.{◌≡◌, ℕ, zero, suc, ◌<◌, Bool, true, false, ◌&&◌, ◌||◌, ◌==◌, length, arith, List, [], ◌∷◌, ◌++◌, map, insert, option_map, is_some, find, get_or, IsSome, IfSome, Option, Some, None, Err, Ordering, Less, Equal, Greater, All, nat_cmp, is_eq, refl, sym, ap, ◌∙◌, subst, true≢false}
+use Rattle.std.proofs.Common.{◌≡◌, ℕ, zero, suc, ◌<◌, Bool, true, false, ◌&&◌, ◌||◌, ◌==◌, length, arith, List, [], ◌∷◌, ◌++◌, insert, option_map, is_some, find, get_or, IsSome, IfSome, Option, Some, None, Err, Ordering, Less, Equal, Greater, All, is_eq, refl, sym, ap, ◌∙◌, subst, true≢false}
 use Rattle.std.specs.List.{list_any}
 use Rattle.std.specs.List.Sorted.{IsBinarySearchResult}
 use Rattle.std.specs.FinMap.{nat_cmp-IsAntisymmetric, slice_cmp-IsAntisymmetric}
 use Rattle.std.specs.Ordering.{ordering_then}
 use Rattle.std.specs.Cmp.{IsTotalOrder, on_total, then_total, nat_cmp_total}
-use Rattle.std.specs.Cmp.Lexicographic.{slice_cmp, nat_list_cmp_total}
+use Rattle.std.specs.Cmp.Lexicographic.{nat_list_cmp_total}
 use Rattle.std.proofs.lemmas.Bool.{and_parts, and_from, eqb-true, eq-eqb}
 use Rattle.imp_fields.specs.Flight.{IsDesignator, flight_text}
 use Rattle.imp_fields.proofs.SameFlight.{one_by_text}

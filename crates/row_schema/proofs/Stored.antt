@@ -14,7 +14,7 @@ use Rattle.sqlite_keyed.proofs.ListLemmas.{map_back}
 use Rattle.row_schema.specs.Schema.{station_schema}
 use Rattle.row_schema.specs.Calls.{IsInside, Edits}
 use Rattle.row_laws.specs.Columns.{AreEntries, AreListed}
-use Rattle.row_schema.specs.Tables.{TreeRows, Tables, rows_in, tables_in, tables_of, IsTyped, IsStation}
+use Rattle.row_schema.specs.Tables.{Tables, rows_in, tables_in, tables_of, IsTyped, IsStation}
 use Rattle.row_schema.specs.Tables as table
 use Rattle.row_laws.proofs.Columns.{IsMap, reads_back, entries_by}
 use Rattle.row_schema.proofs.Keys.{stock_total, flight_total, expected_total, part_total, kept_total, kept_text_total, count_total, build_total}

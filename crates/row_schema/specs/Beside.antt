@@ -1,5 +1,5 @@
 -- A change of a store in one step, whatever tables it has.
-use Rattle.std.specs.Prelude.{◌≡◌, IsTrue}
+use Rattle.std.specs.Prelude.{◌≡◌}
 use Rattle.sqlite.specs.Tree.{Trees}
 use Rattle.sqlite.specs.State.{State, Survives}
 

@@ -1,6 +1,6 @@
 -- The balances of all waybills: the rows of one waybill stand behind those of another.
-use Rattle.std.proofs.Common.{◌≡◌, ℕ, suc, zero, ◌+◌, ◌-◌, ◌<◌, get_or, length, ℤ, pos, ◌==◌, Bool, true, false, cond, List, [], ◌∷◌, ◌++◌, take, drop, map, T, Option, Some, None, option_map, int_cmp, int_eq, refl, sym, ap, subst, ◌∙◌, arith, Ordering, Less, Equal, Greater}
-use Rattle.std.specs.Prelude.{int_le, int_lt, nat_lt, IsTrue, ◌&&◌}
+use Rattle.std.proofs.Common.{◌≡◌, ℕ, suc, zero, ◌+◌, ◌-◌, ◌<◌, get_or, length, ℤ, pos, ◌==◌, Bool, true, false, cond, List, [], ◌∷◌, ◌++◌, take, drop, map, Option, Some, None, option_map, int_cmp, int_eq, refl, sym, ap, subst, ◌∙◌, arith, Ordering, Less, Equal, Greater}
+use Rattle.std.specs.Prelude.{int_le, int_lt, nat_lt, ◌&&◌}
 use Rattle.std.specs.List.{AllByRecursion, filter, find, prefix_len}
 use Rattle.std.specs.Ordering.{nat_cmp, ordering_then}
 use Rattle.std.specs.FinMap.{FinMap, is_sorted, entries, get}
@@ -11,11 +11,9 @@ use Rattle.std.proofs.lemmas.Bool.Decides.{nat_tests}
 use Rattle.std.proofs.lemmas.List.{drop-drop, drop_more, length-drop}
 use Rattle.std.proofs.Math.Seq.{take-length}
 use Rattle.sqlite.specs.Tree.{IsAscending}
-use Rattle.sqlite_keyed.proofs.ListLemmas.{all_weaker, all_both, all-append, ascending-append, ascending_from_map, ascending_weaker, filter-map, filter_none}
-use Rattle.shipment_machine.specs.Amount.{amount}
+use Rattle.sqlite_keyed.proofs.ListLemmas.{all_weaker, all-append, ascending-append, ascending_from_map, ascending_weaker, filter-map, filter_none}
 use Rattle.shipment_machine.specs.Book.{balances_of}
 use Rattle.shipment_machine.specs.declared.moves.Move.{Move}
-use Rattle.shipment_machine.specs.declared.moves.Place.{Place}
 use Rattle.shipment_machine.specs.declared.moves.Place.TheVariants.{Hand, Surplus, Free, Departed, Delivered, Missing, Transferred}
 use Rattle.station_core.specs.Told.{AreAllBalances, nothing}
 use Rattle.station_core.specs.declared.stored.WaybillBalances.{WaybillBalances}
@@ -26,7 +24,6 @@ use Rattle.cargo_rows.specs.Meant.{count_meant, counts_for}
 use Rattle.cargo_rows.specs.declared.counts.CountRow.{CountRow}
 use Rattle.row_codec.specs.Counts.{AreCounts, Running, running_in}
 use Rattle.row_codec.specs.Moves.{place_code}
-use Rattle.running_totals.specs.Sums.{is_built}
 use Rattle.running_totals.proofs.Amounts.{drawn_nothing, held_nothing}
 use Rattle.running_totals.proofs.Found.{row_found}
 use Rattle.running_totals.proofs.Tests.{is_nat}

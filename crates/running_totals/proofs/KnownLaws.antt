@@ -1,5 +1,5 @@
 -- What is known of sums after an amount more.
-use Rattle.std.proofs.Common.{◌≡◌, ℕ, ◌==◌, Bool, true, false, ◌&&◌, cond, Option, Some, None, arith, refl, sym, ap, ap₂, subst, ◌∙◌, true≢false}
+use Rattle.std.proofs.Common.{◌≡◌, ℕ, ◌==◌, Bool, true, false, ◌&&◌, cond, Some, arith, refl, sym, ap, subst, ◌∙◌, true≢false}
 use Rattle.std.specs.Prelude.{IfSome}
 use Rattle.std.proofs.lemmas.Bool.Decides.{nat_tests}
 use Rattle.shipment_machine.specs.Places.{same_place}
@@ -11,7 +11,7 @@ use Rattle.running_totals.specs.Stored.{meant}
 use Rattle.running_totals.specs.Known.{sum_at, with_sum, AreSumsOf}
 use Rattle.running_totals.specs.declared.tally.Tally.{Tally}
 use Rattle.running_totals.specs.declared.known.PlaceSums.{PlaceSums}
-use Rattle.running_totals.proofs.Tests.{and_no, some_is, none_is}
+use Rattle.running_totals.proofs.Tests.{and_no}
 use Rattle.running_totals.proofs.Codes.{same_is}
 
 -- one place has another sum, and the others what they had

@@ -1,6 +1,5 @@
 -- What a store of a station's state shows, and what a call leaves.
-use Rattle.std.specs.Prelude.{◌≡◌, ◌⊎◌, ℕ, Bool, true, false, Result, Err, Option, Some}
-use Rattle.agent_stock.specs.declared.stock.StockFault.{StockFault}
+use Rattle.std.specs.Prelude.{◌≡◌, ◌⊎◌, Bool, true, false, Option, Some}
 use Rattle.agent_stock.specs.declared.stock.StockFault.TheVariants as fault
 use Rattle.station_core.specs.Step.{State}
 

@@ -1,5 +1,5 @@
 -- The waybills of a file of version 1, with no day, are those that it is to have.
-use Rattle.std.proofs.Common.{◌≡◌, ◌∙◌, List, map, refl, sym, ap}
+use Rattle.std.proofs.Common.{◌≡◌, ◌∙◌, List, map, sym, ap}
 use Rattle.sqlite.specs.Effect.{Database}
 use Rattle.sqlite_keyed.proofs.ListLemmas.{map-map}
 use Rattle.row_schema.specs.Tables.{OldWaybill, Waybill, undated}

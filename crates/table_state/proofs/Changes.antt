@@ -21,7 +21,7 @@ use Rattle.station_core.specs.Key.{is_key}
 use Rattle.station_core.specs.Step as step
 use Rattle.station_core.specs.Step.{State}
 use Rattle.row_schema.specs.Store as row
-use Rattle.row_schema.specs.Store.{View, Displays, IsShowing}
+use Rattle.row_schema.specs.Store.{View, IsShowing}
 use Rattle.row_schema.specs.Tables as table
 use Rattle.row_schema.specs.Tables.{Tables, Stock, stock_cmp, Count, count_cmp, Build, build_cmp, waybill_id, move_id}
 use Rattle.cargo_rows.specs.Meant.{with_flight, with_expected, with_move}

@@ -20,7 +20,7 @@ use Rattle.station_core.specs.declared.stored.Load.{Load}
 use Rattle.shipment_machine.specs.declared.flight.FlightDate.{FlightDate}
 use Rattle.shipment_machine.specs.declared.moves.Move.{Move}
 use Rattle.shipment_machine.specs.declared.moves.Part.{Part}
-use Rattle.station_core.specs.Readers.{AreExpectations, AreNoted, book_row, message, trail_row, book_rows, pending_messages, trail_rows}
+use Rattle.station_core.specs.Readers.{AreExpectations, AreNoted}
 use Rattle.station_core.specs.declared.rows.Expectation.{Expectation}
 use Rattle.station_core.specs.declared.rows.NotedFlight.{NotedFlight}
 use Rattle.row_schema.specs.Store as row
@@ -34,15 +34,12 @@ use Rattle.cargo_rows.specs.declared.expected.ListedWaybillRow.{ListedWaybillRow
 use Rattle.cargo_rows.specs.declared.moves.MoveRow.{MoveRow}
 use Rattle.cargo_rows.specs.Meant.{waybill_meant, flight_meant, noted_flight_meant, expected_meant, listed_waybill_meant, move_meant, is_of}
 use Rattle.text_rows.specs.declared.kept.KeptRow.{KeptRow}
-use Rattle.text_rows.specs.declared.outbox.MessageRow.{MessageRow}
-use Rattle.text_rows.specs.declared.trail.TrailRow.{TrailRow}
-use Rattle.text_rows.specs.Meant.{kept_meant, message_meant, trail_meant, is_after}
+use Rattle.text_rows.specs.Meant.{kept_meant}
 use Rattle.row_codec.specs.Numbers.{natural}
 use Rattle.row_codec.specs.Waybills.{declared_by}
 use Rattle.row_codec.specs.Flights.{is_designator, noted_by, outbound_by}
 use Rattle.row_codec.specs.Manifests.{expectation_by, expected_by}
-use Rattle.row_codec.specs.Moves.{move_by, book_in}
-use Rattle.row_codec.specs.Logs.{line_by}
+use Rattle.row_codec.specs.Moves.{book_in}
 use Rattle.row_codec.specs.Replies.{kept_by}
 use Rattle.row_codec.proofs.Reading.{declared_read, outbound_read, expected_read, part_read, kept_key_read, kept_text_read}
 use Rattle.row_codec.proofs.Telling.{holders_told, book_told}

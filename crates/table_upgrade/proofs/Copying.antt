@@ -1,8 +1,8 @@
 -- What the statements on a station of version 2 do.
-use Rattle.std.proofs.Common.{◌≡◌, ℕ, ℤ, pos, List, [], ◌∷◌, Ok, true, false, not, map, filter, fold, refl, sym, ap, ◌∙◌, map-id, int_eq, IsPermutation}
-use Rattle.std.specs.List.{list_all, AllByRecursion}
+use Rattle.std.proofs.Common.{◌≡◌, ℕ, ℤ, pos, List, [], ◌∷◌, Ok, true, false, map, filter, fold, refl, sym, ap, ◌∙◌, map-id, int_eq, IsPermutation}
+use Rattle.std.specs.List.{list_all}
 use Rattle.sqlite.specs.declared.types.Value.TheVariants.{Null, Int, Text}
-use Rattle.sqlite.specs.Order.{Row, value_cmp}
+use Rattle.sqlite.specs.Order.{Row}
 use Rattle.sqlite.specs.Program.{overlay}
 use Rattle.sqlite.specs.Term.{col, holds}
 use Rattle.sqlite.specs.Cast.{cast_row}
@@ -22,7 +22,7 @@ use Rattle.row_laws.proofs.Shared.{cast_int, cast_null}
 use Rattle.row_laws.proofs.Texts.{asks}
 use Rattle.row_schema.specs.Calls.{IsInside, Edits}
 use Rattle.row_schema.specs.Schema.{station_schema, station, waybill, waybill2}
-use Rattle.row_schema.specs.Tables.{undated, Station, station_id, station_row, station_in, OldWaybill, old_waybill_id, old_waybill_row, Waybill, waybill_id, waybill_row, tables_of, typed_stations, typed_old_waybills, typed_waybills}
+use Rattle.row_schema.specs.Tables.{undated, Station, station_id, station_row, station_in, OldWaybill, old_waybill_id, old_waybill_row, waybill_id, waybill_row, tables_of, typed_stations, typed_old_waybills, typed_waybills}
 use Rattle.row_schema.proofs.StationLemmas.{station_placed}
 use Rattle.row_schema.proofs.Statements.{execute_survives}
 use Rattle.row_schema.proofs.Stored.{edits_stations, edits_old_waybills, edits_waybills}

@@ -7,7 +7,7 @@ use Rattle.sqlite_keyed.specs.Keyed.{IsKeyedBy, insert_by}
 use Rattle.sqlite_keyed.proofs.ListLemmas.{ascending-map}
 use Rattle.row_laws.proofs.Keyed.{puts_past}
 use Rattle.row_schema.specs.Calls.{IsInside, Edits}
-use Rattle.row_schema.specs.Tables.{undated, raised, upgraded, Tables, OldWaybill, Waybill, old_waybill_id, waybill_id, tables_of, old_tables_of, IsOldStation}
+use Rattle.row_schema.specs.Tables.{undated, raised, upgraded, Tables, old_waybill_id, waybill_id, old_tables_of, IsOldStation}
 use Rattle.table_upgrade.specs.Upgrade.{filling, IsInsideOld, IsMoved, MeansUpgraded}
 
 -- rows that come in the order of their keys

@@ -1,7 +1,7 @@
-use Rattle.std.proofs.Common.{◌≡◌, refl, rules, subst}
+use Rattle.std.proofs.Common.{◌≡◌, rules, subst}
 use Rattle.sqlite.specs.Tree.{Trees}
 use Rattle.sqlite.specs.Held.{state}
-use Rattle.sqlite.specs.State.{State, Survives}
+use Rattle.sqlite.specs.State.{Survives}
 use Rattle.sqlite.proofs.StateLemmas.{survives_then}
 use Rattle.row_schema.proofs.Begun.{begun_survives}
 use Rattle.row_schema.proofs.beside.create_beside.Goals as goal

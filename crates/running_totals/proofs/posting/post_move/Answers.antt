@@ -2,7 +2,7 @@ use Rattle.std.proofs.Common.{◌∙◌, ap, subst, rules, FitsSigned, w64, to_z
 use Rattle.row_codec.specs.Counts.{running}
 use Rattle.running_totals.specs.Known.{AreKnown}
 use Rattle.running_totals.specs.Stored.{meant}
-use Rattle.running_totals.specs.Sums.{posting, come, gone}
+use Rattle.running_totals.specs.Sums.{posting, come}
 use Rattle.running_totals.proofs.Moved.{sums_then}
 use Rattle.running_totals.proofs.Keeping.{keeps_book, posted_book, there_before}
 use Rattle.running_totals.proofs.posting.post_move.Goals as goal

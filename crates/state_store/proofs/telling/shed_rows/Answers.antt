@@ -4,7 +4,7 @@ use Rattle.std.specs.List.{flat_map}
 use Rattle.shipment_machine.specs.Amount.{less}
 use Rattle.shipment_machine.specs.declared.amount.Amount.{Amount}
 use Rattle.shipment_machine.specs.declared.moves.Balances.{Balances}
-use Rattle.shipment_machine.specs.Book.{balances_of, free}
+use Rattle.shipment_machine.specs.Book.{free}
 use Rattle.shipment_machine.specs.Cargo.{Cargo}
 use Rattle.shipment_machine.specs.Views.{declaration}
 use Rattle.station_core.specs.declared.rows.ShedRow.{ShedRow}

@@ -1,6 +1,6 @@
 use Rattle.std.proofs.Common.{rules, arith, ◌≡◌, ◌∙◌, true, sym, refl, inl, inr, ap, ◌+◌, ◌<◌, ◌≤◌, List, [], ◌∷◌, ◌++◌, Some, None, Err, subst, Fits, w64}
 use Rattle.station_core.specs.Ends.{HasCause}
-use Rattle.stock_list.specs.Ended.{IsReadersFault, IsShutAfter, IsUntroubled}
+use Rattle.stock_list.specs.Ended.{IsReadersFault}
 use Rattle.csv.specs.Records.{fields_of}
 use Rattle.stock_list.specs.Lines.{Row, rows_after}
 use Rattle.stock_list.specs.Row.{row_asks}
