@@ -69,6 +69,7 @@ pub const FILES: &[&str] = &[
     "telegrams",
     "calendar",
     "http",
+    "listings",
 ];
 
 /// What is printed of a day that was played: its differences, or that there is none.

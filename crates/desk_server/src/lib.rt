@@ -1,6 +1,7 @@
 //! The desk of a station over HTTP, on a port of this machine.
 #![tactic(auto)]
 
+mod paced;
 mod server;
 mod timed;
 

@@ -1,5 +1,6 @@
 //! One connection after another.
 
+use crate::paced::Paced;
 use crate::timed::{Timed, Waits};
 use desk_clock::{Zone, moment_now};
 use http_desk::{ServeFault, Served, serve_one};
@@ -15,8 +16,8 @@ use std::time::{Clock, Duration};
 /// most that send nothing by then never do: eight of them hold the next one up for 1.6 seconds.
 const MOST_SILENCE: u64 = 200;
 
-/// How long a read behind the first byte, or a write, may wait, in seconds.
-const MOST_WAIT: u64 = 10;
+/// How long a read after the first byte, or a write, may wait, in seconds.
+pub(crate) const MOST_WAIT: u64 = 10;
 
 /// How long a request may take to come, in seconds.
 const MOST_REQUEST: u64 = 30;
@@ -51,7 +52,6 @@ pub fn listen<N: Net>(net: &N, port: u16) -> io::Result<N::Listener> {
 /// The reader of a connection's request.
 fn timed<'a, C: Clock>(clock: &'a C, stream: &'a TcpStream) -> io::Result<Timed<'a, C>> {
     stream.set_nodelay(true)?;
-    stream.set_write_timeout(Some(Duration::from_secs(MOST_WAIT)))?;
     let waits = Waits {
         first: Duration::from_millis(MOST_SILENCE),
         next: Duration::from_secs(MOST_WAIT),
@@ -94,15 +94,15 @@ fn answer<C: Clock, K: Keeper>(
         alloc,
         keeper,
         &mut Counted::new(reader),
-        &mut Counted::new(stream),
+        &mut Counted::new(Paced::new(clock, stream)),
         at,
     )?;
     let _finished = finish(clock, stream);
     Ok(served)
 }
 
-/// Serves a connection, at the moment that the clock shows now. A read or a write that fails ends
-/// the connection alone.
+/// Serves a connection, at the moment that the clock shows now. A read or a write that fails, or an
+/// answer that isn't read in time, ends the connection alone.
 fn serve_stream<C: Clock, K: Keeper>(
     alloc: Global,
     clock: &C,

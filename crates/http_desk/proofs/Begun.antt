@@ -11,12 +11,13 @@ use Rattle.station_core.specs.Given.{Given}
 use Rattle.station_core.specs.declared.answer.Answer.{Answer}
 use Rattle.station_core.specs.declared.answer.Answer.TheVariants as answer
 use Rattle.station_core.specs.Step.{State, accepted, step}
-use Rattle.reports.specs.declared.report.Report.{Report}
+use Rattle.http_desk.specs.declared.printout.Printout.{Printout}
 use Rattle.http_desk.specs.declared.serve.Served.{Served}
 use Rattle.http_desk.specs.declared.serve.ServeFault.{ServeFault}
 use Rattle.http_desk.specs.declared.serve.ServeFault.TheVariants as serve
-use Rattle.http_desk.specs.Routes.{Posted, posted_command, posted_telegram, Got, Place, posts, gets, place_of}
-use Rattle.http_desk.specs.Request.{Head, Fault, fault, wrong_method, HeadAsks, refuses, looks_up, sends, sends_body, place_asks, is_foreign, own_asks, head_asks, body_length, length_beside, length_among, within_length, length_told, key_of, values_of, BodyAsks, bad_body, unreadable, for_station, IsAskedUnder, IsAsked}
+use Rattle.http_desk.specs.Routes.{Posted, posted_command, posted_telegram, posted_look, Got, Place, posts, gets, place_of}
+use Rattle.http_desk.specs.Digits.{number_told}
+use Rattle.http_desk.specs.Request.{Head, Fault, fault, wrong_method, HeadAsks, refuses, looks_up, sends, sends_body, place_asks, is_foreign, own_asks, head_asks, body_length, length_beside, length_among, within_length, key_of, values_of, BodyAsks, bad_body, unreadable, looks_at, for_station, IsAskedUnder, IsAsked}
 use Rattle.http_desk.specs.Reply.{refused_data, answer_reply, refusal_status, body_reply, body_state, IsWritten}
 use Rattle.http_desk.specs.Answer.{head_of, HasHead, Replied, IsAnsweredAs}
 use Rattle.http_desk.specs.Serving.{added, GetsReport, IsAnswer, IsPartOut, HasServed, IsPosted, BeginsAs200, IsAfterStep}
@@ -52,7 +53,7 @@ in_told (Some n) = within_told n (nat_le n 65_536)
 
 among_told : (values : List (List ℕ)) → IsLength (length_among values)
 among_told [] = no_411
-among_told (value ∷ []) = in_told (length_told value)
+among_told (value ∷ []) = in_told (number_told value)
 among_told (value ∷ other ∷ values) = no_400
 
 beside_told : (encodings lengths : List (List ℕ)) → IsLength (length_beside encodings lengths)
@@ -102,6 +103,36 @@ asked_told (posted_command verb) (Some key) body asks (inl (command, said, is)) 
 asked_told (posted_command verb) (Some key) body asks (inr (none, is)) = subst IsBodyTold (sym is) no_400
 asked_told posted_telegram key body asks (inl (t, means, is)) = subst IsBodyTold (sym is) tt
 asked_told posted_telegram key body asks (inr (told, why, is)) = subst IsBodyTold (sym is) tt
+asked_told posted_look key body asks (inl (look, is_look, is)) = subst IsBodyTold (sym is) tt
+asked_told posted_look key body asks (inr (told, why, is)) = subst IsBodyTold (sym is) tt
+
+-- a telegram is looked at only where that is asked
+abbrev IsLooking : BodyAsks → Bool
+IsLooking (looks_at look) = true
+IsLooking _ = false
+
+no_look : (posted : Posted) (key : Option (List ℕ)) (body : List ℕ) (asks : BodyAsks) → IsAskedUnder posted key body asks → IsLooking asks ≡ true → posted ≡ posted_look
+no_look (posted_command verb) None body asks is looking = absurd (never (ap IsLooking (sym is) ∙ looking))
+  where
+    never : ¬ (◌≡◌ {A = Bool} false true)
+    never e = cc e
+no_look (posted_command verb) (Some key) body asks (inl (command, said, is)) looking = absurd (never (ap IsLooking (sym is) ∙ looking))
+  where
+    never : ¬ (◌≡◌ {A = Bool} false true)
+    never e = cc e
+no_look (posted_command verb) (Some key) body asks (inr (none, is)) looking = absurd (never (ap IsLooking (sym is) ∙ looking))
+  where
+    never : ¬ (◌≡◌ {A = Bool} false true)
+    never e = cc e
+no_look posted_telegram key body asks (inl (t, means, is)) looking = absurd (never (ap IsLooking (sym is) ∙ looking))
+  where
+    never : ¬ (◌≡◌ {A = Bool} false true)
+    never e = cc e
+no_look posted_telegram key body asks (inr (told, why, is)) looking = absurd (never (ap IsLooking (sym is) ∙ looking))
+  where
+    never : ¬ (◌≡◌ {A = Bool} false true)
+    never e = cc e
+no_look posted_look key body asks is looking = refl
 
 -- the bodies of faults and refusals
 abbrev fault_body : Fault → List ℕ
@@ -131,31 +162,34 @@ module _ (s : State) (at : LocalMinute) (bytes : List ℕ) (broken : Bool) (keep
   behind h = drop (length (print_request h)) bytes
 
   -- what a body that came says
-  sent_begun : (h : RequestHead) → HasHead bytes h → (posted : Posted) (n : ℕ) → head_asks (head_of h) ≡ sends posted n → n ≤ length (behind h)
+  sent_begun : (h : RequestHead) → HasHead bytes h → (posted : Posted) (n : ℕ) → head_asks (head_of h) ≡ sends posted n → ¬ (posted ≡ posted_look) → n ≤ length (behind h)
       → (asks : BodyAsks) → IsAsked posted (head_of h).fields (take n (behind h)) asks → (status : ℕ) (out : List ℕ) (after : State)
       → Replied s (body_reply s at asks) (body_state s at asks) status out after → keeps after → BeginsAs200 out → IsAfterStep bytes s at may_find
-  sent_begun h has posted n is whole (bad_body f) asked status out after r kept (rest, e) =
+  sent_begun h has posted n is acts whole (bad_body f) asked status out after r kept (rest, e) =
       absurd (asked_told posted (key_of (head_of h).fields) (take n (behind h)) (bad_body f) asked f.allow (fault_body f) (rest, sym r.written ∙ e))
-  sent_begun h has posted n is whole (unreadable refusal) asked status out after r kept (rest, e) = absurd (no_refusal refusal.number None (refusal_body refusal) (rest, sym r.written ∙ e))
-  sent_begun h has posted n is whole (for_station i) asked status out after r kept begun = (
+  sent_begun h has posted n is acts whole (unreadable refusal) asked status out after r kept (rest, e) = absurd (no_refusal refusal.number None (refusal_body refusal) (rest, sym r.written ∙ e))
+  sent_begun h has posted n is acts whole (looks_at look) asked status out after r kept begun =
+      absurd (acts (no_look posted (key_of (head_of h).fields) (take n (behind h)) (looks_at look) asked refl))
+  sent_begun h has posted n is acts whole (for_station i) asked status out after r kept begun = (
     i,
     record { head = h; has = has; posted = posted; size = n; is_sent = is; whole = whole; asked = asked },
     accepts s out (step s i at).answer (step s i at).answer refl r.written begun,
     λ found finds. settled (step s i at).state (subst keeps r.state kept) found finds,
   )
 
-  answered : (h : RequestHead) → HasHead bytes h → h.method ≡ codes "POST" → (asks : HeadAsks) → head_asks (head_of h) ≡ asks → (status : ℕ) (out : List ℕ) (after : State)
+  answered : (h : RequestHead) → HasHead bytes h → h.method ≡ codes "POST" → ((size : ℕ) → ¬ (head_asks (head_of h) ≡ sends posted_look size)) → (asks : HeadAsks) → head_asks (head_of h) ≡ asks → (status : ℕ) (out : List ℕ) (after : State)
       → IsAnsweredAs asks (head_of h) (behind h) s at status out after → keeps after → BeginsAs200 out → IsAfterStep bytes s at may_find
-  answered h has post (refuses f) is status out after r kept (rest, e) = absurd (subst (IsTold h.method) is (head_told (head_of h)) f.allow (fault_body f) (rest, sym r.written ∙ e))
-  answered h has post (looks_up got) is status out after r kept begun = absurd (no_get h.method post (subst (IsTold h.method) is (head_told (head_of h))))
-  answered h has post (sends posted n) is status out after r kept begun = sent_begun h has posted n is r.whole r.asks r.asked status out after r.replied kept begun
+  answered h has post acts (refuses f) is status out after r kept (rest, e) = absurd (subst (IsTold h.method) is (head_told (head_of h)) f.allow (fault_body f) (rest, sym r.written ∙ e))
+  answered h has post acts (looks_up got) is status out after r kept begun = absurd (no_get h.method post (subst (IsTold h.method) is (head_told (head_of h))))
+  answered h has post acts (sends posted n) is status out after r kept begun =
+      sent_begun h has posted n is (λ look. acts n (is ∙ ap (λ p. sends p n) look)) r.whole r.asks r.asked status out after r.replied kept begun
 
-  no_report : (name : Report) → GetsReport bytes name → ¬ (IsPosted bytes)
-  no_report name (k, also, looks) (h, has, post) =
+  no_report : (name : Printout) → GetsReport bytes name → ¬ (IsPosted bytes)
+  no_report name (k, also, looks) (h, has, post, acts) =
       no_get k.method (ap (λ (g : RequestHead). g.method) (one_head bytes k h also has) ∙ post) (subst (IsTold k.method) looks (head_told (head_of k)))
 
   posted_whole : (status : ℕ) (out : List ℕ) → IsAnswer s at bytes status out broken keeps may_find → IsPosted bytes → BeginsAs200 out → IsAfterStep bytes s at may_find
-  posted_whole status out (inl (after, answers, (works, kept))) (h, has, post) begun = answered h has post (head_asks (head_of h)) refl status out after (answers.head h has) kept begun
+  posted_whole status out (inl (after, answers, (works, kept))) (h, has, post, acts) begun = answered h has post acts (head_asks (head_of h)) refl status out after (answers.head h has) kept begun
   posted_whole status out (inr (inl (is, told, states))) posted (more, e) = absurd (no_503 None (compact_text (refused_data 503 [])) (more, sym is ∙ e))
   posted_whole status out (inr (inr (name, found, part, told, kept))) posted begun = absurd (no_report name found posted)
 

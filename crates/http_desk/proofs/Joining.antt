@@ -11,7 +11,7 @@ use Rattle.http_desk.specs.Told.{HasAsked, HasAskedShut, tells_reopen}
 use Rattle.http_desk.specs.Wanted.{Wants, wanted_reply, wanted_state}
 use Rattle.http_desk.specs.declared.asking.Told.{Told}
 use Rattle.http_desk.specs.declared.asking.Told.TheVariants as told
-use Rattle.reports.specs.declared.report.Report.{Report}
+use Rattle.http_desk.specs.declared.printout.Printout.{Printout}
 use Rattle.http_desk.specs.declared.serve.Served.{Served}
 use Rattle.http_desk.specs.declared.serve.ServeFault.{ServeFault}
 use Rattle.http_desk.specs.declared.serve.ServeFault.TheVariants as serve
@@ -62,10 +62,10 @@ module _ (s : State) (at : LocalMinute) (bytes : List ℕ) (old new : Given) (br
   no_answer : IsUnchangedOrBroken bytes s at now_broken still finds → Gives 503 unavailable
   no_answer states = inr (inl (refl, refl, states))
 
-  reported : (name : Report) (r : Result Served ServeFault) → IsToldFor bytes s at (told.Report name) broken keeps may_find → HasReported s name old new r → Out r
-  reported name (Ok served) (gets, whole, kept) (inl (is, (text, are, e))) = sent_whole 200 _ (report_head ++ text) served is e (inl (s, whole text are, kept_on s kept))
+  reported : (name : Printout) (r : Result Served ServeFault) → IsToldFor bytes s at (told.Report name) broken keeps may_find → HasReported s name old new r → Out r
+  reported name (Ok served) (gets, whole, kept) (inl (is, (text, are, e))) = sent_whole 200 _ (report_head name ++ text) served is e (inl (s, whole text are, kept_on s kept))
   reported name (Ok served) (gets, whole, kept) (inr (inl (is, part))) =
-      let begun : SomeOrEach s name (IsBeginning (added old new)) = some_or_each s name (HasBegun old new) (IsBeginning (added old new)) (λ text p. (p.0, (p.1.0, p.1.1, added_is old new (take p.0 text) p.1.2))) part in
+      let begun : SomeOrEach s name (IsBeginning name (added old new)) = some_or_each s name (HasBegun name old new) (IsBeginning name (added old new)) (λ text p. (p.0, (p.1.0, p.1.1, added_is old new (take p.0 text) p.1.2))) part in
       let answer : Gives 200 (added old new) = inr (inr (name, gets, begun, refl, kept_on s kept)) in
       subst (λ (n : ℕ). Gives n (added old new)) (sym (ap (λ (v : Served). v.status) is)) answer
   reported name (Ok served) (gets, whole, kept) (inr (inr (is, e))) = sent_whole 503 _ unavailable served is e (no_answer (inl (kept_on s kept)))
@@ -144,8 +144,8 @@ module _ (bytes : List ℕ) (s : State) (at : LocalMinute) where
   told_bytes w (told.Report name) broken keeps may_find wants (is, kept) = (
     wants.report name is,
     λ text are.
-        let replied : Replied s (wanted_reply s at (wanted.Report name)) (wanted_state s at (wanted.Report name)) 200 (report_head ++ text) s = record { status_is = refl; written = (text, are, refl); state = refl } in
-        wants.answered s at 200 (report_head ++ text) s (subst (λ (v : Wanted). Replied s (wanted_reply s at v) (wanted_state s at v) 200 (report_head ++ text) s) (sym is) replied),
+        let replied : Replied s (wanted_reply s at (wanted.Report name)) (wanted_state s at (wanted.Report name)) 200 (report_head name ++ text) s = record { status_is = refl; written = (text, are, refl); state = refl } in
+        wants.answered s at 200 (report_head name ++ text) s (subst (λ (v : Wanted). Replied s (wanted_reply s at v) (wanted_state s at v) 200 (report_head name ++ text) s) (sym is) replied),
     kept,
   )
   told_bytes w (told.Unavailable reopen) broken keeps may_find wants (inl kept) = inl kept

@@ -2,6 +2,7 @@ mod Accepting
 mod Arrived
 mod AskedJson
 mod Beginnings
+mod Endings
 mod Begun
 mod Examples
 mod FieldLaws

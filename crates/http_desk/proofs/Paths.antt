@@ -1,5 +1,5 @@
 -- Which paths lead where.
-use Rattle.std.proofs.Common.{arith, ◌≡◌, ◌∙◌, ap, sym, subst, refl, ℕ, Bool, true, false, cond, Option, Some, None, List, ◌∷◌, ◌++◌, codes}
+use Rattle.std.proofs.Common.{arith, ◌≡◌, ◌∙◌, ap, sym, subst, refl, inl, inr, ℕ, Bool, true, false, cond, Option, Some, None, List, ◌∷◌, ◌++◌, codes}
 use Rattle.std.specs.Prelude.{◌↔◌, ◌&&◌, not, nat_lt, length, option_map, option_and_then}
 use Rattle.std.proofs.lemmas.Bool.{and_parts, ltb-true, not-true}
 use Rattle.matchit.specs.Seek.{has_slash}
@@ -12,15 +12,16 @@ use Rattle.http_desk.specs.declared.route.Page.{Page}
 use Rattle.http_desk.specs.declared.route.Page.TheVariants as page
 use Rattle.reports.specs.declared.report.Report.{Report}
 use Rattle.reports.specs.declared.report.Report.TheVariants as report
-use Rattle.http_desk.specs.Routes.{desk_rows, page_of, posted_command, posted_telegram, got_waybill, got_holder, got_report, Place, posts, gets, place_at, place_of}
+use Rattle.http_desk.specs.declared.printout.Printout.{Printout}
+use Rattle.http_desk.specs.Printouts.{as_text, printout_at}
+use Rattle.http_desk.specs.Routes.{desk_rows, page_of, posted_command, posted_telegram, posted_look, got_waybill, got_holder, got_report, Place, posts, gets, place_at, routed, asked_place, place_of}
 use Rattle.reports.specs.Reports.{report_called}
-use Rattle.http_desk.specs.Paths.{IsPath, IsName, report_path, LeadsTo}
+use Rattle.http_desk.specs.Paths.{IsPath, IsName, report_path, LeadsToPlace, LeadsToRows, LeadsTo}
 use Rattle.http_desk.proofs.Pages.{LeadsToPage, page_leads, page_only, path_is, path_behind}
 
 -- there, by the page of a path
-at_page : (path : List ℕ) (value : Page) (place : Place) → IsPath path → LeadsToPage path value → place_at path value ≡ Some place → place_of path ≡ Some place
-at_page path value place all leads is =
-    ap (λ p. option_and_then (place_at p) (page_of desk_rows p)) (path_is path all) ∙ ap (option_and_then (place_at path)) (page_leads path value all leads) ∙ is
+at_page : (path : List ℕ) (value : Page) (place : Place) → IsPath path → LeadsToPage path value → place_at path value ≡ Some place → routed path ≡ Some place
+at_page path value place all leads is = ap (option_and_then (place_at path)) (page_leads path value all leads) ∙ is
 
 -- a word is a byte or more, and has no slash
 word_name : (v : Verb) → IsName (word v)
@@ -32,9 +33,9 @@ act_at : (v : Verb) → place_at (codes "/v1/act/" ++ word v) page.Act ≡ Some 
 act_at v = ap (option_map (λ verb. posts (posted_command verb))) (called_again v)
 
 abbrev IsThere : Place → List ℕ → Type 0
-IsThere place path = IsPath path → place_of path ≡ Some place
+IsThere place path = IsPath path → routed path ≡ Some place
 
-report_there : (name : Report) → IsThere (gets (got_report name)) (report_path name)
+report_there : (name : Report) → IsThere (gets (got_report (as_text name))) (report_path name)
 report_there report.Stock all = at_page _ page.Report _ all (codes "stock", (omega arith, refl), refl) refl
 report_there report.Shed all = at_page _ page.Report _ all (codes "shed", (omega arith, refl), refl) refl
 report_there report.Flights all = at_page _ page.Report _ all (codes "flights", (omega arith, refl), refl) refl
@@ -44,15 +45,17 @@ report_there report.Movements all = at_page _ page.Report _ all (codes "movement
 report_there report.Trail all = at_page _ page.Report _ all (codes "trail", (omega arith, refl), refl) refl
 report_there report.Pending all = at_page _ page.Outbox _ all refl refl
 
-there : (path : List ℕ) (place : Place) → IsPath path → LeadsTo path place → place_of path ≡ Some place
+there : (path : List ℕ) (place : Place) → IsPath path → LeadsToPlace path place → routed path ≡ Some place
 there path (posts (posted_command v)) all e =
     subst (IsThere (posts (posted_command v))) (sym e) (λ all. at_page (codes "/v1/act/" ++ word v) page.Act (posts (posted_command v)) all (word v, word_name v, refl) (act_at v)) all
 there path (posts posted_telegram) all e = at_page path page.Telegrams (posts posted_telegram) all e refl
+there path (posts posted_look) all e = at_page path page.Look (posts posted_look) all e refl
 there path (gets (got_waybill name)) all (is, e) =
     subst (IsThere (gets (got_waybill name))) (sym e) (λ all. at_page (codes "/v1/waybills/" ++ name) page.Waybill (gets (got_waybill name)) all (name, is, refl) refl) all
 there path (gets (got_holder name)) all (is, e) =
     subst (IsThere (gets (got_holder name))) (sym e) (λ all. at_page (codes "/v1/stock/" ++ name) page.Stock (gets (got_holder name)) all (name, is, refl) refl) all
-there path (gets (got_report name)) all e = subst (IsThere (gets (got_report name))) (sym e) (report_there name) all
+there path (gets (got_report p)) all (name, is, e) =
+    subst (λ (q : Printout). routed path ≡ Some (gets (got_report q))) (sym is) (subst (IsThere (gets (got_report (as_text name)))) (sym e) (report_there name) all)
 
 -- Only those.
 
@@ -70,10 +73,10 @@ map_some : {A B : Type 0} (f : A → B) (o : Option A) (y : B) → option_map f 
 map_some f None y e = absurd (no_some y e)
 map_some f (Some x) y e = (x, refl, some_is (f x) y e)
 
-act_only : (name : List ℕ) (place : Place) → place_at (codes "/v1/act/" ++ name) page.Act ≡ Some place → LeadsTo (codes "/v1/act/" ++ name) place
+act_only : (name : List ℕ) (place : Place) → place_at (codes "/v1/act/" ++ name) page.Act ≡ Some place → LeadsToPlace (codes "/v1/act/" ++ name) place
 act_only name place e =
     let told = map_some (λ verb. posts (posted_command verb)) (verb_called name) place e in
-    subst (LeadsTo (codes "/v1/act/" ++ name)) told.2 (ap (λ w. codes "/v1/act/" ++ w) (sym (called_is name told.0 told.1)))
+    subst (LeadsToPlace (codes "/v1/act/" ++ name)) told.2 (ap (λ w. codes "/v1/act/" ++ w) (sym (called_is name told.0 told.1)))
 
 -- a report by its name
 abbrev IsCalled : List ℕ → Report → Type 0
@@ -96,28 +99,53 @@ called_only name found e =
     (called_at name (codes "trail") report.Trail None (bytes_eq name (codes "trail")) refl refl found (λ none. absurd (no_some found none))))))))
     e
 
-report_only : (name : List ℕ) (place : Place) → place_at (codes "/v1/reports/" ++ name) page.Report ≡ Some place → LeadsTo (codes "/v1/reports/" ++ name) place
+report_only : (name : List ℕ) (place : Place) → place_at (codes "/v1/reports/" ++ name) page.Report ≡ Some place → LeadsToPlace (codes "/v1/reports/" ++ name) place
 report_only name place e =
-    let told = map_some (λ (r : Report). gets (got_report r)) (report_called name) place e in
-    subst (LeadsTo (codes "/v1/reports/" ++ name)) told.2 (called_only name told.0 told.1)
+    let told = map_some (λ (r : Report). gets (got_report (as_text r))) (report_called name) place e in
+    subst (LeadsToPlace (codes "/v1/reports/" ++ name)) told.2 (told.0, refl, called_only name told.0 told.1)
 
-of_page : (path : List ℕ) (value : Page) (place : Place) → LeadsToPage path value → place_at path value ≡ Some place → LeadsTo path place
-of_page path page.Act place (name, is, e) at = subst (λ p. place_at p page.Act ≡ Some place → LeadsTo p place) (sym e) (act_only name place) at
-of_page path page.Telegrams place e at = subst (LeadsTo path) (some_is (posts posted_telegram) place at) e
+of_page : (path : List ℕ) (value : Page) (place : Place) → LeadsToPage path value → place_at path value ≡ Some place → LeadsToPlace path place
+of_page path page.Act place (name, is, e) at = subst (λ p. place_at p page.Act ≡ Some place → LeadsToPlace p place) (sym e) (act_only name place) at
+of_page path page.Telegrams place e at = subst (LeadsToPlace path) (some_is (posts posted_telegram) place at) e
+of_page path page.Look place e at = subst (LeadsToPlace path) (some_is (posts posted_look) place at) e
 of_page path page.Waybill place (name, is, e) at =
-    subst (λ p. place_at p page.Waybill ≡ Some place → LeadsTo p place) (sym e) (λ at. subst (LeadsTo (codes "/v1/waybills/" ++ name)) (some_is (gets (got_waybill name)) place at) (is, refl)) at
+    subst (λ p. place_at p page.Waybill ≡ Some place → LeadsToPlace p place) (sym e) (λ at. subst (LeadsToPlace (codes "/v1/waybills/" ++ name)) (some_is (gets (got_waybill name)) place at) (is, refl)) at
 of_page path page.Stock place (name, is, e) at =
-    subst (λ p. place_at p page.Stock ≡ Some place → LeadsTo p place) (sym e) (λ at. subst (LeadsTo (codes "/v1/stock/" ++ name)) (some_is (gets (got_holder name)) place at) (is, refl)) at
-of_page path page.Outbox place e at = subst (LeadsTo path) (some_is (gets (got_report report.Pending)) place at) e
-of_page path page.Report place (name, is, e) at = subst (λ p. place_at p page.Report ≡ Some place → LeadsTo p place) (sym e) (report_only name place) at
+    subst (λ p. place_at p page.Stock ≡ Some place → LeadsToPlace p place) (sym e) (λ at. subst (LeadsToPlace (codes "/v1/stock/" ++ name)) (some_is (gets (got_holder name)) place at) (is, refl)) at
+of_page path page.Outbox place e at = subst (LeadsToPlace path) (some_is (gets (got_report (as_text report.Pending))) place at) (report.Pending, refl, e)
+of_page path page.Report place (name, is, e) at = subst (λ p. place_at p page.Report ≡ Some place → LeadsToPlace p place) (sym e) (report_only name place) at
 
-only_there : (path : List ℕ) (place : Place) → IsPath path → place_of path ≡ Some place → LeadsTo path place
+only_there : (path : List ℕ) (place : Place) → IsPath path → routed path ≡ Some place → LeadsToPlace path place
 only_there path place all e =
-    let told = then_some (place_at path) (page_of desk_rows path) place (sym (ap (λ p. option_and_then (place_at p) (page_of desk_rows p)) (path_is path all)) ∙ e) in
+    let told = then_some (place_at path) (page_of desk_rows path) place e in
     of_page path told.0 place (page_only path told.0 all told.1) told.2
 
+-- A path that leads to no page asks for rows, or leads nowhere.
+place_is : (path : List ℕ) → IsPath path → place_of path ≡ asked_place (routed path) path
+place_is path all = ap (λ p. asked_place (routed p) p) (path_is path all)
+
+asked_only : (path : List ℕ) (place : Place) (found : Option Place) → IsPath path → routed path ≡ found → asked_place found path ≡ Some place → LeadsTo path place
+asked_only path place (Some page) all is e = inl (only_there path place all (is ∙ e))
+asked_only path place None all is e =
+    let told = map_some (λ (p : Printout). gets (got_report p)) (printout_at path) place e in
+    inr (record {
+      no_page = λ page leads. no_some page (sym is ∙ there path page all leads);
+      printout = told.0;
+      asks = told.1;
+      is = sym told.2;
+    })
+
+asked_there : (path : List ℕ) (place : Place) (found : Option Place) → IsPath path → routed path ≡ found → LeadsTo path place → asked_place found path ≡ Some place
+asked_there path place (Some page) all is (inl leads) = sym is ∙ there path place all leads
+asked_there path place (Some page) all is (inr rows) = absurd (rows.no_page page (only_there path page all is))
+asked_there path place None all is (inl leads) = absurd (no_some place (sym is ∙ there path place all leads))
+asked_there path place None all is (inr rows) = ap (option_map (λ (p : Printout). gets (got_report p))) rows.asks ∙ ap Some (sym rows.is)
+
 pub leads : (path : List ℕ) (place : Place) → IsPath path → (place_of path ≡ Some place) ↔ LeadsTo path place
-leads path place all = (only_there path place all, there path place all)
+leads path place all = (
+  λ e. asked_only path place (routed path) all refl (sym (place_is path all) ∙ e),
+  λ leads. place_is path all ∙ asked_there path place (routed path) all refl leads,
+)
 
 pub query_off : (path query : List ℕ) → IsPath path → place_of (path ++ 63 ∷ query) ≡ place_of path
-query_off path query all = ap (λ p. option_and_then (place_at p) (page_of desk_rows p)) (path_behind path query all ∙ sym (path_is path all))
+query_off path query all = ap (λ p. asked_place (routed p) p) (path_behind path query all ∙ sym (path_is path all))

@@ -9,9 +9,9 @@ use Rattle.reports.specs.Ended.{HasEndedBy, HasTold, HaveGone, IsBegun, IsCause,
 use Rattle.reports.specs.declared.fault.ReportCause.{ReportCause}
 use Rattle.reports.specs.declared.fault.ReportCause.TheVariants as cause
 use Rattle.reports.specs.declared.fault.ReportFault.{ReportFault}
-use Rattle.reports.specs.declared.report.Report.{Report}
+use Rattle.http_desk.specs.declared.printout.Printout.{Printout}
 use Rattle.http_desk.specs.Reply.{report_head}
-use Rattle.reports.specs.Reports.{IsReport}
+use Rattle.http_desk.specs.Printouts.{IsPrinted}
 use Rattle.http_desk.specs.Serving.{unavailable, SomeOrEach, StopsServing}
 use Rattle.http_desk.specs.Writing.{HasSent, HasBegun, HasReported}
 use Rattle.http_desk.specs.declared.serve.Served.{Served}
@@ -39,18 +39,18 @@ module _ (front : List ℕ) (e : ReportFault) (fault : ActFault) (old new : Give
   pub none_failed : NoneFailed old new
   none_failed = at_fault.0
 
-  pub some_of_report : front ≡ report_head → 0 < e.sent → length report_head < e.sent
-  some_of_report is some = ⊎_elim (λ none. absurd (omega (arith, none, some))) (λ more. subst (λ f. length f < e.sent) is more) at_fault.1
+  pub some_of_report : (name : Printout) → front ≡ report_head name → 0 < e.sent → length (report_head name) < e.sent
+  some_of_report name is some = ⊎_elim (λ none. absurd (omega (arith, none, some))) (λ more. subst (λ f. length f < e.sent) is more) at_fault.1
 
 -- a report that ended before its end
-pub record EndedEarly (Open : Type 0) (s : State) (name : Report) (old new : Given) (e : ReportFault) : Type 0 where
+pub record EndedEarly (Open : Type 0) (s : State) (name : Printout) (old new : Given) (e : ReportFault) : Type 0 where
   pub part : SomeOrEach s name (λ whole. Sent old new whole e.sent)
   pub gone : HaveGone e.sent old new
   pub told : HasTold e.cause old new
   pub fault : Open → IsCause e.cause
 
 module _ (Open : Type 0) (s : State) (old new : Given) (e : ReportFault) where
-  of_text : (name : Report) (front text : List ℕ) → front ≡ report_head → IsReport s name text → IsBegun (front ++ text) e old new → (Open → IsCause e.cause) → EndedEarly Open s name old new e
+  of_text : (name : Printout) (front text : List ℕ) → front ≡ report_head name → IsPrinted s name text → IsBegun (front ++ text) e old new → (Open → IsCause e.cause) → EndedEarly Open s name old new e
   of_text name front text is are begun fault = record {
     part = inl (text, are, subst (λ f. Sent old new (f ++ text) e.sent) is begun.0);
     gone = (take e.sent (front ++ text), length-take-le e.sent (front ++ text) begun.0.0, begun.0.1);
@@ -59,7 +59,7 @@ module _ (Open : Type 0) (s : State) (old new : Given) (e : ReportFault) where
   }
 
   -- the same of a report that is known by what it is
-  pub ended_early : (name : Report) (front : List ℕ) → front ≡ report_head → HasEndedBy Open (IsReport s name) front old new (Err e) → EndedEarly Open s name old new e
+  pub ended_early : (name : Printout) (front : List ℕ) → front ≡ report_head name → HasEndedBy Open (IsPrinted s name) front old new (Err e) → EndedEarly Open s name old new e
   ended_early name front is (inl (text, are, begun), gone, told, fault) = of_text name front text is are begun fault
   ended_early name front is (inr each, gone, told, fault) = record {
     gone = gone;
@@ -73,18 +73,18 @@ append_none [] = refl
 append_none (x ∷ xs) = ap (λ ys. x ∷ ys) (append_none xs)
 
 -- what holds of some text, or of each, is weakened
-pub some_or_each : (s : State) (name : Report) (P Q : List ℕ → Type 0) → ((whole : List ℕ) → P whole → Q whole) → SomeOrEach s name P → SomeOrEach s name Q
-some_or_each s name P Q more (inl (text, are, p)) = inl (text, are, more (report_head ++ text) p)
-some_or_each s name P Q more (inr each) = inr (λ text are. more (report_head ++ text) (each text are))
+pub some_or_each : (s : State) (name : Printout) (P Q : List ℕ → Type 0) → ((whole : List ℕ) → P whole → Q whole) → SomeOrEach s name P → SomeOrEach s name Q
+some_or_each s name P Q more (inl (text, are, p)) = inl (text, are, more (report_head name ++ text) p)
+some_or_each s name P Q more (inr each) = inr (λ text are. more (report_head name ++ text) (each text are))
 
 -- The answer with a report, by how the report ended.
-module _ (s : State) (name : Report) (old mid : Given) where
+module _ (s : State) (name : Printout) (old mid : Given) where
   pub after_write : (Open : Type 0) (e : ReportFault) → e.cause ≡ cause.Write → EndedEarly Open s name old mid e
       → (SomeOrEach s name (λ whole. Sent old mid whole e.sent) ⊎ Sent old mid unavailable e.sent) × HasCause old mid
   after_write Open e is ended = (inl ended.part, subst (λ (why : ReportCause). HasTold why old mid) is ended.told)
 
-  pub after_part : (Open : Type 0) (e : ReportFault) → length report_head < e.sent → EndedEarly Open s name old mid e → HasReported s name old mid (Ok (record { status = 200; reopen = false }))
-  after_part Open e some ended = inr (inl (refl, some_or_each s name (λ whole. Sent old mid whole e.sent) (HasBegun old mid) (λ whole sent. (e.sent, (some, sent.0, sent.1))) ended.part))
+  pub after_part : (Open : Type 0) (e : ReportFault) → length (report_head name) < e.sent → EndedEarly Open s name old mid e → HasReported s name old mid (Ok (record { status = 200; reopen = false }))
+  after_part Open e some ended = inr (inl (refl, some_or_each s name (λ whole. Sent old mid whole e.sent) (HasBegun name old mid) (λ whole sent. (e.sent, (some, sent.0, sent.1))) ended.part))
 
   none_gone : HaveGone 0 old mid → mid.bytes ≡ old.bytes
   none_gone ([], empty, e) = e ∙ append_none old.bytes

@@ -7,7 +7,7 @@ use Rattle.awb_number.specs.Number.{number_of}
 use Rattle.awb_number.specs.declared.awb.AwbFault.{AwbFault}
 use Rattle.station_core.specs.Readers.{waybill_of}
 use Rattle.http_desk.specs.declared.fault.FaultTold.{FaultTold}
-use Rattle.reports.specs.declared.report.Report.{Report}
+use Rattle.http_desk.specs.declared.printout.Printout.{Printout}
 use Rattle.http_desk.specs.declared.wanted.Wanted.{Wanted}
 use Rattle.http_desk.specs.declared.wanted.Wanted.TheVariants as wanted
 use Rattle.http_desk.specs.Fields.{meant}
@@ -72,15 +72,15 @@ no_holder name f is e = record {
   input = λ i is. cc is;
 }
 
-report_of : Wanted → Report → Report
+report_of : Wanted → Printout → Printout
 report_of (wanted.Report name) other = name
 report_of _ other = other
 
-report_is : (name other : Report) → ◌≡◌ {A = Wanted} (wanted.Report name) (wanted.Report other) → name ≡ other
+report_is : (name other : Printout) → ◌≡◌ {A = Wanted} (wanted.Report name) (wanted.Report other) → name ≡ other
 unfolding report_of
 report_is name other e = ap (λ w. report_of w name) e
 
-pub report_wanted : (name : Report) → WantsNow (looks_up (got_report name)) (wanted.Report name)
+pub report_wanted : (name : Printout) → WantsNow (looks_up (got_report name)) (wanted.Report name)
 report_wanted name = record {
   answered = λ head rest s at status out after r. r;
   report = λ other is. ap (λ n. looks_up (got_report n)) (report_is name other is);

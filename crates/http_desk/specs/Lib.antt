@@ -13,3 +13,5 @@ pub mod Came
 pub mod Members
 pub mod Told
 pub mod Writing
+pub mod Printouts
+pub mod Digits

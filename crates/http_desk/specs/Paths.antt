@@ -1,11 +1,13 @@
 -- Which paths lead where.
-use Rattle.std.specs.Prelude.{◌≡◌, ℕ, ◌<◌, ◌==◌, ◌&&◌, not, nat_lt, Bool, true, false, List, ◌++◌, length, codes}
+use Rattle.std.specs.Prelude.{◌≡◌, ◌⊎◌, ℕ, ◌<◌, ◌==◌, ◌&&◌, not, nat_lt, Bool, true, false, Some, List, ◌++◌, length, codes}
 use Rattle.std.specs.List.{list_all}
 use Rattle.matchit.specs.Seek.{has_slash}
 use Rattle.desk_commands.specs.Verb.{word}
 use Rattle.reports.specs.declared.report.Report.{Report}
 use Rattle.reports.specs.declared.report.Report.TheVariants as report
-use Rattle.http_desk.specs.Routes.{posted_command, posted_telegram, got_waybill, got_holder, got_report, Place, posts, gets}
+use Rattle.http_desk.specs.declared.printout.Printout.{Printout}
+use Rattle.http_desk.specs.Printouts.{as_text, printout_at}
+use Rattle.http_desk.specs.Routes.{posted_command, posted_telegram, posted_look, got_waybill, got_holder, got_report, Place, posts, gets}
 
 -- bytes without a question mark
 abbrev pub is_path_byte : ℕ → Bool
@@ -29,10 +31,22 @@ report_path report.Movements = codes "/v1/reports/movements"
 report_path report.Trail = codes "/v1/reports/trail"
 report_path report.Pending = codes "/v1/outbox"
 
+-- the path leads to a page: a verb, the telegrams, a look-up, or a whole report as text
+abbrev pub LeadsToPlace : List ℕ → Place → Type 0
+LeadsToPlace path (posts (posted_command verb)) = path ≡ codes "/v1/act/" ++ word verb
+LeadsToPlace path (posts posted_telegram) = path ≡ codes "/v1/telegrams"
+LeadsToPlace path (posts posted_look) = path ≡ codes "/v1/read"
+LeadsToPlace path (gets (got_waybill name)) = IsName name × (path ≡ codes "/v1/waybills/" ++ name)
+LeadsToPlace path (gets (got_holder name)) = IsName name × (path ≡ codes "/v1/stock/" ++ name)
+LeadsToPlace path (gets (got_report p)) = (name : Report) × (p ≡ as_text name) × (path ≡ report_path name)
+
+-- the path leads to no page, and asks for rows
+pub record LeadsToRows (path : List ℕ) (place : Place) : Type 0 where
+  pub no_page : (page : Place) → ¬ (LeadsToPlace path page)
+  pub printout : Printout
+  pub asks : printout_at path ≡ Some printout
+  pub is : place ≡ gets (got_report printout)
+
 -- the path leads there
 abbrev pub LeadsTo : List ℕ → Place → Type 0
-LeadsTo path (posts (posted_command verb)) = path ≡ codes "/v1/act/" ++ word verb
-LeadsTo path (posts posted_telegram) = path ≡ codes "/v1/telegrams"
-LeadsTo path (gets (got_waybill name)) = IsName name × (path ≡ codes "/v1/waybills/" ++ name)
-LeadsTo path (gets (got_holder name)) = IsName name × (path ≡ codes "/v1/stock/" ++ name)
-LeadsTo path (gets (got_report name)) = path ≡ report_path name
+LeadsTo path place = LeadsToPlace path place ⊎ LeadsToRows path place

@@ -5,18 +5,20 @@ use Rattle.std.specs.List.{list_all}
 use Rattle.std.specs.Str.{bytes_eq}
 use Rattle.serde_json.specs.Data.{Data}
 use Rattle.serde_json.specs.Read.{read}
-use Rattle.awb_number.specs.Digits.{is_digit, decimal_value}
-use Rattle.station_days.specs.Steps.{where_true}
+use Rattle.http_desk.specs.Digits.{number_told}
 use Rattle.imp_fields.specs.declared.fault.TextFault.{TextFault}
 use Rattle.shipment_machine.specs.declared.plans.Refusal.{Refusal}
 use Rattle.desk_commands.specs.declared.command.Command.{Command}
 use Rattle.desk_commands.specs.declared.verb.Verb.{Verb}
 use Rattle.desk_commands.specs.Body.{IsBodyOf}
 use Rattle.telegrams.specs.Meaning.{Meant, IsTelegram, telegram_fault, refusal_of}
+use Rattle.telegram_look.specs.Look.{IsLook}
+use Rattle.telegram_look.specs.LookObject.{look_object}
+use Rattle.telegram_look.specs.declared.look.Look.{Look}
 use Rattle.station_core.specs.Key.{is_key}
 use Rattle.station_core.specs.declared.input.Input.{Input}
 use Rattle.station_core.specs.declared.input.Input.TheVariants.{Keyed, Wire}
-use Rattle.http_desk.specs.Routes.{Posted, posted_command, posted_telegram, Got, Place, posts, gets, place_of}
+use Rattle.http_desk.specs.Routes.{Posted, posted_command, posted_telegram, posted_look, Got, Place, posts, gets, place_of}
 
 -- a request's head, as far as it is read: the fields are names and values without blanks and tabs
 -- round them
@@ -46,19 +48,13 @@ abbrev pub values_of : List ℕ → List (List ℕ × List ℕ) → List (List �
 values_of name [] = []
 values_of name (field ∷ fields) = if is_named name field then field.1 ∷ values_of name fields else values_of name fields
 
--- a length is one to ten digits, and at most 65,536
-abbrev pub is_length : List ℕ → Bool
-is_length value = nat_le 1 (length value) && nat_le (length value) 10 && list_all is_digit value
-
-abbrev pub length_told : List ℕ → Option ℕ
-length_told value = where_true (is_length value) (decimal_value value)
-
+-- a length is a number, and at most 65,536
 abbrev pub within_length : Option ℕ → Result ℕ Fault
 within_length None = Err (fault 400 (codes "length"))
 within_length (Some n) = if nat_le n 65_536 then Ok n else Err (fault 413 [])
 
 abbrev pub length_in : List ℕ → Result ℕ Fault
-length_in value = within_length (length_told value)
+length_in value = within_length (number_told value)
 
 abbrev pub length_among : List (List ℕ) → Result ℕ Fault
 length_among [] = Err (fault 411 [])
@@ -125,10 +121,12 @@ key_among _ = None
 abbrev pub key_of : List (List ℕ × List ℕ) → Option (List ℕ)
 key_of fields = key_among (values_of (codes "request-key") fields)
 
--- What a body asks: it is refused by a word, it is no telegram, or it is an input for the station.
+-- What a body asks: it is refused by a word, it is no telegram, it is a telegram that is only looked
+-- at, or it is an input for the station.
 pub data BodyAsks : Type 0 where
   bad_body : Fault → BodyAsks
   unreadable : Refusal → BodyAsks
+  looks_at : List ℕ → BodyAsks
   for_station : Input → BodyAsks
 
 -- the bytes are JSON that says this command of the verb
@@ -146,9 +144,15 @@ IsTelegramAsked bytes asks =
     ((t : Meant) × IsTelegram bytes t × (asks ≡ for_station (Wire t)))
     ⊎ ((told : TextFault) × (telegram_fault bytes ≡ Some told) × (asks ≡ unreadable (refusal_of told)))
 
+abbrev pub IsLookAsked : List ℕ → BodyAsks → Type 0
+IsLookAsked bytes asks =
+    ((look : Look) × IsLook bytes look × (asks ≡ looks_at (look_object look)))
+    ⊎ ((told : TextFault) × (telegram_fault bytes ≡ Some told) × (asks ≡ unreadable (refusal_of told)))
+
 abbrev pub IsAskedUnder : Posted → Option (List ℕ) → List ℕ → BodyAsks → Type 0
 IsAskedUnder (posted_command verb) key bytes asks = IsCommandAsked verb key bytes asks
 IsAskedUnder posted_telegram key bytes asks = IsTelegramAsked bytes asks
+IsAskedUnder posted_look key bytes asks = IsLookAsked bytes asks
 
 abbrev pub IsAsked : Posted → List (List ℕ × List ℕ) → List ℕ → BodyAsks → Type 0
 IsAsked posted fields bytes asks = IsAskedUnder posted (key_of fields) bytes asks

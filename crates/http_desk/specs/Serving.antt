@@ -9,11 +9,11 @@ use Rattle.station_core.specs.Step.{State, accepted, step}
 use Rattle.http_desk.specs.declared.serve.Served.{Served}
 use Rattle.http_desk.specs.declared.serve.ServeFault.{ServeFault}
 use Rattle.http_desk.specs.declared.serve.ServeFault.TheVariants as serve
-use Rattle.reports.specs.declared.report.Report.{Report}
+use Rattle.http_desk.specs.declared.printout.Printout.{Printout}
 use Rattle.http_desk.specs.Reply.{json_answer, refused_data, report_head}
-use Rattle.reports.specs.Reports.{IsReport}
+use Rattle.http_desk.specs.Printouts.{IsPrinted}
 use Rattle.httparse.specs.Grammar.{RequestHead, print_request}
-use Rattle.http_desk.specs.Routes.{Posted, got_report}
+use Rattle.http_desk.specs.Routes.{Posted, posted_look, got_report}
 use Rattle.http_desk.specs.Request.{looks_up, sends, head_asks, for_station, IsAsked}
 use Rattle.http_desk.specs.Answer.{head_of, HasHead, Answers}
 use Rattle.http_desk.specs.Reading.{HasNoHeadYet}
@@ -37,13 +37,13 @@ abbrev pub IsUnfinished : List ℕ → Type 0
 IsUnfinished bytes = HasNoHeadYet bytes ⊎ LacksBody bytes
 
 -- the request gets a report
-abbrev pub GetsReport : List ℕ → Report → Type 0
+abbrev pub GetsReport : List ℕ → Printout → Type 0
 GetsReport bytes name = (h : RequestHead) × HasHead bytes h × (head_asks (head_of h) ≡ looks_up (got_report name))
 
 -- What holds of a report's bytes behind its head: of one text of it, or of each. The texts of a
 -- stock, of flights and of what is expected are known by their rows.
-abbrev pub SomeOrEach : State → Report → (List ℕ → Type 0) → Type 0
-SomeOrEach s name P = ((text : List ℕ) × IsReport s name text × P (report_head ++ text)) ⊎ ((text : List ℕ) → IsReport s name text → P (report_head ++ text))
+abbrev pub SomeOrEach : State → Printout → (List ℕ → Type 0) → Type 0
+SomeOrEach s name P = ((text : List ℕ) × IsPrinted s name text × P (report_head name ++ text)) ⊎ ((text : List ℕ) → IsPrinted s name text → P (report_head name ++ text))
 
 -- The request asks this input of the station: its head sends a body, all of which has come, and the
 -- body says the input.
@@ -74,8 +74,8 @@ IsUnchangedOrBroken bytes s at broken keeps may_find = IsKept broken keeps s ⊎
 
 -- the bytes are a beginning of an answer with a report: all of its head, and a byte of the report
 -- or more
-abbrev pub IsBeginning : List ℕ → List ℕ → Type 0
-IsBeginning out whole = (n : ℕ) × ((length report_head < n) × (n ≤ length whole) × (out ≡ take n whole))
+abbrev pub IsBeginning : Printout → List ℕ → List ℕ → Type 0
+IsBeginning name out whole = (n : ℕ) × ((length (report_head name) < n) × (n ≤ length whole) × (out ≡ take n whole))
 
 -- In place of an answer: 503; or the head of the report that the request gets, and a byte of the
 -- report or more, and nothing has changed.
@@ -83,7 +83,7 @@ abbrev pub IsExcuse : List ℕ → State → LocalMinute → List ℕ → ℕ �
     → (Option State → Type 0) → Type 0
 IsExcuse bytes s at out status broken keeps may_find =
     ((out ≡ unavailable) × (status ≡ 503) × IsUnchangedOrBroken bytes s at broken keeps may_find)
-    ⊎ ((name : Report) × GetsReport bytes name × SomeOrEach s name (IsBeginning out) × (status ≡ 200) × IsKept broken keeps s)
+    ⊎ ((name : Printout) × GetsReport bytes name × SomeOrEach s name (IsBeginning name out) × (status ≡ 200) × IsKept broken keeps s)
 
 -- the answer to the bytes of a request, and what is kept after it
 abbrev pub IsAnswer : State → LocalMinute → List ℕ → ℕ → List ℕ → Bool → (State → Type 0)
@@ -96,7 +96,7 @@ abbrev pub IsPartOut : State → LocalMinute → List ℕ → ℕ → Given → 
     → (Option State → Type 0) → Type 0
 IsPartOut s at bytes sent before after broken keeps may_find =
     ((status : ℕ) × (out : List ℕ) × IsAnswer s at bytes status out broken keeps may_find × Sent before after out sent)
-    ⊎ ((name : Report) × GetsReport bytes name × IsKept broken keeps s × SomeOrEach s name (λ whole. Sent before after whole sent))
+    ⊎ ((name : Printout) × GetsReport bytes name × IsKept broken keeps s × SomeOrEach s name (λ whole. Sent before after whole sent))
 
 -- It was written whole, with its status returned; or its first bytes, as many as are returned,
 -- since the writer failed or took none. At a writer's fault the keeper keeps the state after it,
@@ -124,9 +124,11 @@ HasServedShut at read_before read_after before after r =
 
 -- Once an answer has begun.
 
--- the request is a POST
+-- the request is a POST, and not one that only looks at a telegram
 abbrev pub IsPosted : List ℕ → Type 0
-IsPosted bytes = (h : RequestHead) × HasHead bytes h × (h.method ≡ codes "POST")
+IsPosted bytes =
+    (h : RequestHead) × HasHead bytes h × (h.method ≡ codes "POST")
+    × ((size : ℕ) → ¬ (head_asks (head_of h) ≡ sends posted_look size))
 
 -- the bytes begin as each 200 does, and as no other answer
 abbrev pub BeginsAs200 : List ℕ → Type 0

@@ -1,10 +1,10 @@
 -- What a request wants of the desk, and what it is replied.
-use Rattle.std.specs.Prelude.{◌≡◌, ℕ, List, Option}
+use Rattle.std.specs.Prelude.{◌≡◌, ℕ, List, Option, string_bytes}
 use Rattle.station_days.specs.Date.{LocalMinute}
 use Rattle.station_core.specs.Readers.{waybill_of}
 use Rattle.station_core.specs.declared.input.Input.{Input}
 use Rattle.station_core.specs.Step.{State, step}
-use Rattle.reports.specs.declared.report.Report.{Report}
+use Rattle.http_desk.specs.declared.printout.Printout.{Printout}
 use Rattle.http_desk.specs.declared.wanted.Post.{Post}
 use Rattle.http_desk.specs.declared.wanted.Post.TheVariants as post
 use Rattle.http_desk.specs.declared.wanted.Wanted.{Wanted}
@@ -12,9 +12,9 @@ use Rattle.http_desk.specs.declared.wanted.Wanted.TheVariants as wanted
 use Rattle.http_desk.specs.declared.wanted.HeadWants.{HeadWants}
 use Rattle.http_desk.specs.declared.wanted.HeadWants.TheVariants as wants
 use Rattle.http_desk.specs.Fields.{meant}
-use Rattle.http_desk.specs.Routes.{Posted, posted_command, posted_telegram, got_report}
+use Rattle.http_desk.specs.Routes.{Posted, posted_command, posted_telegram, posted_look, got_report}
 use Rattle.http_desk.specs.Request.{Head, HeadAsks, BodyAsks, looks_up, sends, for_station, IsAskedUnder}
-use Rattle.http_desk.specs.Reply.{Reply, report_reply, fault_reply, refusal_reply, answer_reply, waybill_reply, holder_reply, body_reply, body_state}
+use Rattle.http_desk.specs.Reply.{Reply, look_reply, report_reply, fault_reply, refusal_reply, answer_reply, waybill_reply, holder_reply, body_reply, body_state}
 use Rattle.http_desk.specs.Answer.{Replied, IsAnsweredAs, Answers}
 use Rattle.http_desk.specs.Serving.{AsksInput, GetsReport}
 
@@ -22,6 +22,7 @@ use Rattle.http_desk.specs.Serving.{AsksInput, GetsReport}
 abbrev pub wanted_reply : State → LocalMinute → Wanted → Reply
 wanted_reply s at (wanted.Fault f) = fault_reply (meant f)
 wanted_reply s at (wanted.Unreadable refusal) = refusal_reply refusal
+wanted_reply s at (wanted.Look seen) = look_reply (string_bytes seen)
 wanted_reply s at (wanted.Waybill w) = waybill_reply w (waybill_of s.cargo w)
 wanted_reply s at (wanted.Holder w) = holder_reply w (s.cargo.holders w)
 wanted_reply s at (wanted.Report name) = report_reply name
@@ -37,20 +38,21 @@ pub record Wants (bytes : List ℕ) (w : Wanted) : Type 0 where
   pub answered : (s : State) (at : LocalMinute) (status : ℕ) (out : List ℕ) (after : State)
       → Replied s (wanted_reply s at w) (wanted_state s at w) status out after
       → Answers bytes s at status out after
-  pub report : (name : Report) → w ≡ wanted.Report name → GetsReport bytes name
+  pub report : (name : Printout) → w ≡ wanted.Report name → GetsReport bytes name
   pub input : (i : Input) → w ≡ wanted.Input i → AsksInput bytes i
 
 -- the same of what a head asks that sends no body
 pub record WantsNow (asks : HeadAsks) (w : Wanted) : Type 0 where
   pub answered : (head : Head) (rest : List ℕ) (s : State) (at : LocalMinute) (status : ℕ) (out : List ℕ) (after : State)
       → Replied s (wanted_reply s at w) (wanted_state s at w) status out after → IsAnsweredAs asks head rest s at status out after
-  pub report : (name : Report) → w ≡ wanted.Report name → asks ≡ looks_up (got_report name)
+  pub report : (name : Printout) → w ≡ wanted.Report name → asks ≡ looks_up (got_report name)
   pub input : (i : Input) → w ≡ wanted.Input i → ⊥
 
 -- what is posted
 abbrev pub posted_of : Post → Posted
 posted_of (post.Command verb) = posted_command verb
 posted_of post.Telegram = posted_telegram
+posted_of post.Look = posted_look
 
 -- a head wants something at once, or sends a body of so many bytes
 abbrev pub HasWants : HeadAsks → HeadWants → Type 0
@@ -61,7 +63,7 @@ HasWants asks (wants.Body post n) = asks ≡ sends (posted_of post) n
 pub record WantsAsked (asks : BodyAsks) (w : Wanted) : Type 0 where
   pub reply : (s : State) (at : LocalMinute) → wanted_reply s at w ≡ body_reply s at asks
   pub state : (s : State) (at : LocalMinute) → wanted_state s at w ≡ body_state s at asks
-  pub report : (name : Report) → w ≡ wanted.Report name → ⊥
+  pub report : (name : Printout) → w ≡ wanted.Report name → ⊥
   pub input : (i : Input) → w ≡ wanted.Input i → asks ≡ for_station i
 
 -- what a body asks is wanted

@@ -6,12 +6,12 @@ use Rattle.station_core.specs.Ends.{Sent, HasCause}
 use Rattle.station_core.specs.Step.{State}
 use Rattle.http_desk.specs.declared.asking.Told.{Told}
 use Rattle.http_desk.specs.declared.asking.Told.TheVariants as told
-use Rattle.reports.specs.declared.report.Report.{Report}
+use Rattle.http_desk.specs.declared.printout.Printout.{Printout}
 use Rattle.http_desk.specs.declared.serve.Served.{Served}
 use Rattle.http_desk.specs.declared.serve.ServeFault.{ServeFault}
 use Rattle.http_desk.specs.declared.serve.ServeFault.TheVariants as serve
 use Rattle.http_desk.specs.Reply.{ok_answer, report_head}
-use Rattle.reports.specs.Reports.{IsReport}
+use Rattle.http_desk.specs.Printouts.{IsPrinted}
 use Rattle.http_desk.specs.Answer.{Answers}
 use Rattle.http_desk.specs.Serving.{unavailable, GetsReport, SomeOrEach, IsKept, IsUnchangedOrBroken}
 
@@ -22,7 +22,7 @@ abbrev pub IsToldFor : List ℕ → State → LocalMinute → Told → Bool → 
 IsToldFor bytes s at (told.Accepted count) broken keeps may_find = (after : State) × Answers bytes s at 200 (ok_answer count) after × IsKept broken keeps after
 IsToldFor bytes s at (told.Json status text) broken keeps may_find = Answers bytes s at status (string_bytes text) s × IsKept broken keeps s
 IsToldFor bytes s at (told.Report name) broken keeps may_find =
-    GetsReport bytes name × ((text : List ℕ) → IsReport s name text → Answers bytes s at 200 (report_head ++ text) s) × IsKept broken keeps s
+    GetsReport bytes name × ((text : List ℕ) → IsPrinted s name text → Answers bytes s at 200 (report_head name ++ text) s) × IsKept broken keeps s
 IsToldFor bytes s at (told.Unavailable reopen) broken keeps may_find = IsUnchangedOrBroken bytes s at broken keeps may_find
 
 -- the bytes went out, or their beginning
@@ -32,14 +32,14 @@ HasSent status reopen bytes old new (Err serve.Read) = ⊥
 HasSent status reopen bytes old new (Err (serve.Write sent)) = Sent old new bytes sent × HasCause old new
 
 -- all of a report's head went out, and a byte of the report or more
-abbrev pub HasBegun : Given → Given → List ℕ → Type 0
-HasBegun old new whole = (n : ℕ) × ((length report_head < n) × (n ≤ length whole) × (new.bytes ≡ old.bytes ++ take n whole))
+abbrev pub HasBegun : Printout → Given → Given → List ℕ → Type 0
+HasBegun name old new whole = (n : ℕ) × ((length (report_head name) < n) × (n ≤ length whole) × (new.bytes ≡ old.bytes ++ take n whole))
 
 -- an answer with a report went out: whole, up to a fault, or 503 where it hadn't begun
-abbrev pub HasReported : State → Report → Given → Given → Result Served ServeFault → Type 0
+abbrev pub HasReported : State → Printout → Given → Given → Result Served ServeFault → Type 0
 HasReported s name old new (Ok served) =
-    ((served ≡ record { status = 200; reopen = false }) × ((text : List ℕ) × IsReport s name text × (new.bytes ≡ old.bytes ++ (report_head ++ text))))
-    ⊎ (((served ≡ record { status = 200; reopen = false }) × SomeOrEach s name (HasBegun old new))
+    ((served ≡ record { status = 200; reopen = false }) × ((text : List ℕ) × IsPrinted s name text × (new.bytes ≡ old.bytes ++ (report_head name ++ text))))
+    ⊎ (((served ≡ record { status = 200; reopen = false }) × SomeOrEach s name (HasBegun name old new))
     ⊎ ((served ≡ record { status = 503; reopen = false }) × (new.bytes ≡ old.bytes ++ unavailable)))
 HasReported s name old new (Err serve.Read) = ⊥
 HasReported s name old new (Err (serve.Write sent)) = (SomeOrEach s name (λ whole. Sent old new whole sent) ⊎ Sent old new unavailable sent) × HasCause old new

@@ -3,14 +3,16 @@ ghost use Rattle.std.specs.Prelude.{◌≡◌, IfOk, string_bytes, option_map};
 ghost use Rattle.http.specs.StatusCode.{IsStatusCode};
 ghost use Rattle.serde_json.specs.View.{view};
 ghost use Rattle.serde_json.specs.Written.{compact_text};
-ghost use Rattle.http_desk.specs.Reply.{status_line, allow_line, json_fields, json_answer, report_head, refused_data, pair_data, holding_data, holder_data, holder_word, holder_name, since_text, waybill_data};
+ghost use Rattle.http_desk.specs.Reply.{status_line, allow_line, json_fields, json_answer, media_type, report_head, refused_data, pair_data, holding_data, holder_data, holder_word, holder_name, since_text, waybill_data};
 ghost use Rattle.serde_json.specs.Data.{boolean, string};
 ghost use Rattle.http_desk.specs.Members.{first_members, second_members, third_members, stored_members, last_members};
 
+use crate::printout::Printout;
 use agent_stock::Holder;
 use awb_number::{Awb, ascii_text};
 use desk_commands::day_text;
 use http::StatusCode;
+use reports::Form;
 use serde_json::{Value, json};
 use shipment_machine::Amount;
 use station_core::Waybill;
@@ -65,12 +67,23 @@ pub(crate) fn json_answer(
     format!(in alloc; "{first}{allow}{fields}{body}")
 }
 
+/// The media type of a report in a form.
+fn media_type(form: Form) -> &'static str
+    ensures { result.now ≡ media_type form }
+{
+    match form {
+        Form::Text => "text/plain",
+        Form::Json => "application/json",
+    }
+}
+
 /// What stands in front of a report.
-pub(crate) fn report_head(alloc: Global) -> Result<String, AllocError>
-    ensures { IfOk result (λ text. string_bytes text ≡ report_head) }
+pub(crate) fn report_head(alloc: Global, printout: &Printout) -> Result<String, AllocError>
+    ensures { IfOk result (λ text. string_bytes text ≡ report_head printout.now) }
 {
     let first = status_line(alloc, 200)?;
-    format!(in alloc; "{first}Content-Type: text/plain\r\nConnection: close\r\n\r\n")
+    let media = media_type(printout.form);
+    format!(in alloc; "{first}Content-Type: {media}\r\nConnection: close\r\n\r\n")
 }
 
 /// The body of a fault or a refusal.

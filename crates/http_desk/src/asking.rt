@@ -8,15 +8,15 @@ ghost use Rattle.http_desk.specs.Told.{IsToldAs, HasAsked, HasAskedShut, IsUnava
 ghost use Rattle.station_days.specs.Date.{LocalMinute};
 ghost use Rattle.station_core.specs.Texts.{detail_text};
 ghost use Rattle.http_desk.specs.Fields.{meant};
-ghost use Rattle.http_desk.specs.Reply.{refused_data, json_reply, fault_reply, refusal_status, refusal_reply, waybill_reply, holder_reply};
+ghost use Rattle.http_desk.specs.Reply.{refused_data, json_reply, look_reply, fault_reply, refusal_status, refusal_reply, waybill_reply, holder_reply};
 
 use crate::answer::{holder_text, json_answer, refused_text, waybill_text};
 use crate::fault::FaultTold;
 use crate::head::NOT_FOUND;
+use crate::printout::Printout;
 use crate::wanted::Wanted;
 use agent_stock::Holder;
 use awb_number::Awb;
-use reports::Report;
 use shipment_machine::Refusal;
 use station_core::{ActFault, Answer, Input, Keeper, Waybill, answer_one, detail_text};
 use station_days::Moment;
@@ -30,7 +30,7 @@ pub(crate) enum Told {
     /// Another answer of JSON: its status and its bytes.
     Json(u16, String),
     /// A report, which is read while it is written.
-    Report(Report),
+    Report(Printout),
     /// Memory ran out or the station failed; it may have to be opened again.
     Unavailable(bool),
 }
@@ -64,6 +64,16 @@ fn fault_told(alloc: Global, fault: &FaultTold) -> Told
     }
     let body = refused_text(alloc, fault.status, fault.word);
     json_told(alloc, fault.status, fault.allow, body)
+}
+
+/// What is seen of a telegram, or no memory for it.
+fn look_told(alloc: Global, seen: &str) -> Told
+    ensures { IsToldAs (look_reply seen.now) result }
+{
+    match json_answer(alloc, 200, None, seen) {
+        Ok(text) => Told::Json(200, text),
+        Err(_) => Told::Unavailable(false),
+    }
 }
 
 /// The status of a refusal: an unreadable telegram is a bad request, any other one a conflict.
@@ -190,9 +200,10 @@ pub(crate) fn ask<K: Keeper>(alloc: Global, keeper: &mut K, wanted: &Wanted<'_>,
     match wanted {
         Wanted::Fault(fault) => fault_told(alloc, fault),
         Wanted::Unreadable(refusal) => refusal_told(alloc, refusal),
+        Wanted::Look(seen) => look_told(alloc, seen.as_str()),
         Wanted::Waybill(number) => ask_waybill(alloc, keeper, number),
         Wanted::Holder(number) => ask_holder(alloc, keeper, number),
-        Wanted::Report(report) => Told::Report(*report),
+        Wanted::Report(printout) => Told::Report(*printout),
         Wanted::Input(input) => ask_input(alloc, keeper, input, at),
     }
 }

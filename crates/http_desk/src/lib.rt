@@ -9,6 +9,7 @@ mod fault;
 mod fields;
 mod head;
 mod law;
+mod printout;
 mod reading;
 mod request;
 mod route;
@@ -18,5 +19,6 @@ mod writing;
 
 pub use answer::{holder_text, waybill_text};
 pub use law::routes_law;
+pub use printout::Printout;
 pub use route::{Page, Route};
 pub use serve::{ServeFault, Served, serve_one};

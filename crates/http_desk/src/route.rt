@@ -1,10 +1,12 @@
 //! The desk's routes.
 ghost use Rattle.std.specs.Prelude.{◌≡◌, ◌∷◌, drop, IfOk, option_map, option_and_then};
-ghost use Rattle.http_desk.specs.Routes.{desk_rows, page_of, place_told, place_at};
+ghost use Rattle.http_desk.specs.Printouts.{as_text};
+ghost use Rattle.http_desk.specs.Routes.{asked_place, desk_rows, page_of, place_told, place_at};
 
+use crate::printout::{Printout, printout_at};
 use desk_commands::Verb;
 use matchit::{InsertError, Router};
-use reports::Report;
+use reports::{Form, Listing, Report};
 use std::alloc::Global;
 
 /// What a path leads to, as the router has it.
@@ -12,6 +14,7 @@ use std::alloc::Global;
 pub enum Page {
     Act,
     Telegrams,
+    Look,
     Waybill,
     Stock,
     Outbox,
@@ -23,9 +26,10 @@ pub enum Page {
 pub enum Route {
     Command(Verb),
     Telegrams,
+    Look,
     Waybill,
     Stock,
-    Report(Report),
+    Report(Printout),
 }
 
 /// The router of the desk.
@@ -35,6 +39,7 @@ pub(crate) fn desk_router(alloc: Global) -> Result<Router<Page>, InsertError>
     let mut router = Router::new(alloc);
     router.insert("/v1/act/{verb}", Page::Act)?;
     router.insert("/v1/telegrams", Page::Telegrams)?;
+    router.insert("/v1/read", Page::Look)?;
     router.insert("/v1/waybills/{awb}", Page::Waybill)?;
     router.insert("/v1/stock/{awb}", Page::Stock)?;
     router.insert("/v1/outbox", Page::Outbox)?;
@@ -62,6 +67,16 @@ pub(crate) fn behind(path: &str, count: usize) -> &[u8]
     }
 }
 
+/// A whole report as text.
+fn as_text(report: Report) -> Printout
+    ensures { result ≡ as_text report }
+{
+    Printout {
+        listing: Listing::All(report),
+        form: Form::Text,
+    }
+}
+
 /// What a page of a path is.
 fn route_at(page: Page, path: &str) -> Option<Route>
     ensures { option_map (place_told path.now) result ≡ place_at path.now page }
@@ -72,23 +87,38 @@ fn route_at(page: Page, path: &str) -> Option<Route>
             Some(Route::Command(verb))
         }
         Page::Telegrams => Some(Route::Telegrams),
+        Page::Look => Some(Route::Look),
         Page::Waybill => Some(Route::Waybill),
         Page::Stock => Some(Route::Stock),
-        Page::Outbox => Some(Route::Report(Report::Pending)),
+        Page::Outbox => Some(Route::Report(as_text(Report::Pending))),
         Page::Report => {
             let report = Report::read(behind(path, 12))?;
-            Some(Route::Report(report))
+            Some(Route::Report(as_text(report)))
         }
     }
 }
 
-/// What a path leads to.
-pub(crate) fn route_of(router: &Router<Page>, path: &str) -> Option<Route>
+/// What the router finds at a path.
+fn routed(router: &Router<Page>, path: &str) -> Option<Route>
     ensures { option_map (place_told path.now) result ≡ option_and_then (place_at path.now)
         (page_of router.now path.now) }
 {
     match found_page(router, path) {
         Some(page) => route_at(page, path),
         None => None,
+    }
+}
+
+/// What a path leads to: what the router finds, or else rows that the path asks for.
+pub(crate) fn route_of(router: &Router<Page>, path: &str) -> Option<Route>
+    ensures { option_map (place_told path.now) result ≡ asked_place
+        (option_and_then (place_at path.now) (page_of router.now path.now)) path.now }
+{
+    match routed(router, path) {
+        Some(route) => Some(route),
+        None => match printout_at(path) {
+            Some(printout) => Some(Route::Report(printout)),
+            None => None,
+        },
     }
 }

@@ -1,5 +1,5 @@
 //! What a request wants.
-ghost use Rattle.std.specs.Prelude.{◌≡◌, drop, IfOk, option_map, option_and_then};
+ghost use Rattle.std.specs.Prelude.{◌≡◌, drop, IfOk, option_map};
 ghost use Rattle.std.specs.Result.{result_ok};
 ghost use Rattle.awb_number.specs.Number.{number_of};
 ghost use Rattle.httparse.specs.Grammar.{RequestHead};
@@ -8,18 +8,18 @@ ghost use Rattle.http_desk.specs.Answer.{head_of};
 ghost use Rattle.http_desk.specs.Asked.{body_meant};
 ghost use Rattle.http_desk.specs.HeadTold.{asks_meant, got_at};
 ghost use Rattle.http_desk.specs.Request.{head_asks, own_asks, IsAskedUnder};
-ghost use Rattle.http_desk.specs.Routes.{desk_rows, page_of, path_of, place_at, place_told};
+ghost use Rattle.http_desk.specs.Routes.{asked_place, path_of, place_told, routed};
 ghost use Rattle.http_desk.specs.Wanted.{WantsNow, HasWants, WantsAsked, BodyWants, posted_of};
 
-use crate::asked::{Body, command_asked, telegram_asked};
+use crate::asked::{Body, command_asked, look_asked, telegram_asked};
 use crate::fault::FaultTold;
 use crate::fields::is_foreign;
 use crate::head::{Asks, NOT_FOUND, head_asks};
+use crate::printout::{Printout, number_in};
 use crate::route::{Route, behind, desk_router, route_of};
 use awb_number::Awb;
 use desk_commands::Verb;
 use httparse::spans::{HeaderSpan, RequestSpans};
-use reports::Report;
 use shipment_machine::Refusal;
 use station_core::{Input, Key};
 use std::alloc::{AllocError, Global};
@@ -31,9 +31,11 @@ pub(crate) enum Wanted<'a> {
     Fault(FaultTold),
     /// Its body is no telegram.
     Unreadable(Refusal),
+    /// Its body is a telegram that is only looked at: what is seen of it, as JSON.
+    Look(String),
     Waybill(Awb),
     Holder(Awb),
-    Report(Report),
+    Report(Printout),
     Input(Input<'a>),
 }
 
@@ -42,6 +44,7 @@ pub(crate) enum Wanted<'a> {
 pub(crate) enum Post {
     Command(Verb),
     Telegram,
+    Look,
 }
 
 /// What a head wants.
@@ -70,22 +73,11 @@ fn path_in(target: &str) -> &str
     }
 }
 
-/// The number that twelve bytes spell.
-fn read_twelve(bytes: &[u8; 12]) -> Option<Awb>
-    ensures { result ≡ result_ok (number_of bytes.now) }
-{
-    match Awb::read(bytes) {
-        Ok(number) => Some(number),
-        Err(_) => None,
-    }
-}
-
 /// The waybill number behind so many bytes of a path.
 fn number_behind(path: &str, count: usize) -> Option<Awb>
     ensures { result ≡ result_ok (number_of (drop count path.now)) }
 {
-    let bytes = <[u8; 12]>::try_from(behind(path, count)).ok()?;
-    read_twelve(&bytes)
+    number_in(behind(path, count))
 }
 
 /// A waybill that is looked up.
@@ -115,16 +107,16 @@ fn got(route: Route, path: &str) -> Wanted<'static>
     match route {
         Route::Waybill => waybill_at(path),
         Route::Stock => holder_at(path),
-        Route::Report(report) => Wanted::Report(report),
+        Route::Report(printout) => Wanted::Report(printout),
         Route::Command(_) => Wanted::Fault(NOT_FOUND),
-        Route::Telegrams => Wanted::Fault(NOT_FOUND),
+        Route::Telegrams | Route::Look => Wanted::Fault(NOT_FOUND),
     }
 }
 
 /// What a path leads to.
 fn routed(alloc: Global, path: &str) -> Result<Option<Route>, AllocError>
-    ensures { IfOk result (λ route. option_map (place_told path.now) route ≡ option_and_then
-        (place_at path.now) (page_of desk_rows path.now)) }
+    ensures { IfOk result (λ route. option_map (place_told path.now) route ≡ asked_place
+        (routed path.now) path.now) }
 {
     match desk_router(alloc) {
         Ok(router) => Ok(route_of(&router, path)),
@@ -146,15 +138,16 @@ fn target_of<'a>(bytes: &'a [u8], spans: &RequestSpans, headers: &[HeaderSpan]) 
 }
 
 /// What a head asks that sends no body, or the body that it sends.
-fn wants_of(asks: Asks, path: &str) -> HeadWants
-    ensures { HasWants (asks_meant path.now asks) result }
+fn wants_of(asks: &Asks, path: &str) -> HeadWants
+    ensures { HasWants (asks_meant path.now asks.now) result }
 {
     match asks {
-        Asks::Refused(fault) => HeadWants::Now(Wanted::Fault(fault)),
-        Asks::Got(route) => HeadWants::Now(got(route, path)),
+        Asks::Refused(fault) => HeadWants::Now(Wanted::Fault(*fault)),
+        Asks::Got(route) => HeadWants::Now(got(*route, path)),
         Asks::Posted(route, len) => match route {
-            Route::Command(verb) => HeadWants::Body(Post::Command(verb), len),
-            Route::Telegrams => HeadWants::Body(Post::Telegram, len),
+            Route::Command(verb) => HeadWants::Body(Post::Command(*verb), *len),
+            Route::Telegrams => HeadWants::Body(Post::Telegram, *len),
+            Route::Look => HeadWants::Body(Post::Look, *len),
             _ => HeadWants::Now(Wanted::Fault(NOT_FOUND)),
         },
     }
@@ -176,7 +169,7 @@ fn own_wants(
     let route = routed(alloc, path)?;
     let method = spans.method.of(bytes);
     let asks = head_asks(route, method, bytes, &headers[..spans.headers]);
-    Ok(wants_of(asks, path))
+    Ok(wants_of(&asks, path))
 }
 
 /// What a head wants.
@@ -210,6 +203,9 @@ fn asked<'a>(
     if let Post::Command(verb) = post {
         return command_asked(alloc, verb, key, body);
     }
+    if let Post::Look = post {
+        return look_asked(alloc, body);
+    }
     telegram_asked(alloc, body)
 }
 
@@ -224,6 +220,7 @@ fn wanted_of(body: Body<'_>) -> Wanted<'_>
             allow: None,
         }),
         Body::Unreadable(refusal) => Wanted::Unreadable(refusal),
+        Body::Look(seen) => Wanted::Look(seen),
         Body::Input(input) => Wanted::Input(input),
     }
 }

@@ -5,13 +5,14 @@ ghost use Rattle.station_core.specs.Step.{State};
 ghost use Rattle.http_desk.specs.Reply.{ok_answer};
 ghost use Rattle.http_desk.specs.Serving.{unavailable, StopsServing};
 ghost use Rattle.http_desk.specs.Writing.{HasSent, HasReported, HasWritten, HasWrittenShut};
-ghost use Rattle.reports.specs.declared.report.Report.{Report as AnyReport};
+ghost use Rattle.http_desk.specs.declared.printout.Printout.{Printout as AnyPrintout};
 
 use crate::accepted::{ROOM, put_accepted};
 use crate::answer::report_head;
 use crate::asking::Told;
+use crate::printout::Printout;
 use crate::serve::{ServeFault, Served};
-use reports::{Report, ReportCause, ReportFault, write_report};
+use reports::{ReportCause, ReportFault, write_listing};
 use station_core::{ActFault, ByteOut, Keeper, send};
 use std::alloc::Global;
 
@@ -70,24 +71,31 @@ fn answer_report<K: Keeper, O: ByteOut>(
     alloc: Global,
     keeper: &mut K,
     writer: &mut O,
-    report: Report,
+    printout: Printout,
 ) -> Result<Served, ServeFault>
     ensures reads { OnlyReads K.keeps K.is_clean K.is_sound K.is_broken K.may_find
         keeper.old keeper.new }
     ensures writes { StopsServing (O.taken writer.old) (O.taken writer.new) result }
     ensures reported { (s : State) → K.keeps keeper.old s → K.is_broken keeper.old ≡ false
         → K.is_sound keeper.new
-        → HasReported s report (O.taken writer.old) (O.taken writer.new) result }
+        → HasReported s printout (O.taken writer.old) (O.taken writer.new) result }
     ensures same { K.is_broken keeper.old ≡ true → keeper.new ≡ keeper.old }
     ensures shut { K.is_broken keeper.old ≡ true
         → (reopen : Bool) × HasSent 503 reopen unavailable (O.taken writer.old) (O.taken writer.new)
         result }
     ensures read { result ≡ Err ServeFault.Read → ⊥ }
 {
-    let Ok(head) = report_head(alloc) else {
+    let Ok(head) = report_head(alloc, &printout) else {
         return send_answer(writer, 503, unavailable(), false);
     };
-    match write_report(alloc, keeper, report, writer, head.as_bytes()) {
+    match write_listing(
+        alloc,
+        keeper,
+        &printout.listing,
+        printout.form,
+        writer,
+        head.as_bytes(),
+    ) {
         Ok(()) => Ok(Served {
             status: 200,
             reopen: false,
@@ -118,7 +126,7 @@ pub(crate) fn write_told<K: Keeper, O: ByteOut>(
         keeper.old keeper.new }
     ensures writes { StopsServing (O.taken writer.old) (O.taken writer.new) result }
     ensures written { (s : State)
-        → ((name : AnyReport) → told.now ≡ Told.Report name → K.keeps keeper.old s
+        → ((name : AnyPrintout) → told.now ≡ Told.Report name → K.keeps keeper.old s
         × (K.is_broken keeper.old ≡ false)) → K.is_sound keeper.new
         → HasWritten told.now s (O.taken writer.old) (O.taken writer.new) result }
     ensures same { K.is_broken keeper.old ≡ true → keeper.new ≡ keeper.old }
@@ -129,7 +137,7 @@ pub(crate) fn write_told<K: Keeper, O: ByteOut>(
     match told {
         Told::Accepted(count) => send_accepted(writer, *count),
         Told::Json(status, text) => send_answer(writer, *status, text.as_bytes(), false),
-        Told::Report(report) => answer_report(alloc, keeper, writer, *report),
+        Told::Report(printout) => answer_report(alloc, keeper, writer, *printout),
         Told::Unavailable(reopen) => send_answer(writer, 503, unavailable(), *reopen),
     }
 }

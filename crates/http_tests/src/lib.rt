@@ -58,6 +58,7 @@ pub const FILES: &[&str] = &[
     "looks",
     "cargo",
     "telegrams",
+    "read",
     "reports",
     "origins",
 ];

@@ -1,7 +1,8 @@
-use Rattle.std.proofs.Common.{sym, subst, refl}
+use Rattle.std.proofs.Common.{sym, subst, refl, ℕ, List}
 use Rattle.http_desk.specs.declared.wanted.Wanted.{Wanted}
 use Rattle.http_desk.specs.declared.wanted.Wanted.TheVariants as wanted
-use Rattle.http_desk.specs.Told.{HasAsked, HasAskedShut}
+use Rattle.http_desk.specs.Reply.{look_reply}
+use Rattle.http_desk.specs.Told.{IsToldAs, HasAsked, HasAskedShut}
 use Rattle.http_desk.proofs.AskedJson.{asked_json, shut_json, shut_unavailable}
 use Rattle.http_desk.proofs.asking.ask.Goals as goal
 
@@ -21,6 +22,14 @@ returns-in-Unreadable-clause-asked g c = λ s kept works sound.
     subst (λ (w : Wanted). HasAsked s c.args.at w c.refusal_told.result broken keeps may_find) (sym c.in-Unreadable.is)
     (asked_json s c.args.at (wanted.Unreadable c.in-Unreadable.refusal) c.refusal_told.result broken keeps may_find c.refusal_told.ensures refl (works, kept))
 
+pub returns-in-Look-clause-asked : goal.returns-in-Look-clause-asked
+returns-in-Look-clause-asked g c = λ s kept works sound.
+    let keeps = g.K.Keeper.keeps c.args.keeper.now in
+    let may_find = g.K.Keeper.may_find c.args.keeper.now in
+    let broken = g.K.Keeper.is_broken c.args.keeper.now in
+    subst (λ (w : Wanted). HasAsked s c.args.at w c.look_told.result broken keeps may_find) (sym c.in-Look.is)
+    (asked_json s c.args.at (wanted.Look c.in-Look.seen) c.look_told.result broken keeps may_find (subst (λ (seen : List ℕ). IsToldAs (look_reply seen) c.look_told.result) c.as_str.ensures.value c.look_told.ensures) refl (works, kept))
+
 pub returns-in-Fault-clause-shut : goal.returns-in-Fault-clause-shut
 returns-in-Fault-clause-shut g c = λ broken.
     subst (λ (w : Wanted). HasAskedShut c.args.at w c.fault_told.result) (sym c.in-Fault.is)
@@ -30,6 +39,11 @@ pub returns-in-Unreadable-clause-shut : goal.returns-in-Unreadable-clause-shut
 returns-in-Unreadable-clause-shut g c = λ broken.
     subst (λ (w : Wanted). HasAskedShut c.args.at w c.refusal_told.result) (sym c.in-Unreadable.is)
     (shut_json c.args.at (wanted.Unreadable c.in-Unreadable.refusal) c.refusal_told.result (λ s. c.refusal_told.ensures) (λ s. refl))
+
+pub returns-in-Look-clause-shut : goal.returns-in-Look-clause-shut
+returns-in-Look-clause-shut g c = λ broken.
+    subst (λ (w : Wanted). HasAskedShut c.args.at w c.look_told.result) (sym c.in-Look.is)
+    (shut_json c.args.at (wanted.Look c.in-Look.seen) c.look_told.result (λ s. subst (λ (seen : List ℕ). IsToldAs (look_reply seen) c.look_told.result) c.as_str.ensures.value c.look_told.ensures) (λ s. refl))
 
 pub returns-in-Waybill-clause-shut : goal.returns-in-Waybill-clause-shut
 returns-in-Waybill-clause-shut g c = λ broken. shut_unavailable c.args.at c.args.wanted.now c.ask_waybill.result (c.ask_waybill.ensures.shut broken).1

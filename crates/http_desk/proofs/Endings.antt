@@ -1,0 +1,13 @@
+-- A path without `.json` at its end.
+use Rattle.std.proofs.Common.{◌≡◌, ◌∙◌, ap, sym, refl, Bool, true, false, ℕ, ◌-◌, List, ◌++◌, length, take, drop, codes}
+use Rattle.std.proofs.lemmas.List.{take-append-drop}
+use Rattle.imp_fields.proofs.SameFlight.{bytes_eq-true}
+use Rattle.http_desk.specs.Printouts.{is_json}
+
+pub not_json : (path : List ℕ) → ((front : List ℕ) → ¬ (path ≡ front ++ codes ".json")) → is_json path ≡ false
+not_json path none = by (is_json path) refl
+  where
+    by : (v : Bool) → is_json path ≡ v → v ≡ false
+    by true e =
+        absurd (none (take (length path - 5) path) (sym (take-append-drop (length path - 5) path) ∙ ap (λ l. take (length path - 5) path ++ l) (bytes_eq-true (drop (length path - 5) path) (codes ".json") e)))
+    by false e = refl

@@ -1,0 +1,9 @@
+use Rattle.std.proofs.Common.{◌∙◌, ap, option_map}
+use Rattle.reports.specs.declared.form.Form.TheVariants as form
+use Rattle.http_desk.specs.Printouts.{in_form}
+use Rattle.http_desk.proofs.Endings.{not_json}
+use Rattle.http_desk.proofs.printout.printout_at.Goals as goal
+
+pub returns-in-None : goal.returns-in-None
+returns-in-None c =
+    rw (not_json c.args.path.now c.in-None.ensures.cases) (c.in_form-in-None.ensures ∙ ap (option_map (in_form form.Text)) c.rows_at-in-None.ensures)

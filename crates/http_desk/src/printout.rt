@@ -1,0 +1,161 @@
+//! Rows that a path asks for, and their form.
+ghost use Rattle.std.specs.Prelude.{◌≡◌, ◌-◌, take, drop, length, option_map, if◌then◌else◌, Some, None, codes};
+ghost use Rattle.std.specs.Result.{result_ok};
+ghost use Rattle.std.specs.Str.{bytes_eq};
+ghost use Rattle.awb_number.specs.Number.{number_of};
+ghost use Rattle.http_desk.specs.Printouts.{first_part, later_part, waybill_rows, agent_rows, row_number, number_after, rows_of_kind, rows_behind, rows_at, in_form, printout_at};
+
+use crate::fields::number_told;
+use agent_stock::AgentCode;
+use awb_number::Awb;
+use reports::{Form, Listing, Report};
+
+/// Rows that are got, and the form in which they are written.
+#[derive(Clone, Copy, Debug, PartialEq, Eq)]
+pub struct Printout {
+    pub listing: Listing,
+    pub form: Form,
+}
+
+/// What stands in front of the first slash.
+fn first_part(path: &str) -> &str
+    ensures { result.now ≡ first_part path.now }
+{
+    match path.split_once('/') {
+        Some((first, _)) => first,
+        None => path,
+    }
+}
+
+/// What stands behind the first slash.
+fn later_part(path: &str) -> &str
+    ensures { result.now ≡ later_part path.now }
+{
+    match path.split_once('/') {
+        Some((_, later)) => later,
+        None => "",
+    }
+}
+
+/// The waybill number that twelve bytes spell.
+fn read_twelve(bytes: &[u8; 12]) -> Option<Awb>
+    ensures { result ≡ result_ok (number_of bytes.now) }
+{
+    match Awb::read(bytes) {
+        Ok(number) => Some(number),
+        Err(_) => None,
+    }
+}
+
+/// The waybill number that bytes spell.
+pub(crate) fn number_in(text: &[u8]) -> Option<Awb>
+    ensures { result ≡ result_ok (number_of text.now) }
+{
+    let bytes = <[u8; 12]>::try_from(text).ok()?;
+    read_twelve(&bytes)
+}
+
+/// Rows of a waybill.
+fn waybill_rows(word: &str, number: Awb) -> Option<Listing>
+    ensures { result ≡ waybill_rows word.now number }
+{
+    match word {
+        "movements" => Some(Listing::Movements(number)),
+        "trail" => Some(Listing::Trail(number)),
+        _ => None,
+    }
+}
+
+/// Rows of an agent.
+fn agent_rows(word: &str, code: &str) -> Option<Listing>
+    ensures { result ≡ agent_rows word.now code.now }
+{
+    if word != "stock" {
+        return None;
+    }
+    match AgentCode::read(code.as_bytes()) {
+        Some(code) => Some(Listing::AgentStock(code)),
+        None => None,
+    }
+}
+
+/// A number that a row may have.
+fn row_number(text: &str) -> Option<u32>
+    ensures { result ≡ row_number text.now }
+{
+    match u32::try_from(number_told(text.as_bytes())?) {
+        Ok(number) => Some(number),
+        Err(_) => None,
+    }
+}
+
+/// The number behind `after/`.
+fn number_after(rest: &str) -> Option<u32>
+    ensures { result ≡ number_after rest.now }
+{
+    if first_part(rest) != "after" {
+        return None;
+    }
+    row_number(later_part(rest))
+}
+
+/// Rows of a kind.
+fn rows_of_kind(kind: &str, rest: &str) -> Option<Listing>
+    ensures { result ≡ rows_of_kind kind.now rest.now }
+{
+    match kind {
+        "reports" => Listing::read(rest.as_bytes()),
+        "waybills" => {
+            let number = number_in(first_part(rest).as_bytes())?;
+            waybill_rows(later_part(rest), number)
+        }
+        "agents" => agent_rows(later_part(rest), first_part(rest)),
+        "movements" => {
+            let number = number_after(rest)?;
+            Some(Listing::MovementsAfter(number))
+        }
+        "trail" => {
+            let number = number_after(rest)?;
+            Some(Listing::TrailAfter(number))
+        }
+        _ => None,
+    }
+}
+
+/// The rows of a path behind `/v1/`.
+fn rows_behind(path: &str) -> Option<Listing>
+    ensures { result ≡ rows_behind path.now }
+{
+    if path == "outbox" {
+        return Some(Listing::All(Report::Pending));
+    }
+    rows_of_kind(first_part(path), later_part(path))
+}
+
+/// The rows of a path.
+fn rows_at(path: &str) -> Option<Listing>
+    ensures { result ≡ rows_at path.now }
+{
+    let rest = path.strip_prefix("/v1/")?;
+    rows_behind(rest)
+}
+
+/// Rows in a form.
+fn in_form(listing: Option<Listing>, form: Form) -> Option<Printout>
+    ensures { result ≡ option_map (in_form form) listing }
+{
+    match listing {
+        Some(listing) => Some(Printout { listing, form }),
+        None => None,
+    }
+}
+
+/// The rows that a path asks for, and their form.
+pub(crate) fn printout_at(path: &str) -> Option<Printout>
+    ensures { result ≡ printout_at path.now }
+{
+    match path.strip_suffix(".json") {
+        Some(stem) => in_form(rows_at(stem), Form::Json),
+        None => in_form(rows_at(path), Form::Text),
+    }
+}
