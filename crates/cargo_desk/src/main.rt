@@ -4,19 +4,24 @@
 mod files;
 mod service;
 mod task;
+mod telegram_files;
 
 use cli_call::{DeskFault, version_line};
+use cli_run::{Turns, run_read};
 use cli_words::{Line, LineCommand, WordsFault, parse_words, usage_fault};
 use desk_clock::{Zone, moment_now};
 use desk_server::listen;
 use service::Service;
+use station_core::Counted;
 use station_days::Moment;
+use std::cell::RefCell;
 use std::fs::File;
 use std::io::ErrorKind;
 use std::process::ExitCode;
 use std::{env, io};
 use stock_list::RunFault;
 use task::{Task, end_call, faulted, run_over};
+use telegram_files::{Telegrams, owned_paths, tell_unopened};
 
 /// What is said of a text that is no zone's rule.
 const NO_ZONE: &str = "--zone takes a POSIX rule, as UTC0 or CET-1CEST,M3.5.0,M10.5.0/3";
@@ -46,19 +51,68 @@ fn refuse_words(rt: &HostRuntime, fault: &WordsFault) -> u8 {
     }
 }
 
-/// Runs a line at a moment, over its telegram's file or standard input.
+/// Takes the telegrams of files, of which the first is open.
+fn take_files<'a>(
+    rt: &'a HostRuntime,
+    line: &Line<'_>,
+    paths: &'a [String],
+    first: File,
+    at: Moment,
+) -> u8 {
+    let turns = Turns::new();
+    let unopened = RefCell::new(None);
+    let reader = Telegrams::new(rt, paths, &turns, &unopened, first);
+    let turns = &turns;
+    let status = run_over(rt, line, Task::Run { reader, turns, at });
+    tell_unopened(rt, paths, &unopened);
+    status
+}
+
+/// Runs a line at a moment, over its telegrams' files or standard input.
 fn run_at(rt: &HostRuntime, line: &Line<'_>, at: Moment) -> u8 {
-    let LineCommand::Take(path) = line.command else {
+    let LineCommand::Take(paths) = &line.command else {
         let reader = rt.stdin();
-        return run_over(rt, line, Task::Run { reader, at });
+        let turns = &Turns::new();
+        return run_over(rt, line, Task::Run { reader, turns, at });
     };
+    let paths = paths.as_slice();
+    let path = paths.first().copied().unwrap_or("");
     match File::open(rt, path) {
-        Ok(reader) => run_over(rt, line, Task::Run { reader, at }),
+        Ok(first) => match owned_paths(rt.alloc(), paths) {
+            Ok(paths) => take_files(rt, line, paths.as_slice(), first, at),
+            Err(_) => faulted(rt, RunFault::Memory),
+        },
         Err(error) => {
             let status = faulted(rt, RunFault::Read);
             let _told = eprint!(rt; "{path}: {error}\n");
             status
         }
+    }
+}
+
+/// Writes what the desk would read of a telegram's file, without a station.
+fn read_file(rt: &HostRuntime, path: &str) -> u8 {
+    match File::open(rt, path) {
+        Ok(file) => {
+            let mut reader = Counted::new(file);
+            let mut output = Counted::new(rt.stdout());
+            let mut errors = Counted::new(rt.stderr());
+            let seen = run_read(rt.alloc(), &mut reader, &mut output, &mut errors);
+            end_call(rt, ran(seen))
+        }
+        Err(error) => {
+            let status = faulted(rt, RunFault::Read);
+            let _told = eprint!(rt; "{path}: {error}\n");
+            status
+        }
+    }
+}
+
+/// How a call ends whose command needed no station.
+fn ran(good: Result<bool, RunFault>) -> Result<bool, DeskFault> {
+    match good {
+        Ok(good) => Ok(good),
+        Err(fault) => Err(DeskFault::Run(fault)),
     }
 }
 
@@ -88,6 +142,9 @@ fn run_now(rt: &HostRuntime, line: &Line<'_>) -> u8 {
     };
     if let LineCommand::Serve { port, count } = line.command {
         return serve_at(rt, line, &zone, port, count);
+    }
+    if let LineCommand::Read(path) = line.command {
+        return read_file(rt, path);
     }
     match moment_now(rt, &zone) {
         Some(at) => run_at(rt, line, at),

@@ -3,7 +3,7 @@
 use crate::files::{is_undeclared, make_file, open_file, tell_undeclared, tell_unopened};
 use crate::service::{Service, serve_line};
 use cli_call::{DeskFault, end, run_line};
-use cli_run::{Feed, Tied, is_opening, tie};
+use cli_run::{Feed, Tied, Turns, is_opening, tie};
 use cli_words::{Line, LineCommand};
 use memory_files::open_pages;
 use sqlite::{Alter, Connection};
@@ -15,8 +15,12 @@ use stock_list::RunFault;
 /// What a line does with its station.
 #[derive(Drop)]
 pub enum Task<'a, R> {
-    /// Its command, over an input, at a moment.
-    Run { reader: R, at: Moment },
+    /// Its command, over the inputs of a reader, at a moment.
+    Run {
+        reader: R,
+        turns: &'a Turns,
+        at: Moment,
+    },
     /// The service.
     Serve(Service<'a>),
 }
@@ -41,17 +45,19 @@ fn failed_late(rt: &HostRuntime, status: u8, fault: RunFault) -> u8 {
     }
 }
 
-/// Runs a stock list over a connection to a file. Each line goes out before the next row acts.
+/// Runs a stock list or the lines of `acts` over a connection to a file. Each answer goes out before
+/// the next row or line acts.
 fn run_direct<S: Alter, R: Read + Drop>(
     rt: &HostRuntime,
     line: &Line<'_>,
     conn: Connection<S>,
     reader: R,
+    turns: &Turns,
     at: Moment,
 ) -> (u8, Connection<S>) {
     let mut output = Counted::new(rt.stdout());
     let mut errors = Counted::new(rt.stderr());
-    let mut feed = Feed::new(reader);
+    let mut feed = Feed::new(reader, turns);
     run_line(
         rt.alloc(),
         line,
@@ -70,6 +76,7 @@ fn run_gathered<S: Alter, R: Read + Drop>(
     line: &Line<'_>,
     conn: Connection<S>,
     reader: R,
+    turns: &Turns,
     at: Moment,
 ) -> (u8, Connection<S>) {
     let alloc = rt.alloc();
@@ -83,7 +90,7 @@ fn run_gathered<S: Alter, R: Read + Drop>(
     } = tied;
     let mut output = Counted::new(output);
     let mut errors = Counted::new(errors);
-    let mut feed = Feed::new(input);
+    let mut feed = Feed::new(input, turns);
     let (status, conn) = run_line(alloc, line, conn, &mut feed, &mut output, &mut errors, at);
     if output.into_inner().flush().is_err() {
         return (failed_late(rt, status, RunFault::Write), conn);
@@ -91,19 +98,25 @@ fn run_gathered<S: Alter, R: Read + Drop>(
     (status, conn)
 }
 
-/// Runs a line's command over a connection: a stock list over a file row by row, any other command
-/// gathered.
+/// Whether each answer of a line goes out before the next input acts.
+fn is_direct(line: &Line<'_>) -> bool {
+    line.db.is_some() && matches!(&line.command, LineCommand::Stock | LineCommand::Acts)
+}
+
+/// Runs a line's command over a connection: a stock list over a file row by row, `acts` line by
+/// line, any other command gathered.
 fn run_command<S: Alter, R: Read + Drop>(
     rt: &HostRuntime,
     line: &Line<'_>,
     conn: Connection<S>,
     reader: R,
+    turns: &Turns,
     at: Moment,
 ) -> (u8, Connection<S>) {
-    let (status, conn) = if line.db.is_some() && matches!(&line.command, LineCommand::Stock) {
-        run_direct(rt, line, conn, reader, at)
+    let (status, conn) = if is_direct(line) {
+        run_direct(rt, line, conn, reader, turns, at)
     } else {
-        run_gathered(rt, line, conn, reader, at)
+        run_gathered(rt, line, conn, reader, turns, at)
     };
     if status <= 1 && is_undeclared(line, &conn) {
         tell_undeclared(rt, line);
@@ -119,7 +132,7 @@ fn run_task<S: Alter, R: Read + Drop>(
     task: Task<'_, R>,
 ) -> (u8, Connection<S>) {
     match task {
-        Task::Run { reader, at } => run_command(rt, line, conn, reader, at),
+        Task::Run { reader, turns, at } => run_command(rt, line, conn, reader, turns, at),
         Task::Serve(service) => serve_line(rt, line, conn, service),
     }
 }

@@ -5,7 +5,7 @@ ghost use Rattle.cli_call.specs.Ran.{HasCalled, HasCalledStation, HasEndedCall, 
 use crate::ended::{end_run, refuse_line};
 use crate::migrating::run_migrate;
 use crate::opening::open_station;
-use cli_run::{is_migration, run_over};
+use cli_run::{Inputs, is_migration, run_over};
 use cli_words::Line;
 use sqlite::{Alter, Connection};
 use station_core::{ByteIn, ByteOut, Keeper};
@@ -17,7 +17,7 @@ use stock_list::Watched;
 
 /// Runs a line's command over its station, which tells why an input can't be read; reports how it
 /// ended, and gives the connection back.
-fn run_station<S: Alter, I: Watched + Read, W: ByteOut, E: ByteOut>(
+fn run_station<S: Alter, I: Inputs + Read, W: ByteOut, E: ByteOut>(
     alloc: Global,
     line: &Line<'_>,
     mut station: Station<S>,
@@ -28,7 +28,7 @@ fn run_station<S: Alter, I: Watched + Read, W: ByteOut, E: ByteOut>(
 ) -> (u8, Connection<S>)
     ensures { HasRunLine line.now ⟦<Station<S> as Keeper>⟧.keeps ⟦<Station<S> as Keeper>⟧.is_clean
         ⟦<Station<S> as Keeper>⟧.is_sound ⟦<Station<S> as Keeper>⟧.is_broken ⟦<Station<S> as Keeper>⟧.may_find at
-        station (I.remaining reader.old) (I.given reader.old) (I.given reader.new)
+        station I.remaining I.given I.turned reader.old reader.new
         (W.taken output.old) (W.taken output.new) E.taken errors.old errors.new result }
 {
     let ended = run_over(alloc, &mut station, line, reader, output, errors, at);
@@ -37,7 +37,7 @@ fn run_station<S: Alter, I: Watched + Read, W: ByteOut, E: ByteOut>(
 }
 
 /// Runs a line over its station, or reports why there is none.
-fn run_opened<S: Alter, I: Watched + Read, W: ByteOut, E: ByteOut>(
+fn run_opened<S: Alter, I: Inputs + Read, W: ByteOut, E: ByteOut>(
     alloc: Global,
     line: &Line<'_>,
     opened: Result<Station<S>, (Connection<S>, AttachFault)>,
@@ -48,7 +48,7 @@ fn run_opened<S: Alter, I: Watched + Read, W: ByteOut, E: ByteOut>(
 ) -> (u8, Connection<S>)
     ensures { HasEndedCall line.now ⟦<Station<S> as Keeper>⟧.keeps ⟦<Station<S> as Keeper>⟧.is_clean
         ⟦<Station<S> as Keeper>⟧.is_sound ⟦<Station<S> as Keeper>⟧.is_broken ⟦<Station<S> as Keeper>⟧.may_find at
-        I.remaining I.given W.taken E.taken opened reader.old reader.new output.old output.new
+        I.remaining I.given I.turned W.taken E.taken opened reader.old reader.new output.old output.new
         errors.old errors.new result }
 {
     match opened {
@@ -58,7 +58,7 @@ fn run_opened<S: Alter, I: Watched + Read, W: ByteOut, E: ByteOut>(
 }
 
 /// Runs a line's command over the station of a connection, or reports why there is none.
-fn call_station<S: Alter, I: Watched + Read, W: ByteOut, E: ByteOut>(
+fn call_station<S: Alter, I: Inputs + Read, W: ByteOut, E: ByteOut>(
     alloc: Global,
     line: &Line<'_>,
     conn: Connection<S>,
@@ -69,7 +69,7 @@ fn call_station<S: Alter, I: Watched + Read, W: ByteOut, E: ByteOut>(
 ) -> (u8, Connection<S>)
     ensures { HasCalledStation S.Store line.now ⟦<Station<S> as Keeper>⟧.keeps
         ⟦<Station<S> as Keeper>⟧.is_clean ⟦<Station<S> as Keeper>⟧.is_sound
-        ⟦<Station<S> as Keeper>⟧.is_broken ⟦<Station<S> as Keeper>⟧.may_find at I.remaining I.given W.taken E.taken conn
+        ⟦<Station<S> as Keeper>⟧.is_broken ⟦<Station<S> as Keeper>⟧.may_find at I.remaining I.given I.turned W.taken E.taken conn
         reader.old reader.new output.old output.new errors.old errors.new result }
 {
     let opened = open_station(alloc, line, conn);
@@ -82,7 +82,7 @@ fn call_station<S: Alter, I: Watched + Read, W: ByteOut, E: ByteOut>(
 /// `migrate` makes the tables of version 1 that the connection has those of version 2, and prints
 /// `ok 2`. A fault is reported on `errors`, behind why a row, a telegram or a body can't be read:
 /// status 3, or 4 where the connection has no station for the line.
-pub fn run_line<S: Alter, I: Watched + Read, W: ByteOut, E: ByteOut>(
+pub fn run_line<S: Alter, I: Inputs + Read, W: ByteOut, E: ByteOut>(
     alloc: Global,
     line: &Line<'_>,
     conn: Connection<S>,
@@ -94,7 +94,7 @@ pub fn run_line<S: Alter, I: Watched + Read, W: ByteOut, E: ByteOut>(
     ensures { HasCalled S.Store (is_migration line.now.command) line.now
         ⟦<Station<S> as Keeper>⟧.keeps ⟦<Station<S> as Keeper>⟧.is_clean
         ⟦<Station<S> as Keeper>⟧.is_sound ⟦<Station<S> as Keeper>⟧.is_broken
-        ⟦<Station<S> as Keeper>⟧.may_find at I.remaining I.given W.taken E.taken conn
+        ⟦<Station<S> as Keeper>⟧.may_find at I.remaining I.given I.turned W.taken E.taken conn
         reader.old reader.new output.old output.new errors.old errors.new result }
 {
     if is_migration(line) {

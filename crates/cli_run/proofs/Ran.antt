@@ -1,6 +1,6 @@
 -- A command over an input that came whole.
 use Rattle.std.specs.Result.{IsErrAnd}
-use Rattle.std.proofs.Common.{◌≡◌, refl, sym, subst, ℕ, Bool, false, List, ◌⊎◌, Option, Result, Ok, Err, IfOk, IfErr, inl, inr}
+use Rattle.std.proofs.Common.{◌≡◌, refl, sym, subst, ℕ, Bool, false, List, ◌⊎◌, Option, None, Result, Ok, Err, IfOk, IfErr, inl, inr}
 use Rattle.station_days.specs.Date.{LocalMinute}
 use Rattle.station_core.specs.Given.{Given}
 use Rattle.station_core.specs.Step.{State}
@@ -14,14 +14,14 @@ use Rattle.cli_run.proofs.Unanswered.{works_unread}
 
 pub has_run : (IsAsked : List ℕ → Asked → Type 0) (s : State) (at : LocalMinute) (read_before read_after : Given) (before after : List ℕ)
     (keeps : State → Type 0) (may_find : Option State → Type 0) (bytes : List ℕ) (asks : Asked) (r : Result Bool RunFault)
-    → HasCome read_before read_after bytes → IsAsked bytes asks → IfOk r (λ good. IsAnswered s asks at good before after keeps)
-    → IfErr r (λ e. IsStopped s asks at e before after keeps may_find) → HasRun IsAsked s at read_before read_after before after keeps may_find r
+    → HasCome read_before read_after bytes → IsAsked bytes asks → IfOk r (λ good. IsAnswered None s asks at good before after keeps)
+    → IfErr r (λ e. IsStopped None s asks at e before after keeps may_find) → HasRun IsAsked s at read_before read_after before after keeps may_find r
 has_run IsAsked s at read_before read_after before after keeps may_find bytes asks (Ok good) come is answered stopped = (bytes, come, (asks, is, answered))
 has_run IsAsked s at read_before read_after before after keeps may_find bytes asks (Err e) come is answered stopped = inr (bytes, come, (asks, is, stopped))
 
 -- the same on a station that has to be opened again
 pub has_run_shut : (IsAsked : List ℕ → Asked → Type 0) (read_old read_new old new : Given) (bytes : List ℕ) (asks : Asked) (r : Result Bool RunFault)
-    → HasCome read_old read_new bytes → IsAsked bytes asks → IsAnsweredShut asks old new r → HasRunShut IsAsked read_old read_new old new r
+    → HasCome read_old read_new bytes → IsAsked bytes asks → IsAnsweredShut None asks old new r → HasRunShut IsAsked read_old read_new old new r
 has_run_shut IsAsked read_old read_new old new bytes asks (Ok good) come is told = (bytes, (come, (asks, (is, told))))
 has_run_shut IsAsked read_old read_new old new bytes asks (Err e) come is told = inr (bytes, (come, (asks, (is, told))))
 

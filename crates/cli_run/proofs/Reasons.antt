@@ -1,6 +1,6 @@
 -- What goes to standard error, by what was asked.
 use Rattle.std.specs.Result.{IsErrAnd}
-use Rattle.std.proofs.Common.{◌≡◌, ◌∙◌, sym, refl, ap, ℕ, Bool, true, false, List, Result, Ok, Err, OnOk}
+use Rattle.std.proofs.Common.{◌≡◌, ◌∙◌, sym, refl, ap, ℕ, Bool, true, false, List, Option, None, Result, Ok, Err, OnOk}
 use Rattle.station_days.specs.Date.{LocalMinute}
 use Rattle.station_core.specs.declared.answer.Answer.{Answer}
 use Rattle.station_core.specs.declared.answer.Answer.TheVariants.{Done, Refused}
@@ -26,11 +26,11 @@ told_not taken true head e is = cc
 told_not taken false head e is = refl
 
 -- a command that stopped
-pub explained_stop : {K E : Type 0} (keeps : K → State → Type 0) (is_sound : K → Type 0) (is_broken : K → Bool) (asks : Asked) (at : LocalMinute) (k0 k1 : K)
+pub explained_stop : {K E : Type 0} (number : Option ℕ) (keeps : K → State → Type 0) (is_sound : K → Type 0) (is_broken : K → Bool) (asks : Asked) (at : LocalMinute) (k0 k1 : K)
     (taken : E → Given) (e : E) (r : Result Bool RunFault) (f : RunFault) → IsErrAnd r (λ x. x ≡ f)
-    → HasExplained keeps is_sound is_broken asks at k0 k1 taken e e r
-explained_stop keeps is_sound is_broken asks at k0 k1 taken e (Ok x) f same = absurd same
-explained_stop keeps is_sound is_broken asks at k0 k1 taken e (Err x) f same =
+    → HasExplained number keeps is_sound is_broken asks at k0 k1 taken e e r
+explained_stop number keeps is_sound is_broken asks at k0 k1 taken e (Ok x) f same = absurd same
+explained_stop number keeps is_sound is_broken asks at k0 k1 taken e (Err x) f same =
     record { unread = false; given = refl; why = λ s kept works sound. tt }
 
 -- what can't be read isn't accepted
@@ -40,12 +40,12 @@ unread_refused (Wire telegram) (Done reply) is = cc
 unread_refused (Wire telegram) (Refused refusal) is = refl
 
 -- an input that the station answered
-pub explained_answer : {K E : Type 0} (keeps : K → State → Type 0) (is_sound : K → Type 0) (is_broken : K → Bool) (i : Input) (at : LocalMinute) (k0 k1 : K)
+pub explained_answer : {K E : Type 0} (number : Option ℕ) (keeps : K → State → Type 0) (is_sound : K → Type 0) (is_broken : K → Bool) (i : Input) (at : LocalMinute) (k0 k1 : K)
     (taken : E → Given) (e0 e1 : E) (answer : Answer) (good : Bool) → good ≡ is_done answer
-    → HasToldWhy taken (answered_unread i answer) (reason_head (asked.Input i)) e0 e1
+    → HasToldWhy taken (answered_unread i answer) (reason_head number (asked.Input i)) e0 e1
     → ((s : State) → keeps k0 s → is_broken k0 ≡ false → is_sound k1 → (step s i at).answer ≡ answer)
-    → HasExplained keeps is_sound is_broken (asked.Input i) at k0 k1 taken e0 e1 (Ok good)
-explained_answer keeps is_sound is_broken i at k0 k1 taken e0 e1 answer good is told same = record {
+    → HasExplained number keeps is_sound is_broken (asked.Input i) at k0 k1 taken e0 e1 (Ok good)
+explained_answer number keeps is_sound is_broken i at k0 k1 taken e0 e1 answer good is told same = record {
   unread = answered_unread i answer;
   given = (told, λ unread. is ∙ unread_refused i answer unread);
   why = λ s kept works sound. ap (answered_unread i) (sym (same s kept works sound));
@@ -56,16 +56,16 @@ each_why : (r : Result Bool RunFault) (P : Type 0) → P → OnOk r P
 each_why (Ok x) P told = told
 each_why (Err e) P told = tt
 
-pub explained_unasked : {K E : Type 0} (keeps : K → State → Type 0) (is_sound : K → Type 0) (is_broken : K → Bool) (asks : Asked) (at : LocalMinute) (k0 k1 : K)
-    (taken : E → Given) (e0 e1 : E) (r : Result Bool RunFault) (unread : Bool) → HasGivenReason taken unread (reason_head asks) e0 e1 r
-    → ((s : State) → unread ≡ asked_unread s asks at) → HasExplained keeps is_sound is_broken asks at k0 k1 taken e0 e1 r
-explained_unasked keeps is_sound is_broken asks at k0 k1 taken e0 e1 r unread given why =
+pub explained_unasked : {K E : Type 0} (number : Option ℕ) (keeps : K → State → Type 0) (is_sound : K → Type 0) (is_broken : K → Bool) (asks : Asked) (at : LocalMinute) (k0 k1 : K)
+    (taken : E → Given) (e0 e1 : E) (r : Result Bool RunFault) (unread : Bool) → HasGivenReason taken unread (reason_head number asks) e0 e1 r
+    → ((s : State) → unread ≡ asked_unread s asks at) → HasExplained number keeps is_sound is_broken asks at k0 k1 taken e0 e1 r
+explained_unasked number keeps is_sound is_broken asks at k0 k1 taken e0 e1 r unread given why =
     record { unread = unread; given = given; why = λ s kept works sound. each_why r _ (why s) }
 
 -- a run over an input that came
 pub explained_run : {K E : Type 0} (IsAsked : List ℕ → Asked → Type 0) (keeps : K → State → Type 0) (is_sound : K → Type 0) (is_broken : K → Bool) (at : LocalMinute) (k0 k1 : K)
     (read_old read_new : Given) (taken : E → Given) (e0 e1 : E) (bytes : List ℕ) (asks : Asked) (r : Result Bool RunFault)
-    → HasCome read_old read_new bytes → IsAsked bytes asks → HasExplained keeps is_sound is_broken asks at k0 k1 taken e0 e1 r
+    → HasCome read_old read_new bytes → IsAsked bytes asks → HasExplained None keeps is_sound is_broken asks at k0 k1 taken e0 e1 r
     → HasExplainedRun IsAsked keeps is_sound is_broken at k0 k1 read_old read_new taken e0 e1 r
 explained_run IsAsked keeps is_sound is_broken at k0 k1 read_old read_new taken e0 e1 bytes asks (Ok good) come is explained = (bytes, come, (asks, is, explained))
 explained_run IsAsked keeps is_sound is_broken at k0 k1 read_old read_new taken e0 e1 bytes asks (Err e) come is explained = explained.given
@@ -82,8 +82,8 @@ quiet_given : {E : Type 0} (taken : E → Given) (unread : Bool) (head : List �
 quiet_given taken true head old new given = let never : true ≡ false = given.1 refl in cc
 quiet_given taken false head old new given = given.0
 
-pub quiet_run : {K E : Type 0} (keeps : K → State → Type 0) (is_sound : K → Type 0) (is_broken : K → Bool) (asks : Asked) (at : LocalMinute) (k0 k1 : K)
-    (taken : E → Given) (e0 e1 : E) (r : Result Bool RunFault) → HasExplained keeps is_sound is_broken asks at k0 k1 taken e0 e1 r → r ≡ Ok true → e1 ≡ e0
-quiet_run keeps is_sound is_broken asks at k0 k1 taken e0 e1 (Ok true) explained is = quiet_given taken explained.unread (reason_head asks) e0 e1 explained.given
-quiet_run keeps is_sound is_broken asks at k0 k1 taken e0 e1 (Ok false) explained is = cc
-quiet_run keeps is_sound is_broken asks at k0 k1 taken e0 e1 (Err e) explained is = cc
+pub quiet_run : {K E : Type 0} (number : Option ℕ) (keeps : K → State → Type 0) (is_sound : K → Type 0) (is_broken : K → Bool) (asks : Asked) (at : LocalMinute) (k0 k1 : K)
+    (taken : E → Given) (e0 e1 : E) (r : Result Bool RunFault) → HasExplained number keeps is_sound is_broken asks at k0 k1 taken e0 e1 r → r ≡ Ok true → e1 ≡ e0
+quiet_run number keeps is_sound is_broken asks at k0 k1 taken e0 e1 (Ok true) explained is = quiet_given taken explained.unread (reason_head number asks) e0 e1 explained.given
+quiet_run number keeps is_sound is_broken asks at k0 k1 taken e0 e1 (Ok false) explained is = cc
+quiet_run number keeps is_sound is_broken asks at k0 k1 taken e0 e1 (Err e) explained is = cc

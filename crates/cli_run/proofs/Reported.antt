@@ -9,11 +9,11 @@ use Rattle.reports.specs.Ended.{HasEnded, HasEndedBy, HasTold, StopsBy, StopsWri
 use Rattle.reports.specs.declared.fault.ReportCause.{ReportCause}
 use Rattle.reports.specs.declared.fault.ReportCause.TheVariants as cause
 use Rattle.reports.specs.declared.fault.ReportFault.{ReportFault}
-use Rattle.stock_list.specs.declared.answer.RunFault.{RunFault}
 use Rattle.stock_list.specs.declared.answer.RunFault.TheVariants as fault
 use Rattle.stock_list.specs.Ended.{run_fault}
-use Rattle.reports.specs.declared.report.Report.{Report}
-use Rattle.reports.specs.Reports.{IsReport}
+use Rattle.reports.specs.declared.form.Form.{Form}
+use Rattle.reports.specs.declared.listing.Listing.{Listing}
+use Rattle.reports.specs.Listings.{IsListing}
 use Rattle.cli_run.specs.Report.{cause_fault, run_ended, HasReported, StopsReport}
 
 no_write : (e : ActFault) → run_fault e ≡ fault.Write → ⊥
@@ -41,11 +41,11 @@ reported open_station text old new (Ok x) ended = ended
 reported open_station text old new (Err e) ended = ((e.sent, ended.0.0.1), told_write e.cause old new ended.0.1, never_read e.cause)
 
 -- one text is the report
-pub report_told : (open_station : Type 0) (s : State) (report : Report) (old new : Given) (r : Result (Unit {0}) ReportFault)
-    → HasEndedBy open_station (IsReport s report) [] old new r
-    → OnOk (run_ended r) ((text : List ℕ) × IsReport s report text × HasReported text old new (run_ended r))
-report_told open_station s report old new (Ok x) ended = ended
-report_told open_station s report old new (Err e) ended = tt
+pub report_told : (open_station : Type 0) (s : State) (f : Form) (l : Listing) (old new : Given) (r : Result (Unit {0}) ReportFault)
+    → HasEndedBy open_station (IsListing f s l) [] old new r
+    → OnOk (run_ended r) ((text : List ℕ) × IsListing f s l text × HasReported text old new (run_ended r))
+report_told open_station s f l old new (Ok x) ended = ended
+report_told open_station s f l old new (Err e) ended = tt
 
 stops_by : (why : ReportCause) (sent : ℕ) (old new : Given) → StopsBy [] why sent old new → StopsReport old new (Err (cause_fault why))
 stops_by cause.Write sent old new stops = stops

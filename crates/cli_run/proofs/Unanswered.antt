@@ -26,11 +26,11 @@ still_kept s i at act.Store keeps answers is = cc
 still_kept s i at act.Reopen keeps answers is = cc
 
 -- it stops the command, whatever the fault is reported as
-pub not_acted : (s : State) (i : Input) (at : LocalMinute) (e : ActFault) (told : RunFault) (before : List ℕ) (keeps : State → Type 0) (may_find : Option State → Type 0)
+pub not_acted : (number : Option ℕ) (s : State) (i : Input) (at : LocalMinute) (e : ActFault) (told : RunFault) (before : List ℕ) (keeps : State → Type 0) (may_find : Option State → Type 0)
     → told ≡ run_fault e → Answers s i at (Err e) keeps → ((found : Option State) → may_find found → MayLeave s i at (Err e) found)
-    → IsStopped s (asked.Input i) at told before before keeps may_find
-not_acted s i at e told before keeps may_find is answers leaves =
-    subst (λ (f : RunFault). IsStopped s (asked.Input i) at f before before keeps may_find) (sym is) (inr (record {
+    → IsStopped number s (asked.Input i) at told before before keeps may_find
+not_acted number s i at e told before keeps may_find is answers leaves =
+    subst (λ (f : RunFault). IsStopped number s (asked.Input i) at f before before keeps may_find) (sym is) (inr (record {
       why = why_stops e;
       nothing = refl;
       memory = still_kept s i at e keeps answers;

@@ -1,5 +1,5 @@
 -- What a command leaves behind it, whether it ran to its end or not.
-use Rattle.std.specs.Prelude.{◌≡◌, ◌⊎◌, ℕ, Bool, Option, Some, Result, Ok, Err, List, ◌++◌, take}
+use Rattle.std.specs.Prelude.{◌≡◌, ◌⊎◌, ℕ, Bool, Option, Some, None, Result, Ok, Err, List, ◌++◌, take}
 use Rattle.station_days.specs.Date.{LocalMinute}
 use Rattle.station_core.specs.Given.{Given}
 use Rattle.station_core.specs.Ends.{HasCause}
@@ -20,17 +20,17 @@ pub record HasToldPart (line : List ℕ) (old new : Given) (e : RunFault) : Type
   pub cause : e ≡ fault.Write → HasCause old new
 
 -- its line was written, and the state is the one after it, at this moment
-pub record IsAnswered (s : State) (asks : Asked) (at : LocalMinute) (good : Bool) (before after : List ℕ) (keeps : State → Type 0) : Type 0 where
-  pub line : after ≡ before ++ asked_line s asks at
+pub record IsAnswered (number : Option ℕ) (s : State) (asks : Asked) (at : LocalMinute) (good : Bool) (before after : List ℕ) (keeps : State → Type 0) : Type 0 where
+  pub line : after ≡ before ++ asked_line number s asks at
   pub good_is : good ≡ asked_good s asks at
   pub state : keeps (asked_after s asks at)
 
 -- What was asked was done, and a beginning of its line was written: the writer failed, or memory
 -- for the line ran out.
-pub record HasActed (s : State) (asks : Asked) (at : LocalMinute) (e : RunFault) (before after : List ℕ) (keeps : State → Type 0) : Type 0 where
+pub record HasActed (number : Option ℕ) (s : State) (asks : Asked) (at : LocalMinute) (e : RunFault) (before after : List ℕ) (keeps : State → Type 0) : Type 0 where
   pub why : (e ≡ fault.Write) ⊎ (e ≡ fault.Memory)
   pub sent : ℕ
-  pub line : after ≡ before ++ take sent (asked_line s asks at)
+  pub line : after ≡ before ++ take sent (asked_line number s asks at)
   pub state : keeps (asked_after s asks at)
 
 -- It was not done, or where the store failed nobody knows, and nothing was written.
@@ -41,9 +41,9 @@ pub record HasNotActed (s : State) (asks : Asked) (at : LocalMinute) (e : RunFau
   pub states : (found : Option State) → may_find found → (found ≡ Some s)
       ⊎ ((e ≡ fault.Store) × (found ≡ Some (asked_after s asks at)))
 
-abbrev pub IsStopped : State → Asked → LocalMinute → RunFault → List ℕ → List ℕ → (State → Type 0)
+abbrev pub IsStopped : Option ℕ → State → Asked → LocalMinute → RunFault → List ℕ → List ℕ → (State → Type 0)
     → (Option State → Type 0) → Type 0
-IsStopped s asks at e before after keeps may_find = HasActed s asks at e before after keeps ⊎ HasNotActed s asks at e before after keeps may_find
+IsStopped number s asks at e before after keeps may_find = HasActed number s asks at e before after keeps ⊎ HasNotActed s asks at e before after keeps may_find
 
 -- the input didn't come whole, and nothing was asked or written
 pub record HasNotBegun (s : State) (e : RunFault) (before after : List ℕ) (keeps : State → Type 0) : Type 0 where
@@ -56,7 +56,7 @@ pub record HasNotBegun (s : State) (e : RunFault) (before after : List ℕ) (kee
 abbrev pub HasRun : (List ℕ → Asked → Type 0) → State → LocalMinute → Given → Given → List ℕ
     → List ℕ → (State → Type 0) → (Option State → Type 0) → Result Bool RunFault → Type 0
 HasRun IsAsked s at read_before read_after before after keeps may_find (Ok good) =
-    (bytes : List ℕ) × HasCome read_before read_after bytes × ((asks : Asked) × IsAsked bytes asks × IsAnswered s asks at good before after keeps)
+    (bytes : List ℕ) × HasCome read_before read_after bytes × ((asks : Asked) × IsAsked bytes asks × IsAnswered None s asks at good before after keeps)
 HasRun IsAsked s at read_before read_after before after keeps may_find (Err e) =
     HasNotBegun s e before after keeps
-    ⊎ ((bytes : List ℕ) × HasCome read_before read_after bytes × ((asks : Asked) × IsAsked bytes asks × IsStopped s asks at e before after keeps may_find))
+    ⊎ ((bytes : List ℕ) × HasCome read_before read_after bytes × ((asks : Asked) × IsAsked bytes asks × IsStopped None s asks at e before after keeps may_find))

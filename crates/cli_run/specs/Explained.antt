@@ -1,5 +1,5 @@
 -- What goes to standard error behind the line of a command.
-use Rattle.std.specs.Prelude.{◌≡◌, ℕ, Bool, true, false, Result, Ok, Err, OnOk, List, codes}
+use Rattle.std.specs.Prelude.{◌≡◌, ℕ, Bool, true, false, Option, Some, None, Result, Ok, Err, OnOk, List, codes}
 use Rattle.station_days.specs.Date.{LocalMinute}
 use Rattle.station_core.specs.declared.answer.Answer.{Answer}
 use Rattle.station_core.specs.declared.answer.Answer.TheVariants.{Done, Refused}
@@ -28,13 +28,20 @@ abbrev pub asked_unread : State → Asked → LocalMinute → Bool
 asked_unread s (asked.Input i) at = answered_unread i (step s i at).answer
 asked_unread s (asked.Refused refusal) at = is_unread refusal
 asked_unread s (asked.Bad verb body) at = true
+asked_unread s (asked.BadLine line) at = true
 
--- how the reason begins that tells why
-abbrev pub reason_head : Asked → List ℕ
-reason_head (asked.Input (Keyed key command)) = codes "body: "
-reason_head (asked.Input (Wire telegram)) = codes "telegram: "
-reason_head (asked.Refused refusal) = codes "telegram: "
-reason_head (asked.Bad verb body) = codes "body: "
+-- how the reason of a telegram begins, which may be a line of `acts`, with its number; and that of
+-- anything that is asked
+abbrev pub telegram_head : Option ℕ → List ℕ
+telegram_head None = codes "telegram: "
+telegram_head (Some number) = codes "line "
+
+abbrev pub reason_head : Option ℕ → Asked → List ℕ
+reason_head number (asked.Input (Keyed key command)) = codes "body: "
+reason_head number (asked.Input (Wire telegram)) = telegram_head number
+reason_head number (asked.Refused refusal) = telegram_head number
+reason_head number (asked.Bad verb body) = codes "body: "
+reason_head number (asked.BadLine line) = codes "line "
 
 -- The reason of what can't be read was written, or a beginning of it; of anything else nothing was.
 abbrev pub HasToldWhy : {E : Type 0} → (E → Given) → Bool → List ℕ → E → E → Type 0
@@ -50,11 +57,11 @@ HasGivenReason taken unread head old new (Ok good) =
 HasGivenReason taken unread head old new (Err e) = new ≡ old
 
 -- what is asked was answered, and its reason given where it can't be read
-pub record HasExplained {K E : Type 0} (keeps : K → State → Type 0) (is_sound : K → Type 0)
+pub record HasExplained {K E : Type 0} (number : Option ℕ) (keeps : K → State → Type 0) (is_sound : K → Type 0)
     (is_broken : K → Bool) (asks : Asked) (at : LocalMinute) (keeper_old keeper_new : K)
     (taken : E → Given) (old new : E) (result : Result Bool RunFault) : Type 0 where
   pub unread : Bool
-  pub given : HasGivenReason taken unread (reason_head asks) old new result
+  pub given : HasGivenReason taken unread (reason_head number asks) old new result
   pub why : (s : State) → keeps keeper_old s → is_broken keeper_old ≡ false → is_sound keeper_new
       → OnOk result (unread ≡ asked_unread s asks at)
 
@@ -66,7 +73,17 @@ abbrev pub HasExplainedRun : {K E : Type 0} → (List ℕ → Asked → Type 0) 
 HasExplainedRun IsAsked keeps is_sound is_broken at keeper_old keeper_new read_old read_new
     taken old new (Ok good) =
     (bytes : List ℕ) × HasCome read_old read_new bytes × ((asks : Asked) × IsAsked bytes asks
-    × HasExplained keeps is_sound is_broken asks at keeper_old keeper_new taken old new (Ok good))
+    × HasExplained None keeps is_sound is_broken asks at keeper_old keeper_new taken old new (Ok good))
 HasExplainedRun IsAsked keeps is_sound is_broken at keeper_old keeper_new read_old read_new
     taken old new (Err e) =
     new ≡ old
+
+-- Of a telegram or a body the reason why it can't be read, or a beginning of it; nothing is written
+-- where it was accepted.
+pub record HasExplainedAsked {K E : Type 0} (IsAsked : List ℕ → Asked → Type 0)
+    (keeps : K → State → Type 0) (is_sound : K → Type 0) (is_broken : K → Bool) (at : LocalMinute)
+    (keeper_old keeper_new : K) (read_old read_new : Given) (taken : E → Given) (old new : E)
+    (result : Result Bool RunFault) : Type 0 where
+  pub quiet : result ≡ Ok true → new ≡ old
+  pub reasons : HasExplainedRun IsAsked keeps is_sound is_broken at keeper_old keeper_new
+      read_old read_new taken old new result

@@ -1,3 +1,6 @@
+pub mod ActLine
+pub mod Acts
+pub mod Answered
 pub mod Asked
 pub mod Came
 pub mod Done
@@ -10,3 +13,8 @@ pub mod Reasons
 pub mod Report
 pub mod Sent
 pub mod Shut
+pub mod Takes
+pub mod InTurn
+pub mod History
+pub mod Reported
+pub mod Seen

@@ -1,5 +1,5 @@
 -- A command on a station that has to be opened again: nothing is asked of it.
-use Rattle.std.specs.Prelude.{◌≡◌, ◌⊎◌, ℕ, Bool, false, Result, Ok, Err, List, [], ◌∷◌, ◌++◌, codes}
+use Rattle.std.specs.Prelude.{◌≡◌, ◌⊎◌, ℕ, Bool, false, Option, None, Result, Ok, Err, List, [], ◌∷◌, ◌++◌, codes}
 use Rattle.station_core.specs.Given.{Given}
 use Rattle.station_core.specs.Texts.{refusal_text}
 use Rattle.stock_list.specs.declared.answer.RunFault.{RunFault}
@@ -7,6 +7,7 @@ use Rattle.stock_list.specs.declared.answer.RunFault.TheVariants as fault
 use Rattle.stock_list.specs.Ended.{IsReadersFault}
 use Rattle.cli_run.specs.declared.asked.Asked.{Asked}
 use Rattle.cli_run.specs.declared.asked.Asked.TheVariants as asked
+use Rattle.cli_run.specs.Asked.{numbered}
 use Rattle.cli_run.specs.Came.{HasCome}
 use Rattle.cli_run.specs.Ended.{HasToldPart}
 
@@ -17,17 +18,18 @@ HasToldLine line old new (Err e) = HasToldPart line old new e
 
 -- What asks nothing of the station has its line; an input is answered Store, and nothing is
 -- written.
-abbrev pub IsAnsweredShut : Asked → Given → Given → Result Bool RunFault → Type 0
-IsAnsweredShut (asked.Refused refusal) old new r = HasToldLine (refusal_text refusal ++ 10 ∷ []) old new r
-IsAnsweredShut (asked.Bad verb body) old new r = HasToldLine (codes "body bad\n") old new r
-IsAnsweredShut (asked.Input i) old new (Ok good) = ⊥
-IsAnsweredShut (asked.Input i) old new (Err e) = (e ≡ fault.Store) × (new ≡ old)
+abbrev pub IsAnsweredShut : Option ℕ → Asked → Given → Given → Result Bool RunFault → Type 0
+IsAnsweredShut number (asked.Refused refusal) old new r = HasToldLine (numbered number (refusal_text refusal ++ 10 ∷ [])) old new r
+IsAnsweredShut number (asked.Bad verb body) old new r = HasToldLine (codes "body bad\n") old new r
+IsAnsweredShut number (asked.BadLine line) old new r = HasToldLine (numbered number (codes "bad\n")) old new r
+IsAnsweredShut number (asked.Input i) old new (Ok good) = ⊥
+IsAnsweredShut number (asked.Input i) old new (Err e) = (e ≡ fault.Store) × (new ≡ old)
 
 -- the input has come, and what it asks is answered so
 abbrev pub HasAnsweredShut : (List ℕ → Asked → Type 0) → Given → Given → Given → Given
     → Result Bool RunFault → Type 0
 HasAnsweredShut IsAsked read_old read_new old new r =
-    (bytes : List ℕ) × (HasCome read_old read_new bytes × ((asks : Asked) × (IsAsked bytes asks × IsAnsweredShut asks old new r)))
+    (bytes : List ℕ) × (HasCome read_old read_new bytes × ((asks : Asked) × (IsAsked bytes asks × IsAnsweredShut None asks old new r)))
 
 -- a command has run; or its input didn't come whole, and nothing was written
 abbrev pub HasRunShut : (List ℕ → Asked → Type 0) → Given → Given → Given → Given

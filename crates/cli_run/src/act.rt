@@ -82,7 +82,7 @@ pub fn run_act<K: Keeper, I: ByteIn, O: ByteOut, E: ByteOut>(
 {
     let bytes = read_input(alloc, reader)?;
     match command_asked(alloc, verb, key, bytes.as_slice()) {
-        Ok(asked) => answer_asked(alloc, keeper, writer, errors, &asked, at),
+        Ok(asked) => answer_asked(alloc, keeper, writer, errors, None, &asked, at),
         Err(_) => Err(RunFault::Memory),
     }
 }

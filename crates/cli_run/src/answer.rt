@@ -1,20 +1,21 @@
 //! Answering what the input of a command asks.
-ghost use Rattle.std.specs.Prelude.{◌≡◌, ◌⊎◌, ◌++◌, ◌∷◌, [], true, false, Err, IfOk, IfErr, OnOk, codes, string_bytes};
+ghost use Rattle.std.specs.Prelude.{◌≡◌, ◌⊎◌, ◌++◌, ◌∷◌, [], true, false, Err, IfOk, IfErr, OnOk, codes, decimal, string_bytes};
 ghost use Rattle.station_core.specs.Ends.{HasCause};
 ghost use Rattle.station_core.specs.Step.{State};
 ghost use Rattle.station_core.specs.Texts.{refusal_text};
 ghost use Rattle.stock_list.specs.Ended.{IsShutAfter, IsUntroubled};
 ghost use Rattle.stock_list.specs.Lines.{answer_text};
 ghost use Rattle.input_reasons.specs.Reason.{is_unread};
+ghost use Rattle.cli_run.specs.Asked.{keyed, named, numbered};
 ghost use Rattle.cli_run.specs.Ended.{HasToldPart, IsAnswered, IsStopped};
-ghost use Rattle.cli_run.specs.Explained.{HasExplained, HasGivenReason};
+ghost use Rattle.cli_run.specs.Explained.{reason_head, HasExplained, HasGivenReason};
 ghost use Rattle.cli_run.specs.Shut.{HasToldLine, IsAnsweredShut};
 
 use crate::asked::Asked;
-use crate::telling::{tell_answer, tell_body, tell_refusal};
+use crate::telling::{tell_answer, tell_bad_line, tell_body, tell_refusal};
 use desk_commands::Verb;
 use shipment_machine::Refusal;
-use station_core::{Answer, ByteOut, Input, Keeper, answer_one, refusal_text};
+use station_core::{Answer, ByteOut, Input, Keeper, Key, answer_one, refusal_text};
 use station_days::Moment;
 use std::alloc::{AllocError, Global};
 use stock_list::{RunFault, answer_text, keeper_fault, send_line};
@@ -22,20 +23,83 @@ use stock_list::{RunFault, answer_text, keeper_fault, send_line};
 /// The line for a body that says no command of the verb.
 const BAD_BODY: &str = "body bad\n";
 
-/// The line of an answer.
-fn answer_line(alloc: Global, answer: &Answer) -> Result<String, AllocError>
-    ensures { IfOk result (λ line. string_bytes line ≡ answer_text answer.now ++ 10 ∷ []) }
+/// An answer by itself.
+fn plain_line(alloc: Global, text: &str) -> Result<String, AllocError>
+    ensures { IfOk result (λ line. string_bytes line ≡ text.now ++ 10 ∷ []) }
 {
-    let text = answer_text(alloc, answer)?;
     format!(in alloc; "{text}\n")
 }
 
+/// An answer behind a number.
+fn line_of_number(alloc: Global, number: u64, text: &str) -> Result<String, AllocError>
+    ensures { IfOk result (λ line. string_bytes line
+        ≡ codes "line " ++ (decimal number ++ (32 ∷ (text.now ++ 10 ∷ [])))) }
+{
+    format!(in alloc; "line {number} {text}\n")
+}
+
+/// An answer behind a key.
+fn line_of_key(alloc: Global, key: &Key, text: &str) -> Result<String, AllocError>
+    ensures { IfOk result
+        (λ line. string_bytes line ≡ key.now ++ (32 ∷ (text.now ++ 10 ∷ []))) }
+{
+    format!(in alloc; "{key} {text}\n")
+}
+
+/// The line of an answer that is named by its number, where it has one.
+fn numbered_line(alloc: Global, number: Option<u64>, text: &str) -> Result<String, AllocError>
+    ensures { IfOk result (λ line. string_bytes line ≡ numbered number (text.now ++ 10 ∷ [])) }
+{
+    match number {
+        Some(number) => line_of_number(alloc, number, text),
+        None => plain_line(alloc, text),
+    }
+}
+
+/// The line of an answer that is named by its key, where it has a number.
+fn keyed_line(
+    alloc: Global,
+    number: Option<u64>,
+    key: &Key,
+    text: &str,
+) -> Result<String, AllocError>
+    ensures { IfOk result
+        (λ line. string_bytes line ≡ keyed number key.now (text.now ++ 10 ∷ [])) }
+{
+    match number {
+        Some(_) => line_of_key(alloc, key, text),
+        None => plain_line(alloc, text),
+    }
+}
+
+/// The line of an answer.
+fn answer_line(
+    alloc: Global,
+    number: Option<u64>,
+    input: &Input<'_>,
+    answer: &Answer,
+) -> Result<String, AllocError>
+    ensures { IfOk result (λ line. string_bytes line
+        ≡ named number (Asked.Input input.now) (answer_text answer.now ++ 10 ∷ [])) }
+{
+    let text = answer_text(alloc, answer)?;
+    match input {
+        Input::Keyed(key, _) => keyed_line(alloc, number, key, text.as_str()),
+        Input::Wire(_) => numbered_line(alloc, number, text.as_str()),
+    }
+}
+
 /// The line of a refusal.
-fn refusal_line(alloc: Global, refusal: &Refusal) -> Result<String, AllocError>
-    ensures { IfOk result (λ line. string_bytes line ≡ refusal_text refusal.now ++ 10 ∷ []) }
+pub(crate) fn refusal_line(
+    alloc: Global,
+    number: Option<u64>,
+    refusal: &Refusal,
+) -> Result<String, AllocError>
+    ensures { IfOk result
+        (λ line. string_bytes line ≡ numbered number (refusal_text refusal.now ++ 10 ∷ [])) }
 {
     let text = refusal_text(alloc, refusal)?;
-    format!(in alloc; "{text}\n")
+    numbered_line(alloc, number, text.as_str())
 }
 
 /// Hands an input to the station, then writes the line of its answer, and why a telegram can't be
@@ -45,6 +109,7 @@ fn answer_input<K: Keeper, O: ByteOut, E: ByteOut>(
     keeper: &mut K,
     writer: &mut O,
     errors: &mut E,
+    number: Option<u64>,
     input: &Input<'_>,
     at: Moment,
 ) -> Result<bool, RunFault>
@@ -56,11 +121,11 @@ fn answer_input<K: Keeper, O: ByteOut, E: ByteOut>(
         → IfErr result (λ e. IsShutAfter e (K.is_broken keeper.new)) }
     ensures answered { (s : State) → K.keeps keeper.old s → K.is_broken keeper.old ≡ false
         → K.is_sound keeper.new
-        → IfOk result (λ good. IsAnswered s (Asked.Input input.now) at good
+        → IfOk result (λ good. IsAnswered number s (Asked.Input input.now) at good
         (O.taken writer.old).bytes (O.taken writer.new).bytes (K.keeps keeper.new)) }
     ensures stopped { (s : State) → K.keeps keeper.old s → K.is_broken keeper.old ≡ false
         → K.is_sound keeper.new
-        → IfErr result (λ e. IsStopped s (Asked.Input input.now) at e (O.taken writer.old).bytes
+        → IfErr result (λ e. IsStopped number s (Asked.Input input.now) at e (O.taken writer.old).bytes
         (O.taken writer.new).bytes (K.keeps keeper.new) (K.may_find keeper.new)) }
     ensures read { result ≡ Err RunFault.Read → ⊥ }
     ensures write { result ≡ Err RunFault.Write
@@ -72,19 +137,19 @@ fn answer_input<K: Keeper, O: ByteOut, E: ByteOut>(
         ⊎ (O.taken writer.new ≡ O.taken writer.old)) }
     ensures same { K.is_broken keeper.old ≡ true → keeper.new ≡ keeper.old }
     ensures reopen { K.is_broken keeper.old ≡ true
-        → IsAnsweredShut (Asked.Input input.now) (O.taken writer.old) (O.taken writer.new) result }
-    ensures reasons { HasExplained K.keeps K.is_sound K.is_broken (Asked.Input input.now) at
+        → IsAnsweredShut number (Asked.Input input.now) (O.taken writer.old) (O.taken writer.new) result }
+    ensures reasons { HasExplained number K.keeps K.is_sound K.is_broken (Asked.Input input.now) at
         keeper.old keeper.new E.taken errors.old errors.new result }
 {
     let answer = match answer_one(keeper, input, at) {
         Ok(answer) => answer,
         Err(fault) => return Err(keeper_fault(fault)),
     };
-    let Ok(line) = answer_line(alloc, &answer) else {
+    let Ok(line) = answer_line(alloc, number, input, &answer) else {
         return Err(RunFault::Memory);
     };
     send_line(writer, &line)?;
-    tell_answer(alloc, errors, input, &answer);
+    tell_answer(alloc, errors, number, input, &answer);
     Ok(matches!(answer, Answer::Done(_)))
 }
 
@@ -93,29 +158,30 @@ fn answer_refusal<O: ByteOut, E: ByteOut>(
     alloc: Global,
     writer: &mut O,
     errors: &mut E,
+    number: Option<u64>,
     refusal: &Refusal,
 ) -> Result<bool, RunFault>
     ensures answered { IfOk result (λ good. (good ≡ false)
         × ((O.taken writer.new).bytes ≡ (O.taken writer.old).bytes ++
-        (refusal_text refusal.now ++ 10 ∷ []))) }
+        (numbered number (refusal_text refusal.now ++ 10 ∷ [])))) }
     ensures stopped { IfErr result
-        (HasToldPart (refusal_text refusal.now ++ 10 ∷ []) (O.taken writer.old)
+        (HasToldPart (numbered number (refusal_text refusal.now ++ 10 ∷ [])) (O.taken writer.old)
         (O.taken writer.new)) }
-    ensures told { HasToldLine (refusal_text refusal.now ++ 10 ∷ []) (O.taken writer.old)
+    ensures told { HasToldLine (numbered number (refusal_text refusal.now ++ 10 ∷ [])) (O.taken writer.old)
         (O.taken writer.new) result }
     ensures write_told { IfErr result (λ e. (e ≡ RunFault.Write)
         ⊎ IsUntroubled (O.taken writer.old) (O.taken writer.new)) }
     ensures untroubled { OnOk result (IsUntroubled (O.taken writer.old) (O.taken writer.new)) }
     ensures unwritten { IfErr result (λ e. (e ≡ RunFault.Write)
         ⊎ (O.taken writer.new ≡ O.taken writer.old)) }
-    ensures reasons { HasGivenReason E.taken (is_unread refusal.now) (codes "telegram: ") errors.old
-        errors.new result }
+    ensures reasons { HasGivenReason E.taken (is_unread refusal.now)
+        (reason_head number (Asked.Refused refusal.now)) errors.old errors.new result }
 {
-    let Ok(line) = refusal_line(alloc, refusal) else {
+    let Ok(line) = refusal_line(alloc, number, refusal) else {
         return Err(RunFault::Memory);
     };
     send_line(writer, &line)?;
-    tell_refusal(alloc, errors, refusal);
+    tell_refusal(alloc, errors, number, refusal);
     Ok(false)
 }
 
@@ -145,12 +211,43 @@ fn answer_bad<O: ByteOut, E: ByteOut>(
     Ok(false)
 }
 
-/// Does what is asked, then writes its line, and why it can't be read where it can't.
+/// Writes the line of a line of `acts` that is neither a command nor a telegram, and why.
+fn answer_bad_line<O: ByteOut, E: ByteOut>(
+    alloc: Global,
+    writer: &mut O,
+    errors: &mut E,
+    number: Option<u64>,
+    text: &[u8],
+) -> Result<bool, RunFault>
+    ensures answered { IfOk result (λ good. (good ≡ false) × ((O.taken writer.new).bytes
+        ≡ (O.taken writer.old).bytes ++ (numbered number (codes "bad\n")))) }
+    ensures stopped { IfErr result (HasToldPart (numbered number (codes "bad\n"))
+        (O.taken writer.old) (O.taken writer.new)) }
+    ensures told { HasToldLine (numbered number (codes "bad\n")) (O.taken writer.old)
+        (O.taken writer.new) result }
+    ensures write_told { IfErr result (λ e. (e ≡ RunFault.Write)
+        ⊎ IsUntroubled (O.taken writer.old) (O.taken writer.new)) }
+    ensures untroubled { OnOk result (IsUntroubled (O.taken writer.old) (O.taken writer.new)) }
+    ensures unwritten { IfErr result (λ e. (e ≡ RunFault.Write)
+        ⊎ (O.taken writer.new ≡ O.taken writer.old)) }
+    ensures reasons { HasGivenReason E.taken true (codes "line ") errors.old errors.new result }
+{
+    let Ok(line) = numbered_line(alloc, number, "bad") else {
+        return Err(RunFault::Memory);
+    };
+    send_line(writer, &line)?;
+    tell_bad_line(alloc, errors, number, text);
+    Ok(false)
+}
+
+/// Does what is asked, then writes its line, and why it can't be read where it can't. `number` is
+/// the line's of `acts`, whose answer begins with the key, or with this number.
 pub(crate) fn answer_asked<K: Keeper, O: ByteOut, E: ByteOut>(
     alloc: Global,
     keeper: &mut K,
     writer: &mut O,
     errors: &mut E,
+    number: Option<u64>,
     asked: &Asked<'_>,
     at: Moment,
 ) -> Result<bool, RunFault>
@@ -162,11 +259,11 @@ pub(crate) fn answer_asked<K: Keeper, O: ByteOut, E: ByteOut>(
         → IfErr result (λ e. IsShutAfter e (K.is_broken keeper.new)) }
     ensures answered { (s : State) → K.keeps keeper.old s → K.is_broken keeper.old ≡ false
         → K.is_sound keeper.new
-        → IfOk result (λ good. IsAnswered s asked.now at good (O.taken writer.old).bytes
+        → IfOk result (λ good. IsAnswered number s asked.now at good (O.taken writer.old).bytes
         (O.taken writer.new).bytes (K.keeps keeper.new)) }
     ensures stopped { (s : State) → K.keeps keeper.old s → K.is_broken keeper.old ≡ false
         → K.is_sound keeper.new
-        → IfErr result (λ e. IsStopped s asked.now at e (O.taken writer.old).bytes
+        → IfErr result (λ e. IsStopped number s asked.now at e (O.taken writer.old).bytes
         (O.taken writer.new).bytes (K.keeps keeper.new) (K.may_find keeper.new)) }
     ensures read { result ≡ Err RunFault.Read → ⊥ }
     ensures write { result ≡ Err RunFault.Write
@@ -178,13 +275,14 @@ pub(crate) fn answer_asked<K: Keeper, O: ByteOut, E: ByteOut>(
         ⊎ (O.taken writer.new ≡ O.taken writer.old)) }
     ensures same { K.is_broken keeper.old ≡ true → keeper.new ≡ keeper.old }
     ensures reopen { K.is_broken keeper.old ≡ true
-        → IsAnsweredShut asked.now (O.taken writer.old) (O.taken writer.new) result }
-    ensures reasons { HasExplained K.keeps K.is_sound K.is_broken asked.now at keeper.old
-        keeper.new E.taken errors.old errors.new result }
+        → IsAnsweredShut number asked.now (O.taken writer.old) (O.taken writer.new) result }
+    ensures reasons { HasExplained number K.keeps K.is_sound K.is_broken asked.now at
+        keeper.old keeper.new E.taken errors.old errors.new result }
 {
     match asked {
-        Asked::Input(input) => answer_input(alloc, keeper, writer, errors, input, at),
-        Asked::Refused(refusal) => answer_refusal(alloc, writer, errors, refusal),
+        Asked::Input(input) => answer_input(alloc, keeper, writer, errors, number, input, at),
+        Asked::Refused(refusal) => answer_refusal(alloc, writer, errors, number, refusal),
+        Asked::BadLine(text) => answer_bad_line(alloc, writer, errors, number, text),
         Asked::Bad { verb, body } => answer_bad(alloc, writer, errors, *verb, body),
     }
 }

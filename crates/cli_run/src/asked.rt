@@ -17,6 +17,8 @@ pub enum Asked<'a> {
     Refused(Refusal),
     /// It is no body of this verb.
     Bad { verb: Verb, body: &'a [u8] },
+    /// It is a line of `acts` that is neither a command nor a telegram.
+    BadLine(&'a [u8]),
     /// It is for the station.
     Input(Input<'a>),
 }

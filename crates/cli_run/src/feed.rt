@@ -6,6 +6,7 @@ ghost use Rattle.station_core.specs.Given.{nothing_given};
 ghost use Rattle.station_core.specs.declared.ends.Counted.{Counted};
 ghost use Rattle.cli_run.specs.Feed.{fed_of, reader_of};
 
+use crate::inputs::{Inputs, Turns};
 use station_core::{ByteIn, Counted, ReadFault};
 use std::io;
 use std::io::{ErrorKind, Read};
@@ -13,14 +14,15 @@ use std::marker::Model;
 use stock_list::Watched;
 
 /// What feeds a command: a reader of std, with a count of what it gave that contracts alone see. It
-/// knows whether a read has failed.
+/// knows whether a read has failed, and counts the inputs that were begun.
 #[derive(Drop)]
-pub struct Feed<R> {
+pub struct Feed<'a, R> {
     counted: Counted<R>,
     failed: bool,
+    turns: &'a Turns,
 }
 
-impl<R> Model for Feed<R> {
+impl<'a, R> Model for Feed<'a, R> {
     ghost Value = { Counted R };
 
     ghost view = { λ f. f.counted };
@@ -28,20 +30,21 @@ impl<R> Model for Feed<R> {
     ghost invariant = { λ f. (f.failed ≡ true) ↔ (0 < f.counted.tally.given.failures) };
 }
 
-impl<R> Feed<R> {
-    /// Nothing was read yet.
-    pub fn new(reader: R) -> Feed<R>
+impl<'a, R> Feed<'a, R> {
+    /// Nothing was read yet. A reader of several inputs reads the one that the turns say.
+    pub fn new(reader: R, turns: &'a Turns) -> Feed<'a, R>
         ensures reader { reader_of result ≡ reader }
         ensures nothing { fed_of result ≡ nothing_given }
     {
         Feed {
             counted: Counted::new(reader),
             failed: false,
+            turns,
         }
     }
 }
 
-impl<R: Read> ByteIn for Feed<R> {
+impl<R: Read> ByteIn for Feed<'_, R> {
     ghost given = { fed_of };
 
     fn read(&mut self, buf: &mut [u8]) -> Result<usize, ReadFault>
@@ -61,13 +64,21 @@ impl<R: Read> ByteIn for Feed<R> {
     }
 }
 
-impl<R: Read> Watched for Feed<R> {
+impl<R: Read> Watched for Feed<'_, R> {
     fn has_failed(&self) -> bool {
         self.failed
     }
 }
 
-impl<R: Read> Read for Feed<R> {
+impl<R: Read> Inputs for Feed<'_, R> {
+    ghost turned = { λ old new. new ≡ old };
+
+    fn next_input(&mut self) {
+        self.turns.begin_next();
+    }
+}
+
+impl<R: Read> Read for Feed<'_, R> {
     ghost remaining = { λ f. R.remaining (reader_of f) };
 
     /// One read, made again where it is interrupted.

@@ -3,24 +3,34 @@
 #![tactic(auto)]
 
 mod act;
+mod act_line;
+mod acts;
 mod answer;
 mod asked;
 mod feed;
+mod history;
+mod inputs;
 mod look;
 mod place;
 mod reading;
 mod report;
 mod run;
+mod seen;
 mod sent;
 mod take;
+mod takes;
 mod telling;
 mod tied;
 
 pub use act::run_act;
+pub use acts::run_acts;
 pub use asked::Asked;
 pub use feed::Feed;
+pub use inputs::{Inputs, Turns};
 pub use place::{airport_of_line, is_migration, is_opening};
 pub use run::run_over;
+pub use seen::run_read;
 pub use sent::{send_part, send_word};
 pub use take::run_take;
+pub use takes::run_takes;
 pub use tied::{Tied, TiedErrors, TiedInput, TiedOutput, tie};

@@ -2,11 +2,11 @@
 ghost use Rattle.std.specs.Prelude.{◌≡◌, true, false, Err, OnOk, List, ℕ};
 ghost use Rattle.station_core.specs.Keeping.{OnlyReads};
 ghost use Rattle.station_core.specs.Step.{State};
-ghost use Rattle.reports.specs.Reports.{IsReport};
-ghost use Rattle.cli_run.specs.Done.{good_of, HasReportedGood, HasToldReport};
+ghost use Rattle.reports.specs.Listings.{IsListing};
+ghost use Rattle.cli_run.specs.Reported.{good_of, HasReportedGood, HasToldReport};
 ghost use Rattle.cli_run.specs.Report.{cause_fault, run_ended, HasReported, StopsReport};
 
-use reports::{Report, ReportCause, ReportFault, write_report};
+use reports::{Form, Listing, ReportCause, ReportFault, write_listing};
 use station_core::{ByteOut, Keeper};
 use std::alloc::Global;
 use stock_list::{RunFault, keeper_fault};
@@ -39,7 +39,8 @@ fn run_ended(ended: Result<(), ReportFault>) -> Result<(), RunFault>
 fn run_report<K: Keeper, W: ByteOut>(
     alloc: Global,
     keeper: &mut K,
-    report: Report,
+    listing: &Listing,
+    form: Form,
     writer: &mut W,
 ) -> Result<(), RunFault>
     ensures reads { OnlyReads K.keeps K.is_clean K.is_sound K.is_broken K.may_find
@@ -50,14 +51,14 @@ fn run_report<K: Keeper, W: ByteOut>(
 
     // A text is the report that went out.
     ensures told { (s : State) → K.keeps keeper.old s → K.is_sound keeper.new
-        → OnOk result ((text : List ℕ) × IsReport s report text
+        → OnOk result ((text : List ℕ) × IsListing form s listing.now text
         × HasReported text (W.taken writer.old) (W.taken writer.new) result) }
     // Of each text that is the report, it went out, or a beginning of it.
     ensures each { (s : State) → K.keeps keeper.old s → K.is_sound keeper.new → (text : List ℕ)
-        → IsReport s report text
+        → IsListing form s listing.now text
         → HasReported text (W.taken writer.old) (W.taken writer.new) result }
 {
-    run_ended(write_report(alloc, keeper, report, writer, &[]))
+    run_ended(write_listing(alloc, keeper, listing, form, writer, &[]))
 }
 
 /// What went out is no refusal.
@@ -74,28 +75,30 @@ pub(crate) fn good_of(ended: Result<(), RunFault>) -> Result<bool, RunFault>
 fn send_report<K: Keeper, W: ByteOut>(
     alloc: Global,
     keeper: &mut K,
-    report: Report,
+    listing: &Listing,
+    form: Form,
     output: &mut W,
 ) -> Result<(), RunFault>
-    ensures { HasToldReport (λ s. IsReport s report) K.keeps K.is_clean K.is_sound K.is_broken
+    ensures { HasToldReport (λ s. IsListing form s listing.now) K.keeps K.is_clean K.is_sound K.is_broken
         K.may_find keeper.old keeper.new (W.taken output.old) (W.taken output.new) result }
 {
-    run_report(alloc, keeper, report, output)
+    run_report(alloc, keeper, listing, form, output)
 }
 
-/// `report NAME`, or `outbox`: a report.
+/// `report NAME`, or `outbox`: a report, or a part of one.
 pub(crate) fn do_report<K: Keeper, W: ByteOut>(
     alloc: Global,
     keeper: &mut K,
-    report: Report,
+    listing: &Listing,
+    form: Form,
     output: &mut W,
 ) -> Result<bool, RunFault>
     ensures clean { K.is_clean keeper.new → K.is_clean keeper.old }
     ensures still { K.is_sound keeper.old → K.is_clean keeper.new → K.is_sound keeper.new }
     ensures sound { K.is_sound keeper.new → K.is_sound keeper.old }
     ensures works { K.is_broken keeper.old ≡ false → OnOk result (K.is_broken keeper.new ≡ false) }
-    ensures reported { HasReportedGood (λ s. IsReport s report) K.keeps K.is_clean K.is_sound
+    ensures reported { HasReportedGood (λ s. IsListing form s listing.now) K.keeps K.is_clean K.is_sound
         K.is_broken K.may_find keeper.old keeper.new (W.taken output.old) (W.taken output.new) result }
 {
-    good_of(send_report(alloc, keeper, report, output))
+    good_of(send_report(alloc, keeper, listing, form, output))
 }

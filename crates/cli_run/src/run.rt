@@ -1,19 +1,25 @@
 //! A command over its station.
-ghost use Rattle.std.specs.Prelude.{◌≡◌, false, OnOk};
-ghost use Rattle.cli_run.specs.Asked.{IsCommandAsked, IsTelegramAsked};
-ghost use Rattle.cli_run.specs.Done.{HasAnsweredAsked, HasAnsweredRows, HasDone, HasToldMade};
+ghost use Rattle.std.specs.Prelude.{◌≡◌, false, length, OnOk};
+ghost use Rattle.cli_run.specs.Answered.{HasAnsweredAsked};
+ghost use Rattle.cli_run.specs.Asked.{IsCommandAsked};
+ghost use Rattle.cli_run.specs.Done.{HasAnsweredActs, HasAnsweredRows, HasDone, HasToldMade};
+ghost use Rattle.cli_run.specs.Explained.{HasExplainedAsked};
 ghost use Rattle.cli_run.specs.Place.{here_of};
-ghost use Rattle.cli_run.specs.Reasons.{HasExplainedAsked, HasExplainedRows, HasGivenReasons};
+ghost use Rattle.cli_run.specs.Reasons.{HasExplainedRows, HasGivenReasons};
+ghost use Rattle.cli_run.specs.Takes.{HasTakenNext};
+ghost use Rattle.cli_run.specs.InTurn.{come, HaveBeenMade};
 
+use crate::history::do_history;
+use crate::inputs::Inputs;
 use crate::look::{do_holder, do_waybill};
 use crate::place::airport_of_line;
 use crate::report::do_report;
 use crate::sent::send_word;
-use crate::{run_act, run_take};
+use crate::{run_act, run_acts, run_takes};
 use cli_words::{Line, LineCommand};
 use desk_commands::Verb;
 use imp_fields::Airport;
-use reports::Report;
+use reports::{Listing, Report};
 use station_core::{ByteIn, ByteOut, Keeper, Key};
 use station_days::Moment;
 use std::alloc::Global;
@@ -57,8 +63,30 @@ fn do_stock<K: Keeper, I: Watched + Read, W: ByteOut, E: ByteOut>(
     run_stock(alloc, keeper, reader, output, errors, at)
 }
 
-/// `take FILE`: the answer of a telegram.
-fn do_take<K: Keeper, I: ByteIn, W: ByteOut, E: ByteOut>(
+/// `take FILE ..`: the answers of telegrams.
+fn do_take<K: Keeper, I: Inputs, W: ByteOut, E: ByteOut>(
+    alloc: Global,
+    keeper: &mut K,
+    paths: &[&str],
+    reader: &mut I,
+    output: &mut W,
+    errors: &mut E,
+    at: Moment,
+) -> Result<bool, RunFault>
+    ensures clean { K.is_clean keeper.new → K.is_clean keeper.old }
+    ensures still { K.is_sound keeper.old → K.is_clean keeper.new → K.is_sound keeper.new }
+    ensures sound { K.is_sound keeper.new → K.is_sound keeper.old }
+    ensures works { K.is_broken keeper.old ≡ false → OnOk result (K.is_broken keeper.new ≡ false) }
+    ensures taken { HaveBeenMade
+        (HasTakenNext K.keeps K.is_sound K.is_broken K.may_find at I.given I.turned E.taken)
+        (length paths.now) (come keeper.old (W.taken output.old) errors.old, reader.old)
+        (come keeper.new (W.taken output.new) errors.new, reader.new) result }
+{
+    run_takes(alloc, keeper, paths.len(), reader, output, errors, at)
+}
+
+/// `acts`: the answers of commands and telegrams.
+fn do_acts<K: Keeper, I: Watched + Read, W: ByteOut, E: ByteOut>(
     alloc: Global,
     keeper: &mut K,
     reader: &mut I,
@@ -70,14 +98,12 @@ fn do_take<K: Keeper, I: ByteIn, W: ByteOut, E: ByteOut>(
     ensures still { K.is_sound keeper.old → K.is_clean keeper.new → K.is_sound keeper.new }
     ensures sound { K.is_sound keeper.new → K.is_sound keeper.old }
     ensures works { K.is_broken keeper.old ≡ false → OnOk result (K.is_broken keeper.new ≡ false) }
-    ensures answered { HasAnsweredAsked IsTelegramAsked K.keeps K.is_sound K.is_broken K.may_find at
-        keeper.old keeper.new
-        (I.given reader.old) (I.given reader.new) (W.taken output.old) (W.taken output.new) result }
-    ensures explained { HasExplainedAsked IsTelegramAsked K.keeps K.is_sound K.is_broken at
-        keeper.old keeper.new (I.given reader.old) (I.given reader.new)
-        E.taken errors.old errors.new result }
+    ensures answered { HasAnsweredActs K.keeps K.is_sound K.is_broken K.may_find at E.taken
+        (I.remaining reader.old) (I.given reader.new)
+        (come keeper.old (W.taken output.old) errors.old)
+        (come keeper.new (W.taken output.new) errors.new) result }
 {
-    run_take(alloc, keeper, reader, output, errors, at)
+    run_acts(alloc, keeper, reader, output, errors, at)
 }
 
 /// `act VERB KEY`: the answer of a command under its key.
@@ -105,14 +131,14 @@ fn do_act<K: Keeper, I: ByteIn, W: ByteOut, E: ByteOut>(
     run_act(alloc, keeper, verb, key, reader, output, errors, at)
 }
 
-/// Runs the command of a line over its station, at a moment. `serve` and `migrate` aren't run here:
+/// Runs the command of a line over its station, at a moment. `serve`, `migrate` and `read` aren't run here:
 /// nothing is done or written. Why a row, a telegram or a body can't be read is written on
 /// `errors`.
 ///
 /// `Ok` says whether all was accepted. Returns [`RunFault::Read`], [`RunFault::Write`],
 /// [`RunFault::Memory`] or [`RunFault::Store`] where the run stopped, as its command's own call
 /// says.
-pub fn run_over<K: Keeper, I: Watched + Read, W: ByteOut, E: ByteOut>(
+pub fn run_over<K: Keeper, I: Inputs + Read, W: ByteOut, E: ByteOut>(
     alloc: Global,
     keeper: &mut K,
     line: &Line<'_>,
@@ -126,24 +152,30 @@ pub fn run_over<K: Keeper, I: Watched + Read, W: ByteOut, E: ByteOut>(
     ensures sound { K.is_sound keeper.new → K.is_sound keeper.old }
     ensures works { K.is_broken keeper.old ≡ false → OnOk result (K.is_broken keeper.new ≡ false) }
     ensures done { HasDone line.now.command (here_of line.now.station) K.keeps K.is_clean K.is_sound
-        K.is_broken K.may_find at keeper.old keeper.new
-        (I.remaining reader.old) (I.given reader.old) (I.given reader.new) (W.taken output.old)
-        (W.taken output.new) result }
+        K.is_broken K.may_find I.given I.turned E.taken at (I.remaining reader.old)
+        (come keeper.old (W.taken output.old) errors.old, reader.old)
+        (come keeper.new (W.taken output.new) errors.new, reader.new) result }
     ensures explained { HasGivenReasons line.now.command K.keeps K.is_sound K.is_broken at
         keeper.old keeper.new (I.remaining reader.old) (I.given reader.old) (I.given reader.new)
         E.taken errors.old errors.new result }
 {
-    match line.command {
+    match &line.command {
         LineCommand::Init => do_init(keeper, airport_of_line(line), output),
         LineCommand::Stock => do_stock(alloc, keeper, reader, output, errors, at),
-        LineCommand::Take(_) => do_take(alloc, keeper, reader, output, errors, at),
-        LineCommand::Act { verb, key } => {
-            do_act(alloc, keeper, verb, key, reader, output, errors, at)
+        LineCommand::Take(paths) => {
+            do_take(alloc, keeper, paths.as_slice(), reader, output, errors, at)
         }
-        LineCommand::Outbox => do_report(alloc, keeper, Report::Pending, output),
-        LineCommand::Report(report) => do_report(alloc, keeper, report, output),
-        LineCommand::Waybill(number) => do_waybill(alloc, keeper, &number, output),
-        LineCommand::Holder(number) => do_holder(alloc, keeper, &number, output),
-        LineCommand::Serve { .. } | LineCommand::Migrate => Ok(true),
+        LineCommand::Act { verb, key } => {
+            do_act(alloc, keeper, *verb, *key, reader, output, errors, at)
+        }
+        LineCommand::Acts => do_acts(alloc, keeper, reader, output, errors, at),
+        LineCommand::Outbox(form) => {
+            do_report(alloc, keeper, &Listing::All(Report::Pending), *form, output)
+        }
+        LineCommand::Report(listing, form) => do_report(alloc, keeper, listing, *form, output),
+        LineCommand::History(number) => do_history(alloc, keeper, number, output),
+        LineCommand::Waybill(number) => do_waybill(alloc, keeper, number, output),
+        LineCommand::Holder(number) => do_holder(alloc, keeper, number, output),
+        LineCommand::Read(_) | LineCommand::Serve { .. } | LineCommand::Migrate => Ok(true),
     }
 }

@@ -81,7 +81,7 @@ pub fn run_take<K: Keeper, I: ByteIn, O: ByteOut, E: ByteOut>(
 {
     let bytes = read_input(alloc, reader)?;
     match telegram_asked(alloc, bytes.as_slice()) {
-        Ok(asked) => answer_asked(alloc, keeper, writer, errors, &asked, at),
+        Ok(asked) => answer_asked(alloc, keeper, writer, errors, None, &asked, at),
         Err(_) => Err(RunFault::Memory),
     }
 }

@@ -5,7 +5,9 @@ ghost use Rattle.cli_run.specs.Explained.{answered_unread, reason_head, HasToldW
 
 use crate::asked::Asked;
 use desk_commands::Verb;
-use input_reasons::{body_reason, is_unread, telegram_reason, tell_reason};
+use input_reasons::{
+    act_line_reason, body_reason, is_unread, telegram_line_reason, telegram_reason, tell_reason,
+};
 use shipment_machine::Refusal;
 use station_core::{Answer, ByteOut, Input};
 use std::alloc::Global;
@@ -17,15 +19,43 @@ pub(crate) fn tell_body<E: ByteOut>(alloc: Global, errors: &mut E, verb: Verb, b
     tell_reason(errors, body_reason(alloc, verb, body));
 }
 
+/// Writes why a line of `acts` is neither a command nor a telegram.
+pub(crate) fn tell_bad_line<E: ByteOut>(
+    alloc: Global,
+    errors: &mut E,
+    number: Option<u64>,
+    text: &[u8],
+)
+    ensures { HasReason (codes "line ") (E.taken errors.old).bytes (E.taken errors.new).bytes }
+{
+    tell_reason(errors, act_line_reason(alloc, text, number.unwrap_or(0)));
+}
+
+/// Writes why a telegram can't be read.
+fn tell_unread<E: ByteOut>(alloc: Global, errors: &mut E, number: Option<u64>, refusal: &Refusal)
+    ensures { HasReason (reason_head number (Asked.Refused refusal.now)) (E.taken errors.old).bytes
+        (E.taken errors.new).bytes }
+{
+    match number {
+        Some(number) => tell_reason(errors, telegram_line_reason(alloc, refusal, number)),
+        None => tell_reason(errors, telegram_reason(alloc, refusal)),
+    }
+}
+
 /// Writes why a telegram can't be read, where its refusal says that.
-pub(crate) fn tell_refusal<E: ByteOut>(alloc: Global, errors: &mut E, refusal: &Refusal)
-    ensures { HasToldWhy E.taken (is_unread refusal.now) (codes "telegram: ") errors.old
-        errors.new }
+pub(crate) fn tell_refusal<E: ByteOut>(
+    alloc: Global,
+    errors: &mut E,
+    number: Option<u64>,
+    refusal: &Refusal,
+)
+    ensures { HasToldWhy E.taken (is_unread refusal.now)
+        (reason_head number (Asked.Refused refusal.now)) errors.old errors.new }
 {
     if !is_unread(refusal) {
         return;
     }
-    tell_reason(errors, telegram_reason(alloc, refusal));
+    tell_unread(alloc, errors, number, refusal);
 }
 
 /// Writes why a telegram can't be read, where its answer says that. Of a command nothing is
@@ -33,17 +63,18 @@ pub(crate) fn tell_refusal<E: ByteOut>(alloc: Global, errors: &mut E, refusal: &
 pub(crate) fn tell_answer<E: ByteOut>(
     alloc: Global,
     errors: &mut E,
+    number: Option<u64>,
     input: &Input<'_>,
     answer: &Answer,
 )
     ensures { HasToldWhy E.taken (answered_unread input.now answer.now)
-        (reason_head (Asked.Input input.now)) errors.old errors.new }
+        (reason_head number (Asked.Input input.now)) errors.old errors.new }
 {
     match input {
         Input::Keyed(_, _) => {}
         Input::Wire(_) => match answer {
             Answer::Done(_) => {}
-            Answer::Refused(refusal) => tell_refusal(alloc, errors, refusal),
+            Answer::Refused(refusal) => tell_refusal(alloc, errors, number, refusal),
         },
     }
 }

@@ -24,6 +24,10 @@ pub(crate) enum BadValue<'a> {
     Number(&'a str),
     /// It has, and its last digit is another one than its check digit.
     CheckDigit(&'a str),
+    Agent(&'a str),
+    After(&'a str),
+    /// The report has no such part.
+    Part(&'a str),
     Port(&'a str),
     Count(&'a str),
     /// `init` without a file or a station.
@@ -48,6 +52,11 @@ const CHECK_DIGIT: &str =
 const REPORT_NAME: &str =
     "NAME is wanted: stock, shed, flights, expected, irregularities, movements or trail";
 
+/// Which part of which report can be had.
+const PART: &str =
+    "only flights and expected take --open, only stock takes --agent, only movements and trail take \
+    --awb or --after; a report takes one of them";
+
 /// The word and what is wanted in its place.
 fn told_of(alloc: Global, word: &str, wanted: &str) -> Result<String, AllocError> {
     format!(in alloc; "'{word}' stands where {wanted}")
@@ -63,6 +72,14 @@ impl BadValue<'_> {
             BadValue::ReportName(word) => (word, REPORT_NAME),
             BadValue::Number(word) => (word, NUMBER),
             BadValue::CheckDigit(word) => (word, CHECK_DIGIT),
+            BadValue::Agent(word) => (
+                word,
+                "--agent wants a code: 1 to 11 upper-case letters or digits",
+            ),
+            BadValue::After(word) => (word, "--after wants a number from 0 to 4294967295"),
+            BadValue::Part(name) => {
+                return format!(in alloc; "report {name}: {PART}");
+            }
             BadValue::Port(word) => (word, "--port wants a number from 1 to 65535"),
             BadValue::Count(word) => (word, "--count wants a number from 1 to 4294967295"),
             BadValue::Init => {

@@ -12,6 +12,7 @@ Examples:
   cargo_desk --db fra.db --station FRA init
   cargo_desk --db fra.db stock < list.csv
   cargo_desk --db fra.db take telegram.txt
+  cargo_desk --db fra.db acts < lines.txt
   cargo_desk --db fra.db --zone CET-1CEST,M3.5.0,M10.5.0/3 act issue k9 < body.json
   cargo_desk --db fra.db waybill 020-12345675
 
@@ -54,14 +55,19 @@ prints
   k1 ok 10
   k2 ok 3";
 
-pub(crate) const TAKE: &str = "Takes one telegram (FWB, FFM or FSU)";
+pub(crate) const TAKE: &str = "Takes telegrams (FWB, FFM or FSU), one from each file";
 
 pub(crate) const TAKE_EXAMPLES: &str = "\
-Prints `ok 10`, with the count, or the refusal, such as `refused 301 4 ending`. If the telegram
-can't be read (301, 302), standard error says why.
+Prints a line for each file, in the order of the files: `ok 10`, with the count, or the refusal, such
+as `refused 301 4 ending`. If a telegram can't be read (301, 302), standard error says why. A file
+that can't be read ends the call with `fault read`; the files before it are answered, those after it
+are not taken.
 
 Example:
-  cargo_desk --station FRA take telegram.txt";
+  cargo_desk --db fra.db take telegram.txt
+  cargo_desk --db fra.db take fwb-1.txt fwb-2.txt";
+
+pub(crate) const FILES: &str = "The files of the telegrams";
 
 pub(crate) const ACT: &str = "Runs one command, with its JSON body on standard input";
 
@@ -75,6 +81,21 @@ or `body bad`; then standard error says why.
 
 Example:
   echo '{\"prefix\":\"020\",\"serial\":\"1234570\",\"count\":3,\"agent\":\"ACME\"}' | cargo_desk act issue k2";
+
+pub(crate) const ACTS: &str =
+    "Runs commands and takes telegrams, one JSON object a line on standard input";
+
+pub(crate) const ACTS_EXAMPLES: &str = "\
+A line is a command, {\"verb\":\"void\",\"key\":\"r1\",\"body\":{..}}, with the body that `act` takes, or a
+telegram, {\"telegram\":\"FWB/17\\r\\n..\"}. Each line is answered before the next one is run: a command
+by its key and the answer of `act`, a telegram by `line N` and the answer of `take`. Any other line is
+answered `line N bad`; standard error says why. Empty lines are skipped. A line has at most 69,632
+bytes.
+
+You can send the same lines again: a command acts once under its key, and so does a telegram.
+
+Example:
+  cargo_desk --db fra.db acts < lines.txt";
 
 pub(crate) const FIELDS: &str = "\
 The body has these fields, in any order, and no other. Texts: prefix, three digits; serial, seven;
@@ -97,18 +118,53 @@ Each follows a line with its number and length, such as `MESSAGE 4 74`; the last
 Example:
   cargo_desk outbox";
 
+pub(crate) const JSON: &str = "Prints one JSON object, {\"rows\":[..],\"count\":n}";
+
+pub(crate) const READ: &str = "Shows what the desk would read of a telegram, and takes nothing";
+
+pub(crate) const READ_FILE: &str = "The file of the telegram";
+
+pub(crate) const READ_EXAMPLES: &str = "\
+A line for each line that is read, passed over or dropped in front. The status is 1 if a line is
+doubtful: it is passed over, and looks like a consignment or another message. If the telegram can't
+be read, the refusal is printed that `take` would give. No station is needed.
+
+Example:
+  cargo_desk read telegram.txt";
+
 pub(crate) const REPORT: &str = "Prints a report";
 
 pub(crate) const REPORT_EXAMPLES: &str = "\
 The last line is `END n`, with the number of rows.
 
-Example:
-  cargo_desk report stock";
+Examples:
+  cargo_desk --db fra.db report flights --open
+  cargo_desk --db fra.db report stock --agent ACME
+  cargo_desk --db fra.db report movements --awb 020-12345675
+  cargo_desk --db fra.db report movements --after 120 --json";
+
+pub(crate) const OPEN: &str =
+    "flights: those that haven't departed; expected: what isn't checked in";
+
+pub(crate) const AGENT: &str = "stock: the numbers that this agent has";
+
+pub(crate) const OF_AWB: &str = "movements, trail: the rows of this waybill";
+
+pub(crate) const AFTER: &str = "movements, trail: the rows after number N";
 
 pub(crate) const REPORT_NAMES: &str =
     "stock, shed, flights, expected, irregularities, movements or trail";
 
 pub(crate) const AWB: &str = "A waybill number with its check digit, such as 020-12345675";
+
+pub(crate) const HISTORY: &str = "Prints what is known of a waybill, its moves and its trail";
+
+pub(crate) const HISTORY_EXAMPLES: &str = "\
+First the line of `waybill`, then the moves and the lines of its status messages, each list with its
+`END n`; or `unknown`, with status 1, if the waybill isn't declared.
+
+Example:
+  cargo_desk --db fra.db history 020-12345675";
 
 pub(crate) const WAYBILL: &str = "Prints what is known of a waybill";
 

@@ -5,6 +5,7 @@ mod fault;
 mod help;
 mod line;
 mod number;
+mod part;
 mod read;
 mod version;
 mod words;

@@ -1,11 +1,11 @@
 use awb_number::Awb;
 use desk_commands::Verb;
 use imp_fields::Airport;
-use reports::Report;
+use reports::{Form, Listing};
 use station_core::Key;
 
 /// What a call asks.
-#[derive(Clone, Copy, Debug, PartialEq, Eq)]
+#[derive(Debug, Drop)]
 pub struct Line<'a> {
     /// The path of the file that keeps the station; absent, the station is in memory.
     pub db: Option<&'a str>,
@@ -17,7 +17,7 @@ pub struct Line<'a> {
 }
 
 /// A command, with its words.
-#[derive(Clone, Copy, Debug, PartialEq, Eq)]
+#[derive(Debug, Drop)]
 pub enum LineCommand<'a> {
     /// Make a station in a file.
     Init,
@@ -25,14 +25,20 @@ pub enum LineCommand<'a> {
     Migrate,
     /// Answer a stock list.
     Stock,
-    /// Take the telegram in the file of this path.
-    Take(&'a str),
+    /// Take the telegrams in the files of these paths, one after another.
+    Take(Vec<&'a str>),
     /// Do a command, whose body is read.
     Act { verb: Verb, key: Key },
-    /// Tell the pending messages.
-    Outbox,
-    /// Tell a report.
-    Report(Report),
+    /// Do the commands and take the telegrams that are read, each on a line.
+    Acts,
+    /// Look at the telegram in the file of this path, without a station.
+    Read(&'a str),
+    /// Print the pending messages.
+    Outbox(Form),
+    /// Print a report, or a part of one.
+    Report(Listing, Form),
+    /// Print what is known of a waybill, its moves and its trail.
+    History(Awb),
     /// Tell what is known of a waybill.
     Waybill(Awb),
     /// Tell who holds a number.

@@ -1,4 +1,4 @@
-//! The numbers of `serve`.
+//! The numbers of `serve` and of a report's rows.
 ghost use Rattle.std.specs.Prelude.{◌≤◌, IfSome};
 ghost use Rattle.cli_words.specs.Line.{IsNumber};
 
@@ -21,5 +21,15 @@ pub(crate) fn read_count(text: &str) -> Option<u32>
     match text.parse::<u32>() {
         Ok(count) if count >= 1 => Some(count),
         _ => None,
+    }
+}
+
+/// The number of a row: 0 to 4,294,967,295.
+pub(crate) fn read_row(text: &str) -> Option<u32>
+    ensures { IfSome result (IsNumber 32 text.now) }
+{
+    match text.parse::<u32>() {
+        Ok(number) => Some(number),
+        Err(_) => None,
     }
 }

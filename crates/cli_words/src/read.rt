@@ -6,7 +6,8 @@ ghost use Rattle.cli_words.specs.Line.{IsCalled, IsLine, IsMeant, IsStation, Mea
 use crate::fault::{BadValue, WordsFault, value_fault};
 use crate::line::{Line, LineCommand};
 use crate::number::{read_count, read_port};
-use crate::words::{Request, Words, sort_words};
+use crate::part::{form_of, read_part};
+use crate::words::{ReportWords, Request, Words, sort_words};
 use awb_number::{Awb, AwbFault};
 use desk_commands::Verb;
 use imp_fields::Airport;
@@ -39,7 +40,7 @@ fn number_of(text: &str) -> Result<Awb, AwbFault>
 }
 
 /// The waybill number that a word is.
-fn read_number<'a>(word: &'a str) -> Result<Awb, BadValue<'a>>
+pub(crate) fn read_number<'a>(word: &'a str) -> Result<Awb, BadValue<'a>>
     ensures { IfOk result (λ w. number_of word.entry.now ≡ Ok w) }
 {
     match number_of(word) {
@@ -55,6 +56,29 @@ fn read_waybill<'a>(word: &'a str) -> Result<LineCommand<'a>, BadValue<'a>>
 {
     match read_number(word) {
         Ok(number) => Ok(LineCommand::Waybill(number)),
+        Err(bad) => Err(bad),
+    }
+}
+
+/// The report that words ask for.
+fn read_report<'a>(words: ReportWords<'a>) -> Result<LineCommand<'a>, BadValue<'a>>
+    ensures { IfOk result (Means (Request.Report words.entry)) }
+{
+    let Some(report) = Report::read(words.name.as_bytes()) else {
+        return Err(BadValue::ReportName(words.name));
+    };
+    match read_part(report, words) {
+        Ok(listing) => Ok(LineCommand::Report(listing, form_of(words.json))),
+        Err(bad) => Err(bad),
+    }
+}
+
+/// The history of a waybill.
+fn read_history<'a>(word: &'a str) -> Result<LineCommand<'a>, BadValue<'a>>
+    ensures { IfOk result (Means (Request.History word.entry)) }
+{
+    match read_number(word) {
+        Ok(number) => Ok(LineCommand::History(number)),
         Err(bad) => Err(bad),
     }
 }
@@ -108,13 +132,13 @@ fn read_command<'a>(
         Request::Migrate if has_file => Ok(LineCommand::Migrate),
         Request::Migrate => Err(BadValue::Migrate),
         Request::Stock => Ok(LineCommand::Stock),
-        Request::Take(file) => Ok(LineCommand::Take(file)),
+        Request::Take(files) => Ok(LineCommand::Take(files)),
         Request::Act { verb, key } => read_act(verb, key),
-        Request::Outbox => Ok(LineCommand::Outbox),
-        Request::Report(name) => match Report::read(name.as_bytes()) {
-            Some(report) => Ok(LineCommand::Report(report)),
-            None => Err(BadValue::ReportName(name)),
-        },
+        Request::Acts => Ok(LineCommand::Acts),
+        Request::Read(file) => Ok(LineCommand::Read(file)),
+        Request::Outbox { json } => Ok(LineCommand::Outbox(form_of(json))),
+        Request::Report(words) => read_report(words),
+        Request::History(number) => read_history(number),
         Request::Waybill(number) => read_waybill(number),
         Request::Holder(number) => read_holder(number),
         Request::Serve { port, count } => read_serve(port, count),
@@ -145,9 +169,9 @@ fn rule_of<'a>(zone: Option<&'a str>) -> &'a str
 }
 
 /// What sorted words ask.
-fn read_line<'a>(words: &Words<'a>) -> Result<Line<'a>, BadValue<'a>>
+fn read_line<'a>(words: Words<'a>) -> Result<Line<'a>, BadValue<'a>>
     ensures whole { IfOk result IsLine }
-    ensures meant { IfOk result (IsMeant words.now) }
+    ensures meant { IfOk result (IsMeant words.entry) }
 {
     let station = read_station(words.station)?;
     let has_file = words.db.is_some();
@@ -174,7 +198,7 @@ pub fn parse_words<'a, S: AsStr>(alloc: Global, words: &'a [S]) -> Result<Line<'
     ensures { IfOk result IsLine }
 {
     let words = sort_words(alloc, words)?;
-    match read_line(&words) {
+    match read_line(words) {
         Ok(line) => Ok(line),
         Err(bad) => Err(value_fault(alloc, bad)),
     }

@@ -10,18 +10,23 @@ use std::alloc::{AllocError, Global};
 use std::convert::AsStr;
 
 /// What the words ask for, by the command and its words.
-#[derive(Clone, Copy, Debug, PartialEq, Eq)]
+#[derive(Debug, Drop)]
 pub(crate) enum Request<'a> {
     Init,
     Migrate,
     Stock,
-    Take(&'a str),
+    Take(Vec<&'a str>),
     Act {
         verb: &'a str,
         key: &'a str,
     },
-    Outbox,
-    Report(&'a str),
+    Acts,
+    Read(&'a str),
+    Outbox {
+        json: bool,
+    },
+    Report(ReportWords<'a>),
+    History(&'a str),
     Waybill(&'a str),
     Holder(&'a str),
     Serve {
@@ -30,8 +35,19 @@ pub(crate) enum Request<'a> {
     },
 }
 
-/// The words of a call, sorted.
+/// The words of `report`: the name, and which part of the report is wanted.
 #[derive(Clone, Copy, Debug, PartialEq, Eq)]
+pub(crate) struct ReportWords<'a> {
+    pub(crate) name: &'a str,
+    pub(crate) open: bool,
+    pub(crate) agent: Option<&'a str>,
+    pub(crate) awb: Option<&'a str>,
+    pub(crate) after: Option<&'a str>,
+    pub(crate) json: bool,
+}
+
+/// The words of a call, sorted.
+#[derive(Debug, Drop)]
 pub(crate) struct Words<'a> {
     pub(crate) db: Option<&'a str>,
     pub(crate) station: Option<&'a str>,
@@ -48,6 +64,14 @@ fn option<'a>(alloc: Global, name: &'a str, value: &'a str, help: &'a str) -> Ar
         .help(help)
 }
 
+/// An option without a value.
+fn flag<'a>(alloc: Global, name: &'a str, help: &'a str) -> Arg<'a> {
+    Arg::new(alloc, name)
+        .long(name)
+        .action(ArgAction::SetTrue)
+        .help(help)
+}
+
 /// A word that must stand there.
 fn word<'a>(alloc: Global, name: &'a str, help: &'a str) -> Arg<'a> {
     Arg::new(alloc, name)
@@ -61,9 +85,10 @@ fn command<'a>(alloc: Global, name: &'a str, about: &'a str, examples: &'a str) 
     Command::new(alloc, name).about(about).after_help(examples)
 }
 
-/// The command that takes a telegram.
+/// The command that takes telegrams.
 fn take<'a>(alloc: Global) -> Result<Command<'a>, AllocError> {
-    command(alloc, "take", help::TAKE, help::TAKE_EXAMPLES).arg(word(alloc, "FILE", "The telegram"))
+    let files = word(alloc, "FILE", help::FILES).num_args(1..);
+    command(alloc, "take", help::TAKE, help::TAKE_EXAMPLES).arg(files)
 }
 
 /// A verb, which stands behind `act`.
@@ -94,13 +119,27 @@ fn act<'a>(alloc: Global) -> Result<Command<'a>, AllocError> {
     Ok(act)
 }
 
+/// The command that looks at a telegram.
+fn read<'a>(alloc: Global) -> Result<Command<'a>, AllocError> {
+    let file = word(alloc, "FILE", help::READ_FILE);
+    command(alloc, "read", help::READ, help::READ_EXAMPLES).arg(file)
+}
+
+/// The command that prints the pending messages.
+fn outbox<'a>(alloc: Global) -> Result<Command<'a>, AllocError> {
+    let outbox = command(alloc, "outbox", help::OUTBOX, help::OUTBOX_EXAMPLES);
+    outbox.arg(flag(alloc, "json", help::JSON))
+}
+
 /// The command that reports.
 fn report<'a>(alloc: Global) -> Result<Command<'a>, AllocError> {
-    command(alloc, "report", help::REPORT, help::REPORT_EXAMPLES).arg(word(
-        alloc,
-        "NAME",
-        help::REPORT_NAMES,
-    ))
+    let report = command(alloc, "report", help::REPORT, help::REPORT_EXAMPLES);
+    let report = report.arg(word(alloc, "NAME", help::REPORT_NAMES))?;
+    let report = report.arg(flag(alloc, "open", help::OPEN))?;
+    let report = report.arg(option(alloc, "agent", "CODE", help::AGENT))?;
+    let report = report.arg(option(alloc, "awb", "AWB", help::OF_AWB))?;
+    let report = report.arg(option(alloc, "after", "N", help::AFTER))?;
+    report.arg(flag(alloc, "json", help::JSON))
 }
 
 /// A command that looks a number up.
@@ -117,7 +156,8 @@ fn look_up<'a>(
 fn looking<'a>(alloc: Global, top: Command<'a>) -> Result<Command<'a>, AllocError> {
     let waybill = look_up(alloc, "waybill", help::WAYBILL, help::WAYBILL_EXAMPLES);
     let holder = look_up(alloc, "holder", help::HOLDER, help::HOLDER_EXAMPLES);
-    below(below(top, waybill)?, holder)
+    let history = look_up(alloc, "history", help::HISTORY, help::HISTORY_EXAMPLES);
+    below(below(below(top, waybill)?, holder)?, history)
 }
 
 /// The command that serves.
@@ -144,12 +184,14 @@ fn changing<'a>(alloc: Global, top: Command<'a>) -> Result<Command<'a>, AllocErr
     let top = top.subcommand(command(alloc, "migrate", help::MIGRATE, help::MIGRATE_EXAMPLES))?;
     let top = top.subcommand(command(alloc, "stock", help::STOCK, help::STOCK_EXAMPLES))?;
     let top = below(top, take(alloc))?;
-    below(top, act(alloc))
+    let top = below(top, read(alloc))?;
+    let top = below(top, act(alloc))?;
+    top.subcommand(command(alloc, "acts", help::ACTS, help::ACTS_EXAMPLES))
 }
 
 /// The commands that report on a station, and the one that serves.
 fn telling<'a>(alloc: Global, top: Command<'a>) -> Result<Command<'a>, AllocError> {
-    let top = top.subcommand(command(alloc, "outbox", help::OUTBOX, help::OUTBOX_EXAMPLES))?;
+    let top = below(top, outbox(alloc))?;
     let top = below(top, report(alloc))?;
     let top = looking(alloc, top)?;
     below(top, serve(alloc))
@@ -167,13 +209,35 @@ fn desk<'a>(alloc: Global) -> Result<Command<'a>, AllocError> {
     telling(alloc, top)
 }
 
-/// What a command asks for.
+/// The paths of the telegrams' files.
+fn files_of<'a>(alloc: Global, words: &ArgMatches<'a>) -> Result<Vec<&'a str>, AllocError> {
+    let mut files = Vec::new(alloc);
+    if let Some(words) = words.get_strs("FILE") {
+        for file in words {
+            files.push(*file)?;
+        }
+    }
+    Ok(files)
+}
+
+/// The words of `report`.
+fn report_words<'a>(words: &ArgMatches<'a>) -> Option<ReportWords<'a>> {
+    Some(ReportWords {
+        name: words.get_str("NAME")?,
+        open: words.get_flag("open"),
+        agent: words.get_str("agent"),
+        awb: words.get_str("awb"),
+        after: words.get_str("after"),
+        json: words.get_flag("json"),
+    })
+}
+
+/// What a command without files asks for.
 fn asked<'a>(name: &str, words: &ArgMatches<'a>) -> Option<Request<'a>> {
     match name {
         "init" => Some(Request::Init),
         "migrate" => Some(Request::Migrate),
         "stock" => Some(Request::Stock),
-        "take" => Some(Request::Take(words.get_str("FILE")?)),
         "act" => {
             let (verb, words) = words.subcommand()?;
             Some(Request::Act {
@@ -181,8 +245,13 @@ fn asked<'a>(name: &str, words: &ArgMatches<'a>) -> Option<Request<'a>> {
                 key: words.get_str("KEY")?,
             })
         }
-        "outbox" => Some(Request::Outbox),
-        "report" => Some(Request::Report(words.get_str("NAME")?)),
+        "acts" => Some(Request::Acts),
+        "read" => Some(Request::Read(words.get_str("FILE")?)),
+        "outbox" => Some(Request::Outbox {
+            json: words.get_flag("json"),
+        }),
+        "report" => Some(Request::Report(report_words(words)?)),
+        "history" => Some(Request::History(words.get_str("AWB")?)),
         "waybill" => Some(Request::Waybill(words.get_str("AWB")?)),
         "holder" => Some(Request::Holder(words.get_str("AWB")?)),
         "serve" => Some(Request::Serve {
@@ -193,15 +262,35 @@ fn asked<'a>(name: &str, words: &ArgMatches<'a>) -> Option<Request<'a>> {
     }
 }
 
+/// What the words ask for, where `clap` took them.
+///
+/// Returns [`AllocError`] when out of memory.
+fn requested<'a>(
+    alloc: Global,
+    matches: &ArgMatches<'a>,
+) -> Result<Option<Request<'a>>, AllocError> {
+    let Some((name, words)) = matches.subcommand() else {
+        return Ok(None);
+    };
+    if name == "take" {
+        let files = files_of(alloc, words)?;
+        return Ok(Some(Request::Take(files)));
+    }
+    Ok(asked(name, words))
+}
+
 /// What the words say, where `clap` took them.
-fn sorted<'a>(matches: &ArgMatches<'a>) -> Option<Words<'a>> {
-    let (name, words) = matches.subcommand()?;
-    Some(Words {
-        db: matches.get_str("db"),
-        station: matches.get_str("station"),
-        zone: matches.get_str("zone"),
-        request: asked(name, words)?,
-    })
+fn sorted<'a>(alloc: Global, matches: &ArgMatches<'a>) -> Result<Words<'a>, WordsFault> {
+    match requested(alloc, matches) {
+        Ok(Some(request)) => Ok(Words {
+            db: matches.get_str("db"),
+            station: matches.get_str("station"),
+            zone: matches.get_str("zone"),
+            request,
+        }),
+        Ok(None) => Err(WordsFault::Usage(String::new(alloc))),
+        Err(_) => Err(WordsFault::Memory),
+    }
 }
 
 /// What is said of an option behind its command, which `clap` names as a word that isn't expected.
@@ -245,10 +334,7 @@ pub(crate) fn sort_words<'a, S: AsStr>(
         return Err(WordsFault::Memory);
     };
     match command.try_get_matches_from(words) {
-        Ok(matches) => match sorted(&matches) {
-            Some(words) => Ok(words),
-            None => Err(WordsFault::Usage(String::new(alloc))),
-        },
+        Ok(matches) => sorted(alloc, &matches),
         Err(error) => Err(words_fault(alloc, &error)),
     }
 }

@@ -84,7 +84,7 @@ fn fields_fault(alloc: Global, verb: Verb, body: &Value) -> Result<Option<String
 }
 
 /// What is wrong with a body that is JSON: its keys, and then its values.
-fn value_words(alloc: Global, verb: Verb, body: &Value) -> Result<String, AllocError> {
+pub(crate) fn value_words(alloc: Global, verb: Verb, body: &Value) -> Result<String, AllocError> {
     if let Some(words) = keys_words(alloc, verb, body)? {
         return Ok(words);
     }

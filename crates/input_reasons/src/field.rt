@@ -62,8 +62,8 @@ pub(crate) fn wanted(field: Field) -> &'static str {
         Field::Awb => "a waybill number as 020-12345675 is wanted",
         Field::Origin | Field::Destination | Field::Unload =>
             "an airport of three letters A to Z is wanted",
-        Field::Goods => "up to 15 printable characters, the last no blank, are wanted",
-        Field::Name => "up to 35 printable characters, the last no blank, are wanted",
+        Field::Goods => "up to 15 characters of printable ASCII are wanted, the last no space",
+        Field::Name => "up to 35 characters of printable ASCII are wanted, the last no space",
         Field::Flight | Field::FlightIfAny => "a flight as LH400 is wanted",
         Field::Date | Field::DateIfAny =>
             "a day from 2000-01-01 to 2099-12-31 is wanted, as 2026-01-12",

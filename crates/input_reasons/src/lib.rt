@@ -1,6 +1,7 @@
 //! Why an input is bad: reasons for people, each one line.
 #![tactic(auto)]
 
+mod act_line;
 mod body;
 mod field;
 mod member;
@@ -9,6 +10,7 @@ mod shown;
 mod telegram;
 mod tell;
 
+pub use act_line::{MOST_LINE, act_line_reason, telegram_line_reason};
 pub use body::body_reason;
 pub use row::row_reason;
 pub use telegram::{is_unread, telegram_reason};

@@ -23,7 +23,9 @@ fn count_words(alloc: Global, count: usize) -> Result<String, AllocError> {
 /// What is said of a key that is none.
 fn key_words(alloc: Global, key: &[u8]) -> Result<String, AllocError> {
     let key = quoted(alloc, key)?;
-    format!(in alloc; "the key is {key}, 1 to 40 printable characters without a blank are wanted")
+    format!(in alloc;
+        "the key is {key}, 1 to 40 characters of printable ASCII without a space are wanted"
+    )
 }
 
 /// What is said of a verb that is none of a row.

@@ -23,14 +23,15 @@ fn fault_words(why: Why) -> &'static str {
         Why::Long => "it has more than 255 bytes",
         Why::Kind => "none of its first eleven lines begins with FWB/, FFM/ or FSU/ (302)",
         Why::Ending => {
-            "the message ends here, too early: an FWB has a second line, an FSU a third, and an FFM ends with LAST or CONT"
+            "a message must not end here: an FFM ends with LAST or CONT and nothing after it, an FWB has a second line, an FSU a third"
         }
         Why::Head => "FWB, FFM or FSU, a slash and one to three digits are wanted, as FFM/8",
         Why::Consignment => {
             "a waybill number, two airports and a slash are wanted in front, as 020-12345675FRAJFK/"
         }
         Why::Number => "the check digit of the waybill number is wrong",
-        Why::Quantity => "a quantity is wanted behind the airports, as T10K100.0",
+        Why::Quantity =>
+            "a quantity such as T10K100.0 is wanted after the airports: 1 to 9999 pieces, and at most 7 digits and points of weight",
         Why::Weight => "the quantity has no weight, as T10K100.0 has one",
         Why::Date => "a date is wanted that means a day, as 12JAN or 12JAN1030",
         Why::Flight => "part, flight, date and airport are wanted, as 1/LH400/12JAN/FRA",
@@ -49,15 +50,20 @@ fn line_words(alloc: Global, line: u16, why: Why) -> Result<String, AllocError> 
     }
 }
 
+/// The words of a refusal of a telegram that can't be read.
+pub(crate) fn refusal_words(alloc: Global, refusal: &Refusal) -> Result<String, AllocError> {
+    match refusal.detail {
+        Detail::Line { line, why } => line_words(alloc, line, why),
+        _ => String::from_str(alloc, fault_words(Why::Kind)),
+    }
+}
+
 /// Why a telegram can't be read, by its refusal: the line, and what is wanted there.
 ///
 /// Returns [`AllocError`] when out of memory.
 pub fn telegram_reason(alloc: Global, refusal: &Refusal) -> Result<String, AllocError>
     ensures { IfOk result (λ line. IsReason (codes "telegram: ") (string_bytes line)) }
 {
-    let words = match refusal.detail {
-        Detail::Line { line, why } => line_words(alloc, line, why)?,
-        _ => String::from_str(alloc, fault_words(Why::Kind))?,
-    };
+    let words = refusal_words(alloc, refusal)?;
     reason_line(alloc, "telegram: ", words.as_str())
 }

@@ -16,7 +16,15 @@ use std::alloc::Global;
 use std::io;
 
 /// The files of cases, in the order in which they are gone through.
-pub const FILES: &[&str] = &["words", "clock", "calls", "cut-calls", "reasons"];
+pub const FILES: &[&str] = &[
+    "words",
+    "clock",
+    "calls",
+    "cut-calls",
+    "reasons",
+    "many-inputs",
+    "parts",
+];
 
 /// What answers the cases of a file.
 #[derive(Drop)]
@@ -31,7 +39,7 @@ impl Answers for FileAnswers<'_> {
         match self.file {
             "words" => words::answer(self.alloc, asked, text),
             "clock" => clock::answer(self.alloc, asked, text),
-            "calls" | "cut-calls" | "reasons" => calls::answer(
+            "calls" | "cut-calls" | "reasons" | "many-inputs" | "parts" => calls::answer(
                 self.alloc,
                 &mut self.desk,
                 asked,

@@ -14,6 +14,7 @@ mod fields;
 mod fsu;
 mod fwb;
 mod lines;
+mod look;
 mod notices;
 mod numbers;
 mod orders;
@@ -39,6 +40,7 @@ pub const FILES: &[&str] = &[
     "fsu",
     "updates",
     "arrivals",
+    "look",
     "notices",
     "commands",
     "bodies",
@@ -68,6 +70,7 @@ impl Answers for FileAnswers<'_> {
             "fsu" => fsu::answer(alloc, asked, text),
             "updates" => updates::answer(alloc, asked, text),
             "arrivals" => arrivals::answer(alloc, asked, text),
+            "look" => look::answer(alloc, asked, text),
             "notices" => notices::answer(alloc, asked, text),
             "commands" => commands::answer(alloc, asked, text),
             "bodies" => bodies::answer(alloc, asked, text),

@@ -1,4 +1,4 @@
-use Rattle.std.proofs.Common.{refl, inr}
+use Rattle.std.proofs.Common.{refl, inr, None}
 use Rattle.cli_run.specs.Asked.{IsCommandAsked}
 use Rattle.cli_run.proofs.Reasons.{explained_run, unexplained, quiet_run}
 use Rattle.cli_run.proofs.Ran.{has_run, has_run_shut, not_come, works_unheard, passed_on, each_heard}
@@ -41,7 +41,7 @@ returns-in-Ok-clause-read_told g c = each_heard c.answer_asked.result _ _ c.in_o
 
 pub returns-in-Ok-clause-quiet : goal.returns-in-Ok-clause-quiet
 returns-in-Ok-clause-quiet g c =
-    quiet_run g.K.Keeper.keeps g.K.Keeper.is_sound g.K.Keeper.is_broken c.in-Ok.asked c.args.at c.args.keeper.now c.answer_asked.new.keeper
+    quiet_run None g.K.Keeper.keeps g.K.Keeper.is_sound g.K.Keeper.is_broken c.in-Ok.asked c.args.at c.args.keeper.now c.answer_asked.new.keeper
     g.E.ByteOut.taken c.args.errors.now c.answer_asked.new.errors c.answer_asked.result c.answer_asked.ensures.reasons
 
 pub returns-in-Ok-clause-reasons : goal.returns-in-Ok-clause-reasons

@@ -11,37 +11,37 @@ pub returns-in-Input-clause-reopen : goal.returns-in-Input-clause-reopen
 returns-in-Input-clause-reopen g c = λ broken.
     let old = g.O.ByteOut.taken c.args.writer.now in
     let new = g.O.ByteOut.taken c.answer_input.new.writer in
-    subst (λ (a : Asked). IsAnsweredShut a old new c.answer_input.result) (sym c.in-Input.is) (c.answer_input.ensures.reopen broken)
+    subst (λ (a : Asked). IsAnsweredShut c.args.number a old new c.answer_input.result) (sym c.in-Input.is) (c.answer_input.ensures.reopen broken)
 
 pub returns-in-Refused-clause-reopen : goal.returns-in-Refused-clause-reopen
 returns-in-Refused-clause-reopen g c = λ broken.
     let old = g.O.ByteOut.taken c.args.writer.now in
     let new = g.O.ByteOut.taken c.answer_refusal.new.writer in
-    subst (λ (a : Asked). IsAnsweredShut a old new c.answer_refusal.result) (sym c.in-Refused.is) c.answer_refusal.ensures.told
+    subst (λ (a : Asked). IsAnsweredShut c.args.number a old new c.answer_refusal.result) (sym c.in-Refused.is) c.answer_refusal.ensures.told
 
 pub returns-in-Bad-clause-reopen : goal.returns-in-Bad-clause-reopen
 returns-in-Bad-clause-reopen g c = λ broken.
     let old = g.O.ByteOut.taken c.args.writer.now in
     let new = g.O.ByteOut.taken c.answer_bad.new.writer in
-    subst (λ (a : Asked). IsAnsweredShut a old new c.answer_bad.result) (sym c.in-Bad.is) c.answer_bad.ensures.told
+    subst (λ (a : Asked). IsAnsweredShut c.args.number a old new c.answer_bad.result) (sym c.in-Bad.is) c.answer_bad.ensures.told
 
 pub returns-in-Input-clause-reasons : goal.returns-in-Input-clause-reasons
 returns-in-Input-clause-reasons g c =
-    subst (λ (a : Asked). HasExplained g.K.Keeper.keeps g.K.Keeper.is_sound g.K.Keeper.is_broken a c.args.at c.args.keeper.now c.answer_input.new.keeper
+    subst (λ (a : Asked). HasExplained c.args.number g.K.Keeper.keeps g.K.Keeper.is_sound g.K.Keeper.is_broken a c.args.at c.args.keeper.now c.answer_input.new.keeper
     g.E.ByteOut.taken c.args.errors.now c.answer_input.new.errors c.answer_input.result) (sym c.in-Input.is) c.answer_input.ensures.reasons
 
 pub returns-in-Refused-clause-reasons : goal.returns-in-Refused-clause-reasons
 returns-in-Refused-clause-reasons g c =
-    subst (λ (a : Asked). HasExplained g.K.Keeper.keeps g.K.Keeper.is_sound g.K.Keeper.is_broken a c.args.at c.args.keeper.now c.args.keeper.now
+    subst (λ (a : Asked). HasExplained c.args.number g.K.Keeper.keeps g.K.Keeper.is_sound g.K.Keeper.is_broken a c.args.at c.args.keeper.now c.args.keeper.now
     g.E.ByteOut.taken c.args.errors.now c.answer_refusal.new.errors c.answer_refusal.result) (sym c.in-Refused.is)
-    (explained_unasked g.K.Keeper.keeps g.K.Keeper.is_sound g.K.Keeper.is_broken (asked.Refused c.in-Refused.refusal) c.args.at c.args.keeper.now c.args.keeper.now
+    (explained_unasked c.args.number g.K.Keeper.keeps g.K.Keeper.is_sound g.K.Keeper.is_broken (asked.Refused c.in-Refused.refusal) c.args.at c.args.keeper.now c.args.keeper.now
     g.E.ByteOut.taken c.args.errors.now c.answer_refusal.new.errors c.answer_refusal.result _ c.answer_refusal.ensures.reasons (λ s. refl))
 
 pub returns-in-Bad-clause-reasons : goal.returns-in-Bad-clause-reasons
 returns-in-Bad-clause-reasons g c =
-    subst (λ (a : Asked). HasExplained g.K.Keeper.keeps g.K.Keeper.is_sound g.K.Keeper.is_broken a c.args.at c.args.keeper.now c.args.keeper.now
+    subst (λ (a : Asked). HasExplained c.args.number g.K.Keeper.keeps g.K.Keeper.is_sound g.K.Keeper.is_broken a c.args.at c.args.keeper.now c.args.keeper.now
     g.E.ByteOut.taken c.args.errors.now c.answer_bad.new.errors c.answer_bad.result) (sym c.in-Bad.is)
-    (explained_unasked g.K.Keeper.keeps g.K.Keeper.is_sound g.K.Keeper.is_broken (asked.Bad c.in-Bad.verb c.in-Bad.body) c.args.at c.args.keeper.now c.args.keeper.now
+    (explained_unasked c.args.number g.K.Keeper.keeps g.K.Keeper.is_sound g.K.Keeper.is_broken (asked.Bad c.in-Bad.verb c.in-Bad.body) c.args.at c.args.keeper.now c.args.keeper.now
     g.E.ByteOut.taken c.args.errors.now c.answer_bad.new.errors c.answer_bad.result _ c.answer_bad.ensures.reasons (λ s. refl))
 
 pub returns-in-Refused-clause-breaks : goal.returns-in-Refused-clause-breaks
@@ -51,3 +51,20 @@ returns-in-Refused-clause-breaks g c = λ works.
 pub returns-in-Bad-clause-breaks : goal.returns-in-Bad-clause-breaks
 returns-in-Bad-clause-breaks g c = λ works.
     works_unasked _ (g.O.ByteOut.taken c.args.writer.now) (g.O.ByteOut.taken c.answer_bad.new.writer) c.answer_bad.result _ c.answer_bad.ensures.stopped works
+
+pub returns-in-BadLine-clause-reopen : goal.returns-in-BadLine-clause-reopen
+returns-in-BadLine-clause-reopen g c = λ broken.
+    let old = g.O.ByteOut.taken c.args.writer.now in
+    let new = g.O.ByteOut.taken c.answer_bad_line.new.writer in
+    subst (λ (a : Asked). IsAnsweredShut c.args.number a old new c.answer_bad_line.result) (sym c.in-BadLine.is) c.answer_bad_line.ensures.told
+
+pub returns-in-BadLine-clause-reasons : goal.returns-in-BadLine-clause-reasons
+returns-in-BadLine-clause-reasons g c =
+    subst (λ (a : Asked). HasExplained c.args.number g.K.Keeper.keeps g.K.Keeper.is_sound g.K.Keeper.is_broken a c.args.at c.args.keeper.now c.args.keeper.now
+    g.E.ByteOut.taken c.args.errors.now c.answer_bad_line.new.errors c.answer_bad_line.result) (sym c.in-BadLine.is)
+    (explained_unasked c.args.number g.K.Keeper.keeps g.K.Keeper.is_sound g.K.Keeper.is_broken (asked.BadLine c.in-BadLine.text) c.args.at c.args.keeper.now c.args.keeper.now
+    g.E.ByteOut.taken c.args.errors.now c.answer_bad_line.new.errors c.answer_bad_line.result _ c.answer_bad_line.ensures.reasons (λ s. refl))
+
+pub returns-in-BadLine-clause-breaks : goal.returns-in-BadLine-clause-breaks
+returns-in-BadLine-clause-breaks g c = λ works.
+    works_unasked _ (g.O.ByteOut.taken c.args.writer.now) (g.O.ByteOut.taken c.answer_bad_line.new.writer) c.answer_bad_line.result _ c.answer_bad_line.ensures.stopped works

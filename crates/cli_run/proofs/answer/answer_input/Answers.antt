@@ -2,12 +2,12 @@ use Rattle.std.proofs.Common.{refl, Err}
 use Rattle.stock_list.specs.declared.answer.RunFault.TheVariants as fault
 use Rattle.cli_run.proofs.Unanswered.{not_acted, shut_after}
 use Rattle.cli_run.specs.declared.asked.Asked.TheVariants as asked
-use Rattle.cli_run.proofs.Reasons.{explained_stop, explained_answer}
+use Rattle.cli_run.proofs.Reasons.{explained_stop}
 use Rattle.cli_run.proofs.answer.answer_input.Goals as goal
 
 pub returns-in-Err-clause-stopped : goal.returns-in-Err-clause-stopped
 returns-in-Err-clause-stopped g c = λ s keeps works sound.
-    not_acted s c.args.input.now c.args.at c.in-Err.fault c.keeper_fault.result (g.O.ByteOut.taken c.args.writer.now).bytes
+    not_acted c.args.number s c.args.input.now c.args.at c.in-Err.fault c.keeper_fault.result (g.O.ByteOut.taken c.args.writer.now).bytes
     (g.K.Keeper.keeps c.answer_one.new.keeper) (g.K.Keeper.may_find c.answer_one.new.keeper) c.keeper_fault.ensures
     (c.in-Err.ensures.answers s keeps works sound) (c.in-Err.ensures.leaves s keeps works sound)
 
@@ -17,10 +17,10 @@ returns-in-Err-clause-breaks g c = λ works.
 
 pub returns-in-Err-clause-reasons : goal.returns-in-Err-clause-reasons
 returns-in-Err-clause-reasons g c =
-    explained_stop g.K.Keeper.keeps g.K.Keeper.is_sound g.K.Keeper.is_broken (asked.Input c.args.input.now) c.args.at c.args.keeper.now c.answer_one.new.keeper
+    explained_stop c.args.number g.K.Keeper.keeps g.K.Keeper.is_sound g.K.Keeper.is_broken (asked.Input c.args.input.now) c.args.at c.args.keeper.now c.answer_one.new.keeper
     g.E.ByteOut.taken c.args.errors.now _ c.keeper_fault.result refl
 
 pub returns-in_default-clause-reasons : goal.returns-in_default-clause-reasons
 returns-in_default-clause-reasons g c =
-    explained_stop g.K.Keeper.keeps g.K.Keeper.is_sound g.K.Keeper.is_broken (asked.Input c.args.input.now) c.args.at c.args.keeper.now c.answer_one.new.keeper
+    explained_stop c.args.number g.K.Keeper.keeps g.K.Keeper.is_sound g.K.Keeper.is_broken (asked.Input c.args.input.now) c.args.at c.args.keeper.now c.answer_one.new.keeper
     g.E.ByteOut.taken c.args.errors.now (Err fault.Memory) fault.Memory refl

@@ -5,16 +5,16 @@ use Rattle.cli_run.proofs.report.run_report.Goals as goal
 pub returns-clause-told : goal.returns-clause-told
 returns-clause-told g c = λ s keeps sound.
     rw c.run_ended.ensures
-    (report_told (g.K.Keeper.is_broken c.args.keeper.now ≡ false) s c.args.report (g.W.ByteOut.taken c.args.writer.now) (g.W.ByteOut.taken c.write_report.new.writer) c.write_report.result
-    (c.write_report.ensures.ended s keeps sound))
+    (report_told (g.K.Keeper.is_broken c.args.keeper.now ≡ false) s c.args.form c.args.listing.now (g.W.ByteOut.taken c.args.writer.now) (g.W.ByteOut.taken c.write_listing.new.writer) c.write_listing.result
+    (c.write_listing.ensures.ended s keeps sound))
 
 pub returns-clause-each : goal.returns-clause-each
 returns-clause-each g c = λ s keeps sound text is.
     rw c.run_ended.ensures
-    (reported (g.K.Keeper.is_broken c.args.keeper.now ≡ false) text (g.W.ByteOut.taken c.args.writer.now) (g.W.ByteOut.taken c.write_report.new.writer) c.write_report.result
-    ((c.write_report.ensures.each s keeps sound).text text is))
+    (reported (g.K.Keeper.is_broken c.args.keeper.now ≡ false) text (g.W.ByteOut.taken c.args.writer.now) (g.W.ByteOut.taken c.write_listing.new.writer) c.write_listing.result
+    ((c.write_listing.ensures.each s keeps sound).text text is))
 
 pub returns-clause-writes : goal.returns-clause-writes
 returns-clause-writes g c =
     rw c.run_ended.ensures
-    (stops_writing (g.W.ByteOut.taken c.args.writer.now) (g.W.ByteOut.taken c.write_report.new.writer) c.write_report.result c.write_report.ensures.writes)
+    (stops_writing (g.W.ByteOut.taken c.args.writer.now) (g.W.ByteOut.taken c.write_listing.new.writer) c.write_listing.result c.write_listing.ensures.writes)

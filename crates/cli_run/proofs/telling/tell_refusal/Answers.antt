@@ -1,9 +1,11 @@
-use Rattle.std.proofs.Common.{rules, codes}
+use Rattle.std.proofs.Common.{rules}
 use Rattle.input_reasons.specs.Reason.{is_unread}
+use Rattle.cli_run.specs.Explained.{reason_head}
+use Rattle.cli_run.specs.declared.asked.Asked.TheVariants as asked
 use Rattle.cli_run.proofs.Reasons.{told_if}
 use Rattle.cli_run.proofs.telling.tell_refusal.Goals as goal
 
 pub returns : goal.returns
 returns g c =
-    told_if g.E.ByteOut.taken (is_unread c.args.refusal.now) (codes "telegram: ") c.args.errors.now c.tell_reason.new.errors (search rules)
-    (c.tell_reason.ensures (codes "telegram: ") c.telegram_reason.ensures)
+    told_if g.E.ByteOut.taken (is_unread c.args.refusal.now) (reason_head c.args.number (asked.Refused c.args.refusal.now)) c.args.errors.now c.tell_unread.new.errors
+    (search rules) c.tell_unread.ensures

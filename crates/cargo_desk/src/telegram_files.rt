@@ -1,0 +1,100 @@
+//! The files of the telegrams that a call takes.
+
+use cli_run::Turns;
+use std::alloc::{AllocError, Global};
+use std::cell::RefCell;
+use std::fs::File;
+use std::io;
+use std::io::Read;
+
+/// The paths of files, each a text of its own.
+pub fn owned_paths(alloc: Global, paths: &[&str]) -> Result<Vec<String>, AllocError> {
+    let mut owned = Vec::new(alloc);
+    for path in paths {
+        owned.push(String::from_str(alloc, *path)?)?;
+    }
+    Ok(owned)
+}
+
+/// Why a file wasn't opened, and which one.
+#[derive(Drop)]
+pub struct Unopened {
+    place: usize,
+    error: io::Error,
+}
+
+/// The files of telegrams, each read in its turn. A file is opened when it is read first.
+#[derive(Drop)]
+pub struct Telegrams<'a> {
+    rt: &'a HostRuntime,
+    paths: &'a [String],
+    turns: &'a Turns,
+    unopened: &'a RefCell<Option<Unopened>>,
+    /// How many files were opened; the last of them is open.
+    opened: usize,
+    file: File,
+}
+
+impl<'a> Telegrams<'a> {
+    /// The files of these paths, of which the first is open.
+    pub fn new(
+        rt: &'a HostRuntime,
+        paths: &'a [String],
+        turns: &'a Turns,
+        unopened: &'a RefCell<Option<Unopened>>,
+        file: File,
+    ) -> Telegrams<'a> {
+        Telegrams {
+            rt,
+            paths,
+            turns,
+            unopened,
+            opened: 1,
+            file,
+        }
+    }
+
+    /// Opens the next file, where its turn has come.
+    fn open_next(&mut self) -> io::Result<()> {
+        let turn = self.turns.begun();
+        if turn <= self.opened {
+            return Ok(());
+        }
+        let Some(path) = self.paths.get(self.opened) else {
+            return Ok(());
+        };
+        match File::open(self.rt, path.as_str()) {
+            Ok(file) => {
+                self.file = file;
+                self.opened = turn;
+                Ok(())
+            }
+            Err(error) => {
+                let place = self.opened;
+                if let Ok(mut unopened) = self.unopened.try_borrow_mut() {
+                    *unopened = Some(Unopened { place, error });
+                }
+                Err(io::ErrorKind::Other.into())
+            }
+        }
+    }
+}
+
+impl Read for Telegrams<'_> {
+    fn read(&mut self, buf: &mut [u8]) -> io::Result<usize> {
+        self.open_next()?;
+        self.file.read(buf)
+    }
+}
+
+/// Tells why a file wasn't opened, behind the line of its fault.
+pub fn tell_unopened(rt: &HostRuntime, paths: &[String], unopened: &RefCell<Option<Unopened>>) {
+    let Ok(unopened) = unopened.try_borrow() else {
+        return;
+    };
+    if let Some(Unopened { place, error }) = &*unopened {
+        if let Some(path) = paths.get(*place) {
+            let _told = eprint!(rt; "{path}: {error}\n");
+        }
+    }
+}

@@ -1,0 +1,53 @@
+-- What a line of `acts` asks.
+use Rattle.std.specs.Prelude.{◌≡◌, ◌≤◌, ℕ, List, length, codes, Some, IsTrue, IsUtf8}
+use Rattle.serde_json.specs.Data.{Data, string}
+use Rattle.serde_json.specs.Find.{get}
+use Rattle.serde_json.specs.Read.{read}
+use Rattle.imp_fields.specs.declared.fault.TextFault.{TextFault}
+use Rattle.desk_commands.specs.Body.{IsBodyOf, member_count}
+use Rattle.desk_commands.specs.Verb.{word}
+use Rattle.desk_commands.specs.declared.command.Command.{Command}
+use Rattle.desk_commands.specs.declared.verb.Verb.{Verb}
+use Rattle.telegrams.specs.Meaning.{IsTelegram, telegram_fault, refusal_of}
+use Rattle.station_core.specs.Key.{is_key}
+use Rattle.station_core.specs.declared.input.Input.TheVariants.{Keyed, Wire}
+use Rattle.cli_run.specs.declared.asked.Asked.{Asked}
+use Rattle.cli_run.specs.declared.asked.Asked.TheVariants as asked
+use Rattle.cli_run.specs.Came.{most_bytes}
+
+-- an object of a verb, a key and a body, and nothing else
+pub record IsFrame (d : Data) (verb : Verb) (key : List ℕ) (body : Data) : Type 0 where
+  pub members : member_count d ≡ Some 3
+  pub verb_is : get (codes "verb") d ≡ Some (string (word verb))
+  pub key_is : get (codes "key") d ≡ Some (string key)
+  pub valid : IsTrue (is_key key)
+  pub body_is : get (codes "body") d ≡ Some body
+
+-- an object of a telegram's text, and nothing else
+pub record IsWired (d : Data) (text : List ℕ) : Type 0 where
+  pub members : member_count d ≡ Some 1
+  pub text_is : get (codes "telegram") d ≡ Some (string text)
+
+-- the value of a line asks this: a command under its key, a telegram, or neither
+abbrev pub Asks : List ℕ → Data → Asked → Type 0
+Asks line d (asked.Input (Keyed key command)) =
+    (verb : Verb) × ((body : Data) × IsFrame d verb key body × IsBodyOf verb body command)
+Asks line d (asked.Input (Wire t)) = (text : List ℕ) × IsWired d text × IsTelegram text t
+Asks line d (asked.Refused refusal) =
+    (text : List ℕ) × IsWired d text
+    × ((told : TextFault) × (telegram_fault text ≡ Some told) × (refusal ≡ refusal_of told))
+Asks line d (asked.BadLine same) =
+    (same.now ≡ line) × ((verb : Verb) (key : List ℕ) (body : Data) (command : Command)
+    → IsFrame d verb key body → ¬ (IsBodyOf verb body command))
+    × ((text : List ℕ) → ¬ (IsWired d text))
+Asks line d (asked.Bad verb body) = ⊥
+
+-- a line of JSON writes this value, and isn't too long
+abbrev pub IsWritten : List ℕ → Data → Type 0
+IsWritten line d = (length line ≤ most_bytes) × IsUtf8 line × (read line ≡ Some d)
+
+-- what a line asks, by the value that it writes
+abbrev pub IsActAsked : List ℕ → Asked → Type 0
+IsActAsked line (asked.BadLine same) =
+    (same.now ≡ line) × ((d : Data) → IsWritten line d → Asks line d (asked.BadLine same))
+IsActAsked line asks = (d : Data) × IsWritten line d × Asks line d asks

@@ -1,0 +1,119 @@
+//! What a line of `acts` asks.
+ghost use Rattle.std.specs.Prelude.{◌≡◌, List, ℕ, IfOk, IfSome, None, option_map};
+ghost use Rattle.std.specs.Option.{option_and_then};
+ghost use Rattle.desk_commands.specs.Body.{member_count};
+ghost use Rattle.desk_commands.specs.declared.verb.Verb.{Verb as AnyVerb};
+ghost use Rattle.serde_json.specs.Data.{Data};
+ghost use Rattle.serde_json.specs.Find.{as_str, get};
+ghost use Rattle.serde_json.specs.View.{view};
+ghost use Rattle.cli_run.specs.ActLine.{Asks, IsActAsked, IsFrame, IsWired, IsWritten};
+
+use crate::asked::Asked;
+use desk_commands::{BadBody, Verb, read_command};
+use input_reasons::MOST_LINE;
+use serde_json::Value;
+use station_core::{Input, Key};
+use std::alloc::{AllocError, Global};
+use telegrams::{TelegramFault, read_telegram};
+
+/// How many members an object has.
+fn member_count(value: &Value) -> Option<usize>
+    ensures { result ≡ member_count (view value.now) }
+{
+    let members = value.as_object()?;
+    Some(members.len())
+}
+
+/// The text that a member of an object is.
+fn text_at<'a>(value: &'a Value, name: &str) -> Option<&'a str>
+    ensures { option_map (λ text. text.now) result
+        ≡ option_and_then as_str (get name.now (view value.entry.now)) }
+{
+    value.get(name)?.as_str()
+}
+
+/// The verb, the key and the body of a command's line.
+fn frame(value: &Value) -> Option<(Verb, Key, &Value)>
+    ensures some { IfSome result (λ f. IsFrame (view value.now) f.0 f.1 (view f.2.now)) }
+    ensures none { result ≡ None → (verb : AnyVerb) (key : List ℕ) (body : Data)
+        → ¬ (IsFrame (view value.now) verb key body) }
+{
+    if member_count(value)? != 3 {
+        return None;
+    }
+    let verb = Verb::read(text_at(value, "verb")?.as_bytes())?;
+    let key = Key::read(text_at(value, "key")?.as_bytes())?;
+    let body = value.get("body")?;
+    Some((verb, key, body))
+}
+
+/// The telegram of a telegram's line.
+fn wired<'a>(value: &'a Value) -> Option<&'a str>
+    ensures some { IfSome result (λ text. IsWired (view value.entry.now) text.now) }
+    ensures none { result ≡ None → (text : List ℕ) → ¬ (IsWired (view value.entry.now) text) }
+{
+    if member_count(value)? != 1 {
+        return None;
+    }
+    text_at(value, "telegram")
+}
+
+/// The value that a line writes, where it isn't too long.
+///
+/// Returns [`AllocError`] when out of memory.
+pub(crate) fn line_value(alloc: Global, line: &[u8]) -> Result<Option<Value>, AllocError>
+    ensures some { IfOk result (λ v. IfSome v (λ value. IsWritten line.now (view value))) }
+    ensures none { IfOk result (λ v. v ≡ None → (d : Data) → ¬ (IsWritten line.now d)) }
+{
+    if line.len() > MOST_LINE {
+        return Ok(None);
+    }
+    match Value::from_slice(alloc, line) {
+        Ok(value) => Ok(Some(value)),
+        Err(e) => {
+            if e.is_memory() {
+                Err(AllocError)
+            } else {
+                Ok(None)
+            }
+        }
+    }
+}
+
+/// What a value that a line writes asks.
+fn value_asked<'a>(alloc: Global, value: &'a Value, line: &'a [u8]) -> Result<Asked<'a>, AllocError>
+    ensures { IfOk result (Asks line.entry.now (view value.entry.now)) }
+{
+    if let Some((verb, key, body)) = frame(value) {
+        return match read_command(verb, body) {
+            Ok(command) => Ok(Asked::Input(Input::Keyed(key, command))),
+            Err(BadBody) => Ok(Asked::BadLine(line)),
+        };
+    }
+    let Some(text) = wired(value) else {
+        return Ok(Asked::BadLine(line));
+    };
+    match read_telegram(alloc, text.as_bytes()) {
+        Ok(telegram) => Ok(Asked::Input(Input::Wire(telegram))),
+        Err(TelegramFault::Refused(refusal)) => Ok(Asked::Refused(refusal)),
+        Err(TelegramFault::Memory) => Err(AllocError),
+    }
+}
+
+/// What a line asks, by the value that it writes.
+///
+/// Returns [`AllocError`] when out of memory.
+pub(crate) fn line_asked<'a>(
+    alloc: Global,
+    value: &'a Option<Value>,
+    line: &'a [u8],
+) -> Result<Asked<'a>, AllocError>
+    requires some { IfSome value.now (λ v. IsWritten line.now (view v)) }
+    requires none { value.now ≡ None → (d : Data) → ¬ (IsWritten line.now d) }
+    ensures { IfOk result (IsActAsked line.entry.now) }
+{
+    match value {
+        Some(value) => value_asked(alloc, value, line),
+        None => Ok(Asked::BadLine(line)),
+    }
+}

@@ -1,0 +1,61 @@
+//! The history of a waybill.
+ghost use Rattle.std.specs.Prelude.{◌≡◌, false, OnOk};
+ghost use Rattle.cli_run.specs.History.{HasToldHistory, HasToldRows, told, by_listing};
+
+use crate::look::do_waybill;
+use crate::report::do_report;
+use awb_number::Awb;
+use reports::{Form, Listing};
+use station_core::{ByteOut, Keeper};
+use std::alloc::Global;
+use stock_list::RunFault;
+
+/// The moves and the trail of a waybill.
+fn tell_rows<K: Keeper, W: ByteOut>(
+    alloc: Global,
+    keeper: &mut K,
+    number: &Awb,
+    output: &mut W,
+) -> Result<bool, RunFault>
+    ensures clean { K.is_clean keeper.new → K.is_clean keeper.old }
+    ensures still { K.is_sound keeper.old → K.is_clean keeper.new → K.is_sound keeper.new }
+    ensures sound { K.is_sound keeper.new → K.is_sound keeper.old }
+    ensures works { K.is_broken keeper.old ≡ false → OnOk result (K.is_broken keeper.new ≡ false) }
+    ensures rows { HasToldRows (by_listing K.keeps K.is_clean K.is_sound K.is_broken K.may_find)
+        number.now (told keeper.old (W.taken output.old)) (told keeper.new (W.taken output.new))
+        result }
+{
+    match do_report(
+        alloc,
+        keeper,
+        &Listing::Movements(*number),
+        Form::Text,
+        output,
+    ) {
+        Ok(true) => do_report(alloc, keeper, &Listing::Trail(*number), Form::Text, output),
+        Ok(false) => Ok(false),
+        Err(fault) => Err(fault),
+    }
+}
+
+/// `history AWB`: what is known of a waybill, its moves and its trail.
+pub(crate) fn do_history<K: Keeper, W: ByteOut>(
+    alloc: Global,
+    keeper: &mut K,
+    number: &Awb,
+    output: &mut W,
+) -> Result<bool, RunFault>
+    ensures clean { K.is_clean keeper.new → K.is_clean keeper.old }
+    ensures still { K.is_sound keeper.old → K.is_clean keeper.new → K.is_sound keeper.new }
+    ensures sound { K.is_sound keeper.new → K.is_sound keeper.old }
+    ensures works { K.is_broken keeper.old ≡ false → OnOk result (K.is_broken keeper.new ≡ false) }
+    ensures history { HasToldHistory K.keeps K.is_clean K.is_sound K.is_broken K.may_find
+        number.now (told keeper.old (W.taken output.old)) (told keeper.new (W.taken output.new))
+        result }
+{
+    match do_waybill(alloc, keeper, number, output) {
+        Ok(true) => tell_rows(alloc, keeper, number, output),
+        Ok(false) => Ok(false),
+        Err(fault) => Err(fault),
+    }
+}

@@ -1,0 +1,63 @@
+//! Telegrams that are taken one after another.
+ghost use Rattle.std.specs.Prelude.{◌≡◌, false, OnOk};
+ghost use Rattle.cli_run.specs.Takes.{HasTakenNext};
+ghost use Rattle.cli_run.specs.InTurn.{come, HaveBeenMade};
+
+use crate::inputs::Inputs;
+use crate::take::run_take;
+use station_core::{ByteIn, ByteOut, Keeper};
+use station_days::Moment;
+use std::alloc::Global;
+use stock_list::{RunFault, Watched};
+
+/// Goes on to the next input, and takes its telegram.
+fn take_next<K: Keeper, I: Inputs, W: ByteOut, E: ByteOut>(
+    alloc: Global,
+    keeper: &mut K,
+    reader: &mut I,
+    writer: &mut W,
+    errors: &mut E,
+    at: Moment,
+) -> Result<bool, RunFault>
+    ensures clean { K.is_clean keeper.new → K.is_clean keeper.old }
+    ensures still { K.is_sound keeper.old → K.is_clean keeper.new → K.is_sound keeper.new }
+    ensures sound { K.is_sound keeper.new → K.is_sound keeper.old }
+    ensures works { K.is_broken keeper.old ≡ false → OnOk result (K.is_broken keeper.new ≡ false) }
+    ensures taken { HasTakenNext K.keeps K.is_sound K.is_broken K.may_find at I.given I.turned
+        E.taken (come keeper.old (W.taken writer.old) errors.old, reader.old)
+        (come keeper.new (W.taken writer.new) errors.new, reader.new) result }
+{
+    reader.next_input();
+    run_take(alloc, keeper, reader, writer, errors, at)
+}
+
+/// Takes the telegrams of so many inputs, each after the one before it, all at one moment, and
+/// writes the line of each. `Ok` says whether all were accepted.
+///
+/// A fault ends the run, as that of [`run_take`] does: the telegrams before it are answered, those
+/// after it are not read.
+pub fn run_takes<K: Keeper, I: Inputs, W: ByteOut, E: ByteOut>(
+    alloc: Global,
+    keeper: &mut K,
+    count: usize,
+    reader: &mut I,
+    writer: &mut W,
+    errors: &mut E,
+    at: Moment,
+) -> Result<bool, RunFault>
+    ensures clean { K.is_clean keeper.new → K.is_clean keeper.old }
+    ensures still { K.is_sound keeper.old → K.is_clean keeper.new → K.is_sound keeper.new }
+    ensures sound { K.is_sound keeper.new → K.is_sound keeper.old }
+    ensures works { K.is_broken keeper.old ≡ false → OnOk result (K.is_broken keeper.new ≡ false) }
+    ensures taken { HaveBeenMade
+        (HasTakenNext K.keeps K.is_sound K.is_broken K.may_find at I.given I.turned E.taken) count
+        (come keeper.old (W.taken writer.old) errors.old, reader.old)
+        (come keeper.new (W.taken writer.new) errors.new, reader.new) result }
+{
+    let mut good = true;
+    for _turn in 0..count {
+        let accepted = take_next(alloc, keeper, reader, writer, errors, at)?;
+        good &= accepted;
+    }
+    Ok(good)
+}

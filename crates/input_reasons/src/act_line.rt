@@ -1,0 +1,160 @@
+//! Why a line of `acts` is neither a command nor a telegram.
+ghost use Rattle.std.specs.Prelude.{IfOk, codes, string_bytes};
+ghost use Rattle.input_reasons.specs.Reason.{IsReason};
+
+use crate::body::value_words;
+use crate::member::kind_words;
+use crate::shown::{quoted, reason_line};
+use crate::telegram::refusal_words;
+use desk_commands::Verb;
+use serde_json::{Error, Value};
+use shipment_machine::Refusal;
+use std::alloc::{AllocError, Global};
+
+/// The most bytes of a line of `acts`, with its end: those of a body, and of what is around it.
+pub const MOST_LINE: usize = imp_fields::MOST_BYTES + 4_096;
+
+/// The members of a command's line.
+const COMMAND: &[&str] = &["verb", "key", "body"];
+
+/// What is said of a text that isn't JSON.
+fn json_words(alloc: Global, error: &Error) -> Result<String, AllocError> {
+    if error.is_memory() {
+        return Err(AllocError);
+    }
+    let column = error.column();
+    if error.is_eof() {
+        format!(in alloc; "no JSON: it breaks off in column {column}")
+    } else {
+        format!(in alloc; "no JSON: column {column}")
+    }
+}
+
+/// What is said of a line that has a telegram.
+fn telegram_words(alloc: Global, telegram: &Value) -> Result<String, AllocError> {
+    if telegram.as_str().is_some() {
+        return String::from_str(
+            alloc,
+            "a line of a telegram has \"telegram\" and no other member",
+        );
+    }
+    let kind = kind_words(alloc, telegram)?;
+    format!(in alloc; "\"telegram\" is {kind}, a text in quotes is wanted")
+}
+
+/// What is said of a member that is missing, or that no line has.
+fn members_words(alloc: Global, line: &Value) -> Result<Option<String>, AllocError> {
+    let Some(members) = line.as_object() else {
+        let kind = kind_words(alloc, line)?;
+        let words = format!(in alloc; "it is {kind}, an object is wanted")?;
+        return Ok(Some(words));
+    };
+    for (key, _value) in members.iter() {
+        if !COMMAND.iter().any(|name| *name == key.as_str()) {
+            let key = quoted(alloc, key.as_bytes())?;
+            let words = format!(in alloc;
+                "no member of a line is called {key}; it has verb, key and body, or telegram"
+            )?;
+            return Ok(Some(words));
+        }
+    }
+    for name in COMMAND {
+        if line.get(*name).is_none() {
+            let words = format!(in alloc;
+                "\"{name}\" is missing; a line has verb, key and body, or telegram"
+            )?;
+            return Ok(Some(words));
+        }
+    }
+    Ok(None)
+}
+
+/// What is said of a member that isn't a text.
+fn no_text(alloc: Global, name: &str, value: &Value) -> Result<String, AllocError> {
+    let kind = kind_words(alloc, value)?;
+    format!(in alloc; "\"{name}\" is {kind}, a text in quotes is wanted")
+}
+
+/// What is said of a line with a verb, a key and a body.
+fn command_words(
+    alloc: Global,
+    verb: &Value,
+    key: &Value,
+    body: &Value,
+) -> Result<String, AllocError> {
+    let Some(word) = verb.as_str() else {
+        return no_text(alloc, "verb", verb);
+    };
+    let Some(verb) = Verb::read(word.as_bytes()) else {
+        let word = quoted(alloc, word.as_bytes())?;
+        return format!(in alloc; "\"verb\" is {word}, `cargo_desk act --help` lists the verbs");
+    };
+    let Some(key) = key.as_str() else {
+        return no_text(alloc, "key", key);
+    };
+    if station_core::Key::read(key.as_bytes()).is_none() {
+        let key = quoted(alloc, key.as_bytes())?;
+        return format!(in alloc;
+            "\"key\" is {key}, 1 to 40 printable characters without spaces are wanted"
+        );
+    }
+    value_words(alloc, verb, body)
+}
+
+/// What is said of a line that is JSON.
+fn object_words(alloc: Global, line: &Value) -> Result<String, AllocError> {
+    if let Some(telegram) = line.get("telegram") {
+        return telegram_words(alloc, telegram);
+    }
+    if let Some(words) = members_words(alloc, line)? {
+        return Ok(words);
+    }
+    match (line.get("verb"), line.get("key"), line.get("body")) {
+        (Some(verb), Some(key), Some(body)) => command_words(alloc, verb, key, body),
+        _ => String::from_str(alloc, "a line has verb, key and body, or telegram"),
+    }
+}
+
+/// What is wrong with a line.
+fn line_words(alloc: Global, text: &[u8]) -> Result<String, AllocError> {
+    if text.len() > MOST_LINE {
+        return String::from_str(alloc, "more than 69,632 bytes");
+    }
+    match Value::from_slice(alloc, text.trim_ascii_end()) {
+        Ok(line) => object_words(alloc, &line),
+        Err(error) => json_words(alloc, &error),
+    }
+}
+
+/// The reason of a line with this number.
+fn numbered(alloc: Global, number: u64, words: &str) -> Result<String, AllocError>
+    ensures { IfOk result (λ line. IsReason (codes "line ") (string_bytes line)) }
+{
+    let words = format!(in alloc; "{number}: {words}")?;
+    reason_line(alloc, "line ", words.as_str())
+}
+
+/// Why a line of `acts` with this number is neither a command nor a telegram.
+///
+/// Returns [`AllocError`] when out of memory.
+pub fn act_line_reason(alloc: Global, text: &[u8], number: u64) -> Result<String, AllocError>
+    ensures { IfOk result (λ line. IsReason (codes "line ") (string_bytes line)) }
+{
+    let words = line_words(alloc, text)?;
+    numbered(alloc, number, words.as_str())
+}
+
+/// Why the telegram of a line of `acts` with this number can't be read, by its refusal.
+///
+/// Returns [`AllocError`] when out of memory.
+pub fn telegram_line_reason(
+    alloc: Global,
+    refusal: &Refusal,
+    number: u64,
+) -> Result<String, AllocError>
+    ensures { IfOk result (λ line. IsReason (codes "line ") (string_bytes line)) }
+{
+    let words = refusal_words(alloc, refusal)?;
+    let words = format!(in alloc; "telegram: {words}")?;
+    numbered(alloc, number, words.as_str())
+}
