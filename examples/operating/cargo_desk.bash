@@ -1,6 +1,6 @@
 # Completion for bash: source it, or put it into /usr/share/bash-completion/completions/cargo_desk.
 _cargo_desk_options='--db --station --zone --help --version'
-_cargo_desk_commands='init migrate stock take act outbox report waybill holder serve help'
+_cargo_desk_commands='init migrate stock take read act acts outbox report history waybill holder serve help'
 _cargo_desk_verbs='take-in issue return void book receive withdraw manifest offload reroute depart check-in notify
     deliver transfer missing found confirm'
 _cargo_desk() {
@@ -10,7 +10,8 @@ _cargo_desk() {
         word=${COMP_WORDS[i]}
         case $word in
             --db | --station | --zone) i=$((i + 1)) ;;
-            init | migrate | stock | take | act | outbox | report | waybill | holder | serve | help) command=$word; break ;;
+            init | migrate | stock | take | read | act | acts | outbox | report | history | waybill | holder | serve | help)
+                command=$word; break ;;
         esac
         i=$((i + 1))
     done
@@ -20,10 +21,12 @@ _cargo_desk() {
                 --station | --zone) ;;
                 *) COMPREPLY=($(compgen -W "$_cargo_desk_options $_cargo_desk_commands" -- "$cur")) ;;
             esac ;;
-        report) COMPREPLY=($(compgen -W 'stock shed flights expected irregularities movements trail' -- "$cur")) ;;
+        report) COMPREPLY=($(compgen -W 'stock shed flights expected irregularities movements trail
+            --open --agent --awb --after --json' -- "$cur")) ;;
+        outbox) COMPREPLY=($(compgen -W '--json' -- "$cur")) ;;
         act) [ $((COMP_CWORD - i)) -ne 1 ] || COMPREPLY=($(compgen -W "$_cargo_desk_verbs" -- "$cur")) ;;
         help) COMPREPLY=($(compgen -W "$_cargo_desk_commands" -- "$cur")) ;;
-        take) COMPREPLY=($(compgen -f -- "$cur")) ;;
+        take | read) COMPREPLY=($(compgen -f -- "$cur")) ;;
         serve) COMPREPLY=($(compgen -W '--port --count --help' -- "$cur")) ;;
     esac
 }
