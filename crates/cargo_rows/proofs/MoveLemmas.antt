@@ -6,11 +6,11 @@ use Rattle.sqlite.specs.Effect.{value_rows}
 use Rattle.sqlite.specs.Order.{Row}
 use Rattle.sqlite.specs.State.{CommitsBy, Executes, Shown, State, Survives}
 use Rattle.sqlite.specs.declared.types.Value.TheVariants.{Int, Text}
-use Rattle.sqlite_sql.specs.declared.ops.CompareOp.TheVariants.{Eq}
+use Rattle.sqlite_sql.specs.declared.ops.CompareOp.TheVariants.{Eq, Gt}
 use Rattle.sqlite_keyed.proofs.KeyedLemmas.{IsKeyedBy-insert_by}
 use Rattle.sqlite_keyed.specs.Keyed.{insert_by}
 use Rattle.sqlite_typed.proofs.AnswerLemmas.{unfiltered}
-use Rattle.sqlite_typed.proofs.TestLemmas.{at_ints, last_term}
+use Rattle.sqlite_typed.proofs.TestLemmas.{at_ints, at_texts, last_term, then_term}
 use Rattle.row_laws.proofs.Keyed.{one_table, puts}
 use Rattle.row_laws.proofs.Listed.{rows_by_key}
 use Rattle.row_laws.proofs.Ran.{IsPlaced, insert_ran}
@@ -21,8 +21,8 @@ use Rattle.row_schema.proofs.Stored.{edits_moves}
 use Rattle.row_schema.specs.Calls.{Edits, IsInside}
 use Rattle.row_schema.specs.Schema.{moves, station_schema}
 use Rattle.row_schema.specs.Tables.{IsStation, Move, move_id, move_in, move_row, tables_of, typed_moves}
-use Rattle.cargo_rows.proofs.Texts.{all_move_is, all_move_text, insert_move_is, insert_move_text, list_move_is, list_move_text, list_move_where, move_columns, move_names, move_terms}
-use Rattle.cargo_rows.specs.Meant.{is_of, with_move}
+use Rattle.cargo_rows.proofs.Texts.{all_move_is, all_move_text, after_move_is, after_move_text, after_move_where, flown_move_is, flown_move_text, flown_move_where, insert_move_is, insert_move_text, list_move_is, list_move_text, list_move_where, move_columns, move_names, move_terms}
+use Rattle.cargo_rows.specs.Meant.{is_after, is_flown, is_of, with_move}
 use Rattle.cargo_rows.specs.Shown.{move_shown}
 
 move_placed : IsPlaced station_schema 4 moves
@@ -53,3 +53,16 @@ pub lists_all_moves : (old new : State) (rows : List Row) → IsStation old.now 
 lists_all_moves old new rows was h =
     let read = reads_as all_move_text ([]) old new station_schema was.schema (Select (asks (one_table 6 [] move_columns (by_column 0 ∷ []))) move_names) all_move_is.0 all_move_is.1 all_move_is.2 rows h in
     rows_by_key move_id move_row (λ _. refl) move_in old.now.schema old.now.trees 6 (typed_moves old.now was) [] [] move_columns (λ _. true) (λ _. refl) move_shown (λ _. refl) rows read ∙ ap (map move_shown) (unfiltered (tables_of old.now.trees).moves refl)
+
+pub lists_after : (old new : State) (number : ℤ) (rows : List Row) → IsStation old.now → Shown after_move_text (Int number ∷ []) old new rows
+    → rows ≡ map move_shown (filter (is_after number) (tables_of old.now.trees).moves)
+lists_after old new number rows was h =
+    let read = reads_as after_move_text (Int number ∷ []) old new station_schema was.schema (Select (asks (one_table 6 after_move_where move_columns (by_column 0 ∷ []))) move_names) after_move_is.0 after_move_is.1 after_move_is.2 rows h in
+    rows_by_key move_id move_row (λ _. refl) move_in old.now.schema old.now.trees 6 (typed_moves old.now was) (Int number ∷ []) after_move_where move_columns (is_after number) (λ m. last_term (at_ints false Gt m.number number)) move_shown (λ _. refl) rows read
+
+pub lists_flown : (old new : State) (flight : List ℕ) (day : ℤ) (rows : List Row) → IsStation old.now → Shown flown_move_text (Text flight ∷ Int day ∷ []) old new rows
+    → rows ≡ map move_shown (filter (is_flown flight day) (tables_of old.now.trees).moves)
+lists_flown old new flight day rows was h =
+    let read = reads_as flown_move_text (Text flight ∷ Int day ∷ []) old new station_schema was.schema (Select (asks (one_table 6 flown_move_where move_columns (by_column 0 ∷ []))) move_names) flown_move_is.0 flown_move_is.1 flown_move_is.2 rows h in
+    rows_by_key move_id move_row (λ _. refl) move_in old.now.schema old.now.trees 6 (typed_moves old.now was) (Text flight ∷ Int day ∷ []) flown_move_where move_columns (is_flown flight day)
+    (λ m. then_term (at_texts false Eq m.flight flight) (last_term (at_ints false Eq m.fday day))) move_shown (λ _. refl) rows read

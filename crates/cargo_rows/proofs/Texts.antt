@@ -3,7 +3,7 @@ use Rattle.std.proofs.Common.{ℕ, List, [], ◌∷◌, codes, refl}
 use Rattle.sqlite.specs.declared.types.Value.TheVariants.{Null}
 use Rattle.sqlite.specs.Collation.TheVariants.{Binary}
 use Rattle.sqlite_sql.specs.declared.ops.BinaryOp.TheVariants.{Compare}
-use Rattle.sqlite_sql.specs.declared.ops.CompareOp.TheVariants.{Eq}
+use Rattle.sqlite_sql.specs.declared.ops.CompareOp.TheVariants.{Eq, Gt}
 use Rattle.sqlite.specs.Term.{Term, lit, col, op2}
 use Rattle.sqlite.specs.Source.TheVariants.{Values}
 use Rattle.sqlite.specs.Command.TheVariants.{Insert, Update, Delete}
@@ -144,6 +144,26 @@ all_move_text = codes "SELECT number, awb, src, dst, pieces, tenths, flight, fda
 pub all_move_is : Asks station_schema all_move_text (one_table 6 [] move_columns (by_column 0 ∷ [])) move_names
 unfolding understood everything
 all_move_is = (refl, (refl, refl), refl)
+
+abbrev pub after_move_text : List ℕ
+after_move_text = codes "SELECT number, awb, src, dst, pieces, tenths, flight, fday, day, minute FROM moves WHERE number > ?1 ORDER BY number"
+
+abbrev pub after_move_where : List Term
+after_move_where = op2 (Compare Gt Binary) (col 1 0) (col 0 0) ∷ []
+
+pub after_move_is : Asks station_schema after_move_text (one_table 6 after_move_where move_columns (by_column 0 ∷ [])) move_names
+unfolding understood everything
+after_move_is = (refl, (refl, refl), refl)
+
+abbrev pub flown_move_text : List ℕ
+flown_move_text = codes "SELECT number, awb, src, dst, pieces, tenths, flight, fday, day, minute FROM moves WHERE flight = ?1 AND fday = ?2 ORDER BY number"
+
+abbrev pub flown_move_where : List Term
+flown_move_where = op2 (Compare Eq Binary) (col 1 7) (col 0 0) ∷ op2 (Compare Eq Binary) (col 1 8) (col 0 1) ∷ []
+
+pub flown_move_is : Asks station_schema flown_move_text (one_table 6 flown_move_where move_columns (by_column 0 ∷ [])) move_names
+unfolding understood everything
+flown_move_is = (refl, (refl, refl), refl)
 
 -- ---- expected
 

@@ -1,5 +1,5 @@
 -- What the rows of the code stand for, and the changes of the calls.
-use Rattle.std.specs.Prelude.{string_bytes, ℕ, ℤ, List, Bool, ◌&&◌}
+use Rattle.std.specs.Prelude.{string_bytes, int_lt, filter, ℕ, ℤ, List, Bool, ◌&&◌}
 use Rattle.std.specs.Ordering.{int_eq, eq_by_cmp}
 use Rattle.std.specs.FinMap.{insert, remove}
 use Rattle.sqlite_typed.specs.Tests.{bytes_cmp}
@@ -10,6 +10,8 @@ use Rattle.cargo_rows.specs.declared.waybills.WaybillRow.{WaybillRow}
 use Rattle.cargo_rows.specs.declared.flights.FlightRow.{FlightRow}
 use Rattle.cargo_rows.specs.declared.flights.NotedFlightRow.{NotedFlightRow}
 use Rattle.cargo_rows.specs.declared.moves.MoveRow.{MoveRow}
+use Rattle.cargo_rows.specs.declared.moves.MoveQuery.{MoveQuery}
+use Rattle.cargo_rows.specs.declared.moves.MoveQuery.TheVariants.{All, After, Of, On}
 use Rattle.cargo_rows.specs.declared.expected.ExpectedRow.{ExpectedRow}
 use Rattle.cargo_rows.specs.declared.expected.ListedWaybillRow.{ListedWaybillRow}
 use Rattle.cargo_rows.specs.declared.counts.CountRow.{CountRow}
@@ -77,6 +79,21 @@ with_move new tables = record tables { moves = insert_by move_id tables.moves ne
 -- the move is of this waybill
 abbrev pub is_of : ℤ → Move → Bool
 is_of awb m = int_eq m.awb awb
+
+-- the move has a greater number
+abbrev pub is_after : ℤ → Move → Bool
+is_after number m = int_lt number m.number
+
+-- the move has this flight and its day in their columns
+abbrev pub is_flown : List ℕ → ℤ → Move → Bool
+is_flown flight day m = eq_by_cmp bytes_cmp m.flight flight && int_eq m.fday day
+
+-- the moves that are asked for, in order
+abbrev pub moves_for : MoveQuery → List Move → List Move
+moves_for All moves = moves
+moves_for (After number) moves = filter (is_after number) moves
+moves_for (Of awb) moves = filter (is_of awb) moves
+moves_for (On flight day) moves = filter (is_flown (string_bytes flight) day) moves
 
 -- ---- expected
 

@@ -20,5 +20,5 @@ pub use expected::{
 pub use flights::{
     FlightRow, NotedFlightRow, all_flights, flight_row, insert_flight, update_flight,
 };
-pub use moves::{MoveRow, hand_out_moves, insert_move, moves_of};
+pub use moves::{MoveQuery, MoveRow, hand_out_moves, insert_move, moves_of};
 pub use waybills::{WaybillRow, insert_waybill, update_waybill, waybill_row};

@@ -4,7 +4,7 @@ ghost use Rattle.row_schema.specs.Calls.{Alters, CommitsNothing, HandsRows, Leav
 ghost use Rattle.row_sinks.specs.Handed.{HandedOut};
 ghost use Rattle.cargo_rows.specs.declared.moves.MoveRow.{MoveRow as AnyMoveRow};
 ghost use Rattle.cargo_rows.specs.Shown.{move_read, move_shown};
-ghost use Rattle.cargo_rows.specs.Meant.{is_of, move_meant, with_move};
+ghost use Rattle.cargo_rows.specs.Meant.{is_after, is_of, is_flown, move_meant, moves_for, with_move};
 
 use row_laws::{ReadRow, stream};
 use row_sinks::Sink;
@@ -34,6 +34,19 @@ pub struct MoveRow {
     pub day: i64,
     /// The minute of that day.
     pub minute: i64,
+}
+
+/// Which moves are asked for.
+#[derive(Debug, Drop)]
+pub enum MoveQuery {
+    /// All of them.
+    All,
+    /// Those with a greater number.
+    After(i64),
+    /// Those of a waybill, by its number.
+    Of(i64),
+    /// Those of a flight, by the text and the day of their columns.
+    On(String, i64),
 }
 
 /// Adds a move, whose number must be free. It fails where the key is taken or the database call fails, and
@@ -109,14 +122,13 @@ pub fn moves_of<S: Alter>(conn: &mut Connection<S>, awb: i64) -> Result<Vec<Move
     read_moves(*rows.allocator(), &rows)
 }
 
-/// Hands out all moves, in order, as the query gives them, until the sink takes no more. It fails where the database call fails or
-/// memory runs out; what was handed out before is a beginning.
-pub fn hand_out_moves<S: Alter, K: Sink<MoveRow>>(
+fn hand_out_all<S: Alter, K: Sink<MoveRow>>(
     conn: &mut Connection<S>,
     sink: &mut K,
 ) -> Result<(), Error>
     ensures hands { HandsRows S.Store conn.old conn.new result
-        (taking (λ movement row. move_meant row ≡ movement) K.takes) (λ tables. tables.moves) sink.old sink.new }
+        (taking (λ movement row. move_meant row ≡ movement) K.takes)
+        (λ tables. tables.moves) sink.old sink.new }
     ensures took { (rows : List AnyMoveRow) × HandedOut K.takes rows sink.old sink.new }
     ensures survives { LeavesAll S.Store conn.old conn.new }
 {
@@ -126,4 +138,84 @@ pub fn hand_out_moves<S: Alter, K: Sink<MoveRow>>(
         &[],
         sink,
     )
+}
+
+fn hand_out_after<S: Alter, K: Sink<MoveRow>>(
+    conn: &mut Connection<S>,
+    number: i64,
+    sink: &mut K,
+) -> Result<(), Error>
+    ensures hands { HandsRows S.Store conn.old conn.new result
+        (taking (λ movement row. move_meant row ≡ movement) K.takes)
+        (λ tables. filter (is_after number) tables.moves) sink.old sink.new }
+    ensures took { (rows : List AnyMoveRow) × HandedOut K.takes rows sink.old sink.new }
+    ensures survives { LeavesAll S.Store conn.old conn.new }
+{
+    stream::<S, MoveRow, K>(
+        conn,
+        "SELECT number, awb, src, dst, pieces, tenths, flight, fday, day, minute FROM moves WHERE number > ?1 ORDER BY number",
+        params![&number],
+        sink,
+    )
+}
+
+fn hand_out_of<S: Alter, K: Sink<MoveRow>>(
+    conn: &mut Connection<S>,
+    awb: i64,
+    sink: &mut K,
+) -> Result<(), Error>
+    ensures hands { HandsRows S.Store conn.old conn.new result
+        (taking (λ movement row. move_meant row ≡ movement) K.takes)
+        (λ tables. filter (is_of awb) tables.moves) sink.old sink.new }
+    ensures took { (rows : List AnyMoveRow) × HandedOut K.takes rows sink.old sink.new }
+    ensures survives { LeavesAll S.Store conn.old conn.new }
+{
+    stream::<S, MoveRow, K>(
+        conn,
+        "SELECT number, awb, src, dst, pieces, tenths, flight, fday, day, minute FROM moves WHERE awb = ?1 ORDER BY number",
+        params![&awb],
+        sink,
+    )
+}
+
+fn hand_out_on<S: Alter, K: Sink<MoveRow>>(
+    conn: &mut Connection<S>,
+    flight: &str,
+    day: i64,
+    sink: &mut K,
+) -> Result<(), Error>
+    ensures hands { HandsRows S.Store conn.old conn.new result
+        (taking (λ movement row. move_meant row ≡ movement) K.takes)
+        (λ tables. filter (is_flown flight.now day) tables.moves) sink.old sink.new }
+    ensures took { (rows : List AnyMoveRow) × HandedOut K.takes rows sink.old sink.new }
+    ensures survives { LeavesAll S.Store conn.old conn.new }
+{
+    stream::<S, MoveRow, K>(
+        conn,
+        "SELECT number, awb, src, dst, pieces, tenths, flight, fday, day, minute FROM moves WHERE flight = ?1 AND fday = ?2 ORDER BY number",
+        params![flight, &day],
+        sink,
+    )
+}
+
+/// Hands out the moves that are asked for, in order, as the query returns them, until the sink takes
+/// no more. It fails if the database call fails or memory runs out; what was handed out before is a
+/// beginning.
+pub fn hand_out_moves<S: Alter, K: Sink<MoveRow>>(
+    conn: &mut Connection<S>,
+    query: &MoveQuery,
+    sink: &mut K,
+) -> Result<(), Error>
+    ensures hands { HandsRows S.Store conn.old conn.new result
+        (taking (λ movement row. move_meant row ≡ movement) K.takes)
+        (λ tables. moves_for query.now tables.moves) sink.old sink.new }
+    ensures took { (rows : List AnyMoveRow) × HandedOut K.takes rows sink.old sink.new }
+    ensures survives { LeavesAll S.Store conn.old conn.new }
+{
+    match query {
+        MoveQuery::All => hand_out_all(conn, sink),
+        MoveQuery::After(number) => hand_out_after(conn, *number, sink),
+        MoveQuery::Of(awb) => hand_out_of(conn, *awb, sink),
+        MoveQuery::On(flight, day) => hand_out_on(conn, flight, *day, sink),
+    }
 }

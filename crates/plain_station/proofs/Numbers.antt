@@ -1,8 +1,11 @@
 -- Rows with their numbers, one more at a time.
-use Rattle.std.proofs.Common.{◌≡◌, ℕ, ◌+◌, ◌-◌, ◌<◌, ◌≤◌, List, [], ◌∷◌, ◌++◌, length, take, drop, sym, ap, ◌∙◌, get_or, arith}
+use Rattle.std.proofs.Common.{◌≡◌, ℕ, ◌+◌, ◌-◌, ◌<◌, ◌≤◌, List, [], ◌∷◌, ◌++◌, length, take, drop, refl, sym, ap, ◌∙◌, get_or, arith}
 use Rattle.std.proofs.lemmas.List.{take_more, length-take-le, length-drop, get_or-drop, get_or_default}
 use Rattle.station_core.specs.declared.rows.Message.{Message}
-use Rattle.station_core.specs.Readers.{numbered, message}
+use Rattle.station_core.specs.declared.rows.TrailRow as reader
+use Rattle.station_core.specs.Readers.{numbered, message, trail_row}
+use Rattle.plain_station.specs.declared.rows.TrailRow.{TrailRow}
+use Rattle.plain_station.specs.Lists.{trail_in, trail_row as kept_line}
 
 one_behind : {X Row : Type 0} (f : ℕ → X → Row) (n : ℕ) (xs : List X) (x : X) → numbered f n (xs ++ x ∷ []) ≡ numbered f n xs ++ f (n + length xs) x ∷ []
 one_behind f n [] x = let e : n ≡ n + 0 = omega arith in ap (λ k. f k x ∷ []) e
@@ -31,3 +34,23 @@ pending_next texts mark at ys zs row le lt before is after =
     let more : i + 1 ≡ (at + 1) - mark = omega (arith, le) in
     told_next message (mark + 1) (drop mark texts) ys zs i (at + 1) x (omega (arith, le, lt, far)) read (omega (arith, le)) before (after ∙ ap (λ r. ys ++ r ∷ []) is)
     ∙ ap (λ k. numbered message (mark + 1) (take k (drop mark texts))) more
+
+-- the lines of the trail with their numbers
+abbrev pub line_row : ℕ → TrailRow → reader.TrailRow
+line_row n row = trail_row n (kept_line row)
+
+abbrev pub numbered_lines : ℕ → List TrailRow → List reader.TrailRow
+numbered_lines = numbered line_row
+
+pub line_rows : (n : ℕ) (rows : List TrailRow) → numbered_lines n rows ≡ numbered trail_row n (trail_in rows)
+line_rows n [] = refl
+line_rows n (row ∷ rows) = ap (λ l. line_row n row ∷ l) (line_rows (n + 1) rows)
+
+-- the last rows are those after the first ones
+pub turned : {X : Type 0} (k : ℕ) (xs : List X) → k ≤ length xs → take (length xs - k) (drop k xs ++ take k xs) ≡ drop k xs
+turned k xs le =
+    ap (λ n. take n (drop k xs ++ take k xs)) (sym (length-drop k xs)) ∙ take_front (drop k xs) (take k xs)
+  where
+    take_front : {X : Type 0} (ys zs : List X) → take (length ys) (ys ++ zs) ≡ ys
+    take_front [] zs = refl
+    take_front (y ∷ ys) zs = ap (λ l. y ∷ l) (take_front ys zs)

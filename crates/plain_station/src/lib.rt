@@ -1,6 +1,7 @@
 //! A station in memory alone: the plain program that does what the definitions say.
 #![tactic(auto)]
 
+mod asked;
 mod balances;
 mod cargo;
 mod doing;

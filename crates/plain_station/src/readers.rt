@@ -1,13 +1,14 @@
 //! The readers of the cargo.
-ghost use Rattle.std.specs.Prelude.{◌≡◌, List, ◌≤◌, ◌<◌, ℕ, ◌+◌, ◌++◌, [], ◌∷◌, if◌then◌else◌, length, get_or, take, IsSome, IfOk, OnOk, OnErr, IfErr};
+ghost use Rattle.std.specs.Prelude.{◌≡◌, List, ◌<◌, ℕ, ◌+◌, ◌++◌, [], ◌∷◌, if◌then◌else◌, length, get_or, take, IsSome, IfOk, OnOk, OnErr, IfErr};
 ghost use Rattle.agent_stock.specs.Runs.{AreStockRuns};
 ghost use Rattle.agent_stock.specs.declared.runs.StockRun.{StockRun};
 ghost use Rattle.row_sinks.specs.Handed.{HandedOut};
 ghost use Rattle.shipment_machine.specs.Amount.{less};
 ghost use Rattle.shipment_machine.specs.Book.{store};
-ghost use Rattle.station_core.specs.Readers.{told_of, waybill_of, is_irregular, irregular_row, irregular_rows, is_in_shed, shed_row, shed_rows, book_rows, message, pending_messages, trail_row, trail_rows};
+ghost use Rattle.station_core.specs.Readers.{told_of, waybill_of, is_irregular, irregular_row, irregular_rows, book_by, is_in_shed, shed_row, shed_rows, book_rows, message, pending_messages, trail_row, trail_rows, trail_by};
 ghost use Rattle.plain_station.specs.Lists.{cargo_of, trail_row as kept_line, texts_in};
 
+use crate::asked::{keep_lines, keep_movements};
 use crate::balances::stored;
 use crate::cargo::PlainCargo;
 use crate::rows;
@@ -15,7 +16,8 @@ use agent_stock::{Holder, StockRun};
 use awb_number::Awb;
 use shipment_machine::{Amount, Balances, Declared, waybills_of};
 use station_core::{
-    ActFault, BookRow, IrregularRow, Message, RowText, ShedRow, Sink, TrailRow, Waybill, hand_out,
+    ActFault, BookQuery, BookRow, IrregularRow, Message, RowText, ShedRow, Sink, TrailQuery,
+    TrailRow, Waybill, hand_out,
 };
 use std::alloc::AllocError;
 
@@ -220,17 +222,31 @@ impl PlainCargo {
         Ok(rows)
     }
 
-    /// Hands out the movement book, numbered from 1, until the sink takes no more. Out of memory,
-    /// it hands out nothing.
-    pub(crate) fn book<S: Sink<BookRow>>(&self, sink: &mut S) -> Result<(), ActFault>
+    /// The movements that are asked for.
+    fn movements(&self, query: &BookQuery) -> Result<Vec<BookRow>, AllocError>
+        ensures { IfOk result (λ rows. rows.items
+            ≡ book_by query.now (cargo_of self.now.lists)) }
+    {
+        let mut rows = self.book_rows()?;
+        keep_movements(&mut rows, query);
+        Ok(rows)
+    }
+
+    /// Hands out the movements that are asked for, with their numbers from 1, until the sink takes
+    /// no more. Out of memory, it hands out nothing.
+    pub(crate) fn book_by<S: Sink<BookRow>>(
+        &self,
+        query: &BookQuery,
+        sink: &mut S,
+    ) -> Result<(), ActFault>
         ensures rows { OnOk result
-            (HandedOut S.takes (book_rows (cargo_of self.now.lists)) sink.old sink.new) }
-        ensures beginning { OnErr result ((n : ℕ)
-            × HandedOut S.takes (take n (book_rows (cargo_of self.now.lists))) sink.old sink.new) }
+            (HandedOut S.takes (book_by query.now (cargo_of self.now.lists)) sink.old sink.new) }
+        ensures beginning { OnErr result ((n : ℕ) × HandedOut S.takes
+            (take n (book_by query.now (cargo_of self.now.lists))) sink.old sink.new) }
         ensures memory { IfErr result (λ fault. fault ≡ ActFault.Memory) }
         ensures none { OnErr result (sink.new ≡ sink.old) }
     {
-        let Ok(moves) = self.book_rows() else {
+        let Ok(moves) = self.movements(query) else {
             return Err(ActFault::Memory);
         };
         hand_out(sink, moves);
@@ -278,38 +294,53 @@ impl PlainCargo {
         Ok(())
     }
 
-    /// A line of the trail.
-    fn line_of(&self, row: &rows::TrailRow) -> Result<TrailRow, AllocError>
-        ensures { IfOk result (λ line. line ≡ trail_row (kept_line row.now)) }
+    /// A line of the trail, under its number.
+    fn line_of(&self, number: u32, row: &rows::TrailRow) -> Result<TrailRow, AllocError>
+        ensures { IfOk result (λ line. line ≡ trail_row number (kept_line row.now)) }
     {
         Ok(TrailRow {
+            number,
             awb: row.awb,
             line: RowText::new(Vec::from_slice(self.lists.alloc, &row.line)?),
         })
     }
 
-    /// The trail.
+    /// The trail, numbered from 1.
     fn trail_lines(&self) -> Result<Vec<TrailRow>, AllocError>
         ensures { IfOk result (λ rows. rows.items ≡ trail_rows (cargo_of self.now.lists)) }
     {
         let mut rows = Vec::new(self.lists.alloc);
-        for row in &self.lists.trail {
-            rows.push(self.line_of(row)?)?;
+        for (i, row) in self.lists.trail.iter().enumerate() {
+            rows.push(self.line_of(i as u32 + 1, row)?)?;
         }
         Ok(rows)
     }
 
-    /// Hands out the trail, in order, until the sink takes no more. Out of memory, it hands out
-    /// nothing.
-    pub(crate) fn trail<S: Sink<TrailRow>>(&self, sink: &mut S) -> Result<(), ActFault>
+    /// The lines of the trail that are asked for.
+    fn lines(&self, query: &TrailQuery) -> Result<Vec<TrailRow>, AllocError>
+        ensures { IfOk result (λ rows. rows.items
+            ≡ trail_by query.now (cargo_of self.now.lists)) }
+    {
+        let mut rows = self.trail_lines()?;
+        keep_lines(&mut rows, query);
+        Ok(rows)
+    }
+
+    /// Hands out the lines of the trail that are asked for, with their numbers from 1, until the
+    /// sink takes no more. Out of memory, it hands out nothing.
+    pub(crate) fn trail_by<S: Sink<TrailRow>>(
+        &self,
+        query: &TrailQuery,
+        sink: &mut S,
+    ) -> Result<(), ActFault>
         ensures rows { OnOk result
-            (HandedOut S.takes (trail_rows (cargo_of self.now.lists)) sink.old sink.new) }
-        ensures beginning { OnErr result ((n : ℕ)
-            × HandedOut S.takes (take n (trail_rows (cargo_of self.now.lists))) sink.old sink.new) }
+            (HandedOut S.takes (trail_by query.now (cargo_of self.now.lists)) sink.old sink.new) }
+        ensures beginning { OnErr result ((n : ℕ) × HandedOut S.takes
+            (take n (trail_by query.now (cargo_of self.now.lists))) sink.old sink.new) }
         ensures memory { IfErr result (λ fault. fault ≡ ActFault.Memory) }
         ensures none { OnErr result (sink.new ≡ sink.old) }
     {
-        let Ok(lines) = self.trail_lines() else {
+        let Ok(lines) = self.lines(query) else {
             return Err(ActFault::Memory);
         };
         hand_out(sink, lines);

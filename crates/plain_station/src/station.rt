@@ -5,7 +5,7 @@ ghost use Rattle.desk_commands.specs.Command.{command_text};
 ghost use Rattle.plain_station.specs.State.{state_of};
 ghost use Rattle.station_core.specs.Keeping.{Acts, Breaks};
 ghost use Rattle.row_sinks.specs.Handed.{HandedOut};
-ghost use Rattle.station_core.specs.Readers.{waybill_of, shed_rows, AreFlightRows, AreExpectedRows, irregular_rows, book_rows, pending_messages, trail_rows};
+ghost use Rattle.station_core.specs.Readers.{waybill_of, shed_rows, AreFlightRows, AreExpectedRows, irregular_rows, book_by, pending_messages, trail_by};
 ghost use Rattle.station_core.specs.Step.{opening};
 ghost use Rattle.station_core.specs.declared.rows.ExpectedRow.{ExpectedRow as AnyExpected};
 ghost use Rattle.station_core.specs.declared.rows.FlightRow.{FlightRow as AnyFlight};
@@ -18,8 +18,8 @@ use awb_number::Awb;
 use desk_commands::{Command, command_text};
 use imp_fields::Airport;
 use station_core::{
-    ActFault, Answer, BookRow, ExpectedRow, FlightRow, Input, IrregularRow, Keeper, Key, Message,
-    Reply, ShedRow, Sink, TrailRow, Waybill,
+    ActFault, Answer, BookQuery, BookRow, ExpectedRow, FlightRow, Input, IrregularRow, Keeper, Key,
+    Message, Reply, ShedRow, Sink, TrailQuery, TrailRow, Waybill,
 };
 use station_days::Moment;
 use std::alloc::Global;
@@ -247,16 +247,16 @@ impl Keeper for PlainStation {
         self.cargo.irregular(sink)
     }
 
-    fn book<S: Sink<BookRow>>(&mut self, sink: &mut S) -> Result<(), ActFault>
+    fn book_by<S: Sink<BookRow>>(&mut self, query: &BookQuery, sink: &mut S) -> Result<(), ActFault>
         ensures rows { OnOk result
-            (HandedOut S.takes (book_rows (state_of self.old).cargo) sink.old sink.new) }
-        ensures beginning { OnErr result ((n : ℕ)
-            × HandedOut S.takes (take n (book_rows (state_of self.old).cargo)) sink.old sink.new) }
+            (HandedOut S.takes (book_by query.now (state_of self.old).cargo) sink.old sink.new) }
+        ensures beginning { OnErr result ((n : ℕ) × HandedOut S.takes
+            (take n (book_by query.now (state_of self.old).cargo)) sink.old sink.new) }
         ensures memory { IfErr result (λ fault. fault ≡ ActFault.Memory) }
         ensures none { OnErr result (sink.new ≡ sink.old) }
         ensures as_before { self.new ≡ self.old }
     {
-        self.cargo.book(sink)
+        self.cargo.book_by(query, sink)
     }
 
     fn pending<S: Sink<Message>>(&mut self, sink: &mut S) -> Result<(), ActFault>
@@ -272,15 +272,19 @@ impl Keeper for PlainStation {
         self.cargo.pending(sink)
     }
 
-    fn trail<S: Sink<TrailRow>>(&mut self, sink: &mut S) -> Result<(), ActFault>
+    fn trail_by<S: Sink<TrailRow>>(
+        &mut self,
+        query: &TrailQuery,
+        sink: &mut S,
+    ) -> Result<(), ActFault>
         ensures rows { OnOk result
-            (HandedOut S.takes (trail_rows (state_of self.old).cargo) sink.old sink.new) }
-        ensures beginning { OnErr result ((n : ℕ)
-            × HandedOut S.takes (take n (trail_rows (state_of self.old).cargo)) sink.old sink.new) }
+            (HandedOut S.takes (trail_by query.now (state_of self.old).cargo) sink.old sink.new) }
+        ensures beginning { OnErr result ((n : ℕ) × HandedOut S.takes
+            (take n (trail_by query.now (state_of self.old).cargo)) sink.old sink.new) }
         ensures memory { IfErr result (λ fault. fault ≡ ActFault.Memory) }
         ensures none { OnErr result (sink.new ≡ sink.old) }
         ensures as_before { self.new ≡ self.old }
     {
-        self.cargo.trail(sink)
+        self.cargo.trail_by(query, sink)
     }
 }

@@ -68,7 +68,7 @@ same_number a b = grind (arith, ints)
 tied_number : (a b : ℕ) → eq_by_cmp int_cmp (pos a) (pos b) ≡ (a == b)
 tied_number a b = int_tied (pos a) (pos b) ∙ same_number a b
 
-tied_text : (a b : Designator) → is_designator a ≡ true → is_designator b ≡ true → eq_by_cmp bytes_cmp (flight_text a) (flight_text b) ≡ same_flight a b
+pub tied_text : (a b : Designator) → is_designator a ≡ true → is_designator b ≡ true → eq_by_cmp bytes_cmp (flight_text a) (flight_text b) ≡ same_flight a b
 tied_text a b is_a is_b = is_eq-slice_cmp (flight_text a) (flight_text b) ∙ same_text a b is_a is_b
 
 pub same_key : (a b : FlightDate) → is_designator a.flight ≡ true → is_designator b.flight ≡ true → eq_by_cmp flight_cmp (flight_key a) (flight_key b) ≡ same_flight_date a b

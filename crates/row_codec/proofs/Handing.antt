@@ -1,23 +1,37 @@
 -- What the rows of the book, of the trail and of the outbox hand out to readers.
-use Rattle.std.proofs.Common.{◌≡◌, ℕ, zero, suc, ◌+◌, ◌-◌, ◌<◌, ◌≤◌, ℤ, pos, Bool, true, false, cond, Some, List, [], ◌∷◌, map, filter, length, drop, ltb-true, ltb-false, refl, sym, ap, ap₂, subst, ◌∙◌, arith}
-use Rattle.std.specs.Prelude.{int_lt, nat_lt}
-use Rattle.std.specs.List.{range_with_len}
+use Rattle.std.proofs.Common.{◌≡◌, ℕ, zero, suc, ◌+◌, ◌-◌, ◌<◌, ◌≤◌, ◌==◌, ◌&&◌, ℤ, pos, negsuc, Bool, true, false, cond, Some, List, [], ◌∷◌, map, filter, length, drop, ltb-true, ltb-false, refl, sym, ap, ap₂, subst, ◌∙◌, arith}
+use Rattle.std.specs.Prelude.{int_lt, nat_lt, IsTrue}
+use Rattle.std.specs.List.{list_all, range_with_len}
+use Rattle.std.specs.Ordering.{int_eq}
 use Rattle.std.proofs.lemmas.Int.{ints}
 use Rattle.std.proofs.lemmas.List.{drop-map}
-use Rattle.sqlite_keyed.proofs.ListLemmas.{map-map}
-use Rattle.station_core.specs.Readers.{numbered, book_row, book_rows, message, pending_messages, trail_row, trail_rows}
+use Rattle.imp_fields.specs.Flight.{flight_text}
+use Rattle.shipment_machine.specs.declared.flight.FlightDate.{FlightDate}
+use Rattle.station_core.specs.Readers.{numbered, book_row, book_rows, last_of, is_of_flight, message, pending_messages, trail_row, trail_rows}
 use Rattle.station_core.specs.Step.{State}
-use Rattle.station_core.specs.declared.rows.BookRow.{BookRow}
+use Rattle.cargo_rows.specs.Meant.{is_after as is_move_after, is_flown, is_of}
 use Rattle.station_core.specs.declared.rows.Message as reader
-use Rattle.station_core.specs.declared.rows.TrailRow as line
-use Rattle.text_rows.specs.Meant.{is_after}
-use Rattle.row_schema.specs.Tables.{Tables, Move, move_id, TrailLine, Message, message_id}
-use Rattle.row_codec.specs.Numbers.{natural}
-use Rattle.row_codec.specs.Moves.{move_by}
-use Rattle.row_codec.specs.Logs.{line_by}
+use Rattle.text_rows.specs.Meant.{is_after, is_line_after, is_line_of}
+use Rattle.row_schema.specs.Tables.{Tables, Move, move_id, trail_id, Message, message_id}
+use Rattle.row_codec.specs.Numbers.{natural, is_number}
+use Rattle.row_codec.specs.Moves.{book_row_by, is_move_row, move_by}
+use Rattle.row_codec.specs.Logs.{is_trail_row, line_by, trail_row_by}
 use Rattle.row_codec.specs.Meaning.{Means}
+use Rattle.row_codec.specs.Flights.{is_designator}
 use Rattle.row_codec.proofs.Listed.{head_is, tail_is}
+use Rattle.row_codec.proofs.Flown.{flown_moves}
 use Rattle.row_codec.proofs.Telling.{book_told, trail_told, outbox_told}
+
+first : (a b : Bool) → (a && b) ≡ true → a ≡ true
+first true b h = refl
+first false b h = cc
+
+second : (a b : Bool) → (a && b) ≡ true → b ≡ true
+second true b h = h
+second false b h = cc
+
+is_so : {b : Bool} → IsTrue b → b ≡ true
+is_so h = h
 
 drop_none : {X : Type 0} (n : ℕ) → ◌≡◌ {A = List X} (drop n []) []
 drop_none zero = refl
@@ -61,23 +75,98 @@ module _ {X : Type 0} (key : X → ℤ) where
           let here : suc (mark + 1 - (a + 1)) ≡ mark + 1 - a = omega (arith, high) in
           more ∙ ap (λ n. drop n (x ∷ xs)) here
 
-abbrev pub book_row_of : Move → BookRow
-book_row_of row = book_row (natural row.number) (move_by row)
+-- what is asked for of rows is handed out of the book's
+module _ {X Y : Type 0} (f : X → Y) (p : X → Bool) (q : Y → Bool) (ok : X → Bool) (same : (x : X) → ok x ≡ true → q (f x) ≡ p x) where
+  kept_so : (b : Bool) (x : X) (xs : List X) → map f (cond b (x ∷ xs) xs) ≡ cond b (f x ∷ map f xs) (map f xs)
+  kept_so true x xs = refl
+  kept_so false x xs = refl
+
+  pub map_filter : (xs : List X) → list_all ok xs ≡ true → map f (filter p xs) ≡ filter q (map f xs)
+  map_filter [] h = refl
+  map_filter (x ∷ xs) h =
+      kept_so (p x) x (filter p xs)
+      ∙ ap₂ (λ b ys. cond b (f x ∷ ys) ys) (sym (same x (first (ok x) (list_all ok xs) h))) (map_filter xs (second (ok x) (list_all ok xs) h))
+
+is_higher : (n : ℕ) (z : ℤ) → nat_lt n (natural z) ≡ int_lt (pos n) z
+is_higher n (pos m) = sym (is_above n m)
+is_higher n (negsuc m) = grind (arith, ints)
+
+same_number : (z : ℤ) (w : ℕ) → is_number z ≡ true → (natural z == w) ≡ int_eq z (pos w)
+same_number (pos n) w h = grind (arith, ints)
+same_number (negsuc n) w h = absurd (cc)
+
+in_range : (row : Move) → is_move_row row ≡ true → is_number row.awb ≡ true
+in_range row h = front (is_number row.awb) _ _ _ _ _ _ _ h
+  where
+    front : (a b c d e f g i : Bool) → (a && b && c && d && e && f && g && i) ≡ true → a ≡ true
+    front true b c d e f g i k = refl
+    front false b c d e f g i k = cc
+
+any_row : {X : Type 0} (rows : List X) → list_all (λ _. true) rows ≡ true
+any_row [] = refl
+any_row (row ∷ rows) = any_row rows
+
+length-numbered : {X Row : Type 0} (row : ℕ → X → Row) (xs : List X) (a : ℕ) → length (numbered row a xs) ≡ length xs
+length-numbered row [] a = refl
+length-numbered row (x ∷ xs) a = ap suc (length-numbered row xs (a + 1))
+
+-- those after all but the last so many are the last so many
+last_handed : {X Row : Type 0} (key : X → ℤ) (by : X → Row) (xs : List X) (rows : List Row) (count n : ℕ) → map key xs ≡ map pos (range_with_len 1 (length xs))
+    → map by xs ≡ rows → length rows ≡ count → map by (filter (λ x. int_lt (pos (count - n)) (key x)) xs) ≡ last_of n rows
+last_handed key by xs rows count n are is counted =
+    let mark : ℕ = count - n in
+    let one : mark + 1 - 1 ≡ mark = omega arith in
+    ap (map by) (behind_mark key mark xs 1 are ∙ ap (λ k. drop k xs) one)
+    ∙ sym (drop-map by mark xs)
+    ∙ ap (drop mark) is
+    ∙ ap (λ c. drop (c - n) rows) (sym counted)
 
 abbrev pub message_of : Message → reader.Message
 message_of row = message (natural row.number) row.body
 
-abbrev pub line_of : TrailLine → line.TrailRow
-line_of row = trail_row (line_by row)
-
 module _ (t : Tables) (s : State) (means : Means t (Some s)) where
   -- the whole book
-  pub book_handed : map book_row_of t.moves ≡ book_rows s.cargo
+  pub book_handed : map book_row_by t.moves ≡ book_rows s.cargo
   book_handed = numbered_as move_id move_by book_row t.moves 1 means.0.book ∙ ap (numbered book_row 1) (book_told t s means)
 
+  -- those after a number
+  pub book_after : (n : ℕ) → map book_row_by (filter (is_move_after (pos n)) t.moves) ≡ filter (λ row. nat_lt n row.number) (book_rows s.cargo)
+  book_after n =
+      map_filter book_row_by (is_move_after (pos n)) (λ row. nat_lt n row.number) (λ _. true) (λ row _. is_higher n row.number) t.moves (any_row t.moves)
+      ∙ ap (filter (λ row. nat_lt n row.number)) book_handed
+
+  -- the last ones
+  pub book_last : (count n : ℕ) → length s.cargo.book ≡ count → map book_row_by (filter (is_move_after (pos (count - n))) t.moves) ≡ last_of n (book_rows s.cargo)
+  book_last count n is = last_handed move_id book_row_by t.moves (book_rows s.cargo) count n means.0.book book_handed (length-numbered book_row s.cargo.book 1 ∙ is)
+
+  -- those of a waybill
+  pub book_of : (w : ℕ) → map book_row_by (filter (is_of (pos w)) t.moves) ≡ filter (λ row. row.movement.awb == w) (book_rows s.cargo)
+  book_of w =
+      map_filter book_row_by (is_of (pos w)) (λ row. row.movement.awb == w) is_move_row (λ row ok. same_number row.awb w (in_range row ok)) t.moves (is_so means.0.moves)
+      ∙ ap (filter (λ row. row.movement.awb == w)) book_handed
+
+  -- those of a flight
+  pub book_on : (f : FlightDate) → is_designator f.flight ≡ true → map book_row_by (filter (is_flown (flight_text f.flight) (pos f.day)) t.moves) ≡ filter (λ row. is_of_flight f row.movement) (book_rows s.cargo)
+  book_on f is =
+      map_filter book_row_by (is_flown (flight_text f.flight) (pos f.day)) (λ row. is_of_flight f row.movement) is_move_row (λ row ok. flown_moves f is row ok) t.moves (is_so means.0.moves)
+      ∙ ap (filter (λ row. is_of_flight f row.movement)) book_handed
+
   -- the trail
-  pub trail_handed : map line_of t.trail ≡ trail_rows s.cargo
-  trail_handed = sym (map-map trail_row line_by t.trail) ∙ ap (map trail_row) (trail_told t s means)
+  pub trail_handed : map trail_row_by t.trail ≡ trail_rows s.cargo
+  trail_handed = numbered_as trail_id line_by trail_row t.trail 1 means.0.lines ∙ ap (numbered trail_row 1) (trail_told t s means)
+
+  pub trail_after : (n : ℕ) → map trail_row_by (filter (is_line_after (pos n)) t.trail) ≡ filter (λ row. nat_lt n row.number) (trail_rows s.cargo)
+  trail_after n =
+      map_filter trail_row_by (is_line_after (pos n)) (λ row. nat_lt n row.number) (λ _. true) (λ row _. is_higher n row.number) t.trail (any_row t.trail)
+      ∙ ap (filter (λ row. nat_lt n row.number)) trail_handed
+
+  pub trail_last : (count n : ℕ) → length s.cargo.trail ≡ count → map trail_row_by (filter (is_line_after (pos (count - n))) t.trail) ≡ last_of n (trail_rows s.cargo)
+  trail_last count n is = last_handed trail_id trail_row_by t.trail (trail_rows s.cargo) count n means.0.lines trail_handed (length-numbered trail_row s.cargo.trail 1 ∙ is)
+
+  pub trail_of : (w : ℕ) → map trail_row_by (filter (is_line_of (pos w)) t.trail) ≡ filter (λ row. row.awb == w) (trail_rows s.cargo)
+  trail_of w =
+      map_filter trail_row_by (is_line_of (pos w)) (λ row. row.awb == w) is_trail_row (λ row ok. same_number row.awb w (first (is_number row.awb) _ ok)) t.trail (is_so means.0.trail)
+      ∙ ap (filter (λ row. row.awb == w)) trail_handed
 
   -- the messages behind the mark
   pub pending_handed : map message_of (filter (is_after (pos s.cargo.confirmed)) t.outbox) ≡ pending_messages s.cargo

@@ -12,8 +12,10 @@ pub mod Numbering
 pub mod Confirming
 pub mod Moving
 pub mod Telling
-pub mod Handing
 pub mod Noted
+pub mod Flown
+pub mod Handing
+pub mod Asking
 pub mod Reading
 pub mod Written
 pub mod Exact

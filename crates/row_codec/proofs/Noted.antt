@@ -1,5 +1,5 @@
 -- What is noted of flights and what they are to bring, as readers are given them: in the order of their rows' keys.
-use Rattle.std.proofs.Common.{◌≡◌, ℕ, ◌==◌, ◌<◌, ◌≤◌, length, ℤ, pos, negsuc, Bool, true, false, cond, ◌&&◌, Option, Some, None, option_map, List, [], ◌∷◌, map, take, drop, is_lt, int_cmp, refl, sym, ap, ap₂, subst, ◌∙◌, true≢false, arith, Ordering, Less, Equal, Greater, T}
+use Rattle.std.proofs.Common.{◌≡◌, ℕ, ◌<◌, ◌≤◌, length, ℤ, pos, negsuc, Bool, true, false, cond, ◌&&◌, Option, Some, None, option_map, List, [], ◌∷◌, map, take, drop, is_lt, int_cmp, refl, sym, ap, ap₂, subst, ◌∙◌, true≢false, arith, Ordering, Less, Equal, Greater, T}
 use Rattle.std.specs.Prelude.{◌^◌, IfSome, IsTrue, nat_le, take_while}
 use Rattle.std.specs.List.{AllByRecursion, find, list_all}
 use Rattle.std.specs.Ordering.{eq_by_cmp, nat_cmp, ordering_then}
@@ -150,7 +150,7 @@ by_flight_order : (a b : FlightDate) → flight_cmp (flight_key a) (flight_key b
 by_flight_order a b = ap (ordering_then (slice_cmp nat_cmp (flight_text a.flight) (flight_text b.flight))) (number_order a.day b.day)
 
 -- the key of a flight that is read from a row within range
-flight_of_row : (text : List ℕ) (day : ℤ) (f : FlightDate) → Some f ≡ flight_date_of text day → is_flight_text text ≡ true → day ≡ pos (natural day)
+pub flight_of_row : (text : List ℕ) (day : ℤ) (f : FlightDate) → Some f ≡ flight_date_of text day → is_flight_text text ≡ true → day ≡ pos (natural day)
     → (text ≡ flight_text f.flight) × (day ≡ pos f.day) × (is_designator f.flight ≡ true)
 flight_of_row text day f is written number = go (flight_of text) refl is written
   where

@@ -8,3 +8,4 @@ pub mod Manifests
 pub mod Logs
 pub mod Replies
 pub mod Meaning
+pub mod Queries

@@ -2,12 +2,18 @@
 use Rattle.std.specs.Prelude.{ℕ, pos, Bool, ◌&&◌, List, map}
 use Rattle.std.specs.Str.{is_utf8}
 use Rattle.imp_fields.specs.Characters.{is_line}
+use Rattle.station_core.specs.Readers.{trail_row}
+use Rattle.station_core.specs.declared.rows.TrailRow.{TrailRow}
 use Rattle.row_schema.specs.Tables.{TrailLine, Message}
 use Rattle.row_codec.specs.Numbers.{natural, is_number}
 
 -- a waybill and its line
 abbrev pub line_by : TrailLine → ℕ × List ℕ
 line_by row = (natural row.awb, row.line)
+
+-- a line with its number, as readers are given it
+abbrev pub trail_row_by : TrailLine → TrailRow
+trail_row_by row = trail_row (natural row.number) (line_by row)
 
 abbrev pub line_row : ℕ → ℕ → List ℕ → TrailLine
 line_row n w line = record { number = pos n; awb = pos w; line = line }

@@ -7,6 +7,8 @@ use Rattle.shipment_machine.specs.declared.flight.FlightDate.{FlightDate}
 use Rattle.shipment_machine.specs.declared.moves.Move.{Move}
 use Rattle.shipment_machine.specs.declared.moves.Place.{Place}
 use Rattle.shipment_machine.specs.declared.moves.Place.TheVariants.{Hand, Surplus, Free, Built, Departed, Delivered, Missing, Transferred}
+use Rattle.station_core.specs.Readers.{book_row}
+use Rattle.station_core.specs.declared.rows.BookRow.{BookRow}
 use Rattle.row_schema.specs.Tables as table
 use Rattle.row_codec.specs.Numbers.{natural, is_within, is_number, is_day}
 use Rattle.row_codec.specs.Flights.{is_flight_text, flight_date_of}
@@ -44,6 +46,10 @@ move_by row = record {
   flight = flight_date_of row.flight row.fday;
   at = record { day = natural row.day; minute = natural row.minute };
 }
+
+-- the move in a row with its number, as readers are given it
+abbrev pub book_row_by : table.Move → BookRow
+book_row_by row = book_row (natural row.number) (move_by row)
 
 -- a move without a flight has an empty text, and 0 for its day
 abbrev pub flight_column : Option FlightDate → List ℕ

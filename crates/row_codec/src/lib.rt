@@ -9,6 +9,7 @@ mod flights;
 mod logs;
 mod manifests;
 mod moves;
+mod queries;
 mod replies;
 mod station;
 mod stock;
@@ -22,6 +23,7 @@ pub use flights::{
 pub use logs::{line_by, message_by, message_row, trail_row, waybill_of_line};
 pub use manifests::{expectation_by, expectation_of, expected_by, expected_row, part_by};
 pub use moves::{book_row_by, move_by, move_row, place_code};
+pub use queries::{line_query, move_query};
 pub use replies::kept_by;
 pub use station::airport_by;
 pub use stock::run_by;

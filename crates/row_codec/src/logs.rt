@@ -1,10 +1,10 @@
-ghost use Rattle.std.specs.Prelude.{◌≡◌, is_some, IsTrue, IfSome, IfOk, OnOk};
+ghost use Rattle.std.specs.Prelude.{◌≡◌, ◌&&◌, is_some, IsTrue, IfSome, IfOk, OnOk};
 ghost use Rattle.std.specs.List.{list_all};
 ghost use Rattle.imp_fields.specs.Characters.{is_printable, is_line};
-ghost use Rattle.station_core.specs.Readers.{trail_row as reader_line, message};
+ghost use Rattle.station_core.specs.Readers.{message};
 ghost use Rattle.text_rows.specs.Meant.{trail_meant, message_meant};
 ghost use Rattle.row_codec.specs.Numbers.{natural, is_count};
-ghost use Rattle.row_codec.specs.Logs.{line_by, line_row, is_trail_row, message_row, is_message_row};
+ghost use Rattle.row_codec.specs.Logs.{trail_row_by, line_row, is_trail_row, message_row, is_message_row};
 
 use crate::columns::{awb_by, count_of};
 use crate::flights::awb_key;
@@ -68,13 +68,15 @@ pub fn waybill_of_line(row: &TrailRow) -> Option<Awb>
     if is_line(&row.line) { Some(awb) } else { None }
 }
 
-/// A line of the trail, as readers are given it. `None`: a column is out of range.
+/// A line of the trail with its number, as readers are given it. `None`: a column is out of range.
 pub fn line_by(row: TrailRow) -> Option<ReaderLine>
-    ensures exact { is_some result ≡ is_trail_row (trail_meant row) }
-    ensures value { IfSome result (λ line. line ≡ reader_line (line_by (trail_meant row))) }
+    ensures exact { is_some result ≡ is_count row.number && is_trail_row (trail_meant row) }
+    ensures value { IfSome result (λ line. line ≡ trail_row_by (trail_meant row)) }
 {
+    let number = count_of(row.number)?;
     let awb = waybill_of_line(&row)?;
     Some(ReaderLine {
+        number,
         awb,
         line: RowText::new(row.line.into_bytes()),
     })

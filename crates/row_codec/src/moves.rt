@@ -1,8 +1,7 @@
 ghost use Rattle.std.specs.Prelude.{◌≡◌, ◌<◌, ◌&&◌, pos, true, is_some, IsTrue, IfSome, IfOk, OnOk, Some, string_bytes};
-ghost use Rattle.station_core.specs.Readers.{book_row};
 ghost use Rattle.cargo_rows.specs.Meant.{move_meant};
 ghost use Rattle.row_codec.specs.Flights.{flight_date_of};
-ghost use Rattle.row_codec.specs.Moves.{place_code, place_of, move_by, flight_column, day_column, move_row, is_move_row, are_flight_columns};
+ghost use Rattle.row_codec.specs.Moves.{place_code, place_of, book_row_by, move_by, flight_column, day_column, move_row, is_move_row, are_flight_columns};
 ghost use Rattle.row_codec.specs.Numbers.{natural, is_count, is_day, is_within};
 
 use crate::columns::{awb_by, count_of, pieces_by, tenths_by};
@@ -75,8 +74,7 @@ pub fn move_by(row: &MoveRow) -> Option<Move>
 /// The move in a row with its number, as readers are given it. `None`: a column is out of range.
 pub fn book_row_by(row: &MoveRow) -> Option<BookRow>
     ensures exact { is_some result ≡ is_count row.now.number && is_move_row (move_meant row.now) }
-    ensures value { IfSome result (λ one. one ≡ book_row (natural row.now.number)
-        (move_by (move_meant row.now))) }
+    ensures value { IfSome result (λ one. one ≡ book_row_by (move_meant row.now)) }
 {
     let number = count_of(row.number)?;
     let movement = move_by(row)?;

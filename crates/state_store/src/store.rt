@@ -5,8 +5,8 @@ use shipment_machine::{
     Amount, Balances, Change, Declared, Expected, FlightDate, Move, Outbound, Part,
 };
 use station_core::{
-    BookRow, Expectation, KeptReply, Key, Load, Message, NotedFlight, Sink, Sizes, TrailRow,
-    WaybillBalances,
+    BookQuery, BookRow, Expectation, KeptReply, Key, Load, Message, NotedFlight, Sink, Sizes,
+    TrailQuery, TrailRow, WaybillBalances,
 };
 use std::alloc::{AllocError, AllocFailed};
 
@@ -38,7 +38,7 @@ pub trait StateStore {
     ghost use Rattle.agent_stock.specs.Stock.{order_refusal};
     ghost use Rattle.shipment_machine.specs.Book.{balances_of, built, has_moves as is_moved, waybills_on};
     ghost use Rattle.shipment_machine.specs.Cargo.{written};
-    ghost use Rattle.station_core.specs.Readers.{AreNoted, AreExpectations, book_rows, pending_messages, trail_rows};
+    ghost use Rattle.station_core.specs.Readers.{AreNoted, AreExpectations, book_by, pending_messages, trail_by};
     ghost use Rattle.station_core.specs.Step.{State, has_room};
     ghost use Rattle.station_core.specs.declared.rows.BookRow.{BookRow as AnyBookRow};
     ghost use Rattle.station_core.specs.declared.rows.Message.{Message as AnyMessage};
@@ -254,10 +254,15 @@ pub trait StateStore {
         ensures rests { (s : State) → shows self.old (at_rest s) → shows self.new (at_rest s) }
         ensures survives { Survives is_clean is_sound may_find self.old self.new };
 
-    /// Hands out the movement book, in order, as it is read, until the sink takes no more.
-    fn book<K: Sink<BookRow>>(&mut self, sink: &mut K) -> Result<(), StoreFault>
+    /// Hands out the movements that are asked for, in order, as they are read, until the sink takes
+    /// no more.
+    fn book_by<K: Sink<BookRow>>(
+        &mut self,
+        query: &BookQuery,
+        sink: &mut K,
+    ) -> Result<(), StoreFault>
         ensures rows { (s : State) → shows self.old (at_rest s) → is_sound self.new
-            → Hands K.takes (book_rows s.cargo) sink.old sink.new result }
+            → Hands K.takes (book_by query.now s.cargo) sink.old sink.new result }
         ensures took { (rows : List AnyBookRow) × HandedOut K.takes rows sink.old sink.new }
         ensures rests { (s : State) → shows self.old (at_rest s) → shows self.new (at_rest s) }
         ensures survives { Survives is_clean is_sound may_find self.old self.new };
@@ -271,10 +276,15 @@ pub trait StateStore {
         ensures rests { (s : State) → shows self.old (at_rest s) → shows self.new (at_rest s) }
         ensures survives { Survives is_clean is_sound may_find self.old self.new };
 
-    /// Hands out the trail, in order, as it is read, until the sink takes no more.
-    fn trail<K: Sink<TrailRow>>(&mut self, sink: &mut K) -> Result<(), StoreFault>
+    /// Hands out the lines of the trail that are asked for, in order, as they are read, until the
+    /// sink takes no more.
+    fn trail_by<K: Sink<TrailRow>>(
+        &mut self,
+        query: &TrailQuery,
+        sink: &mut K,
+    ) -> Result<(), StoreFault>
         ensures rows { (s : State) → shows self.old (at_rest s) → is_sound self.new
-            → Hands K.takes (trail_rows s.cargo) sink.old sink.new result }
+            → Hands K.takes (trail_by query.now s.cargo) sink.old sink.new result }
         ensures took { (rows : List AnyTrailRow) × HandedOut K.takes rows sink.old sink.new }
         ensures rests { (s : State) → shows self.old (at_rest s) → shows self.new (at_rest s) }
         ensures survives { Survives is_clean is_sound may_find self.old self.new };

@@ -228,7 +228,7 @@ example_confirm = refl
 
 -- A status message joins the trail of a known waybill.
 
-abbrev fsu : List ℕ → ℕ → Input × LocalMinute
+abbrev pub fsu : List ℕ → ℕ → Input × LocalMinute
 fsu text w = (Wire (record { text = text; content = Fsu (record { awb = w; lines = codes "ARR/LH400/12JAN/JFK" ∷ [] }) }), noon)
 
 example_fsu : told received (fsu (codes "FSU/12 a") 201234567 ∷ fsu (codes "FSU/12 b") 2201234567 ∷ []) ≡ codes "ok 1" ∷ codes "refused 201 220-12345675" ∷ []

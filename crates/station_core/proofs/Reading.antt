@@ -7,12 +7,16 @@ use Rattle.shipment_machine.specs.Amount.{amount}
 use Rattle.shipment_machine.specs.declared.amount.Amount.{Amount}
 use Rattle.shipment_machine.specs.declared.moves.Place.TheVariants.{Hand, Free}
 use Rattle.shipment_machine.specs.declared.command.DeskCommand.TheVariants.{Confirm}
+use Rattle.station_core.specs.declared.rows.BookQuery.{BookQuery}
+use Rattle.station_core.specs.declared.rows.BookQuery.TheVariants.{After, Last, Of, On}
+use Rattle.station_core.specs.declared.rows.TrailQuery.{TrailQuery}
+use Rattle.station_core.specs.declared.rows.TrailQuery.TheVariants as trail
 use Rattle.station_core.specs.declared.rows.Message.{Message}
 use Rattle.station_core.specs.declared.rows.Waybill.{Waybill}
 use Rattle.desk_commands.specs.Day.{day_line}
 use Rattle.station_core.specs.Step.{opening}
-use Rattle.station_core.specs.Readers.{shed_rows, irregular_rows, book_rows, pending_messages, waybill_of}
-use Rattle.station_core.proofs.Examples.{fra, jfk, received, loaded, left, after, announced, counted, desk, at_time}
+use Rattle.station_core.specs.Readers.{shed_rows, irregular_rows, book_rows, book_by, pending_messages, trail_by, waybill_of}
+use Rattle.station_core.proofs.Examples.{fra, jfk, received, loaded, left, after, announced, counted, desk, at_time, lh_on, fsu}
 
 -- three pieces are missing
 example_irregular : irregular_rows (after announced (counted 7 (codes "c") ∷ [])).cargo
@@ -38,6 +42,62 @@ example_shed_announced = refl
 example_book : book_rows received.cargo ≡ record { number = 1; movement = record { awb = 201234567; from = Hand; to = Free; pieces = 10; tenths = 1000; flight = None; at = at_time 10 30 } } ∷ []
 unfolding digits day_line
 example_book = refl
+
+-- ten pieces were received, four were built on LH400, and these left
+abbrev numbers_in : BookQuery → List ℕ
+numbers_in query = map (λ row. row.number) (book_by query left.cargo)
+
+example_of : numbers_in (Of 201234567) ≡ 1 ∷ 2 ∷ 3 ∷ []
+unfolding digits day_line
+example_of = refl
+
+example_of_another : numbers_in (Of 201234568) ≡ []
+unfolding digits day_line
+example_of_another = refl
+
+example_after_one : numbers_in (After 1) ≡ 2 ∷ 3 ∷ []
+unfolding digits day_line
+example_after_one = refl
+
+example_after_the_last : numbers_in (After 3) ≡ []
+unfolding digits day_line
+example_after_the_last = refl
+
+example_last : numbers_in (Last 2) ≡ 2 ∷ 3 ∷ []
+unfolding digits day_line
+example_last = refl
+
+example_last_of_fewer : numbers_in (Last 4) ≡ 1 ∷ 2 ∷ 3 ∷ []
+unfolding digits day_line
+example_last_of_fewer = refl
+
+example_on : numbers_in (On (lh_on 400)) ≡ 2 ∷ 3 ∷ []
+unfolding digits day_line
+example_on = refl
+
+example_on_another : numbers_in (On (lh_on 401)) ≡ []
+unfolding digits day_line
+example_on_another = refl
+
+-- two status messages arrived
+abbrev lines_in : TrailQuery → List ℕ
+lines_in query = map (λ row. row.number) (trail_by query (after received (fsu (codes "FSU/12 a") 201234567 ∷ fsu (codes "FSU/12 b") 201234567 ∷ [])).cargo)
+
+example_trail : lines_in (trail.Of 201234567) ≡ 1 ∷ 2 ∷ []
+unfolding digits day_line
+example_trail = refl
+
+example_trail_of_another : lines_in (trail.Of 201234568) ≡ []
+unfolding digits day_line
+example_trail_of_another = refl
+
+example_trail_after : lines_in (trail.After 1) ≡ 2 ∷ []
+unfolding digits day_line
+example_trail_after = refl
+
+example_trail_last : lines_in (trail.Last 1) ≡ 2 ∷ []
+unfolding digits day_line
+example_trail_last = refl
 
 -- after three messages are confirmed the fourth is pending, of 74 bytes
 abbrev length_of : Message → ℕ × ℕ

@@ -1,5 +1,5 @@
 -- What the readers of a station hand out of its cargo.
-use Rattle.std.specs.Prelude.{◌≡◌, ℕ, ◌+◌, Bool, ◌||◌, ◌&&◌, ◌==◌, nat_lt, if◌then◌else◌, IsTrue, Option, List, [], ◌∷◌, length, map, drop}
+use Rattle.std.specs.Prelude.{◌≡◌, ℕ, ◌+◌, ◌-◌, Bool, ◌||◌, ◌&&◌, ◌==◌, nat_lt, if◌then◌else◌, IsTrue, Option, Some, None, List, [], ◌∷◌, length, map, drop, filter, false}
 use Rattle.std.specs.List.{find, flat_map, sum_by}
 use Rattle.std.specs.FinMap.{is_sorted}
 use Rattle.std.specs.Ordering.{nat_cmp, ordering_then}
@@ -13,8 +13,9 @@ use Rattle.shipment_machine.specs.declared.flight.FlightDate.{FlightDate}
 use Rattle.shipment_machine.specs.declared.moves.Expected.{Expected}
 use Rattle.shipment_machine.specs.declared.moves.Move.{Move}
 use Rattle.shipment_machine.specs.declared.moves.Outbound.{Outbound}
+use Rattle.shipment_machine.specs.declared.moves.Place.TheVariants.{Built}
 use Rattle.shipment_machine.specs.Flights.{same_flight_date}
-use Rattle.shipment_machine.specs.Book.{taken, found, free, store, departed, delivered, missing, transferred, waybills_of, waybills_on, built}
+use Rattle.shipment_machine.specs.Book.{taken, found, free, store, departed, delivered, missing, transferred, waybills_of, waybills_on, built, same_place}
 use Rattle.shipment_machine.specs.Cargo.{Cargo}
 use Rattle.shipment_machine.specs.Views.{declaration}
 use Rattle.station_core.specs.declared.rows.IrregularRow.{IrregularRow}
@@ -24,8 +25,12 @@ use Rattle.station_core.specs.declared.rows.FlightRow.{FlightRow}
 use Rattle.station_core.specs.declared.rows.Expectation.{Expectation}
 use Rattle.station_core.specs.declared.rows.ExpectedRow.{ExpectedRow}
 use Rattle.station_core.specs.declared.rows.BookRow.{BookRow}
+use Rattle.station_core.specs.declared.rows.BookQuery.{BookQuery}
+use Rattle.station_core.specs.declared.rows.BookQuery.TheVariants as book
 use Rattle.station_core.specs.declared.rows.Message.{Message}
 use Rattle.station_core.specs.declared.rows.TrailRow.{TrailRow}
+use Rattle.station_core.specs.declared.rows.TrailQuery.{TrailQuery}
+use Rattle.station_core.specs.declared.rows.TrailQuery.TheVariants as trail
 use Rattle.station_core.specs.declared.rows.Waybill.{Waybill}
 
 -- what is known of a waybill
@@ -132,6 +137,31 @@ book_row n m = record { number = n; movement = m }
 abbrev pub book_rows : Cargo → List BookRow
 book_rows s = numbered book_row 1 s.book
 
+-- whether a flight is named
+abbrev pub is_named : FlightDate → Option FlightDate → Bool
+is_named f None = false
+is_named f (Some g) = same_flight_date f g
+
+-- a movement of a flight: to what is built for it, from there, or with its name
+abbrev pub is_of_flight : FlightDate → Move → Bool
+is_of_flight f m = same_place (Built f) m.from || same_place (Built f) m.to || is_named f m.flight
+
+-- the last of the rows, at most so many
+abbrev pub last_of : {Row : Type 0} → ℕ → List Row → List Row
+last_of n rows = drop (length rows - n) rows
+
+-- the movements that are asked for: all, those with a greater number, the last ones, those of a
+-- waybill or a flight
+abbrev pub movements_for : BookQuery → List BookRow → List BookRow
+movements_for book.All rows = rows
+movements_for (book.After n) rows = filter (λ row. nat_lt n row.number) rows
+movements_for (book.Last n) rows = last_of n rows
+movements_for (book.Of w) rows = filter (λ row. row.movement.awb == w) rows
+movements_for (book.On f) rows = filter (λ row. is_of_flight f row.movement) rows
+
+abbrev pub book_by : BookQuery → Cargo → List BookRow
+book_by query s = movements_for query (book_rows s)
+
 -- the messages behind the mark of what was confirmed
 abbrev pub message : ℕ → List ℕ → Message
 message n text = record { number = n; text = text }
@@ -140,8 +170,18 @@ abbrev pub pending_messages : Cargo → List Message
 pending_messages s = numbered message (s.confirmed + 1) (drop s.confirmed s.outbox)
 
 -- the trail, in order
-abbrev pub trail_row : ℕ × List ℕ → TrailRow
-trail_row row = record { awb = row.0; line = row.1 }
+abbrev pub trail_row : ℕ → ℕ × List ℕ → TrailRow
+trail_row n row = record { number = n; awb = row.0; line = row.1 }
 
 abbrev pub trail_rows : Cargo → List TrailRow
-trail_rows s = map trail_row s.trail
+trail_rows s = numbered trail_row 1 s.trail
+
+-- the lines that are asked for: all, those with a greater number, the last ones, those of a waybill
+abbrev pub lines_for : TrailQuery → List TrailRow → List TrailRow
+lines_for trail.All rows = rows
+lines_for (trail.After n) rows = filter (λ row. nat_lt n row.number) rows
+lines_for (trail.Last n) rows = last_of n rows
+lines_for (trail.Of w) rows = filter (λ row. row.awb == w) rows
+
+abbrev pub trail_by : TrailQuery → Cargo → List TrailRow
+trail_by query s = lines_for query (trail_rows s)

@@ -3,7 +3,8 @@ ghost use Rattle.std.specs.Prelude.{◌≡◌, ℕ, Bool, true, false, List, Opt
 use crate::answer::{ActFault, Reply};
 use crate::input::Input;
 use crate::rows::{
-    BookRow, ExpectedRow, FlightRow, IrregularRow, Message, ShedRow, TrailRow, Waybill,
+    BookQuery, BookRow, ExpectedRow, FlightRow, IrregularRow, Message, ShedRow, TrailQuery,
+    TrailRow, Waybill,
 };
 use agent_stock::{Holder, StockRun};
 use awb_number::Awb;
@@ -18,7 +19,7 @@ pub trait Keeper {
     ghost use Rattle.agent_stock.specs.Runs.{AreStockRuns};
     ghost use Rattle.station_core.specs.Step.{State, IsLawfulState};
     ghost use Rattle.station_core.specs.Keeping.{Breaks, Acts, Leaves, IsReadersFault, OnlyReads, HandsOut};
-    ghost use Rattle.station_core.specs.Readers.{waybill_of, shed_rows, AreFlightRows, AreExpectedRows, irregular_rows, book_rows, pending_messages, trail_rows};
+    ghost use Rattle.station_core.specs.Readers.{waybill_of, shed_rows, AreFlightRows, AreExpectedRows, irregular_rows, book_rows, book_by, pending_messages, trail_rows, trail_by};
 
     /// It keeps this state: what it returns is by it.
     ghost keeps: { Self → State → Type 0 };
@@ -100,7 +101,15 @@ pub trait Keeper {
     /// The movement book, in order.
     fn book<S: Sink<BookRow>>(&mut self, sink: &mut S) -> Result<(), ActFault>
         ensures { HandsOut keeps is_clean is_sound is_broken may_find self.old self.new result
-            S.takes (λ s rows. rows ≡ book_rows s) sink.old sink.new };
+            S.takes (λ s rows. rows ≡ book_rows s) sink.old sink.new }
+    {
+        self.book_by(&BookQuery::All, sink)
+    }
+
+    /// The movements that are asked for, in order, with their numbers in the movement book.
+    fn book_by<S: Sink<BookRow>>(&mut self, query: &BookQuery, sink: &mut S) -> Result<(), ActFault>
+        ensures { HandsOut keeps is_clean is_sound is_broken may_find self.old self.new result
+            S.takes (λ s rows. rows ≡ book_by query.now s) sink.old sink.new };
 
     /// The messages that weren't confirmed yet, in order.
     fn pending<S: Sink<Message>>(&mut self, sink: &mut S) -> Result<(), ActFault>
@@ -110,7 +119,19 @@ pub trait Keeper {
     /// The trail, in order.
     fn trail<S: Sink<TrailRow>>(&mut self, sink: &mut S) -> Result<(), ActFault>
         ensures { HandsOut keeps is_clean is_sound is_broken may_find self.old self.new result
-            S.takes (λ s rows. rows ≡ trail_rows s) sink.old sink.new };
+            S.takes (λ s rows. rows ≡ trail_rows s) sink.old sink.new }
+    {
+        self.trail_by(&TrailQuery::All, sink)
+    }
+
+    /// The lines of the trail that are asked for, in order, with their numbers in the trail.
+    fn trail_by<S: Sink<TrailRow>>(
+        &mut self,
+        query: &TrailQuery,
+        sink: &mut S,
+    ) -> Result<(), ActFault>
+        ensures { HandsOut keeps is_clean is_sound is_broken may_find self.old self.new result
+            S.takes (λ s rows. rows ≡ trail_by query.now s) sink.old sink.new };
 
     /// A reopening finds the state that it keeps.
     ghost settled: { (k : Self) (s : State) → keeps k s → is_sound k → (found : Option State) → may_find k found → found ≡ Some s };

@@ -27,8 +27,8 @@ pub use ranges::content_range_law;
 pub use repeat::repeated_key;
 pub use row_sinks::{Sink, hand_out};
 pub use rows::{
-    BookRow, Expectation, ExpectedRow, FlightRow, IrregularRow, Message, NotedFlight, RowText,
-    ShedRow, TrailRow, Waybill,
+    BookQuery, BookRow, Expectation, ExpectedRow, FlightRow, IrregularRow, Message, NotedFlight,
+    RowText, ShedRow, TrailQuery, TrailRow, Waybill,
 };
 pub use shipment::shipment_of;
 pub use stock::{count_of_order, refusal_of_order};

@@ -120,6 +120,21 @@ pub struct BookRow {
     pub movement: Move,
 }
 
+/// Which movements of the movement book are asked for.
+#[derive(Clone, Copy, Debug, PartialEq, Eq)]
+pub enum BookQuery {
+    /// All of them.
+    All,
+    /// Those with a greater number.
+    After(u32),
+    /// The last ones, at most so many.
+    Last(u32),
+    /// Those of a waybill.
+    Of(Awb),
+    /// Those of a flight: what was built on it, taken off it, left with it or came by it.
+    On(FlightDate),
+}
+
 /// A message that wasn't confirmed yet.
 #[derive(Drop)]
 pub struct Message {
@@ -131,6 +146,21 @@ pub struct Message {
 /// A line of a status message that arrived.
 #[derive(Drop)]
 pub struct TrailRow {
+    /// Its place in the trail, from 1.
+    pub number: u32,
     pub awb: Awb,
     pub line: RowText,
+}
+
+/// Which lines of the trail are asked for.
+#[derive(Clone, Copy, Debug, PartialEq, Eq)]
+pub enum TrailQuery {
+    /// All of them.
+    All,
+    /// Those with a greater number.
+    After(u32),
+    /// The last ones, at most so many.
+    Last(u32),
+    /// Those of a waybill.
+    Of(Awb),
 }

@@ -12,8 +12,8 @@ use agent_stock::{Holder, StockRun};
 use awb_number::Awb;
 use state_store::{StateStore, expected_rows, flight_rows, irregular_rows, shed_rows, waybill_in};
 use station_core::{
-    ActFault, Answer, BookRow, ExpectedRow, FlightRow, Input, IrregularRow, Keeper, Message, Reply,
-    ShedRow, Sink, TrailRow, Waybill, hand_out,
+    ActFault, Answer, BookQuery, BookRow, ExpectedRow, FlightRow, Input, IrregularRow, Keeper,
+    Message, Reply, ShedRow, Sink, TrailQuery, TrailRow, Waybill, hand_out,
 };
 use station_days::Moment;
 use std::alloc::Global;
@@ -303,11 +303,15 @@ impl<S: StateStore> Keeper for StoredStation<S> {
     }
 
     #[tactic(auto, using(crate::proofs::Reading::hands_out))]
-    fn book<K: Sink<BookRow>>(&mut self, sink: &mut K) -> Result<(), ActFault> {
+    fn book_by<K: Sink<BookRow>>(
+        &mut self,
+        query: &BookQuery,
+        sink: &mut K,
+    ) -> Result<(), ActFault> {
         if self.broken {
             return Err(ActFault::Reopen);
         }
-        match self.store.book(sink) {
+        match self.store.book_by(query, sink) {
             Err(_) => Err(ActFault::Store),
             Ok(()) => Ok(()),
         }
@@ -325,11 +329,15 @@ impl<S: StateStore> Keeper for StoredStation<S> {
     }
 
     #[tactic(auto, using(crate::proofs::Reading::hands_out))]
-    fn trail<K: Sink<TrailRow>>(&mut self, sink: &mut K) -> Result<(), ActFault> {
+    fn trail_by<K: Sink<TrailRow>>(
+        &mut self,
+        query: &TrailQuery,
+        sink: &mut K,
+    ) -> Result<(), ActFault> {
         if self.broken {
             return Err(ActFault::Reopen);
         }
-        match self.store.trail(sink) {
+        match self.store.trail_by(query, sink) {
             Err(_) => Err(ActFault::Store),
             Ok(()) => Ok(()),
         }

@@ -13,8 +13,8 @@ mod store;
 mod writes;
 
 pub use cargo_rows::{
-    BuildRow, CountRow, ExpectedRow, FlightRow, ListedWaybillRow, MoveRow, NotedFlightRow,
-    WaybillRow,
+    BuildRow, CountRow, ExpectedRow, FlightRow, ListedWaybillRow, MoveQuery, MoveRow,
+    NotedFlightRow, WaybillRow,
 };
 pub use memory::{files_are_sound, memory_is_sound};
 pub use row_schema::open_memory;
@@ -22,4 +22,4 @@ pub use rows::{CreateFault, Rows, crash_leaves_station};
 pub use station::StationRow;
 pub use stock::StockRow;
 pub use store::{StoreFault, TableStore};
-pub use text_rows::{KeptRow, MessageRow, TrailRow};
+pub use text_rows::{KeptRow, LineQuery, MessageRow, TrailRow};

@@ -18,8 +18,8 @@ use agent_stock::{Holder, StockRun};
 use awb_number::Awb;
 use sqlite::{Alter, Connection};
 use station_core::{
-    ActFault, BookRow, ExpectedRow, FlightRow, Input, IrregularRow, Keeper, Message, Reply,
-    ShedRow, Sink, TrailRow, Waybill,
+    ActFault, BookQuery, BookRow, ExpectedRow, FlightRow, Input, IrregularRow, Keeper, Message,
+    Reply, ShedRow, Sink, TrailQuery, TrailRow, Waybill,
 };
 use station_days::Moment;
 use station_engine::StoredStation;
@@ -163,15 +163,23 @@ impl<S: Alter> Keeper for Station<S> {
         self.stored.irregular(sink)
     }
 
-    fn book<K: Sink<BookRow>>(&mut self, sink: &mut K) -> Result<(), ActFault> {
-        self.stored.book(sink)
+    fn book_by<K: Sink<BookRow>>(
+        &mut self,
+        query: &BookQuery,
+        sink: &mut K,
+    ) -> Result<(), ActFault> {
+        self.stored.book_by(query, sink)
     }
 
     fn pending<K: Sink<Message>>(&mut self, sink: &mut K) -> Result<(), ActFault> {
         self.stored.pending(sink)
     }
 
-    fn trail<K: Sink<TrailRow>>(&mut self, sink: &mut K) -> Result<(), ActFault> {
-        self.stored.trail(sink)
+    fn trail_by<K: Sink<TrailRow>>(
+        &mut self,
+        query: &TrailQuery,
+        sink: &mut K,
+    ) -> Result<(), ActFault> {
+        self.stored.trail_by(query, sink)
     }
 }

@@ -12,7 +12,7 @@ use Rattle.row_codec.specs.Meaning.{Means}
 use Rattle.station_rows.specs.Clauses.{HandsIfOpen, HandsOf}
 use Rattle.state_store.specs.Store.{at_rest}
 use Rattle.table_state.specs.declared.counted.Counted.{Counted}
-use Rattle.table_state.specs.Shown.{Shows}
+use Rattle.table_state.specs.Shown.{Knows, Shows}
 use Rattle.table_state.proofs.Lifting.{seen_in}
 use Rattle.table_state.specs.Handing.{Tells}
 use Rattle.table_state.specs.declared.handing.Telling.{Telling}
@@ -91,13 +91,13 @@ not_both (Err e) ok err = let no : false ≡ true = ok in cc
 module _ {K V X E F : Type 0} (takes : K → V → Bool → K → Type 0) (value : X → V) (raw : Telling K → X → Bool → Telling K → Type 0)
     (step : (old : Telling K) (x : X) (go : Bool) (new : Telling K) → raw old x go new → Tells takes (value x) old go new)
     (old new : View) (here : List ℕ) (counted : Counted) (confirmed : ℕ) (s : State) (was : Shows old here counted confirmed (at_rest s)) (survives : row.Survives old new)
-    (rows : Tables → List X) (all : List V) (are : Means old.now (Some s) → confirmed ≡ s.cargo.confirmed → map value (rows old.now) ≡ all) (from to : Telling K) (r : Result (Unit {0}) E)
+    (rows : Tables → List X) (all : List V) (are : Means old.now (Some s) → Knows here counted.sizes confirmed (at_rest s) → map value (rows old.now) ≡ all) (from to : Telling K) (r : Result (Unit {0}) E)
     (hands : HandsOf old new r raw rows from to) (shut : HandsIfOpen old new r from to) where
   pub given_on : (r' : Result (Unit {0}) F) → OnOk r' (IsOk r × (to.stuck ≡ false)) → new.IsSound → Hands takes all from.sink.now to.sink.now r'
   given_on r' well sound = elim (shut sound) [
     | inl up ↦
         let k = was (survives.sound sound) in
-        subst (λ l. Hands takes l from.sink.now to.sink.now r') (are (k.holds.stands up).now k.knows.confirmed_is)
+        subst (λ l. Hands takes l from.sink.now to.sink.now r') (are (k.holds.stands up).now k.knows)
         (hands_on takes value raw step (rows old.now) from to r (hands (seen_in old) (λ _. record { is_open = up; now_is = refl; committed_is = refl; mode = refl }) sound) r' well)
     | inr none ↦ nothing r' well none
   ]

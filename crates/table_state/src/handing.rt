@@ -1,10 +1,10 @@
 //! Rows of tables, handed on as readers are given them.
 ghost use Rattle.std.specs.Prelude.{◌≡◌, false, IsOk, OnOk};
 ghost use Rattle.cargo_rows.specs.Meant.{move_meant};
-ghost use Rattle.station_core.specs.Readers.{book_row, message, trail_row};
+ghost use Rattle.station_core.specs.Readers.{message};
 ghost use Rattle.text_rows.specs.Meant.{message_meant, trail_meant};
-ghost use Rattle.row_codec.specs.Logs.{line_by};
-ghost use Rattle.row_codec.specs.Moves.{move_by};
+ghost use Rattle.row_codec.specs.Logs.{trail_row_by};
+ghost use Rattle.row_codec.specs.Moves.{book_row_by};
 ghost use Rattle.row_codec.specs.Numbers.{natural};
 
 use row_codec::{book_row_by, line_by, message_by};
@@ -39,7 +39,7 @@ pub(crate) trait Told {
 impl Told for MoveRow {
     type Form = BookRow;
 
-    ghost told = { λ row. book_row (natural row.number) (move_by (move_meant row)) };
+    ghost told = { λ row. book_row_by (move_meant row) };
 
     fn told(self) -> Option<BookRow> {
         book_row_by(&self)
@@ -59,7 +59,7 @@ impl Told for MessageRow {
 impl Told for TrailRow {
     type Form = ReaderLine;
 
-    ghost told = { λ row. trail_row (line_by (trail_meant row)) };
+    ghost told = { λ row. trail_row_by (trail_meant row) };
 
     fn told(self) -> Option<ReaderLine> {
         line_by(self)

@@ -16,8 +16,8 @@ use agent_stock::{Holder, Order, StockFault, StockRun};
 use awb_number::Awb;
 use imp_fields::Airport;
 use row_codec::{
-    awb_key, count_of, day_number, expected_by, flight_text, kept_by, message_row, outbound_by,
-    waybill_by,
+    awb_key, count_of, day_number, expected_by, flight_text, kept_by, line_query, message_row,
+    move_query, outbound_by, waybill_by,
 };
 use running_totals::KnownSums;
 use shipment_machine::{
@@ -25,8 +25,8 @@ use shipment_machine::{
 };
 use state_store::{StateStore, StoreFault};
 use station_core::{
-    BookRow, Expectation, KeptReply, Key, Load, Message, NotedFlight, Sink, Sizes, TrailRow,
-    WaybillBalances,
+    BookQuery, BookRow, Expectation, KeptReply, Key, Load, Message, NotedFlight, Sink, Sizes,
+    TrailQuery, TrailRow, WaybillBalances,
 };
 use station_rows::TableStore;
 use std::alloc::Global;
@@ -430,9 +430,16 @@ impl<S: TableStore> StateStore for TableState<S> {
     }
 
     #[tactic(auto, using(crate::proofs::Lifting::rests_on, crate::proofs::Lifting::survives_so))]
-    fn book<K: Sink<BookRow>>(&mut self, sink: &mut K) -> Result<(), StoreFault> {
+    fn book_by<K: Sink<BookRow>>(
+        &mut self,
+        query: &BookQuery,
+        sink: &mut K,
+    ) -> Result<(), StoreFault> {
+        let Ok(asked) = move_query(self.alloc, *query, self.counted.sizes.moves) else {
+            return Err(StoreFault);
+        };
         let mut telling = Telling::new(sink);
-        let read = self.store.hand_out_moves(&mut telling);
+        let read = self.store.hand_out_moves(&asked, &mut telling);
         ended(read, telling.is_stuck())
     }
 
@@ -446,9 +453,14 @@ impl<S: TableStore> StateStore for TableState<S> {
     }
 
     #[tactic(auto, using(crate::proofs::Lifting::rests_on, crate::proofs::Lifting::survives_so))]
-    fn trail<K: Sink<TrailRow>>(&mut self, sink: &mut K) -> Result<(), StoreFault> {
+    fn trail_by<K: Sink<TrailRow>>(
+        &mut self,
+        query: &TrailQuery,
+        sink: &mut K,
+    ) -> Result<(), StoreFault> {
+        let asked = line_query(*query, self.counted.sizes.lines);
         let mut telling = Telling::new(sink);
-        let read = self.store.hand_out_trail(&mut telling);
+        let read = self.store.hand_out_trail(asked, &mut telling);
         ended(read, telling.is_stuck())
     }
 

@@ -67,6 +67,26 @@ pub all_trail_is : Asks station_schema all_trail_text (one_table 12 [] trail_col
 unfolding understood everything
 all_trail_is = (refl, (refl, refl), refl)
 
+abbrev pub after_trail_text : List ℕ
+after_trail_text = codes "SELECT number, awb, line FROM trail WHERE number > ?1 ORDER BY number"
+
+abbrev pub after_trail_where : List Term
+after_trail_where = op2 (Compare Gt Binary) (col 1 0) (col 0 0) ∷ []
+
+pub after_trail_is : Asks station_schema after_trail_text (one_table 12 after_trail_where trail_columns (by_column 0 ∷ [])) trail_names
+unfolding understood everything
+after_trail_is = (refl, (refl, refl), refl)
+
+abbrev pub of_trail_text : List ℕ
+of_trail_text = codes "SELECT number, awb, line FROM trail WHERE awb = ?1 ORDER BY number"
+
+abbrev pub of_trail_where : List Term
+of_trail_where = op2 (Compare Eq Binary) (col 1 2) (col 0 0) ∷ []
+
+pub of_trail_is : Asks station_schema of_trail_text (one_table 12 of_trail_where trail_columns (by_column 0 ∷ [])) trail_names
+unfolding understood everything
+of_trail_is = (refl, (refl, refl), refl)
+
 -- ---- outbox
 
 abbrev pub message_terms : List Term

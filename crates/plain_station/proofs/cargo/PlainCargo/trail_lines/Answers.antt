@@ -1,13 +1,18 @@
-use Rattle.std.proofs.Common.{map, ap, ◌∙◌}
+use Rattle.std.proofs.Common.{◌+◌, ◌++◌, [], ◌∷◌, get_or, take, sym, ap, ◌∙◌, arith}
 use Rattle.std.proofs.lemmas.List.{take_all}
-use Rattle.station_core.specs.Readers.{trail_row}
-use Rattle.plain_station.specs.Lists.{trail_row as kept_line}
-use Rattle.plain_station.proofs.Walks.{map_twice}
+use Rattle.station_core.specs.declared.rows.TrailRow as reader
+use Rattle.plain_station.proofs.Numbers.{line_row, line_rows, numbered_lines, told_next}
 use Rattle.plain_station.proofs.cargo.PlainCargo.trail_lines.Goals as goal
+
+pub loop-i-preserved : goal.loop-i-preserved
+loop-i-preserved c =
+    let i = c.loop-i.i in let row = c.row-item.result in
+    told_next line_row 1 c.args.self.now.lists.trail.items _ _ i (i + 1) row (omega arith) (c.row-item.is ∙ ap (λ l. get_or l i row) c.deref-row-items.ensures.value) (omega arith) c.loop-i.invariant
+    (c.in_ok-push.ensures.items ∙ ap (λ (r : reader.TrailRow). c.loop-i.rows.items ++ r ∷ []) c.in_ok-line_of.ensures)
 
 pub returns : goal.returns
 returns c =
-    let lines = c.args.self.now.lists.trail.items in
-    c.loop-row.invariant
-    ∙ ap (map (λ row. trail_row (kept_line row))) (take_all c.loop-row.row-index c.deref-row-items.result.now c.loop-row-test.false ∙ c.deref-row-items.ensures.value)
-    ∙ map_twice trail_row kept_line lines
+    let given = c.deref-row-items.ensures.value in
+    c.loop-i.invariant
+    ∙ ap (numbered_lines 1) (ap (take c.loop-i.i) (sym given) ∙ take_all c.loop-i.i c.deref-row-items.result.now c.loop-i-test.false ∙ given)
+    ∙ line_rows 1 c.args.self.now.lists.trail.items

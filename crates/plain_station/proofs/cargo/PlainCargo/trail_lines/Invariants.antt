@@ -1,7 +1,6 @@
-use Rattle.std.proofs.Common.{◌≡◌, take, map}
-use Rattle.station_core.specs.Readers.{trail_row}
-use Rattle.plain_station.specs.Lists.{trail_row as kept_line}
+use Rattle.std.proofs.Common.{◌≡◌, take}
+use Rattle.plain_station.proofs.Numbers.{numbered_lines}
 use Rattle.plain_station.proofs.cargo.PlainCargo.trail_lines.Given as goal
 
-abbrev pub invariant-loop-row : goal.invariant-loop-row
-invariant-loop-row l = l.rows.items ≡ map (λ row. trail_row (kept_line row)) (take l.row-index l.row-items)
+abbrev pub invariant-loop-i : goal.invariant-loop-i
+invariant-loop-i l = l.rows.items ≡ numbered_lines 1 (take l.i l.self.lists.trail.items)

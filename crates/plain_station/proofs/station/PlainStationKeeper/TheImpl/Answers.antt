@@ -1,12 +1,12 @@
 use Rattle.agent_stock.specs.Runs.{AreStockRuns}
-use Rattle.station_core.specs.Readers.{AreExpectedRows, AreFlightRows, book_rows, irregular_rows, pending_messages, shed_rows, trail_rows}
+use Rattle.station_core.specs.Readers.{AreExpectedRows, AreFlightRows, book_by, irregular_rows, pending_messages, shed_rows, trail_by}
 use Rattle.plain_station.specs.State.{state_of}
 use Rattle.plain_station.proofs.Handed.{hands_out, hands_out_these}
 use Rattle.plain_station.proofs.station.PlainStationKeeper.TheImpl.Goals as goal
 
-pub book-tells : goal.book-tells
-book-tells g c =
-    hands_out_these g.S.Sink.takes book_rows state_of c.args.self.now c.new.self.now c.result c.args.sink.now c.new.sink.now
+pub book_by-tells : goal.book_by-tells
+book_by-tells g c =
+    hands_out_these g.S.Sink.takes (book_by c.args.query.now) state_of c.args.self.now c.new.self.now c.result c.args.sink.now c.new.sink.now
     c.ensures.rows c.ensures.beginning c.ensures.memory c.ensures.none c.ensures.as_before
 
 pub expected-tells : goal.expected-tells
@@ -34,9 +34,9 @@ shed-tells g c =
     hands_out_these g.S.Sink.takes shed_rows state_of c.args.self.now c.new.self.now c.result c.args.sink.now c.new.sink.now
     c.ensures.rows c.ensures.beginning c.ensures.memory c.ensures.none c.ensures.as_before
 
-pub trail-tells : goal.trail-tells
-trail-tells g c =
-    hands_out_these g.S.Sink.takes trail_rows state_of c.args.self.now c.new.self.now c.result c.args.sink.now c.new.sink.now
+pub trail_by-tells : goal.trail_by-tells
+trail_by-tells g c =
+    hands_out_these g.S.Sink.takes (trail_by c.args.query.now) state_of c.args.self.now c.new.self.now c.result c.args.sink.now c.new.sink.now
     c.ensures.rows c.ensures.beginning c.ensures.memory c.ensures.none c.ensures.as_before
 
 pub stock-tells : goal.stock-tells

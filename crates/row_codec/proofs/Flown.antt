@@ -1,0 +1,114 @@
+-- The rows of a flight are the moves of the flight.
+use Rattle.std.proofs.Common.{◌≡◌, ℕ, ◌==◌, ◌&&◌, ◌||◌, ℤ, pos, negsuc, Bool, true, false, if◌then◌else◌, Option, Some, None, List, [], ◌∷◌, length, is_some, refl, sym, ap, ap₂, subst, ◌∙◌, true≢false, arith}
+use Rattle.std.specs.Ordering.{int_eq, eq_by_cmp}
+use Rattle.std.specs.Option.{unwrap_or}
+use Rattle.std.proofs.lemmas.Int.{ints}
+use Rattle.sqlite_typed.specs.Tests.{bytes_cmp}
+use Rattle.sqlite_typed.proofs.TestLemmas.{turn_eq}
+use Rattle.std.proofs.lemmas.Map.Text.{is_eq-slice_cmp}
+use Rattle.std.proofs.lemmas.Bool.{and_parts, false_from_ne_true}
+use Rattle.std.specs.Option.{option_map}
+use Rattle.imp_fields.proofs.SameFlight.{bytes_eq-true}
+use Rattle.imp_fields.specs.Flight.{flight_text}
+use Rattle.shipment_machine.specs.Places.{same_place}
+use Rattle.shipment_machine.specs.declared.flight.FlightDate.{FlightDate}
+use Rattle.shipment_machine.specs.declared.moves.Place.TheVariants.{Hand, Surplus, Free, Built, Departed, Delivered, Missing, Transferred}
+use Rattle.station_core.specs.Readers.{is_named, is_of_flight}
+use Rattle.cargo_rows.specs.Meant.{is_flown}
+use Rattle.row_laws.proofs.Keys.{texts_total}
+use Rattle.row_schema.specs.Tables.{Move}
+use Rattle.row_codec.specs.Numbers.{natural, is_day, is_number, is_within}
+use Rattle.row_codec.specs.Flights.{flight_date_of, is_designator, is_flight_text}
+use Rattle.row_codec.specs.Moves.{are_flight_columns, is_move_row, move_by, place_of, plain_place}
+use Rattle.row_codec.proofs.FlightKeys.{read_again, tied_text}
+use Rattle.row_codec.proofs.Noted.{flight_of_row}
+
+-- a place that isn't built isn't built for a flight
+unbuilt : (f : FlightDate) (a b c d e g h : Bool)
+    → same_place (Built f) (unwrap_or (if a then Some Hand else if b then Some Surplus else if c then Some Free else if d then Some Departed else if e then Some Delivered
+    else if g then Some Missing else if h then Some Transferred else None) Hand) ≡ false
+unbuilt f true b c d e g h = refl
+unbuilt f false true c d e g h = refl
+unbuilt f false false true d e g h = refl
+unbuilt f false false false true e g h = refl
+unbuilt f false false false false true g h = refl
+unbuilt f false false false false false true h = refl
+unbuilt f false false false false false false true = refl
+unbuilt f false false false false false false false = refl
+
+-- the place of a code is built for a flight only if the columns name the flight
+built_for : (f : FlightDate) (code : ℤ) (o : Option FlightDate) → same_place (Built f) (unwrap_or (place_of code o) Hand) ≡ (int_eq code (pos 3) && is_named f o)
+built_for f code o = go (int_eq code (pos 3)) o
+  where
+    go : (b : Bool) (o : Option FlightDate) → same_place (Built f) (unwrap_or (if b then option_map Built o else plain_place code) Hand) ≡ (b && is_named f o)
+    go true None = refl
+    go true (Some g) = refl
+    go false o = unbuilt f _ _ _ _ _ _ _
+
+either : (a b x : Bool) → (a && x || b && x || x) ≡ x
+either true true true = refl
+either true true false = refl
+either true false true = refl
+either true false false = refl
+either false true true = refl
+either false true false = refl
+either false false true = refl
+either false false false = refl
+
+-- a move is of a flight if its columns name it
+named_only : (f : FlightDate) (row : Move) → is_of_flight f (move_by row) ≡ is_named f (flight_date_of row.flight row.fday)
+named_only f row =
+    let o : Option FlightDate = flight_date_of row.flight row.fday in
+    ap₂ (λ a b. a || b || is_named f o) (built_for f row.src o) (built_for f row.dst o)
+    ∙ either (int_eq row.src (pos 3)) (int_eq row.dst (pos 3)) (is_named f o)
+
+flight_columns : (row : Move) → is_move_row row ≡ true → are_flight_columns row.flight row.fday ≡ true
+flight_columns row h =
+    let o : Option FlightDate = flight_date_of row.flight row.fday in
+    sixth (is_number row.awb) (is_some (place_of row.src o)) (is_some (place_of row.dst o)) (is_within 1 9999 row.pieces) (is_within 0 999_999 row.tenths)
+    (are_flight_columns row.flight row.fday) (is_day row.day) (is_within 0 1439 row.minute) h
+  where
+    sixth : (a b c d e f g i : Bool) → (a && b && c && d && e && f && g && i) ≡ true → f ≡ true
+    sixth a b c d e true g i k = refl
+    sixth true true true true true false g i k = cc
+    sixth true true true true false false g i k = cc
+    sixth true true true false e false g i k = cc
+    sixth true true false d e false g i k = cc
+    sixth true false c d e false g i k = cc
+    sixth false b c d e false g i k = cc
+
+natural_day : (day : ℤ) → is_day day ≡ true → day ≡ pos (natural day)
+natural_day (pos n) h = refl
+natural_day (negsuc n) h = absurd (cc)
+
+-- columns that name a flight have its text and its day
+written_columns : (text : List ℕ) (day : ℤ) (g : FlightDate) → are_flight_columns text day ≡ true → flight_date_of text day ≡ Some g → (is_flight_text text ≡ true) × (day ≡ pos (natural day))
+written_columns [] day g h read = absurd (cc)
+written_columns (c ∷ cs) day g h read =
+    let some : (length (c ∷ cs) == 0) ≡ false = grind (arith) in
+    let both = and_parts (is_flight_text (c ∷ cs)) (is_day day) (subst (λ b. (b && int_eq day (pos 0) || is_flight_text (c ∷ cs) && is_day day) ≡ true) some h) in
+    (both.0, natural_day day both.1)
+
+turned : (a b : ℕ) → (a == b) ≡ int_eq (pos b) (pos a)
+turned a b = grind (arith, ints)
+
+flown_as : (f : FlightDate) → is_designator f.flight ≡ true → (text : List ℕ) (day : ℤ) → are_flight_columns text day ≡ true
+    → is_named f (flight_date_of text day) ≡ (eq_by_cmp bytes_cmp text (flight_text f.flight) && int_eq day (pos f.day))
+flown_as f is text day columns = go (flight_date_of text day) refl
+  where
+    unread : flight_date_of text day ≡ None → eq_by_cmp bytes_cmp text (flight_text f.flight) ≡ true → true ≡ false
+    unread read same =
+        let here : text ≡ flight_text f.flight = bytes_eq-true _ _ (sym (is_eq-slice_cmp text (flight_text f.flight)) ∙ same) in
+        let some : flight_date_of text day ≡ Some (record { flight = f.flight; day = natural day }) = ap (λ b. flight_date_of b day) here ∙ ap (option_map (λ d. record { flight = d; day = natural day })) (read_again f.flight is) in
+        absurd (cc)
+
+    go : (o : Option FlightDate) → flight_date_of text day ≡ o → is_named f o ≡ (eq_by_cmp bytes_cmp text (flight_text f.flight) && int_eq day (pos f.day))
+    go None read = ap (λ b. b && int_eq day (pos f.day)) (sym (false_from_ne_true _ (λ same. true≢false (unread read same))))
+    go (Some g) read =
+        let written = written_columns text day g columns read in
+        let of = flight_of_row text day g (sym read) written.0 written.1 in
+        ap₂ ◌&&◌ (sym (tied_text f.flight g.flight is of.2) ∙ turn_eq bytes_cmp texts_total (flight_text f.flight) (flight_text g.flight)) (turned f.day g.day)
+        ∙ ap₂ (λ b z. eq_by_cmp bytes_cmp b (flight_text f.flight) && int_eq z (pos f.day)) (sym of.0) (sym of.1)
+
+pub flown_moves : (f : FlightDate) → is_designator f.flight ≡ true → (row : Move) → is_move_row row ≡ true → is_of_flight f (move_by row) ≡ is_flown (flight_text f.flight) (pos f.day) row
+flown_moves f is row ok = named_only f row ∙ flown_as f is row.flight row.fday (flight_columns row ok)

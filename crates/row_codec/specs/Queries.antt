@@ -1,0 +1,24 @@
+-- What is asked of the tables for what is asked of a station.
+use Rattle.std.specs.Prelude.{◌≡◌, ℕ, Some, length, map}
+use Rattle.station_core.specs.Step.{State}
+use Rattle.station_core.specs.Readers.{book_by, trail_by}
+use Rattle.station_core.specs.declared.rows.BookQuery.{BookQuery}
+use Rattle.station_core.specs.declared.rows.TrailQuery.{TrailQuery}
+use Rattle.cargo_rows.specs.Meant.{moves_for}
+use Rattle.cargo_rows.specs.declared.moves.MoveQuery.{MoveQuery}
+use Rattle.text_rows.specs.Meant.{lines_for}
+use Rattle.text_rows.specs.declared.trail.LineQuery.{LineQuery}
+use Rattle.row_schema.specs.Tables.{Tables}
+use Rattle.row_codec.specs.Meaning.{Means}
+use Rattle.row_codec.specs.Moves.{book_row_by}
+use Rattle.row_codec.specs.Logs.{trail_row_by}
+
+-- Of tables with so many moves, the rows that are asked for are the movements that are.
+abbrev pub AsksMoves : BookQuery → ℕ → MoveQuery → Type 0
+AsksMoves query count asked = (t : Tables) (s : State) → Means t (Some s) → length s.cargo.book ≡ count
+    → map book_row_by (moves_for asked t.moves) ≡ book_by query s.cargo
+
+-- Of tables with so many lines, the rows that are asked for are the lines that are.
+abbrev pub AsksLines : TrailQuery → ℕ → LineQuery → Type 0
+AsksLines query count asked = (t : Tables) (s : State) → Means t (Some s) → length s.cargo.trail ≡ count
+    → map trail_row_by (lines_for asked t.trail) ≡ trail_by query s.cargo
