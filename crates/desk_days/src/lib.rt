@@ -70,6 +70,7 @@ pub const FILES: &[&str] = &[
     "calendar",
     "http",
     "listings",
+    "manifests",
 ];
 
 /// What is printed of a day that was played: its differences, or that there is none.

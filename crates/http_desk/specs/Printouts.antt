@@ -4,8 +4,10 @@ use Rattle.std.specs.List.{before_first, after_first}
 use Rattle.std.specs.Result.{result_ok}
 use Rattle.std.specs.Str.{bytes_eq}
 use Rattle.awb_number.specs.Number.{number_of}
+use Rattle.imp_fields.specs.Flight.{Designator, flight_of}
 use Rattle.station_days.specs.Steps.{where_true}
 use Rattle.agent_stock.specs.Code.{is_agent_code}
+use Rattle.desk_commands.specs.Day.{day_of}
 use Rattle.station_core.specs.Step.{State}
 use Rattle.reports.specs.Listings.{IsListing, listing_called}
 use Rattle.reports.specs.declared.form.Form.{Form}
@@ -51,9 +53,22 @@ agent_rows word code = where_true (bytes_eq word (codes "stock") && is_agent_cod
 abbrev pub row_number : List ℕ → Option ℕ
 row_number text = option_and_then (λ n. where_true (nat_lt n (2 ^ 32)) n) (number_told text)
 
--- the number behind `after/`
-abbrev pub number_after : List ℕ → Option ℕ
-number_after rest = if bytes_eq (first_part rest) (codes "after") then row_number (later_part rest) else None
+-- `after` and `last` of the movements, and of the trail, with a number
+abbrev pub movement_rows : List ℕ → ℕ → Option Listing
+movement_rows word n =
+    if bytes_eq word (codes "after") then Some (listing.MovementsAfter n)
+    else if bytes_eq word (codes "last") then Some (listing.MovementsLast n)
+    else None
+
+abbrev pub line_rows : List ℕ → ℕ → Option Listing
+line_rows word n =
+    if bytes_eq word (codes "after") then Some (listing.TrailAfter n)
+    else if bytes_eq word (codes "last") then Some (listing.TrailLast n)
+    else None
+
+-- the manifest of a flight, on its day
+abbrev pub flight_rows : List ℕ → Designator → Option Listing
+flight_rows day flight = option_map (λ d. listing.Manifest (record { flight = flight; day = d })) (day_of day)
 
 -- rows of a kind
 abbrev pub rows_of_kind : List ℕ → List ℕ → Option Listing
@@ -61,8 +76,9 @@ rows_of_kind kind rest =
     if bytes_eq kind (codes "reports") then listing_called rest
     else if bytes_eq kind (codes "waybills") then option_and_then (waybill_rows (later_part rest)) (result_ok (number_of (first_part rest)))
     else if bytes_eq kind (codes "agents") then agent_rows (later_part rest) (first_part rest)
-    else if bytes_eq kind (codes "movements") then option_map listing.MovementsAfter (number_after rest)
-    else if bytes_eq kind (codes "trail") then option_map listing.TrailAfter (number_after rest)
+    else if bytes_eq kind (codes "flights") then option_and_then (flight_rows (later_part rest)) (flight_of (first_part rest))
+    else if bytes_eq kind (codes "movements") then option_and_then (movement_rows (first_part rest)) (row_number (later_part rest))
+    else if bytes_eq kind (codes "trail") then option_and_then (line_rows (first_part rest)) (row_number (later_part rest))
     else None
 
 -- the rows behind `/v1/`

@@ -3,12 +3,15 @@ ghost use Rattle.std.specs.Prelude.{◌≡◌, ◌-◌, take, drop, length, opti
 ghost use Rattle.std.specs.Result.{result_ok};
 ghost use Rattle.std.specs.Str.{bytes_eq};
 ghost use Rattle.awb_number.specs.Number.{number_of};
-ghost use Rattle.http_desk.specs.Printouts.{first_part, later_part, waybill_rows, agent_rows, row_number, number_after, rows_of_kind, rows_behind, rows_at, in_form, printout_at};
+ghost use Rattle.http_desk.specs.Printouts.{first_part, later_part, waybill_rows, agent_rows, row_number, movement_rows, line_rows, flight_rows, rows_of_kind, rows_behind, rows_at, in_form, printout_at};
 
 use crate::fields::number_told;
 use agent_stock::AgentCode;
 use awb_number::Awb;
+use desk_commands::read_day;
+use imp_fields::Flight;
 use reports::{Form, Listing, Report};
+use shipment_machine::FlightDate;
 
 /// Rows that are got, and the form in which they are written.
 #[derive(Clone, Copy, Debug, PartialEq, Eq)]
@@ -89,14 +92,36 @@ fn row_number(text: &str) -> Option<u32>
     }
 }
 
-/// The number behind `after/`.
-fn number_after(rest: &str) -> Option<u32>
-    ensures { result ≡ number_after rest.now }
+/// Movements after a number, or the last ones.
+fn movement_rows(word: &str, number: u32) -> Option<Listing>
+    ensures { result ≡ movement_rows word.now number }
 {
-    if first_part(rest) != "after" {
-        return None;
+    match word {
+        "after" => Some(Listing::MovementsAfter(number)),
+        "last" => Some(Listing::MovementsLast(number)),
+        _ => None,
     }
-    row_number(later_part(rest))
+}
+
+/// Lines of the trail after a number, or the last ones.
+fn line_rows(word: &str, number: u32) -> Option<Listing>
+    ensures { result ≡ line_rows word.now number }
+{
+    match word {
+        "after" => Some(Listing::TrailAfter(number)),
+        "last" => Some(Listing::TrailLast(number)),
+        _ => None,
+    }
+}
+
+/// The manifest of a flight, on its day.
+fn flight_rows(day: &str, flight: Flight) -> Option<Listing>
+    ensures { result ≡ flight_rows day.now flight }
+{
+    match read_day(day.as_bytes()) {
+        Some(day) => Some(Listing::Manifest(FlightDate { flight, day })),
+        None => None,
+    }
 }
 
 /// Rows of a kind.
@@ -110,13 +135,17 @@ fn rows_of_kind(kind: &str, rest: &str) -> Option<Listing>
             waybill_rows(later_part(rest), number)
         }
         "agents" => agent_rows(later_part(rest), first_part(rest)),
+        "flights" => {
+            let flight = Flight::read(first_part(rest).as_bytes())?;
+            flight_rows(later_part(rest), flight)
+        }
         "movements" => {
-            let number = number_after(rest)?;
-            Some(Listing::MovementsAfter(number))
+            let number = row_number(later_part(rest))?;
+            movement_rows(first_part(rest), number)
         }
         "trail" => {
-            let number = number_after(rest)?;
-            Some(Listing::TrailAfter(number))
+            let number = row_number(later_part(rest))?;
+            line_rows(first_part(rest), number)
         }
         _ => None,
     }

@@ -1,5 +1,6 @@
 -- How a listing ends, by how a keeper handed out its rows.
-use Rattle.std.proofs.Common.{◌≡◌, ◌∙◌, ap, sym, subst, refl, inl, inr, ℕ, ◌<◌, Bool, Some, None, Result, Ok, Err, List, length, take, OnOk, OnErr, IfErr}
+use Rattle.std.proofs.Common.{◌≡◌, ◌∙◌, ap, sym, subst, refl, inl, inr, ℕ, ◌<◌, Bool, Some, None, Result, Ok, Err, List, length, take, OnOk, OnErr, IfErr, true}
+use Rattle.std.specs.Prelude.{filter}
 use Rattle.serde_json.specs.Data.{Data}
 use Rattle.row_sinks.specs.Handed.{HandedOut}
 use Rattle.station_core.specs.Given.{Given}
@@ -11,10 +12,9 @@ use Rattle.reports.specs.declared.fault.ReportFault.{ReportFault}
 use Rattle.reports.specs.declared.form.Form.{Form}
 use Rattle.reports.specs.Ended.{HasEndedBy, HasEndedEach, StopsWriting}
 use Rattle.reports.specs.Listings.{IsTextOf, rows_text}
-use Rattle.reports.specs.Picking.{chosen}
 use Rattle.reports.specs.Pieces.{end_piece}
 use Rattle.reports.specs.Progress.{Progress, Ends}
-use Rattle.reports.proofs.Choosing.{TakesRow, Hands, wanted_rows, same_form, beginning}
+use Rattle.reports.proofs.Choosing.{TakesRow, Hands, wanted_rows, same_form, beginning, all_rows}
 use Rattle.reports.proofs.Forms.{piece, in_form, piece_some}
 use Rattle.reports.proofs.Known.{IsText, reported_by, reported_each}
 use Rattle.reports.proofs.Stopping.{stops}
@@ -30,33 +30,33 @@ pub each_known_as : (Open : Type 0) (Is Are : List ℕ → Type 0) (front : List
     → ((t : List ℕ) → Are t → Is t) → HasEndedEach Open Is front old new r → HasEndedEach Open Are front old new r
 each_known_as Open Is Are front old new r from each = record { text = λ t are. each.text t (from t are) }
 
-module _ {S P Row N : Type 0} (progress : S → Progress) (name : S → N) (form_of : S → Form) (pick_of : S → P) (line : Row → List ℕ) (json : Row → Data) (wants : P → Row → Bool) (next : P → Row → P) where
+module _ {S P Row N : Type 0} (progress : S → Progress) (name : S → N) (form_of : S → Form) (pick_of : S → P) (line : Row → List ℕ) (json : Row → Data) (wants : P → Row → Bool) where
   abbrev pub Passed : List Row → S → S → Type 0
-  Passed rows from to = HandedOut (TakesRow progress name form_of pick_of (piece line json) wants next) rows from to
+  Passed rows from to = HandedOut (TakesRow progress name form_of pick_of (piece line json) wants) rows from to
 
   abbrev pub Handed : Form → List Row → Progress × N → Progress × N → Type 0
-  Handed f rows old new = Hands progress name form_of pick_of (piece line json) wants next f rows old new
+  Handed f rows old new = Hands progress name form_of pick_of (piece line json) wants f rows old new
 
   abbrev pub look : S → Progress × N
   look s = (progress s, name s)
 
-  of_rows : (rows : List Row) (from to : S) → Passed rows from to → Handed (form_of from) (chosen wants next (pick_of from) rows) (look from) (look to)
-  of_rows rows from to h = wanted_rows progress name form_of pick_of (piece line json) wants next rows (form_of from) from to refl h
+  of_rows : (rows : List Row) (from to : S) → Passed rows from to → Handed (form_of from) (filter (wants (pick_of from)) rows) (look from) (look to)
+  of_rows rows from to h = wanted_rows progress name form_of pick_of (piece line json) wants rows (form_of from) from to refl h
 
   module _ (AreRows : List Row → Type 0) (from to : S) where
     -- those that were picked
     abbrev ArePicked : List Row → Type 0
-    ArePicked these = (rows : List Row) × AreRows rows × (these ≡ chosen wants next (pick_of from) rows)
+    ArePicked these = (rows : List Row) × AreRows rows × (these ≡ filter (wants (pick_of from)) rows)
 
     one_picked : ((xs ys : List Row) → AreRows xs → AreRows ys → xs ≡ ys) → (xs ys : List Row) → ArePicked xs → ArePicked ys → xs ≡ ys
-    one_picked one xs ys (rows, are, is) (others, are_too, is_too) = is ∙ ap (chosen wants next (pick_of from)) (one rows others are are_too) ∙ sym is_too
+    one_picked one xs ys (rows, are, is) (others, are_too, is_too) = is ∙ ap (filter (wants (pick_of from))) (one rows others are are_too) ∙ sym is_too
 
     took_picked : ((rows : List Row) × Passed rows from to) → (rows : List Row) × Handed (form_of from) rows (look from) (look to)
-    took_picked (rows, h) = (chosen wants next (pick_of from) rows, of_rows rows from to h)
+    took_picked (rows, h) = (filter (wants (pick_of from)) rows, of_rows rows from to h)
 
     all_picked : (read : Result (Unit {0}) ActFault) → OnOk read ((rows : List Row) × AreRows rows × Passed rows from to)
         → OnOk read ((rows : List Row) × ArePicked rows × Handed (form_of from) rows (look from) (look to))
-    all_picked (Ok x) (rows, are, h) = (chosen wants next (pick_of from) rows, (rows, are, refl), of_rows rows from to h)
+    all_picked (Ok x) (rows, are, h) = (filter (wants (pick_of from)) rows, (rows, are, refl), of_rows rows from to h)
     all_picked (Err e) all = tt
 
     part_picked : (read : Result (Unit {0}) ActFault) → OnErr read ((rows : List Row) → AreRows rows → (n : ℕ) × Passed (take n rows) from to)
@@ -65,7 +65,7 @@ module _ {S P Row N : Type 0} (progress : S → Progress) (name : S → N) (form
     part_picked (Err e) part = λ these picked.
         let rows : List Row = picked.0 in
         let some = part rows picked.1 in
-        let begun = beginning wants next rows (pick_of from) some.0 in
+        let begun = beginning (wants (pick_of from)) rows some.0 in
         let handed = subst (λ (l : List Row). Handed (form_of from) l (look from) (look to)) begun.1 (of_rows (take some.0 rows) from to some.1) in
         (begun.0, subst (λ (l : List Row). Handed (form_of from) (take begun.0 l) (look from) (look to)) (sym picked.2) handed)
 
@@ -73,13 +73,13 @@ module _ {S P Row N : Type 0} (progress : S → Progress) (name : S → N) (form
     IsPickedText = IsText (λ (q : Progress × N). q.0) (piece line json (form_of from)) (end_piece (form_of from)) (λ q. q.1) ArePicked
 
     abbrev IsThisText : List ℕ → Type 0
-    IsThisText = IsTextOf (form_of from) line json AreRows (chosen wants next (pick_of from))
+    IsThisText = IsTextOf (form_of from) line json AreRows (filter (wants (pick_of from)))
 
     as_text : (t : List ℕ) → IsPickedText t → IsThisText t
     as_text t (these, (rows, are, is), text) = (rows, are, text ∙ in_form line json (form_of from) these ∙ ap (rows_text (form_of from) line json) is)
 
     as_picked : (t : List ℕ) → IsThisText t → IsPickedText t
-    as_picked t (rows, are, text) = (chosen wants next (pick_of from) rows, (rows, are, refl), text ∙ sym (in_form line json (form_of from) (chosen wants next (pick_of from) rows)))
+    as_picked t (rows, are, text) = (filter (wants (pick_of from)) rows, (rows, are, refl), text ∙ sym (in_form line json (form_of from) (filter (wants (pick_of from)) rows)))
 
     module _ (read : Result (Unit {0}) ActFault) (r : Result (Unit {0}) ReportFault) (new : S) where
       -- how the sink ended
@@ -101,7 +101,7 @@ module _ {S P Row N : Type 0} (progress : S → Progress) (name : S → N) (form
       unread_seen (Err e) unread none = let told = unread none in (told.0, ap look told.1)
 
       at_form : ((rows : List Row) × Passed rows from to) → Done (form_of to) → Done (form_of from)
-      at_form took done = subst Done (same_form progress name form_of pick_of (piece line json) wants next took.0 from to took.1) done
+      at_form took done = subst Done (same_form progress name form_of pick_of (piece line json) wants took.0 from to took.1) done
 
       pub ended_by : (Open : Type 0) → (progress from).rows ≡ 0 → (progress from).sent ≡ 0 → (progress from).cause ≡ None
           → ((rows : List Row) × Passed rows from to)
@@ -134,55 +134,53 @@ module _ {S P Row N : Type 0} (progress : S → Progress) (name : S → N) (form
           (took_picked took) (cut_seen cut) (unread_seen read unread) (at_form took done)
 
 -- a listing that was begun by a new sink
-module _ {P Row : Type 0} (line : Row → List ℕ) (json : Row → Data) (AreRows : List Row → Type 0) (wants : P → Row → Bool) (next : P → Row → P)
+module _ {P Row : Type 0} (line : Row → List ℕ) (json : Row → Data) (AreRows : List Row → Type 0) (wants : P → Row → Bool)
     (Open : Type 0) {f g : Form} (form_is : f ≡ g) {p q : P} (pick_is : p ≡ q) {waiting front : List ℕ} (waiting_is : waiting ≡ front) {old given : Given} (given_is : old ≡ given) (new : Given) (r : Result (Unit {0}) ReportFault) where
-  pub new_ended : HasEndedBy Open (IsTextOf f line json AreRows (chosen wants next p)) waiting old new r → HasEndedBy Open (IsTextOf g line json AreRows (chosen wants next q)) front given new r
-  new_ended h = subst (λ (T : Type 0). T) (λ i. HasEndedBy Open (IsTextOf (form_is i) line json AreRows (chosen wants next (pick_is i))) (waiting_is i) (given_is i) new r) h
+  pub new_ended : HasEndedBy Open (IsTextOf f line json AreRows (filter (wants p))) waiting old new r → HasEndedBy Open (IsTextOf g line json AreRows (filter (wants q))) front given new r
+  new_ended h = subst (λ (T : Type 0). T) (λ i. HasEndedBy Open (IsTextOf (form_is i) line json AreRows (filter (wants (pick_is i)))) (waiting_is i) (given_is i) new r) h
 
-  pub new_ended_each : HasEndedEach Open (IsTextOf f line json AreRows (chosen wants next p)) waiting old new r → HasEndedEach Open (IsTextOf g line json AreRows (chosen wants next q)) front given new r
-  new_ended_each h = subst (λ (T : Type 0). T) (λ i. HasEndedEach Open (IsTextOf (form_is i) line json AreRows (chosen wants next (pick_is i))) (waiting_is i) (given_is i) new r) h
+  pub new_ended_each : HasEndedEach Open (IsTextOf f line json AreRows (filter (wants p))) waiting old new r → HasEndedEach Open (IsTextOf g line json AreRows (filter (wants q))) front given new r
+  new_ended_each h = subst (λ (T : Type 0). T) (λ i. HasEndedEach Open (IsTextOf (form_is i) line json AreRows (filter (wants (pick_is i)))) (waiting_is i) (given_is i) new r) h
 
--- the chosen rows by what they are
-module _ {P Row : Type 0} (line : Row → List ℕ) (json : Row → Data) (wants : P → Row → Bool) (next : P → Row → P) (pick : P) (picked : List Row → List Row)
-    (same : (rows : List Row) → chosen wants next pick rows ≡ picked rows) (f : Form) (Open : Type 0) (front : List ℕ) (old new : Given) (r : Result (Unit {0}) ReportFault) where
-  module _ (AreRows : List Row → Type 0) where
-    abbrev Chosen : List ℕ → Type 0
-    Chosen = IsTextOf f line json AreRows (chosen wants next pick)
+-- every row of a reader
+module _ {Row : Type 0} (line : Row → List ℕ) (json : Row → Data) (f : Form) (AreRows : List Row → Type 0) (Open : Type 0) (front : List ℕ) (old new : Given) (r : Result (Unit {0}) ReportFault) where
+  abbrev Wanted : List ℕ → Type 0
+  Wanted = IsTextOf f line json AreRows (filter (λ row. true))
 
-    abbrev Listed : List ℕ → Type 0
-    Listed = IsTextOf f line json AreRows picked
+  abbrev Every : List ℕ → Type 0
+  Every = IsTextOf f line json AreRows (λ rows. rows)
 
-    to_list : (t : List ℕ) → Chosen t → Listed t
-    to_list t (rows, are, text) = (rows, are, text ∙ ap (rows_text f line json) (same rows))
+  to_every : (t : List ℕ) → Wanted t → Every t
+  to_every t (rows, are, text) = (rows, are, text ∙ ap (rows_text f line json) (all_rows rows))
 
-    from_list : (t : List ℕ) → Listed t → Chosen t
-    from_list t (rows, are, text) = (rows, are, text ∙ sym (ap (rows_text f line json) (same rows)))
+  from_every : (t : List ℕ) → Every t → Wanted t
+  from_every t (rows, are, text) = (rows, are, text ∙ sym (ap (rows_text f line json) (all_rows rows)))
 
-    pub list_ended : HasEndedBy Open Chosen front old new r → HasEndedBy Open Listed front old new r
-    list_ended = known_as Open Chosen Listed front old new r to_list from_list
+  pub every_ended : HasEndedBy Open Wanted front old new r → HasEndedBy Open Every front old new r
+  every_ended = known_as Open Wanted Every front old new r to_every from_every
 
-    pub list_each : HasEndedEach Open Chosen front old new r → HasEndedEach Open Listed front old new r
-    list_each = each_known_as Open Chosen Listed front old new r from_list
-
-  module _ (these : List Row) where
-    abbrev These : List ℕ → Type 0
-    These = IsTextOf f line json (λ rows. rows ≡ these) (chosen wants next pick)
-
-    abbrev IsOne : List ℕ → Type 0
-    IsOne t = t ≡ rows_text f line json (picked these)
-
-    to_one : (t : List ℕ) → These t → IsOne t
-    to_one t (rows, are, text) = text ∙ ap (rows_text f line json) (same rows ∙ ap picked are)
-
-    from_one : (t : List ℕ) → IsOne t → These t
-    from_one t text = (these, refl, text ∙ sym (ap (rows_text f line json) (same these)))
-
-    pub one_ended : HasEndedBy Open These front old new r → HasEndedBy Open IsOne front old new r
-    one_ended = known_as Open These IsOne front old new r to_one from_one
-
-    pub one_each : HasEndedEach Open These front old new r → HasEndedEach Open IsOne front old new r
-    one_each = each_known_as Open These IsOne front old new r from_one
+  pub every_each : HasEndedEach Open Wanted front old new r → HasEndedEach Open Every front old new r
+  every_each = each_known_as Open Wanted Every front old new r from_every
 
 -- rows that are one list
+module _ {Row : Type 0} (line : Row → List ℕ) (json : Row → Data) (f : Form) (these : List Row) (Open : Type 0) (front : List ℕ) (old new : Given) (r : Result (Unit {0}) ReportFault) where
+  abbrev These : List ℕ → Type 0
+  These = IsTextOf f line json (λ rows. rows ≡ these) (λ rows. rows)
+
+  abbrev IsOne : List ℕ → Type 0
+  IsOne t = t ≡ rows_text f line json these
+
+  to_one : (t : List ℕ) → These t → IsOne t
+  to_one t (rows, are, text) = text ∙ ap (rows_text f line json) are
+
+  from_one : (t : List ℕ) → IsOne t → These t
+  from_one t text = (these, refl, text)
+
+  pub one_ended : HasEndedBy Open These front old new r → HasEndedBy Open IsOne front old new r
+  one_ended = known_as Open These IsOne front old new r to_one from_one
+
+  pub one_each : HasEndedEach Open These front old new r → HasEndedEach Open IsOne front old new r
+  one_each = each_known_as Open These IsOne front old new r from_one
+
 pub only : {Row : Type 0} (list : List Row) (these others : List Row) → these ≡ list → others ≡ list → these ≡ others
 only list these others are are_too = are ∙ sym are_too

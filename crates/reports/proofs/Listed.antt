@@ -1,14 +1,16 @@
 -- The worked listings, computed.
 use Rattle.std.proofs.Common.{◌≡◌, true, [], ◌∷◌, refl}
-use Rattle.std.specs.Prelude.{codes, filter, drop}
+use Rattle.std.specs.Prelude.{codes, filter}
 use Rattle.std.specs.Fmt.{digits}
 use Rattle.serde_json.proofs.OnLiterals.{serde_json_on_literals}
 use Rattle.jiff_core.specs.Calendar.{days_of_years, days_of_months, day_count, days_from_civil}
 use Rattle.desk_commands.specs.Day.{day_line}
-use Rattle.station_core.specs.Readers.{shed_rows, irregular_rows, book_rows, pending_messages, trail_rows}
+use Rattle.station_core.specs.Readers.{shed_rows, irregular_rows, book_by, book_rows, pending_messages, trail_by}
+use Rattle.station_core.specs.declared.rows.BookQuery.TheVariants.{After, Last, Of}
+use Rattle.station_core.specs.declared.rows.TrailQuery.TheVariants as trail
 use Rattle.station_core.specs.declared.rows.FlightRow.{FlightRow}
 use Rattle.reports.specs.Lines.{stock_line, shed_line, flight_line, expected_line, irregular_line, book_line, message_lines, trail_line}
-use Rattle.reports.specs.Listings.{rows_text, is_open, is_awaited, is_held_by, moves_waybill, is_after, tells_of}
+use Rattle.reports.specs.Listings.{rows_text, is_open, is_awaited, is_held_by}
 use Rattle.reports.specs.Objects.{stock_data, shed_data, flight_data, expected_data, irregular_data, book_data, message_data, trail_data}
 use Rattle.reports.specs.declared.form.Form.TheVariants.{Text, Json}
 use Rattle.reports.proofs.Examples.{printed, stock_runs, received, departed, told, short, flight_row, checked_row, jfk, on_the_day}
@@ -54,7 +56,7 @@ example_expected_object = refl
 
 -- The movements of a waybill, and those after a number.
 
-example_moves : rows_text Text book_line book_data (filter (moves_waybill 201234567) (book_rows received.cargo))
+example_moves : rows_text Text book_line book_data (book_by (Of 201234567) received.cargo)
     ≡ printed (codes "       1 2026-01-12 10:30 020-12345675 HAND      FREE        10   100.0 -" ∷ codes "END 1" ∷ [])
 unfolding digits day_line
 example_moves = refl
@@ -64,30 +66,40 @@ example_moves_object : rows_text Json book_line book_data (book_rows received.ca
 unfolding digits day_line serde_json_on_literals
 example_moves_object = refl
 
-example_moves_of_another : rows_text Text book_line book_data (filter (moves_waybill 201234568) (book_rows departed.cargo)) ≡ printed (codes "END 0" ∷ [])
+example_moves_of_another : rows_text Text book_line book_data (book_by (Of 201234568) departed.cargo) ≡ printed (codes "END 0" ∷ [])
 unfolding digits day_line
 example_moves_of_another = refl
 
-example_after : rows_text Text book_line book_data (filter (is_after 2) (book_rows departed.cargo))
+example_after : rows_text Text book_line book_data (book_by (After 2) departed.cargo)
     ≡ printed (codes "       3 2026-01-12 12:00 020-12345675 BUILT     DEPARTED     4    40.0 LH400/2026-01-12" ∷ codes "END 1" ∷ [])
 unfolding digits day_line
 example_after = refl
 
-example_after_object : rows_text Json book_line book_data (filter (is_after 1) (book_rows departed.cargo))
+example_after_object : rows_text Json book_line book_data (book_by (After 1) departed.cargo)
     ≡ printed (codes "{\"rows\":[{\"number\":2,\"date\":\"2026-01-12\",\"time\":\"12:00\",\"awb\":\"020-12345675\",\"from\":\"FREE\",\"to\":\"BUILT\",\"pieces\":4,\"tenths\":400,\"flight\":\"LH400/2026-01-12\"},{\"number\":3,\"date\":\"2026-01-12\",\"time\":\"12:00\",\"awb\":\"020-12345675\",\"from\":\"BUILT\",\"to\":\"DEPARTED\",\"pieces\":4,\"tenths\":400,\"flight\":\"LH400/2026-01-12\"}],\"count\":2}" ∷ [])
 unfolding digits day_line serde_json_on_literals
 example_after_object = refl
 
--- The trail of a waybill, and its lines after the first.
+-- the last movement
+example_last : rows_text Text book_line book_data (book_by (Last 1) departed.cargo)
+    ≡ printed (codes "       3 2026-01-12 12:00 020-12345675 BUILT     DEPARTED     4    40.0 LH400/2026-01-12" ∷ codes "END 1" ∷ [])
+unfolding digits day_line
+example_last = refl
 
-example_trail_of : rows_text Json trail_line trail_data (filter (tells_of 201234567) (trail_rows told.cargo))
-    ≡ printed (codes "{\"rows\":[{\"awb\":\"020-12345675\",\"line\":\"ARR/LH400/12JAN/JFK\"}],\"count\":1}" ∷ [])
+-- The trail of a waybill, its lines after the first, and the last ones.
+
+example_trail_of : rows_text Json trail_line trail_data (trail_by (trail.Of 201234567) told.cargo)
+    ≡ printed (codes "{\"rows\":[{\"number\":1,\"awb\":\"020-12345675\",\"line\":\"ARR/LH400/12JAN/JFK\"}],\"count\":1}" ∷ [])
 unfolding digits day_line serde_json_on_literals
 example_trail_of = refl
 
-example_trail_after : rows_text Text trail_line trail_data (drop 1 (trail_rows told.cargo)) ≡ printed (codes "END 0" ∷ [])
+example_trail_after : rows_text Text trail_line trail_data (trail_by (trail.After 1) told.cargo) ≡ printed (codes "END 0" ∷ [])
 unfolding digits day_line
 example_trail_after = refl
+
+example_trail_last : rows_text Text trail_line trail_data (trail_by (trail.Last 2) told.cargo) ≡ printed (codes "020-12345675 ARR/LH400/12JAN/JFK" ∷ codes "END 1" ∷ [])
+unfolding digits day_line
+example_trail_last = refl
 
 -- Whole reports as JSON.
 

@@ -1,5 +1,5 @@
 -- Members behind one another are an object's.
-use Rattle.std.proofs.Common.{◌≡◌, ◌∙◌, ap, ℕ, ◌+◌, ◌-◌, List, [], ◌∷◌, ◌++◌, append_assoc, codes, decimal}
+use Rattle.std.proofs.Common.{◌≡◌, ◌∙◌, ap, refl, ℕ, ◌+◌, ◌-◌, List, [], ◌∷◌, ◌++◌, append_assoc, codes, decimal}
 use Rattle.serde_json.proofs.OnLiterals.{serde_json_on_literals}
 use Rattle.serde_json.specs.Data.{boolean, string}
 use Rattle.serde_json.specs.Written.{compact_text}
@@ -22,7 +22,8 @@ use Rattle.station_core.specs.declared.rows.BookRow.{BookRow}
 use Rattle.reports.specs.Layout.{clock_text}
 use Rattle.reports.specs.Lines.{place_text}
 use Rattle.reports.specs.Members.{amount_members, flight_members, holder_members, moment_members, numbered_members, place_members, route_members, serial_members}
-use Rattle.reports.specs.Objects.{amount_data, book_data, expected_data, flight_data, flight_or_null, holder_word, holder_name, irregular_data, message_data, trail_data, shed_data, stock_data}
+use Rattle.reports.specs.declared.manifest.ManifestRow.{ManifestRow}
+use Rattle.reports.specs.Objects.{amount_data, book_data, expected_data, flight_data, flight_or_null, holder_word, holder_name, irregular_data, manifest_data, message_data, trail_data, shed_data, stock_data}
 
 two : (k a l b x : List ℕ) → (k ++ (a ++ (l ++ b))) ++ x ≡ k ++ (a ++ (l ++ (b ++ x)))
 two k a l b x = simp append_assoc
@@ -50,6 +51,11 @@ pub irregular_whole : (row : IrregularRow) → codes "{" ++ (route_members row.a
     ++ (codes ",\"found\":" ++ (compact_text (amount_data row.found) ++ codes "}"))))) ≡ compact_text (irregular_data row)
 unfolding serde_json_on_literals
 irregular_whole row = ap (λ t. codes "{" ++ t) (route_more row.awb row.origin row.destination _)
+
+pub manifest_whole : (row : ManifestRow) → codes "{\"awb\":" ++ (compact_text (string (number_text row.awb)) ++ (codes ",\"built\":" ++ (compact_text (amount_data row.built)
+    ++ (codes ",\"departed\":" ++ (compact_text (amount_data row.departed) ++ codes "}"))))) ≡ compact_text (manifest_data row)
+unfolding serde_json_on_literals
+manifest_whole row = refl
 
 serial_more : (run : StockRun) (x : List ℕ) → serial_members run ++ x
     ≡ codes "\"prefix\":" ++ (compact_text (string (padded 3 (prefix_of run.first))) ++ (codes ",\"first\":" ++ (compact_text (string (padded 7 (serial_of run.first)))
@@ -114,7 +120,10 @@ pub message_put : (old : List ℕ) (row : Message) → ((old ++ (codes "{\"numbe
 unfolding serde_json_on_literals
 message_put old row = put old (codes "{\"number\":") (decimal row.number) (codes ",\"text\":") (compact_text (string row.text)) (125 ∷ [])
 
--- a waybill and a line
-pub trail_put : (old : List ℕ) (row : TrailRow) → ((old ++ (codes "{\"awb\":" ++ (compact_text (string (number_text row.awb)) ++ codes ",\"line\":"))) ++ compact_text (string row.line)) ++ 125 ∷ [] ≡ old ++ compact_text (trail_data row)
+-- a number, a waybill and a line
+put_more : (old k a m b l t x : List ℕ) → ((old ++ (k ++ (a ++ (m ++ (b ++ l))))) ++ t) ++ x ≡ old ++ (k ++ (a ++ (m ++ (b ++ (l ++ (t ++ x))))))
+put_more old k a m b l t x = simp append_assoc
+
+pub trail_put : (old : List ℕ) (row : TrailRow) → ((old ++ (codes "{\"number\":" ++ (decimal row.number ++ (codes ",\"awb\":" ++ (compact_text (string (number_text row.awb)) ++ codes ",\"line\":"))))) ++ compact_text (string row.line)) ++ 125 ∷ [] ≡ old ++ compact_text (trail_data row)
 unfolding serde_json_on_literals
-trail_put old row = put old (codes "{\"awb\":") (compact_text (string (number_text row.awb))) (codes ",\"line\":") (compact_text (string row.line)) (125 ∷ [])
+trail_put old row = put_more old (codes "{\"number\":") (decimal row.number) (codes ",\"awb\":") (compact_text (string (number_text row.awb))) (codes ",\"line\":") (compact_text (string row.line)) (125 ∷ [])

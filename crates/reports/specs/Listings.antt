@@ -1,5 +1,5 @@
 -- Listings of a station's rows: a report, or some rows of one, in the form of lines or of JSON.
-use Rattle.std.specs.Prelude.{◌≡◌, ℕ, ◌==◌, Bool, false, not, nat_lt, if◌then◌else◌, Option, Some, List, [], ◌∷◌, ◌++◌, length, filter, drop, codes, option_map}
+use Rattle.std.specs.Prelude.{◌≡◌, ℕ, Bool, false, not, if◌then◌else◌, Option, Some, List, [], ◌∷◌, ◌++◌, length, filter, codes, option_map}
 use Rattle.std.specs.Str.{bytes_eq}
 use Rattle.serde_json.specs.Data.{Data, array, Items, item, no_items}
 use Rattle.serde_json.specs.Written.{compact_text}
@@ -7,14 +7,18 @@ use Rattle.agent_stock.specs.Runs.{AreStockRuns}
 use Rattle.agent_stock.specs.declared.runs.StockRun.{StockRun}
 use Rattle.agent_stock.specs.declared.stock.Holder.{Holder}
 use Rattle.agent_stock.specs.declared.stock.Holder.TheVariants.{Agent}
+use Rattle.shipment_machine.specs.declared.flight.FlightDate.{FlightDate}
 use Rattle.station_core.specs.declared.rows.FlightRow.{FlightRow}
 use Rattle.station_core.specs.declared.rows.ExpectedRow.{ExpectedRow}
-use Rattle.station_core.specs.declared.rows.BookRow.{BookRow}
-use Rattle.station_core.specs.declared.rows.TrailRow.{TrailRow}
-use Rattle.station_core.specs.Readers.{shed_rows, AreFlightRows, AreExpectedRows, irregular_rows, book_rows, pending_messages, trail_rows}
+use Rattle.station_core.specs.declared.rows.BookQuery.{BookQuery}
+use Rattle.station_core.specs.declared.rows.BookQuery.TheVariants as book
+use Rattle.station_core.specs.declared.rows.TrailQuery.{TrailQuery}
+use Rattle.station_core.specs.declared.rows.TrailQuery.TheVariants as trail
+use Rattle.station_core.specs.Readers.{shed_rows, AreFlightRows, AreExpectedRows, irregular_rows, book_by, pending_messages, trail_by}
 use Rattle.station_core.specs.Step.{State}
-use Rattle.reports.specs.Lines.{stock_line, shed_line, flight_line, expected_line, irregular_line, book_line, message_lines, trail_line, report_text}
-use Rattle.reports.specs.Objects.{object_of, count_data, stock_data, shed_data, flight_data, expected_data, irregular_data, book_data, message_data, trail_data}
+use Rattle.reports.specs.Lines.{stock_line, shed_line, flight_line, expected_line, irregular_line, manifest_line, book_line, message_lines, trail_line, report_text}
+use Rattle.reports.specs.Objects.{object_of, count_data, stock_data, shed_data, flight_data, expected_data, irregular_data, manifest_data, book_data, message_data, trail_data}
+use Rattle.reports.specs.Manifest.{manifest_rows}
 use Rattle.reports.specs.Reports.{report_called}
 use Rattle.reports.specs.declared.form.Form.{Form}
 use Rattle.reports.specs.declared.form.Form.TheVariants as form
@@ -61,18 +65,18 @@ is_agent code _ = false
 abbrev pub is_held_by : List ℕ → StockRun → Bool
 is_held_by code run = is_agent code run.holder
 
--- a movement of this waybill, and one with a greater number
-abbrev pub moves_waybill : ℕ → BookRow → Bool
-moves_waybill w row = row.movement.awb == w
-
-abbrev pub is_after : ℕ → BookRow → Bool
-is_after n row = nat_lt n row.number
-
--- a line of this waybill's
-abbrev pub tells_of : ℕ → TrailRow → Bool
-tells_of w row = row.awb == w
-
 -- The listings.
+
+-- the movements that are asked for, and the lines of the trail
+abbrev pub IsMovements : Form → State → BookQuery → List ℕ → Type 0
+IsMovements f s query text = text ≡ rows_text f book_line book_data (book_by query s.cargo)
+
+abbrev pub IsTrail : Form → State → TrailQuery → List ℕ → Type 0
+IsTrail f s query text = text ≡ rows_text f trail_line trail_data (trail_by query s.cargo)
+
+-- what is on a flight
+abbrev pub IsManifest : Form → State → FlightDate → List ℕ → Type 0
+IsManifest f s flight text = text ≡ rows_text f manifest_line manifest_data (manifest_rows s.cargo flight)
 
 -- a whole report in a form
 abbrev pub IsWhole : Form → State → Report → List ℕ → Type 0
@@ -81,8 +85,8 @@ IsWhole f s report.Shed text = text ≡ rows_text f shed_line shed_data (shed_ro
 IsWhole f s report.Flights text = (rows : List FlightRow) × AreFlightRows s.cargo rows × (text ≡ rows_text f flight_line flight_data rows)
 IsWhole f s report.Expected text = (rows : List ExpectedRow) × AreExpectedRows s.cargo rows × (text ≡ rows_text f expected_line expected_data rows)
 IsWhole f s report.Irregularities text = text ≡ rows_text f irregular_line irregular_data (irregular_rows s.cargo)
-IsWhole f s report.Movements text = text ≡ rows_text f book_line book_data (book_rows s.cargo)
-IsWhole f s report.Trail text = text ≡ rows_text f trail_line trail_data (trail_rows s.cargo)
+IsWhole f s report.Movements text = IsMovements f s book.All text
+IsWhole f s report.Trail text = IsTrail f s trail.All text
 IsWhole f s report.Pending text = text ≡ rows_text f message_lines message_data (pending_messages s.cargo)
 
 -- the text is that listing of the state in that form
@@ -94,10 +98,13 @@ IsListing f s listing.OpenExpected text =
     (rows : List ExpectedRow) × AreExpectedRows s.cargo rows × (text ≡ rows_text f expected_line expected_data (filter is_awaited rows))
 IsListing f s (listing.AgentStock code) text =
     (rows : List StockRun) × AreStockRuns s.cargo.holders rows × (text ≡ rows_text f stock_line stock_data (filter (is_held_by code) rows))
-IsListing f s (listing.Movements w) text = text ≡ rows_text f book_line book_data (filter (moves_waybill w) (book_rows s.cargo))
-IsListing f s (listing.MovementsAfter n) text = text ≡ rows_text f book_line book_data (filter (is_after n) (book_rows s.cargo))
-IsListing f s (listing.Trail w) text = text ≡ rows_text f trail_line trail_data (filter (tells_of w) (trail_rows s.cargo))
-IsListing f s (listing.TrailAfter n) text = text ≡ rows_text f trail_line trail_data (drop n (trail_rows s.cargo))
+IsListing f s (listing.Movements w) text = IsMovements f s (book.Of w) text
+IsListing f s (listing.MovementsAfter n) text = IsMovements f s (book.After n) text
+IsListing f s (listing.MovementsLast n) text = IsMovements f s (book.Last n) text
+IsListing f s (listing.Trail w) text = IsTrail f s (trail.Of w) text
+IsListing f s (listing.TrailAfter n) text = IsTrail f s (trail.After n) text
+IsListing f s (listing.TrailLast n) text = IsTrail f s (trail.Last n) text
+IsListing f s (listing.Manifest flight) text = IsManifest f s flight text
 
 -- the listing of a name: a report's, or one of open rows
 abbrev pub listing_called : List ℕ → Option Listing

@@ -21,6 +21,7 @@ use Rattle.station_core.specs.declared.rows.Message.{Message}
 use Rattle.station_core.specs.declared.rows.TrailRow.{TrailRow}
 use Rattle.reports.specs.Layout.{clock_text}
 use Rattle.reports.specs.Lines.{place_text}
+use Rattle.reports.specs.declared.manifest.ManifestRow.{ManifestRow}
 
 -- an object of these members, in order
 abbrev pub members_of : List (List ℕ × Data) → Members
@@ -77,6 +78,11 @@ flight_data row =
     ∷ (codes "pieces", count_data row.pieces) ∷ (codes "tenths", count_data row.tenths)
     ∷ (codes "closed", boolean row.noted.outbound.closed) ∷ [])
 
+-- What is on a flight: the waybill, what is built for the flight, and what left with it.
+abbrev pub manifest_data : ManifestRow → Data
+manifest_data row =
+    object_of ((codes "awb", string (number_text row.awb)) ∷ (codes "built", amount_data row.built) ∷ (codes "departed", amount_data row.departed) ∷ [])
+
 -- What flights are to bring: the flight, its day, the waybill, its route, what is expected, and
 -- whether it was checked in.
 abbrev pub expected_data : ExpectedRow → Data
@@ -104,6 +110,7 @@ book_data row =
 abbrev pub message_data : Message → Data
 message_data row = object_of ((codes "number", count_data row.number) ∷ (codes "text", string row.text) ∷ [])
 
--- The trail: the waybill and the line that arrived.
+-- The trail: the number, the waybill and the line that arrived.
 abbrev pub trail_data : TrailRow → Data
-trail_data row = object_of ((codes "awb", string (number_text row.awb)) ∷ (codes "line", string row.line) ∷ [])
+trail_data row =
+    object_of ((codes "number", count_data row.number) ∷ (codes "awb", string (number_text row.awb)) ∷ (codes "line", string row.line) ∷ [])

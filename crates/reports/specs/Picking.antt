@@ -1,17 +1,11 @@
 -- Rows that are picked out of those that are handed out.
-use Rattle.std.specs.Prelude.{◌≡◌, ℕ, ◌<◌, length, Bool, true, false, if◌then◌else◌, List, [], ◌∷◌}
+use Rattle.std.specs.Prelude.{◌≡◌, ℕ, ◌<◌, length, Bool, true, false, List}
 use Rattle.reports.specs.Progress.{Progress, Takes}
 
 -- a wanted row adds its piece, and any other adds nothing
 abbrev pub TakesWanted : Bool → List ℕ → Progress → Bool → Progress → Type 0
 TakesWanted true piece old go new = Takes piece old go new
 TakesWanted false piece old go new = (go ≡ true) × (new ≡ old)
-
--- the rows that are wanted, where each row may change what is wanted of those after it
-abbrev pub chosen : {P Row : Type 0} → (P → Row → Bool) → (P → Row → P) → P → List Row → List Row
-chosen wants next pick [] = []
-chosen wants next pick (row ∷ rows) =
-    if wants pick row then row ∷ chosen wants next (next pick row) rows else chosen wants next (next pick row) rows
 
 -- there is one list of these rows at most
 abbrev pub AreOne : {Row : Type 0} → (List Row → Type 0) → Type 0

@@ -5,6 +5,7 @@ ghost use Rattle.reports.specs.Listings.{listing_called};
 use crate::report::Report;
 use agent_stock::AgentCode;
 use awb_number::Awb;
+use shipment_machine::FlightDate;
 
 /// Rows of a station that are listed, in the order of the report that has all of them.
 #[derive(Clone, Copy, Debug, PartialEq, Eq)]
@@ -21,10 +22,16 @@ pub enum Listing {
     Movements(Awb),
     /// The movements whose number is greater.
     MovementsAfter(u32),
-    /// The lines of the trail of a waybill.
+    /// The last movements, at most this many.
+    MovementsLast(u32),
+    /// The lines of the trail of a waybill, with their numbers in the trail.
     Trail(Awb),
-    /// The lines of the trail after this many first lines. The first line has number 1.
+    /// The lines of the trail whose number is greater. The first line has number 1.
     TrailAfter(u32),
+    /// The last lines of the trail, at most this many.
+    TrailLast(u32),
+    /// The waybills on a flight, ascending: what is built for it now, and what left with it.
+    Manifest(FlightDate),
 }
 
 impl Listing {

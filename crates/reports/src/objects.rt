@@ -10,9 +10,10 @@ ghost use Rattle.desk_commands.specs.Day.{day_line};
 ghost use Rattle.reports.specs.Layout.{clock_text};
 ghost use Rattle.reports.specs.Lines.{place_text};
 ghost use Rattle.reports.specs.Members.{amount_members, flight_members, holder_members, moment_members, numbered_members, place_members, route_members, serial_members};
-ghost use Rattle.reports.specs.Objects.{amount_data, book_data, expected_data, flight_data, flight_or_null, holder_name, holder_word, irregular_data, shed_data, stock_data};
+ghost use Rattle.reports.specs.Objects.{amount_data, book_data, expected_data, flight_data, flight_or_null, holder_name, holder_word, irregular_data, manifest_data, shed_data, stock_data};
 
 use crate::layout::{clock, seven_digits};
+use crate::manifest::ManifestRow;
 use crate::quoting::quoted;
 use crate::rows::place_name;
 use agent_stock::{Holder, StockRun};
@@ -197,7 +198,7 @@ fn flight_or_null(alloc: Global, flight: &Option<FlightDate>) -> Result<String, 
 }
 
 /// The last serial of a run.
-fn last_serial(run: &StockRun) -> [u8; 7]
+pub(crate) fn last_serial(run: &StockRun) -> [u8; 7]
     ensures value { result ≡ padded 7 (serial_of run.now.first + run.now.count - 1) }
     ensures ascii { IsAscii result }
 {
@@ -255,6 +256,16 @@ pub(crate) fn irregular_object(alloc: Global, row: &IrregularRow) -> Result<Stri
     let missing = amount_object(alloc, &row.missing)?;
     let found = amount_object(alloc, &row.found)?;
     format!(in alloc; "{{{route},\"missing\":{missing},\"found\":{found}}}")
+}
+
+/// A waybill on a flight.
+pub(crate) fn manifest_object(alloc: Global, row: &ManifestRow) -> Result<String, AllocError>
+    ensures { IfOk result (λ text. string_bytes text ≡ compact_text (manifest_data row.now)) }
+{
+    let awb = awb_text(alloc, &row.awb)?;
+    let built = amount_object(alloc, &row.built)?;
+    let departed = amount_object(alloc, &row.departed)?;
+    format!(in alloc; "{{\"awb\":{awb},\"built\":{built},\"departed\":{departed}}}")
 }
 
 /// A flight, and what is built on it.

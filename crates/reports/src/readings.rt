@@ -1,12 +1,12 @@
 //! What a keeper hands out for each report.
 ghost use Rattle.std.specs.Prelude.{◌≡◌};
 ghost use Rattle.agent_stock.specs.Runs.{AreStockRuns};
-ghost use Rattle.station_core.specs.Readers.{shed_rows, AreFlightRows, AreExpectedRows, irregular_rows, book_rows, pending_messages, trail_rows};
+ghost use Rattle.station_core.specs.Readers.{shed_rows, AreFlightRows, AreExpectedRows, irregular_rows, book_by, pending_messages, trail_by};
 
 use agent_stock::StockRun;
 use station_core::{
-    ActFault, BookRow, ExpectedRow, FlightRow, IrregularRow, Keeper, Message, ShedRow, Sink,
-    TrailRow,
+    ActFault, BookQuery, BookRow, ExpectedRow, FlightRow, IrregularRow, Keeper, Message, ShedRow,
+    Sink, TrailQuery, TrailRow,
 };
 
 /// A reader of rows.
@@ -16,12 +16,16 @@ pub(crate) trait Reading<Row> {
     ghost use Rattle.station_core.specs.Keeping.{HandsOut};
 
     /// The rows are these.
-    ghost rows: { Cargo → List Row → Type 0 };
+    ghost rows: { Self → Cargo → List Row → Type 0 };
 
     /// Has a keeper hand out the rows.
-    fn hand_out<K: Keeper, S: Sink<Row>>(keeper: &mut K, sink: &mut S) -> Result<(), ActFault>
+    fn hand_out<K: Keeper, S: Sink<Row>>(
+        &self,
+        keeper: &mut K,
+        sink: &mut S,
+    ) -> Result<(), ActFault>
         ensures { HandsOut K.keeps K.is_clean K.is_sound K.is_broken K.may_find
-            keeper.old keeper.new result S.takes rows sink.old sink.new };
+            keeper.old keeper.new result S.takes (rows self.now) sink.old sink.new };
 }
 
 /// The runs of the stock.
@@ -29,9 +33,10 @@ pub(crate) trait Reading<Row> {
 pub(crate) struct StockReading;
 
 impl Reading<StockRun> for StockReading {
-    ghost rows = { λ s rows. AreStockRuns s.holders rows };
+    ghost rows = { λ reading s rows. AreStockRuns s.holders rows };
 
     fn hand_out<K: Keeper, S: Sink<StockRun>>(
+        &self,
         keeper: &mut K,
         sink: &mut S,
     ) -> Result<(), ActFault> {
@@ -44,9 +49,13 @@ impl Reading<StockRun> for StockReading {
 pub(crate) struct ShedReading;
 
 impl Reading<ShedRow> for ShedReading {
-    ghost rows = { λ s rows. rows ≡ shed_rows s };
+    ghost rows = { λ reading s rows. rows ≡ shed_rows s };
 
-    fn hand_out<K: Keeper, S: Sink<ShedRow>>(keeper: &mut K, sink: &mut S) -> Result<(), ActFault> {
+    fn hand_out<K: Keeper, S: Sink<ShedRow>>(
+        &self,
+        keeper: &mut K,
+        sink: &mut S,
+    ) -> Result<(), ActFault> {
         keeper.shed(sink)
     }
 }
@@ -56,9 +65,10 @@ impl Reading<ShedRow> for ShedReading {
 pub(crate) struct FlightReading;
 
 impl Reading<FlightRow> for FlightReading {
-    ghost rows = { λ s rows. AreFlightRows s rows };
+    ghost rows = { λ reading s rows. AreFlightRows s rows };
 
     fn hand_out<K: Keeper, S: Sink<FlightRow>>(
+        &self,
         keeper: &mut K,
         sink: &mut S,
     ) -> Result<(), ActFault> {
@@ -71,9 +81,10 @@ impl Reading<FlightRow> for FlightReading {
 pub(crate) struct ExpectedReading;
 
 impl Reading<ExpectedRow> for ExpectedReading {
-    ghost rows = { λ s rows. AreExpectedRows s rows };
+    ghost rows = { λ reading s rows. AreExpectedRows s rows };
 
     fn hand_out<K: Keeper, S: Sink<ExpectedRow>>(
+        &self,
         keeper: &mut K,
         sink: &mut S,
     ) -> Result<(), ActFault> {
@@ -86,9 +97,10 @@ impl Reading<ExpectedRow> for ExpectedReading {
 pub(crate) struct IrregularReading;
 
 impl Reading<IrregularRow> for IrregularReading {
-    ghost rows = { λ s rows. rows ≡ irregular_rows s };
+    ghost rows = { λ reading s rows. rows ≡ irregular_rows s };
 
     fn hand_out<K: Keeper, S: Sink<IrregularRow>>(
+        &self,
         keeper: &mut K,
         sink: &mut S,
     ) -> Result<(), ActFault> {
@@ -96,15 +108,21 @@ impl Reading<IrregularRow> for IrregularReading {
     }
 }
 
-/// The movement book.
+/// Movements of the movement book.
 #[derive(Drop)]
-pub(crate) struct BookReading;
+pub(crate) struct BookReading {
+    pub(crate) query: BookQuery,
+}
 
 impl Reading<BookRow> for BookReading {
-    ghost rows = { λ s rows. rows ≡ book_rows s };
+    ghost rows = { λ reading s rows. rows ≡ book_by reading.query s };
 
-    fn hand_out<K: Keeper, S: Sink<BookRow>>(keeper: &mut K, sink: &mut S) -> Result<(), ActFault> {
-        keeper.book(sink)
+    fn hand_out<K: Keeper, S: Sink<BookRow>>(
+        &self,
+        keeper: &mut K,
+        sink: &mut S,
+    ) -> Result<(), ActFault> {
+        keeper.book_by(&self.query, sink)
     }
 }
 
@@ -113,24 +131,31 @@ impl Reading<BookRow> for BookReading {
 pub(crate) struct PendingReading;
 
 impl Reading<Message> for PendingReading {
-    ghost rows = { λ s rows. rows ≡ pending_messages s };
+    ghost rows = { λ reading s rows. rows ≡ pending_messages s };
 
-    fn hand_out<K: Keeper, S: Sink<Message>>(keeper: &mut K, sink: &mut S) -> Result<(), ActFault> {
+    fn hand_out<K: Keeper, S: Sink<Message>>(
+        &self,
+        keeper: &mut K,
+        sink: &mut S,
+    ) -> Result<(), ActFault> {
         keeper.pending(sink)
     }
 }
 
-/// The trail.
+/// Lines of the trail.
 #[derive(Drop)]
-pub(crate) struct TrailReading;
+pub(crate) struct TrailReading {
+    pub(crate) query: TrailQuery,
+}
 
 impl Reading<TrailRow> for TrailReading {
-    ghost rows = { λ s rows. rows ≡ trail_rows s };
+    ghost rows = { λ reading s rows. rows ≡ trail_by reading.query s };
 
     fn hand_out<K: Keeper, S: Sink<TrailRow>>(
+        &self,
         keeper: &mut K,
         sink: &mut S,
     ) -> Result<(), ActFault> {
-        keeper.trail(sink)
+        keeper.trail_by(&self.query, sink)
     }
 }

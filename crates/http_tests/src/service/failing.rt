@@ -3,8 +3,8 @@ use agent_stock::{Holder, StockRun};
 use awb_number::Awb;
 use plain_station::PlainStation;
 use station_core::{
-    ActFault, BookRow, ExpectedRow, FlightRow, Input, IrregularRow, Keeper, Message, Reply,
-    ShedRow, Sink, TrailRow, Waybill,
+    ActFault, BookQuery, BookRow, ExpectedRow, FlightRow, Input, IrregularRow, Keeper, Message,
+    Reply, ShedRow, Sink, TrailQuery, TrailRow, Waybill,
 };
 use station_days::Moment;
 
@@ -106,11 +106,15 @@ impl Keeper for Failing {
         self.station.irregular(sink)
     }
 
-    fn book<S: Sink<BookRow>>(&mut self, sink: &mut S) -> Result<(), ActFault> {
+    fn book_by<S: Sink<BookRow>>(
+        &mut self,
+        query: &BookQuery,
+        sink: &mut S,
+    ) -> Result<(), ActFault> {
         if self.is_broken {
             return Err(ActFault::Reopen);
         }
-        self.station.book(sink)
+        self.station.book_by(query, sink)
     }
 
     fn pending<S: Sink<Message>>(&mut self, sink: &mut S) -> Result<(), ActFault> {
@@ -120,10 +124,14 @@ impl Keeper for Failing {
         self.station.pending(sink)
     }
 
-    fn trail<S: Sink<TrailRow>>(&mut self, sink: &mut S) -> Result<(), ActFault> {
+    fn trail_by<S: Sink<TrailRow>>(
+        &mut self,
+        query: &TrailQuery,
+        sink: &mut S,
+    ) -> Result<(), ActFault> {
         if self.is_broken {
             return Err(ActFault::Reopen);
         }
-        self.station.trail(sink)
+        self.station.trail_by(query, sink)
     }
 }

@@ -1,0 +1,37 @@
+-- The manifest of a flight: of each waybill what is built for the flight now, and what left with
+-- it.
+use Rattle.std.specs.Prelude.{ℕ, Bool, ◌&&◌, ◌||◌, ◌==◌, nat_lt, if◌then◌else◌, List, [], ◌∷◌}
+use Rattle.std.specs.List.{flat_map, sum_by}
+use Rattle.shipment_machine.specs.Amount.{amount}
+use Rattle.shipment_machine.specs.Book.{built, pieces_of, same_place, tenths_of, waybills_of}
+use Rattle.shipment_machine.specs.Cargo.{Cargo}
+use Rattle.shipment_machine.specs.declared.amount.Amount.{Amount}
+use Rattle.shipment_machine.specs.declared.flight.FlightDate.{FlightDate}
+use Rattle.shipment_machine.specs.declared.moves.Move.{Move}
+use Rattle.shipment_machine.specs.declared.moves.Place.TheVariants.{Built, Departed}
+use Rattle.reports.specs.declared.manifest.ManifestRow.{ManifestRow}
+
+-- whether a move takes what is built for a flight away with it
+abbrev pub leaves : FlightDate → Move → Bool
+leaves f m = same_place (Built f) m.from && same_place Departed m.to
+
+-- what left of a waybill with a flight: the sum of these moves
+abbrev pub takes_away : (Move → ℕ) → ℕ → FlightDate → Move → ℕ
+takes_away measure w f m = if (m.awb == w) && leaves f m then measure m else 0
+
+abbrev pub departed_with : List Move → ℕ → FlightDate → Amount
+departed_with book w f = amount (sum_by (takes_away pieces_of w f) book) (sum_by (takes_away tenths_of w f) book)
+
+-- a waybill's row, and whether it has pieces
+abbrev pub manifest_row : List Move → FlightDate → ℕ → ManifestRow
+manifest_row book f w = record { awb = w; built = built book w f; departed = departed_with book w f }
+
+abbrev pub has_pieces : ManifestRow → Bool
+has_pieces row = nat_lt 0 row.built.pieces || nat_lt 0 row.departed.pieces
+
+-- the rows with pieces, ascending by waybill
+abbrev pub manifest_of : List Move → FlightDate → List ManifestRow
+manifest_of book f = flat_map (λ w. if has_pieces (manifest_row book f w) then manifest_row book f w ∷ [] else []) (waybills_of book)
+
+abbrev pub manifest_rows : Cargo → FlightDate → List ManifestRow
+manifest_rows s f = manifest_of s.book f

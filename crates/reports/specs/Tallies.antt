@@ -1,0 +1,64 @@
+-- The sums of a flight's movements by waybill, as one pass over them makes them.
+use Rattle.std.specs.Prelude.{◌≡◌, ℕ, ◌+◌, ◌-◌, Bool, true, false, cond, if◌then◌else◌, Some, None, List, [], ◌∷◌}
+use Rattle.std.specs.BTreeMap.{get}
+use Rattle.std.specs.Option.{unwrap_or}
+use Rattle.std.specs.Ordering.{eq_by_cmp, nat_cmp}
+use Rattle.shipment_machine.specs.Amount.{amount}
+use Rattle.shipment_machine.specs.Book.{same_place}
+use Rattle.shipment_machine.specs.declared.flight.FlightDate.{FlightDate}
+use Rattle.shipment_machine.specs.declared.moves.Move.{Move}
+use Rattle.shipment_machine.specs.declared.moves.Place.TheVariants.{Built}
+use Rattle.reports.specs.Manifest.{has_pieces, leaves}
+use Rattle.reports.specs.declared.manifest.ManifestRow.{ManifestRow}
+use Rattle.reports.specs.declared.tallies.Count.{Count}
+use Rattle.reports.specs.declared.tallies.Tallies.{Tallies}
+use Rattle.reports.specs.declared.tallies.Tally.{Tally}
+
+-- a waybill without movements
+abbrev pub zero : Count
+zero = record { pieces = 0; tenths = 0 }
+
+abbrev pub nothing_of : ℕ → Tally
+nothing_of w = record { awb = w; brought = zero; removed = zero; departed = zero }
+
+-- a count with a movement more, if it is counted
+abbrev pub counted : Bool → Move → Count → Count
+counted true m c = record { pieces = c.pieces + m.pieces; tenths = c.tenths + m.tenths }
+counted false m c = c
+
+-- the sums of a waybill with a movement more
+abbrev pub with_move : FlightDate → Move → Tally → Tally
+with_move f m t = record {
+  awb = t.awb;
+  brought = counted (same_place (Built f) m.to) m t.brought;
+  removed = counted (same_place (Built f) m.from) m t.removed;
+  departed = counted (leaves f m) m t.departed;
+}
+
+-- the row that the sums make
+abbrev pub row_of : Tally → ManifestRow
+row_of t = record {
+  awb = t.awb;
+  built = amount (t.brought.pieces - t.removed.pieces) (t.brought.tenths - t.removed.tenths);
+  departed = amount t.departed.pieces t.departed.tenths;
+}
+
+abbrev pub listed : Tally → List ManifestRow
+listed t = if has_pieces (row_of t) then row_of t ∷ [] else []
+
+-- the sums of a waybill so far
+abbrev pub tally_in : Tallies → ℕ → Tally
+tally_in t w = unwrap_or (get nat_cmp t.by_number w) (nothing_of w)
+
+-- no movements yet
+pub record IsNew (f : FlightDate) (new : Tallies) : Type 0 where
+  pub flight : new.flight ≡ f
+  pub none : (w : ℕ) → get nat_cmp new.by_number w ≡ None
+  pub room : new.is_full ≡ false
+
+-- a movement is added to the sums of its waybill, or there is no room for it
+abbrev pub TakesMove : Tallies → Move → Bool → Tallies → Type 0
+TakesMove old m true new =
+    (new.flight ≡ old.flight) × (new.is_full ≡ old.is_full)
+    × ((w : ℕ) → get nat_cmp new.by_number w ≡ cond (eq_by_cmp nat_cmp m.awb w) (Some (with_move old.flight m (tally_in old m.awb))) (get nat_cmp old.by_number w))
+TakesMove old m false new = new.is_full ≡ true

@@ -1,0 +1,77 @@
+//! What is on a flight.
+ghost use Rattle.std.specs.Prelude.{◌≡◌, true, false, IfErr, IfOk, Err};
+ghost use Rattle.reports.specs.Manifest.{has_pieces, manifest_rows};
+ghost use Rattle.station_core.specs.Keeping.{IsReadersFault, OnlyReads};
+ghost use Rattle.station_core.specs.Step.{State};
+
+use crate::readings::Reading;
+use crate::tallies::Tallies;
+use awb_number::Awb;
+use shipment_machine::{Amount, FlightDate};
+use station_core::{ActFault, BookQuery, Keeper, Sink, hand_out};
+use std::alloc::Global;
+
+/// A waybill on a flight.
+#[derive(Clone, Copy, Debug, PartialEq, Eq)]
+pub struct ManifestRow {
+    pub awb: Awb,
+    /// What is built for the flight now.
+    pub built: Amount,
+    /// What left with the flight.
+    pub departed: Amount,
+}
+
+impl ManifestRow {
+    /// Whether it has pieces.
+    pub(crate) fn has_pieces(&self) -> bool
+        ensures { result ≡ has_pieces self.now }
+    {
+        self.built.pieces > 0 || self.departed.pieces > 0
+    }
+}
+
+/// The manifest of a flight. Its movements are read once.
+fn manifest_of<K: Keeper>(
+    alloc: Global,
+    keeper: &mut K,
+    flight: &FlightDate,
+) -> Result<Vec<ManifestRow>, ActFault>
+    ensures reopen { K.is_broken keeper.old ≡ true
+        → (result ≡ Err ActFault.Reopen) × (keeper.new ≡ keeper.old) }
+    ensures fault { K.is_broken keeper.old ≡ false → IfErr result IsReadersFault }
+    ensures reads { OnlyReads K.keeps K.is_clean K.is_sound K.is_broken K.may_find
+        keeper.old keeper.new }
+    ensures rows { (s : State) → K.keeps keeper.old s → K.is_sound keeper.new
+        → IfOk result (λ rows. rows.items ≡ manifest_rows s.cargo flight.now) }
+{
+    let mut tallies = Tallies::new(alloc, flight);
+    match keeper.book_by(&BookQuery::On(*flight), &mut tallies) {
+        Ok(()) => tallies.rows(alloc),
+        Err(fault) => Err(fault),
+    }
+}
+
+/// What is on a flight.
+#[derive(Drop)]
+pub(crate) struct ManifestReading {
+    pub(crate) alloc: Global,
+    pub(crate) flight: FlightDate,
+}
+
+impl Reading<ManifestRow> for ManifestReading {
+    ghost rows = { λ reading s rows. rows ≡ manifest_rows s reading.flight };
+
+    fn hand_out<K: Keeper, S: Sink<ManifestRow>>(
+        &self,
+        keeper: &mut K,
+        sink: &mut S,
+    ) -> Result<(), ActFault> {
+        match manifest_of(self.alloc, keeper, &self.flight) {
+            Ok(rows) => {
+                hand_out(sink, rows);
+                Ok(())
+            }
+            Err(fault) => Err(fault),
+        }
+    }
+}
