@@ -21,7 +21,8 @@ const PAGE_LEN: usize = 1024;
 
 /// What is said of a file whose tables aren't declared as `init` declares them.
 const NOT_AS_INIT: &str =
-    "init declares the tables otherwise, so the promises about a power failure aren't proved for this file; copy its rows into a new one";
+    "init declares the tables otherwise, so the promises about a power failure aren't proved \
+    for this file; copy its rows into a new one";
 
 /// Why a file isn't opened.
 #[derive(Clone, Copy, Debug, PartialEq, Eq)]

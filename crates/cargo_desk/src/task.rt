@@ -45,8 +45,8 @@ fn failed_late(rt: &HostRuntime, status: u8, fault: RunFault) -> u8 {
     }
 }
 
-/// Runs a stock list or the lines of `acts` over a connection to a file. Each answer goes out before
-/// the next row or line acts.
+/// Runs a stock list or the lines of `acts` over a connection to a file. Each answer is written
+/// before the next row or line acts.
 fn run_direct<S: Alter, R: Read + Drop>(
     rt: &HostRuntime,
     line: &Line<'_>,

@@ -26,8 +26,9 @@ fn run_station<S: Alter, I: Inputs + Read, W: ByteOut, E: ByteOut>(
     errors: &mut E,
     at: Moment,
 ) -> (u8, Connection<S>)
-    ensures { HasRunLine line.now ⟦<Station<S> as Keeper>⟧.keeps ⟦<Station<S> as Keeper>⟧.is_clean
-        ⟦<Station<S> as Keeper>⟧.is_sound ⟦<Station<S> as Keeper>⟧.is_broken ⟦<Station<S> as Keeper>⟧.may_find at
+    ensures { HasRunLine line.now ⟦<Station<S> as Keeper>⟧.keeps
+        ⟦<Station<S> as Keeper>⟧.is_clean ⟦<Station<S> as Keeper>⟧.is_sound
+        ⟦<Station<S> as Keeper>⟧.is_broken ⟦<Station<S> as Keeper>⟧.may_find at
         station I.remaining I.given I.turned reader.old reader.new
         (W.taken output.old) (W.taken output.new) E.taken errors.old errors.new result }
 {
@@ -46,10 +47,11 @@ fn run_opened<S: Alter, I: Inputs + Read, W: ByteOut, E: ByteOut>(
     errors: &mut E,
     at: Moment,
 ) -> (u8, Connection<S>)
-    ensures { HasEndedCall line.now ⟦<Station<S> as Keeper>⟧.keeps ⟦<Station<S> as Keeper>⟧.is_clean
-        ⟦<Station<S> as Keeper>⟧.is_sound ⟦<Station<S> as Keeper>⟧.is_broken ⟦<Station<S> as Keeper>⟧.may_find at
-        I.remaining I.given I.turned W.taken E.taken opened reader.old reader.new output.old output.new
-        errors.old errors.new result }
+    ensures { HasEndedCall line.now ⟦<Station<S> as Keeper>⟧.keeps
+        ⟦<Station<S> as Keeper>⟧.is_clean ⟦<Station<S> as Keeper>⟧.is_sound
+        ⟦<Station<S> as Keeper>⟧.is_broken ⟦<Station<S> as Keeper>⟧.may_find at
+        I.remaining I.given I.turned W.taken E.taken opened
+        reader.old reader.new output.old output.new errors.old errors.new result }
 {
     match opened {
         Ok(station) => run_station(alloc, line, station, reader, output, errors, at),
@@ -69,7 +71,8 @@ fn call_station<S: Alter, I: Inputs + Read, W: ByteOut, E: ByteOut>(
 ) -> (u8, Connection<S>)
     ensures { HasCalledStation S.Store line.now ⟦<Station<S> as Keeper>⟧.keeps
         ⟦<Station<S> as Keeper>⟧.is_clean ⟦<Station<S> as Keeper>⟧.is_sound
-        ⟦<Station<S> as Keeper>⟧.is_broken ⟦<Station<S> as Keeper>⟧.may_find at I.remaining I.given I.turned W.taken E.taken conn
+        ⟦<Station<S> as Keeper>⟧.is_broken ⟦<Station<S> as Keeper>⟧.may_find at
+        I.remaining I.given I.turned W.taken E.taken conn
         reader.old reader.new output.old output.new errors.old errors.new result }
 {
     let opened = open_station(alloc, line, conn);

@@ -1,5 +1,5 @@
 -- What a look at a telegram writes.
-use Rattle.std.specs.Prelude.{◌≡◌, ◌⊎◌, ℕ, Bool, false, not, Option, Some, List, [], ◌∷◌, ◌++◌}
+use Rattle.std.specs.Prelude.{◌≡◌, ◌⊎◌, ℕ, Bool, false, not, Option, Some, None, List, [], ◌∷◌, ◌++◌}
 use Rattle.imp_fields.specs.declared.fault.TextFault.{TextFault}
 use Rattle.shipment_machine.specs.declared.plans.Refusal.{Refusal}
 use Rattle.telegrams.specs.Meaning.{telegram_fault, refusal_of}
@@ -8,30 +8,63 @@ use Rattle.telegram_look.specs.LookText.{look_text}
 use Rattle.telegram_look.specs.declared.look.Look.{Look}
 use Rattle.station_core.specs.Given.{Given}
 use Rattle.station_core.specs.Texts.{refusal_text}
+use Rattle.input_reasons.specs.Reason.{is_unread}
+use Rattle.stock_list.specs.declared.answer.RunFault.{RunFault}
+use Rattle.stock_list.specs.declared.answer.RunFault.TheVariants as run_fault
+use Rattle.stock_list.specs.Ended.{IsReadersFault}
 use Rattle.cli_run.specs.Came.{HasCome}
+use Rattle.cli_run.specs.Ended.{HasToldPart}
+use Rattle.cli_run.specs.Explained.{telegram_head, HasToldWhy}
 
--- what is seen of a telegram, which is good where nothing of it is doubtful
-pub record HasLook (bytes text : List ℕ) (good : Bool) : Type 0 where
+-- what is seen of a telegram that was read; it is good if nothing of it is doubtful
+pub record HasLook (bytes text : List ℕ) (good unread : Bool) : Type 0 where
   pub look : Look
   pub is_look : IsLook bytes look
   pub text_is : text ≡ look_text look
   pub good_is : good ≡ not (has_doubt look)
+  pub unread_is : unread ≡ false
 
--- the refusal of bytes that are no telegram
-pub record HasRefusal (bytes text : List ℕ) (good : Bool) : Type 0 where
+-- the refusal of bytes that aren't a telegram
+pub record HasRefusal (bytes text : List ℕ) (good unread : Bool) : Type 0 where
   pub told : TextFault
   pub fault : telegram_fault bytes ≡ Some told
   pub text_is : text ≡ refusal_text (refusal_of told) ++ 10 ∷ []
   pub good_is : good ≡ false
+  pub unread_is : unread ≡ is_unread (refusal_of told)
 
--- the text of these bytes, and whether it is good
-abbrev pub IsSeen : List ℕ → List ℕ → Bool → Type 0
-IsSeen bytes text good = HasLook bytes text good ⊎ HasRefusal bytes text good
+-- the text of these bytes, whether it is good, and whether they have a reason on the errors
+abbrev pub IsSeen : List ℕ → List ℕ → Bool → Bool → Type 0
+IsSeen bytes text good unread = HasLook bytes text good unread ⊎ HasRefusal bytes text good unread
 
--- the bytes came, and what is seen of them was written
-pub record HasSeen (read_old read_new sent_old sent_new : Given) (good : Bool) : Type 0 where
+-- whether a refusal has a reason why a telegram can't be read; a telegram that was read has none
+abbrev pub has_reason : Option Refusal → Bool
+has_reason None = false
+has_reason (Some refusal) = is_unread refusal
+
+-- the bytes came, and what is seen of them was written; then the reason why they can't be read
+pub record HasSeen {E : Type 0} (read_old read_new sent_old sent_new : Given) (taken : E → Given)
+    (errors_old errors_new : E) (good : Bool) : Type 0 where
   pub bytes : List ℕ
   pub come : HasCome read_old read_new bytes
   pub text : List ℕ
-  pub seen : IsSeen bytes text good
+  pub unread : Bool
+  pub seen : IsSeen bytes text good unread
   pub written : sent_new.bytes ≡ sent_old.bytes ++ text
+  pub reason : HasToldWhy taken unread (telegram_head None) errors_old errors_new
+
+-- the bytes came, and the writer stopped after a beginning of what is seen of them
+pub record HasSeenPart (read_old read_new sent_old sent_new : Given) (e : RunFault) : Type 0 where
+  pub bytes : List ℕ
+  pub come : HasCome read_old read_new bytes
+  pub text : List ℕ
+  pub good : Bool
+  pub unread : Bool
+  pub seen : IsSeen bytes text good unread
+  pub why : e ≡ run_fault.Write
+  pub part : HasToldPart text sent_old sent_new e
+
+-- A look that a fault ended: the reader failed or memory ran out, and nothing was written; or the
+-- writer failed or took no byte, and a beginning of what is seen was written.
+abbrev pub HasStoppedLook : Given → Given → Given → Given → RunFault → Type 0
+HasStoppedLook read_old read_new sent_old sent_new e =
+    (IsReadersFault e × (sent_new ≡ sent_old)) ⊎ HasSeenPart read_old read_new sent_old sent_new e

@@ -1,7 +1,7 @@
 //! Commands and telegrams, one a line.
 ghost use Rattle.std.specs.Prelude.{◌≡◌, ◌<◌, false, Err, IfOk, OnOk};
 ghost use Rattle.std.specs.Io.Buffered.{reader_remaining};
-ghost use Rattle.stock_list.specs.Ended.{told_by, IsReadersFault};
+ghost use Rattle.stock_list.specs.Ended.{IsReadersFault};
 ghost use Rattle.cli_run.specs.Acts.{is_blank, HasAnsweredLine};
 ghost use Rattle.cli_run.specs.InTurn.{come, HaveBeenAnswered};
 
@@ -12,7 +12,7 @@ use station_days::Moment;
 use std::alloc::{AllocError, Global};
 use std::io;
 use std::io::{BufRead, BufReader, ErrorKind, Read};
-use stock_list::{RunFault, Watched};
+use stock_list::{RunFault, Watched, told_by};
 
 /// Whether a line has no byte but those of its end.
 fn is_blank(line: &[u8]) -> bool
@@ -104,29 +104,6 @@ fn run_lines<K: Keeper, R: BufRead + Drop, W: ByteOut, E: ByteOut>(
         }
     }
     Err(RunFault::Memory)
-}
-
-/// How a run is told, once it is known whether its reader has failed.
-fn told_by(ended: Result<bool, RunFault>, failed: bool) -> Result<bool, RunFault>
-    ensures { result ≡ told_by ended failed }
-{
-    match ended {
-        Ok(good) => {
-            if failed {
-                Err(RunFault::Read)
-            } else {
-                Ok(good)
-            }
-        }
-        Err(RunFault::Read) => {
-            if failed {
-                Err(RunFault::Read)
-            } else {
-                Err(RunFault::Memory)
-            }
-        }
-        Err(fault) => Err(fault),
-    }
 }
 
 /// Reads lines, each a command under its key or a telegram as JSON, gives each to the station after

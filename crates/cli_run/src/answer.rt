@@ -125,8 +125,9 @@ fn answer_input<K: Keeper, O: ByteOut, E: ByteOut>(
         (O.taken writer.old).bytes (O.taken writer.new).bytes (K.keeps keeper.new)) }
     ensures stopped { (s : State) → K.keeps keeper.old s → K.is_broken keeper.old ≡ false
         → K.is_sound keeper.new
-        → IfErr result (λ e. IsStopped number s (Asked.Input input.now) at e (O.taken writer.old).bytes
-        (O.taken writer.new).bytes (K.keeps keeper.new) (K.may_find keeper.new)) }
+        → IfErr result (λ e. IsStopped number s (Asked.Input input.now) at e
+        (O.taken writer.old).bytes (O.taken writer.new).bytes
+        (K.keeps keeper.new) (K.may_find keeper.new)) }
     ensures read { result ≡ Err RunFault.Read → ⊥ }
     ensures write { result ≡ Err RunFault.Write
         → HasCause (O.taken writer.old) (O.taken writer.new) }
@@ -137,7 +138,8 @@ fn answer_input<K: Keeper, O: ByteOut, E: ByteOut>(
         ⊎ (O.taken writer.new ≡ O.taken writer.old)) }
     ensures same { K.is_broken keeper.old ≡ true → keeper.new ≡ keeper.old }
     ensures reopen { K.is_broken keeper.old ≡ true
-        → IsAnsweredShut number (Asked.Input input.now) (O.taken writer.old) (O.taken writer.new) result }
+        → IsAnsweredShut number (Asked.Input input.now) (O.taken writer.old) (O.taken writer.new)
+        result }
     ensures reasons { HasExplained number K.keeps K.is_sound K.is_broken (Asked.Input input.now) at
         keeper.old keeper.new E.taken errors.old errors.new result }
 {
@@ -167,8 +169,8 @@ fn answer_refusal<O: ByteOut, E: ByteOut>(
     ensures stopped { IfErr result
         (HasToldPart (numbered number (refusal_text refusal.now ++ 10 ∷ [])) (O.taken writer.old)
         (O.taken writer.new)) }
-    ensures told { HasToldLine (numbered number (refusal_text refusal.now ++ 10 ∷ [])) (O.taken writer.old)
-        (O.taken writer.new) result }
+    ensures told { HasToldLine (numbered number (refusal_text refusal.now ++ 10 ∷ []))
+        (O.taken writer.old) (O.taken writer.new) result }
     ensures write_told { IfErr result (λ e. (e ≡ RunFault.Write)
         ⊎ IsUntroubled (O.taken writer.old) (O.taken writer.new)) }
     ensures untroubled { OnOk result (IsUntroubled (O.taken writer.old) (O.taken writer.new)) }

@@ -93,8 +93,9 @@ pub(crate) fn do_waybill<K: Keeper, W: ByteOut>(
     ensures still { K.is_sound keeper.old → K.is_clean keeper.new → K.is_sound keeper.new }
     ensures sound { K.is_sound keeper.new → K.is_sound keeper.old }
     ensures works { K.is_broken keeper.old ≡ false → OnOk result (K.is_broken keeper.new ≡ false) }
-    ensures looked { HasLookedUp (waybill_found number.now) K.keeps K.is_clean K.is_sound K.is_broken
-        K.may_find keeper.old keeper.new (W.taken output.old) (W.taken output.new) result }
+    ensures looked { HasLookedUp (waybill_found number.now) K.keeps K.is_clean K.is_sound
+        K.is_broken K.may_find keeper.old keeper.new (W.taken output.old) (W.taken output.new)
+        result }
 {
     match keeper.waybill(number) {
         Ok(known) => tell_waybill(alloc, number, &known, output),

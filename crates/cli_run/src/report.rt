@@ -79,8 +79,9 @@ fn send_report<K: Keeper, W: ByteOut>(
     form: Form,
     output: &mut W,
 ) -> Result<(), RunFault>
-    ensures { HasToldReport (λ s. IsListing form s listing.now) K.keeps K.is_clean K.is_sound K.is_broken
-        K.may_find keeper.old keeper.new (W.taken output.old) (W.taken output.new) result }
+    ensures { HasToldReport (λ s. IsListing form s listing.now) K.keeps K.is_clean K.is_sound
+        K.is_broken K.may_find keeper.old keeper.new (W.taken output.old) (W.taken output.new)
+        result }
 {
     run_report(alloc, keeper, listing, form, output)
 }
@@ -97,8 +98,9 @@ pub(crate) fn do_report<K: Keeper, W: ByteOut>(
     ensures still { K.is_sound keeper.old → K.is_clean keeper.new → K.is_sound keeper.new }
     ensures sound { K.is_sound keeper.new → K.is_sound keeper.old }
     ensures works { K.is_broken keeper.old ≡ false → OnOk result (K.is_broken keeper.new ≡ false) }
-    ensures reported { HasReportedGood (λ s. IsListing form s listing.now) K.keeps K.is_clean K.is_sound
-        K.is_broken K.may_find keeper.old keeper.new (W.taken output.old) (W.taken output.new) result }
+    ensures reported { HasReportedGood (λ s. IsListing form s listing.now) K.keeps K.is_clean
+        K.is_sound K.is_broken K.may_find keeper.old keeper.new
+        (W.taken output.old) (W.taken output.new) result }
 {
     good_of(send_report(alloc, keeper, listing, form, output))
 }

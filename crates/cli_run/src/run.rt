@@ -131,9 +131,9 @@ fn do_act<K: Keeper, I: ByteIn, W: ByteOut, E: ByteOut>(
     run_act(alloc, keeper, verb, key, reader, output, errors, at)
 }
 
-/// Runs the command of a line over its station, at a moment. `serve`, `migrate` and `read` aren't run here:
-/// nothing is done or written. Why a row, a telegram or a body can't be read is written on
-/// `errors`.
+/// Runs the command of a line over its station, at a moment. `serve`, `migrate` and `read` aren't
+/// run here: nothing is done or written. Why a row, a telegram or a body can't be read is written
+/// on `errors`.
 ///
 /// `Ok` says whether all was accepted. Returns [`RunFault::Read`], [`RunFault::Write`],
 /// [`RunFault::Memory`] or [`RunFault::Store`] where the run stopped, as its command's own call

@@ -1,12 +1,14 @@
 //! A look at a telegram before it is taken.
-ghost use Rattle.std.specs.Prelude.{◌≡◌, ◌⊎◌, ◌++◌, ◌∷◌, [], false, not, Err, IfOk, IfErr, OnOk, string_bytes};
+ghost use Rattle.std.specs.Prelude.{◌≡◌, ◌⊎◌, ◌++◌, ◌∷◌, [], None, Some, false, not, Err, IfOk, IfErr, OnOk, OnErr, string_bytes};
 ghost use Rattle.station_core.specs.Ends.{HasCause};
-ghost use Rattle.stock_list.specs.Ended.{IsUntroubled};
-ghost use Rattle.cli_run.specs.Came.{HasFailed, IsWithin, most_bytes};
-ghost use Rattle.cli_run.specs.Seen.{HasSeen, IsSeen};
 ghost use Rattle.station_core.specs.Texts.{refusal_text};
+ghost use Rattle.stock_list.specs.Ended.{IsUntroubled};
 ghost use Rattle.telegram_look.specs.Look.{has_doubt};
 ghost use Rattle.telegram_look.specs.LookText.{look_text};
+ghost use Rattle.cli_run.specs.Came.{HasFailed, IsWithin, most_bytes};
+ghost use Rattle.cli_run.specs.Ended.{HasToldPart};
+ghost use Rattle.cli_run.specs.Explained.{telegram_head, HasToldWhy};
+ghost use Rattle.cli_run.specs.Seen.{has_reason, HasSeen, HasStoppedLook, IsSeen};
 
 use crate::answer::refusal_line;
 use crate::reading::read_input;
@@ -30,7 +32,7 @@ struct Seen {
 /// What is seen of a telegram.
 fn seen_look(alloc: Global, look: &Look<'_>) -> Result<Seen, AllocError>
     ensures { IfOk result (λ seen. (string_bytes seen.text ≡ look_text look.now)
-        × (seen.good ≡ not (has_doubt look.now))) }
+        × (seen.good ≡ not (has_doubt look.now)) × (seen.refusal ≡ None)) }
 {
     let text = look_text(alloc, look)?;
     Ok(Seen {
@@ -43,7 +45,7 @@ fn seen_look(alloc: Global, look: &Look<'_>) -> Result<Seen, AllocError>
 /// The refusal of what is no telegram.
 fn seen_refusal(alloc: Global, refusal: Refusal) -> Result<Seen, AllocError>
     ensures { IfOk result (λ seen. (string_bytes seen.text ≡ refusal_text refusal ++ 10 ∷ [])
-        × (seen.good ≡ false)) }
+        × (seen.good ≡ false) × (seen.refusal ≡ Some refusal)) }
 {
     let text = refusal_line(alloc, None, &refusal)?;
     Ok(Seen {
@@ -55,12 +57,24 @@ fn seen_refusal(alloc: Global, refusal: Refusal) -> Result<Seen, AllocError>
 
 /// What is seen of bytes.
 fn seen_of(alloc: Global, bytes: &[u8]) -> Result<Seen, AllocError>
-    ensures { IfOk result (λ seen. IsSeen bytes.now (string_bytes seen.text) seen.good) }
+    ensures { IfOk result (λ seen. IsSeen bytes.now (string_bytes seen.text) seen.good
+        (has_reason seen.refusal)) }
 {
     match look_at(alloc, bytes) {
         Ok(look) => seen_look(alloc, &look),
         Err(TelegramFault::Refused(refusal)) => seen_refusal(alloc, refusal),
         Err(TelegramFault::Memory) => Err(AllocError),
+    }
+}
+
+/// Writes why a telegram can't be read, if it was refused.
+fn tell_seen<E: ByteOut>(alloc: Global, errors: &mut E, refusal: &Option<Refusal>)
+    ensures { HasToldWhy E.taken (has_reason refusal.now) (telegram_head None) errors.old
+        errors.new }
+{
+    match refusal {
+        Some(refusal) => tell_refusal(alloc, errors, None, refusal),
+        None => {}
     }
 }
 
@@ -74,39 +88,58 @@ fn write_seen<O: ByteOut, E: ByteOut>(
     ensures good { IfOk result (λ good. good ≡ seen.now.good) }
     ensures written { OnOk result ((O.taken writer.new).bytes ≡ (O.taken writer.old).bytes ++
         string_bytes seen.now.text) }
+    ensures reason { OnOk result (HasToldWhy E.taken (has_reason seen.now.refusal)
+        (telegram_head None) errors.old errors.new) }
     ensures untroubled { OnOk result (IsUntroubled (O.taken writer.old) (O.taken writer.new)) }
-    ensures stopped { IfErr result (λ e. e ≡ RunFault.Write) }
+    ensures why { IfErr result (λ e. e ≡ RunFault.Write) }
+    ensures part { IfErr result (HasToldPart (string_bytes seen.now.text) (O.taken writer.old)
+        (O.taken writer.new)) }
     ensures write_cause { result ≡ Err RunFault.Write
         → HasCause (O.taken writer.old) (O.taken writer.new) }
+    ensures quiet { OnErr result (errors.new ≡ errors.old) }
 {
     send_line(writer, seen.text.as_str())?;
-    if let Some(refusal) = &seen.refusal {
-        tell_refusal(alloc, errors, None, refusal);
-    }
+    tell_seen(alloc, errors, &seen.refusal);
     Ok(seen.good)
 }
 
-/// Reads one telegram and writes what the desk would read of it, in lines for people; or the refusal
-/// with which it would be refused, with its reason on `errors`. No station is asked. `Ok` says
-/// whether it is a telegram of which nothing is doubtful.
+/// Reads one telegram and writes what the desk would read of it, in lines for people; or the
+/// refusal with which it would be refused. Then its reason is written on `errors`, after the line.
+/// No station is asked. `Ok` says whether it is a telegram of which nothing is doubtful.
 ///
-/// Returns [`RunFault::Read`] where the reader fails, and [`RunFault::Memory`] when out of memory:
-/// nothing was written. Returns [`RunFault::Write`] where the writer fails.
+/// Returns [`RunFault::Read`] if the reader fails, and [`RunFault::Memory`] when out of memory:
+/// nothing was written. Returns [`RunFault::Write`] if the writer fails: a beginning of the text or
+/// of the refusal's line was written. At each of them nothing was written on `errors`.
 pub fn run_read<I: ByteIn, O: ByteOut, E: ByteOut>(
     alloc: Global,
     reader: &mut I,
     writer: &mut O,
     errors: &mut E,
 ) -> Result<bool, RunFault>
-    ensures seen { IfOk result
-        (HasSeen (I.given reader.old) (I.given reader.new) (O.taken writer.old) (O.taken writer.new)) }
+    // The text of the bytes that came was written, and the reason of a refusal that has one, or a
+    // beginning of that reason.
+    ensures seen { IfOk result (HasSeen (I.given reader.old) (I.given reader.new)
+        (O.taken writer.old) (O.taken writer.new) E.taken errors.old errors.new) }
     ensures untroubled { OnOk result (IsUntroubled (O.taken writer.old) (O.taken writer.new)) }
+
+    // At a fault nothing was written, or a beginning of that text, and nothing goes to the errors.
+    ensures stopped { IfErr result (HasStoppedLook (I.given reader.old) (I.given reader.new)
+        (O.taken writer.old) (O.taken writer.new)) }
+    ensures quiet { OnErr result (errors.new ≡ errors.old) }
     ensures read_cause { result ≡ Err RunFault.Read
         → HasFailed (I.given reader.old) (I.given reader.new) }
+    ensures read_told { IfErr result (λ e. (e ≡ RunFault.Read)
+        ⊎ ((I.given reader.new).failures ≡ (I.given reader.old).failures)) }
     ensures write_cause { result ≡ Err RunFault.Write
         → HasCause (O.taken writer.old) (O.taken writer.new) }
+    ensures write_told { IfErr result (λ e. (e ≡ RunFault.Write)
+        ⊎ IsUntroubled (O.taken writer.old) (O.taken writer.new)) }
+
+    // At any fault but the writer's nothing was written.
     ensures unwritten { IfErr result (λ e. (e ≡ RunFault.Write)
         ⊎ (O.taken writer.new ≡ O.taken writer.old)) }
+
+    // Of an input that is too long only a beginning is read.
     ensures most { IsWithin most_bytes (I.given reader.old) (I.given reader.new) }
 {
     let bytes = read_input(alloc, reader)?;

@@ -1,2 +1,4 @@
 pub mod Line
+pub mod Listed
+pub mod Number
 pub mod Version

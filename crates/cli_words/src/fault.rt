@@ -26,6 +26,9 @@ pub(crate) enum BadValue<'a> {
     CheckDigit(&'a str),
     Agent(&'a str),
     After(&'a str),
+    Last(&'a str),
+    /// It isn't a flight and its day.
+    Flight(&'a str),
     /// The report has no such part.
     Part(&'a str),
     Port(&'a str),
@@ -34,6 +37,8 @@ pub(crate) enum BadValue<'a> {
     Init,
     /// `migrate` without a file.
     Migrate,
+    /// `report manifest` without a flight.
+    Manifest,
 }
 
 /// What is wanted where a key stands.
@@ -50,12 +55,15 @@ const CHECK_DIGIT: &str =
 
 /// What is wanted where no report's name stands.
 const REPORT_NAME: &str =
-    "NAME is wanted: stock, shed, flights, expected, irregularities, movements or trail";
+    "NAME is wanted: stock, shed, flights, expected, irregularities, movements, trail or manifest";
 
 /// Which part of which report can be had.
 const PART: &str =
-    "only flights and expected take --open, only stock takes --agent, only movements and trail take \
-    --awb or --after; a report takes one of them";
+    "only flights and expected take --open, only stock takes --agent, only movements and trail \
+    take --awb, --after or --last, only manifest takes FLIGHT; a report takes one of them";
+
+/// What is expected as the flight of a manifest.
+const FLIGHT: &str = "FLIGHT is wanted: a flight, a slash and its day, as LH400/2026-01-12";
 
 /// The word and what is wanted in its place.
 fn told_of(alloc: Global, word: &str, wanted: &str) -> Result<String, AllocError> {
@@ -77,6 +85,8 @@ impl BadValue<'_> {
                 "--agent wants a code: 1 to 11 upper-case letters or digits",
             ),
             BadValue::After(word) => (word, "--after wants a number from 0 to 4294967295"),
+            BadValue::Last(word) => (word, "--last wants a number from 0 to 4294967295"),
+            BadValue::Flight(word) => (word, FLIGHT),
             BadValue::Part(name) => {
                 return format!(in alloc; "report {name}: {PART}");
             }
@@ -87,6 +97,9 @@ impl BadValue<'_> {
             }
             BadValue::Migrate => {
                 return String::from_str(alloc, "migrate needs --db FILE before it");
+            }
+            BadValue::Manifest => {
+                return String::from_str(alloc, "report manifest needs FLIGHT after it");
             }
         };
         told_of(alloc, word, wanted)
@@ -104,7 +117,8 @@ pub(crate) fn value_fault(alloc: Global, bad: BadValue<'_>) -> WordsFault {
 /// The fault of words of which this is said, with how to call the program.
 pub fn usage_fault(alloc: Global, told: &str) -> WordsFault {
     match format!(in alloc;
-        "error: {told}\n\nUsage: cargo_desk [OPTIONS] <COMMAND>\n\nFor more information, try '--help'.\n"
+        "error: {told}\n\nUsage: cargo_desk [OPTIONS] <COMMAND>\n\n\
+        For more information, try '--help'.\n"
     ) {
         Ok(text) => WordsFault::Usage(text),
         Err(_) => WordsFault::Memory,

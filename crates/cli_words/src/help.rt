@@ -58,7 +58,8 @@ prints
 pub(crate) const TAKE: &str = "Takes telegrams (FWB, FFM or FSU), one from each file";
 
 pub(crate) const TAKE_EXAMPLES: &str = "\
-Prints a line for each file, in the order of the files: `ok 10`, with the count, or the refusal, such
+Prints a line for each file, in the order of the files: `ok 10`, with the count, or the refusal, \
+such
 as `refused 301 4 ending`. If a telegram can't be read (301, 302), standard error says why. A file
 that can't be read ends the call with `fault read`; the files before it are answered, those after it
 are not taken.
@@ -80,15 +81,19 @@ again under the same key acts once. Prints `ok 3`, the refusal, such as `refused
 or `body bad`; then standard error says why.
 
 Example:
-  echo '{\"prefix\":\"020\",\"serial\":\"1234570\",\"count\":3,\"agent\":\"ACME\"}' | cargo_desk act issue k2";
+  echo '{\"prefix\":\"020\",\"serial\":\"1234570\",\"count\":3,\"agent\":\"ACME\"}' \
+| cargo_desk act issue k2";
 
 pub(crate) const ACTS: &str =
     "Runs commands and takes telegrams, one JSON object a line on standard input";
 
 pub(crate) const ACTS_EXAMPLES: &str = "\
-A line is a command, {\"verb\":\"void\",\"key\":\"r1\",\"body\":{..}}, with the body that `act` takes, or a
-telegram, {\"telegram\":\"FWB/17\\r\\n..\"}. Each line is answered before the next one is run: a command
-by its key and the answer of `act`, a telegram by `line N` and the answer of `take`. Any other line is
+A line is a command, {\"verb\":\"void\",\"key\":\"r1\",\"body\":{..}}, with the body that `act` \
+takes, or a
+telegram, {\"telegram\":\"FWB/17\\r\\n..\"}. Each line is answered before the next one is run: \
+a command
+by its key and the answer of `act`, a telegram by `line N` and the answer of `take`. Any other \
+line is
 answered `line N bad`; standard error says why. Empty lines are skipped. A line has at most 69,632
 bytes.
 
@@ -101,14 +106,16 @@ pub(crate) const FIELDS: &str = "\
 The body has these fields, in any order, and no other. Texts: prefix, three digits; serial, seven;
 agent, 1 to 11 upper-case letters or digits; awb, a waybill number with its check digit; origin,
 destination and unload, airports; flight, such as LH400; date, from 2000-01-01 to 2099-12-31;
-airline, such as BA; name, up to 35, and goods, up to 15 printable characters, without a space at the
+airline, such as BA; name, up to 35, and goods, up to 15 printable characters, without a space at \
+the
 end. Numbers: count, 0 to 9999999; pieces, 1 to 9999; counted, 0 to 9999; tenths of a kilogram, 0 to
 99999990; upto, 0 to 4294967295.
 
 It is also refused 501 if KEY was used for a different command, and 402 if the station is full.";
 
 pub(crate) const KEY: &str =
-    "An idempotency key, 1 to 40 printable characters without spaces: sent again, the command acts once";
+    "An idempotency key, 1 to 40 printable characters without spaces: sent again, the command acts \
+    once";
 
 pub(crate) const OUTBOX: &str = "Prints the messages that you haven't confirmed";
 
@@ -141,7 +148,9 @@ Examples:
   cargo_desk --db fra.db report flights --open
   cargo_desk --db fra.db report stock --agent ACME
   cargo_desk --db fra.db report movements --awb 020-12345675
-  cargo_desk --db fra.db report movements --after 120 --json";
+  cargo_desk --db fra.db report movements --after 120 --json
+  cargo_desk --db fra.db report trail --last 20
+  cargo_desk --db fra.db report manifest LH400/2026-01-12";
 
 pub(crate) const OPEN: &str =
     "flights: those that haven't departed; expected: what isn't checked in";
@@ -152,8 +161,12 @@ pub(crate) const OF_AWB: &str = "movements, trail: the rows of this waybill";
 
 pub(crate) const AFTER: &str = "movements, trail: the rows after number N";
 
+pub(crate) const LAST: &str = "movements, trail: the last N rows";
+
+pub(crate) const FLIGHT: &str = "manifest: the flight and its day, such as LH400/2026-01-12";
+
 pub(crate) const REPORT_NAMES: &str =
-    "stock, shed, flights, expected, irregularities, movements or trail";
+    "stock, shed, flights, expected, irregularities, movements, trail or manifest";
 
 pub(crate) const AWB: &str = "A waybill number with its check digit, such as 020-12345675";
 

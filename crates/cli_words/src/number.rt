@@ -1,6 +1,6 @@
 //! The numbers of `serve` and of a report's rows.
 ghost use Rattle.std.specs.Prelude.{◌≤◌, IfSome};
-ghost use Rattle.cli_words.specs.Line.{IsNumber};
+ghost use Rattle.cli_words.specs.Number.{IsNumber};
 
 /// A port: 1 to 65535.
 pub(crate) fn read_port(text: &str) -> Option<u16>
@@ -24,7 +24,7 @@ pub(crate) fn read_count(text: &str) -> Option<u32>
     }
 }
 
-/// The number of a row: 0 to 4,294,967,295.
+/// The number of a row, or how many rows: 0 to 4,294,967,295.
 pub(crate) fn read_row(text: &str) -> Option<u32>
     ensures { IfSome result (IsNumber 32 text.now) }
 {

@@ -1,13 +1,16 @@
-//! Which part of a report the words of `report` ask for.
+//! Which report, or which part of one, the words of `report` ask for.
 ghost use Rattle.std.specs.Prelude.{◌≡◌, IfOk, IfSome};
-ghost use Rattle.cli_words.specs.Line.{form_of, HasAgent, HasPart, IsAfter, IsOpen, IsOfWaybill};
+ghost use Rattle.cli_words.specs.Listed.{form_of, HasAgent, HasPart, HasManifest, IsAfter, IsFlightDay, IsLast, IsListed, IsOpen, IsOfWaybill};
 
 use crate::fault::BadValue;
 use crate::number::read_row;
 use crate::read::read_number;
 use crate::words::ReportWords;
 use agent_stock::AgentCode;
+use desk_commands::read_day;
+use imp_fields::Flight;
 use reports::{Form, Listing, Report};
+use shipment_machine::FlightDate;
 
 /// The form that is asked for.
 pub(crate) fn form_of(json: bool) -> Form
@@ -66,19 +69,85 @@ fn later_part<'a>(report: Report, name: &'a str, word: &'a str) -> Result<Listin
     }
 }
 
+/// The last rows, so many of them.
+fn last_part<'a>(report: Report, name: &'a str, word: &'a str) -> Result<Listing, BadValue<'a>>
+    ensures { IfOk result (IsLast report word.entry.now) }
+{
+    let Some(number) = read_row(word) else {
+        return Err(BadValue::Last(word));
+    };
+    match report {
+        Report::Movements => Ok(Listing::MovementsLast(number)),
+        Report::Trail => Ok(Listing::TrailLast(number)),
+        _ => Err(BadValue::Part(name)),
+    }
+}
+
 /// What is wanted of a report.
-pub(crate) fn read_part<'a>(report: Report, words: ReportWords<'a>) -> Result<Listing, BadValue<'a>>
+fn read_part<'a>(report: Report, words: ReportWords<'a>) -> Result<Listing, BadValue<'a>>
     ensures { IfOk result (HasPart report words.entry) }
 {
-    match (words.open, words.agent, words.awb, words.after) {
-        (false, None, None, None) => Ok(Listing::All(report)),
-        (true, None, None, None) => match open_part(report) {
+    match (
+        words.flight,
+        words.open,
+        words.agent,
+        words.awb,
+        words.after,
+        words.last,
+    ) {
+        (None, false, None, None, None, None) => Ok(Listing::All(report)),
+        (None, true, None, None, None, None) => match open_part(report) {
             Some(listing) => Ok(listing),
             None => Err(BadValue::Part(words.name)),
         },
-        (false, Some(code), None, None) => agent_part(report, words.name, code),
-        (false, None, Some(number), None) => waybill_part(report, words.name, number),
-        (false, None, None, Some(number)) => later_part(report, words.name, number),
+        (None, false, Some(code), None, None, None) => agent_part(report, words.name, code),
+        (None, false, None, Some(number), None, None) => waybill_part(report, words.name, number),
+        (None, false, None, None, Some(number), None) => later_part(report, words.name, number),
+        (None, false, None, None, None, Some(number)) => last_part(report, words.name, number),
         _ => Err(BadValue::Part(words.name)),
+    }
+}
+
+/// The flight and its day that a text such as `LH400/2026-01-12` names.
+fn read_flight(text: &str) -> Option<FlightDate>
+    ensures { IfSome result (IsFlightDay text.now) }
+{
+    let (flight, day) = text.split_once("/")?;
+    let flight = Flight::read(flight.as_bytes())?;
+    let day = read_day(day.as_bytes())?;
+    Some(FlightDate { flight, day })
+}
+
+/// The manifest of a flight.
+fn read_manifest<'a>(words: ReportWords<'a>) -> Result<Listing, BadValue<'a>>
+    ensures { IfOk result (HasManifest words.entry) }
+{
+    match (
+        words.flight,
+        words.open,
+        words.agent,
+        words.awb,
+        words.after,
+        words.last,
+    ) {
+        (Some(text), false, None, None, None, None) => match read_flight(text) {
+            Some(flight) => Ok(Listing::Manifest(flight)),
+            None => Err(BadValue::Flight(text)),
+        },
+        (None, _, _, _, _, _) => Err(BadValue::Manifest),
+        _ => Err(BadValue::Part(words.name)),
+    }
+}
+
+/// The listing that the words of `report` ask for.
+pub(crate) fn read_listing<'a>(words: ReportWords<'a>) -> Result<Listing, BadValue<'a>>
+    ensures { IfOk result (IsListed words.entry) }
+{
+    if words.name.as_bytes() == b"manifest".as_slice() {
+        return read_manifest(words);
+    }
+    match Report::read(words.name.as_bytes()) {
+        Some(report) => read_part(report, words),
+        None => Err(BadValue::ReportName(words.name)),
     }
 }

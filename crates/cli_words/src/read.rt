@@ -6,12 +6,11 @@ ghost use Rattle.cli_words.specs.Line.{IsCalled, IsLine, IsMeant, IsStation, Mea
 use crate::fault::{BadValue, WordsFault, value_fault};
 use crate::line::{Line, LineCommand};
 use crate::number::{read_count, read_port};
-use crate::part::{form_of, read_part};
+use crate::part::{form_of, read_listing};
 use crate::words::{ReportWords, Request, Words, sort_words};
 use awb_number::{Awb, AwbFault};
 use desk_commands::Verb;
 use imp_fields::Airport;
-use reports::Report;
 use station_core::Key;
 use std::alloc::Global;
 use std::convert::AsStr;
@@ -64,10 +63,7 @@ fn read_waybill<'a>(word: &'a str) -> Result<LineCommand<'a>, BadValue<'a>>
 fn read_report<'a>(words: ReportWords<'a>) -> Result<LineCommand<'a>, BadValue<'a>>
     ensures { IfOk result (Means (Request.Report words.entry)) }
 {
-    let Some(report) = Report::read(words.name.as_bytes()) else {
-        return Err(BadValue::ReportName(words.name));
-    };
-    match read_part(report, words) {
+    match read_listing(words) {
         Ok(listing) => Ok(LineCommand::Report(listing, form_of(words.json))),
         Err(bad) => Err(bad),
     }

@@ -35,14 +35,17 @@ pub(crate) enum Request<'a> {
     },
 }
 
-/// The words of `report`: the name, and which part of the report is wanted.
+/// The words of `report`: the name, the flight of a manifest, and which part of the report is
+/// wanted.
 #[derive(Clone, Copy, Debug, PartialEq, Eq)]
 pub(crate) struct ReportWords<'a> {
     pub(crate) name: &'a str,
+    pub(crate) flight: Option<&'a str>,
     pub(crate) open: bool,
     pub(crate) agent: Option<&'a str>,
     pub(crate) awb: Option<&'a str>,
     pub(crate) after: Option<&'a str>,
+    pub(crate) last: Option<&'a str>,
     pub(crate) json: bool,
 }
 
@@ -135,10 +138,15 @@ fn outbox<'a>(alloc: Global) -> Result<Command<'a>, AllocError> {
 fn report<'a>(alloc: Global) -> Result<Command<'a>, AllocError> {
     let report = command(alloc, "report", help::REPORT, help::REPORT_EXAMPLES);
     let report = report.arg(word(alloc, "NAME", help::REPORT_NAMES))?;
+    let flight = Arg::new(alloc, "FLIGHT")
+        .action(ArgAction::Set)
+        .help(help::FLIGHT);
+    let report = report.arg(flight)?;
     let report = report.arg(flag(alloc, "open", help::OPEN))?;
     let report = report.arg(option(alloc, "agent", "CODE", help::AGENT))?;
     let report = report.arg(option(alloc, "awb", "AWB", help::OF_AWB))?;
     let report = report.arg(option(alloc, "after", "N", help::AFTER))?;
+    let report = report.arg(option(alloc, "last", "N", help::LAST))?;
     report.arg(flag(alloc, "json", help::JSON))
 }
 
@@ -224,10 +232,12 @@ fn files_of<'a>(alloc: Global, words: &ArgMatches<'a>) -> Result<Vec<&'a str>, A
 fn report_words<'a>(words: &ArgMatches<'a>) -> Option<ReportWords<'a>> {
     Some(ReportWords {
         name: words.get_str("NAME")?,
+        flight: words.get_str("FLIGHT"),
         open: words.get_flag("open"),
         agent: words.get_str("agent"),
         awb: words.get_str("awb"),
         after: words.get_str("after"),
+        last: words.get_str("last"),
         json: words.get_flag("json"),
     })
 }

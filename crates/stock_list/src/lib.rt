@@ -11,5 +11,5 @@ mod watched;
 pub use answer::{RowPlace, RunFault, answer_row, answer_text, keeper_fault, send_line};
 pub use law::list_law;
 pub use row::read_row;
-pub use run::run_stock;
+pub use run::{run_stock, told_by};
 pub use watched::Watched;

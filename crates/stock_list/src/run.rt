@@ -88,8 +88,13 @@ fn run_rows<K: Keeper, R: Read + Drop, W: ByteOut, E: ByteOut>(
     Ok(good)
 }
 
-/// How a run is told, once it is known whether its reader has failed.
-fn told_by(ended: Result<bool, RunFault>, failed: bool) -> Result<bool, RunFault>
+/// How the run of a buffered reader is reported, once it is known whether the reader has failed. A
+/// buffer can take a reader's failure for the end of the input, or end for want of memory.
+///
+/// Returns [`RunFault::Read`] if the reader has failed and the run came to its end or stopped by
+/// `Read`, and [`RunFault::Memory`] if the run stopped by `Read` and the reader hasn't failed. Any
+/// other result is returned as it is.
+pub fn told_by(ended: Result<bool, RunFault>, failed: bool) -> Result<bool, RunFault>
     ensures { result ≡ told_by ended failed }
 {
     match ended {

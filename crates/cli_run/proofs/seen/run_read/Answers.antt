@@ -1,10 +1,19 @@
 use Rattle.std.proofs.Common.{subst, ℕ, List}
 use Rattle.std.specs.Prelude.{string_bytes}
-use Rattle.cli_run.specs.Seen.{IsSeen}
-use Rattle.cli_run.proofs.Looks.{all_seen}
+use Rattle.cli_run.specs.Seen.{has_reason, IsSeen}
+use Rattle.cli_run.proofs.Looks.{all_seen, part_seen}
 use Rattle.cli_run.proofs.seen.run_read.Goals as goal
 
 pub returns-in-Ok-clause-seen : goal.returns-in-Ok-clause-seen
 returns-in-Ok-clause-seen g c =
-    all_seen _ _ _ _ c.in_ok-bytes.bytes.items (string_bytes c.in-Ok.seen.text) c.in-Ok.seen.good c.write_seen.result
-    c.in_ok-bytes.ensures.come (subst (λ (bytes : List ℕ). IsSeen bytes (string_bytes c.in-Ok.seen.text) c.in-Ok.seen.good) c.as_slice.ensures.value c.in-Ok.ensures) c.write_seen.ensures.good c.write_seen.ensures.written
+    let seen = c.in-Ok.seen in
+    all_seen _ _ _ _ g.E.ByteOut.taken _ _ c.in_ok-bytes.bytes.items (string_bytes seen.text) seen.good (has_reason seen.refusal) c.write_seen.result
+    c.in_ok-bytes.ensures.come (subst (λ (bytes : List ℕ). IsSeen bytes (string_bytes seen.text) seen.good (has_reason seen.refusal)) c.as_slice.ensures.value c.in-Ok.ensures)
+    c.write_seen.ensures.good c.write_seen.ensures.written c.write_seen.ensures.reason
+
+pub returns-in-Ok-clause-stopped : goal.returns-in-Ok-clause-stopped
+returns-in-Ok-clause-stopped g c =
+    let seen = c.in-Ok.seen in
+    part_seen _ _ _ _ c.in_ok-bytes.bytes.items (string_bytes seen.text) seen.good (has_reason seen.refusal) c.write_seen.result
+    c.in_ok-bytes.ensures.come (subst (λ (bytes : List ℕ). IsSeen bytes (string_bytes seen.text) seen.good (has_reason seen.refusal)) c.as_slice.ensures.value c.in-Ok.ensures)
+    c.write_seen.ensures.why c.write_seen.ensures.part
