@@ -21,8 +21,8 @@ _cargo_desk() {
                 --station | --zone) ;;
                 *) COMPREPLY=($(compgen -W "$_cargo_desk_options $_cargo_desk_commands" -- "$cur")) ;;
             esac ;;
-        report) COMPREPLY=($(compgen -W 'stock shed flights expected irregularities movements trail
-            --open --agent --awb --after --json' -- "$cur")) ;;
+        report) COMPREPLY=($(compgen -W 'stock shed flights expected irregularities movements trail manifest
+            --open --agent --awb --after --last --json' -- "$cur")) ;;
         outbox) COMPREPLY=($(compgen -W '--json' -- "$cur")) ;;
         act) [ $((COMP_CWORD - i)) -ne 1 ] || COMPREPLY=($(compgen -W "$_cargo_desk_verbs" -- "$cur")) ;;
         help) COMPREPLY=($(compgen -W "$_cargo_desk_commands" -- "$cur")) ;;
