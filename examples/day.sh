@@ -2,8 +2,8 @@
 # A day at a desk in Frankfurt, by the command line: its station is in a file, and each step is a call of the program.
 # Usage: examples/day.sh PROGRAM [FOLDER]
 # PROGRAM is the built cargo_desk; FOLDER, where the file shall be, has no fra.db yet. Without one the file goes at the end.
-# It prints what stands in day.txt: the calls, what they print, and each status that isn't 0. Days and times are the clock's, so they are
-# shown as YYYY-MM-DD, HH:MM and DDMMM, DDMMMHHMM. It reads day/, where @DATE@ and @DDMMM@ stand for today (UTC).
+# It prints day.txt: the calls, what they print, and each status that isn't 0. Days and times are the clock's, so they are
+# shown as YYYY-MM-DD, HH:MM and DDMMM, DDMMMHHMM. It reads day/, where @DATE@ and @DDMMM@ mean today (UTC).
 set -eu
 program=$1
 case $program in /*) ;; *) program=$PWD/$program ;; esac

@@ -2,8 +2,8 @@
 # A day at a desk in Frankfurt, over HTTP: the station is in a file, and curl asks. In mid day the service is killed (kill -9), started again, and goes on.
 # Usage: examples/http-day.sh PROGRAM [FOLDER [PORT]]
 # PROGRAM is the built cargo_desk; FOLDER, where the file shall be, has no fra.db yet; without one the file goes at the end. PORT is 8089 if absent.
-# It prints what stands in http-day.txt: the requests, the status and the body of each answer. Days and times are the clock's, so they are
-# shown as YYYY-MM-DD, HH:MM and DDMMM, DDMMMHHMM. It reads day/, where @DATE@ and @DDMMM@ stand for today (UTC).
+# It prints http-day.txt: the requests, the status and the body of each answer. Days and times are the clock's, so they are
+# shown as YYYY-MM-DD, HH:MM and DDMMM, DDMMMHHMM. It reads day/, where @DATE@ and @DDMMM@ mean today (UTC).
 set -eu
 program=$1
 case $program in /*) ;; *) program=$PWD/$program ;; esac

@@ -1,6 +1,6 @@
 -- Copies a station of version 2 into a new file, which `init` has just made:
 --     sqlite3 -bail -cmd "ATTACH 'fra.db' AS old" new.db < examples/sql/copy.sql
--- The new file is declared and laid out as `init` does it, whatever became of the old one. All rows are copied, or none.
+-- The new file is declared and laid out as `init` does it, whatever became of the old one. All rows are copied, or no row.
 BEGIN;
 DELETE FROM station;
 INSERT INTO station (id, airport, version, confirmed) SELECT id, airport, version, confirmed FROM old.station;
