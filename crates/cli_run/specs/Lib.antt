@@ -1,5 +1,6 @@
 pub mod ActLine
 pub mod Acts
+pub mod ActsLaw
 pub mod Answered
 pub mod Asked
 pub mod Came
