@@ -9,8 +9,8 @@ ghost use Rattle.cli_run.specs.InTurn.{AreAnswered, Come};
 use station_core::{ByteOut, Keeper};
 
 /// The answered lines of `acts` are a run of the station over what they ask: they leave the state
-/// after all of it, what is written is the lines of the answers, and the run is good exactly if each
-/// answer is.
+/// after all of it, what is written is the lines of the answers, and the run is good exactly if
+/// each answer is.
 pub fn acts_law<K: Keeper, E: ByteOut>()
     ensures { (lines : List (List ℕ)) (at : LocalMinute) (old new : Come K E) (good : Bool)
         → AreAnswered (HasAnsweredLine K.keeps K.is_sound K.is_broken K.may_find at E.taken) 1 lines

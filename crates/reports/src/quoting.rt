@@ -42,7 +42,7 @@ fn hex_digit(digit: u8) -> u8
     }
 }
 
-/// Puts what a JSON string has for a byte behind what is there.
+/// Appends what a JSON string has for a byte.
 #[tactic(auto, unfolding(json::specs::Print::escape_byte))]
 fn put_escaped(out: &mut Vec<u8>, byte: u8) -> Result<(), AllocError>
     ensures { OnOk result (out.new.items ≡ out.old.items ++ escape_byte byte) }
@@ -58,7 +58,7 @@ fn put_escaped(out: &mut Vec<u8>, byte: u8) -> Result<(), AllocError>
     out.extend_from_slice(&[byte])
 }
 
-/// Puts what a JSON string has for each byte behind what is there.
+/// Appends what a JSON string has for each byte.
 fn put_all_escaped(out: &mut Vec<u8>, text: &[u8]) -> Result<(), AllocError>
     ensures { OnOk result (out.new.items ≡ out.old.items ++ escape text.now) }
 {
@@ -68,7 +68,7 @@ fn put_all_escaped(out: &mut Vec<u8>, text: &[u8]) -> Result<(), AllocError>
     Ok(())
 }
 
-/// Puts bytes as a JSON string behind what is there.
+/// Appends bytes as a JSON string.
 pub(crate) fn put_quoted(out: &mut Vec<u8>, text: &[u8]) -> Result<(), AllocError>
     ensures { OnOk result (out.new.items ≡ out.old.items ++ compact_text (string text.now)) }
 {
