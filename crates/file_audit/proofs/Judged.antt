@@ -1,10 +1,14 @@
 -- One table after another: what a test says of the tables so far.
-use Rattle.std.proofs.Common.{◌≡◌, ◌∙◌, ℕ, ℤ, Bool, true, false, List, [], ◌∷◌, sym, ap, ap₂, inl, Result, Ok, Err}
-use Rattle.std.specs.Prelude.{◌↔◌, IsTrue, IfOk}
+use Rattle.std.proofs.Common.{◌≡◌, ◌∙◌, ◌≤◌, ℕ, ℤ, Bool, true, false, List, [], ◌∷◌, refl, sym, ap, ap₂, inl, inr, Result, Ok, Err}
+use Rattle.std.specs.Prelude.{◌↔◌, IsErr, IsTrue}
 use Rattle.table_load.specs.Reading.{Reading, station_read}
-use Rattle.sqlite.specs.State.{State, IsUnchanged}
+use Rattle.sqlite.specs.State.{State, HasCleanDisk, IsUnchanged}
+use Rattle.sqlite.specs.Held.{Held, state}
+use Rattle.sqlite_trees.specs.declared.store.Store.{Ghosts}
+use Rattle.sqlite.proofs.Callers.{unchanged_then}
+use Rattle.sqlite.proofs.StreamLemmas.{rolled_back_since}
 use Rattle.sqlite.specs.declared.error.Error.{Error}
-use Rattle.row_laws.specs.Calls.{Reads}
+use Rattle.row_laws.specs.Calls.{Reads, Stops}
 use Rattle.row_schema.specs.Connection.{opening}
 use Rattle.row_schema.specs.Tables.{Tables}
 use Rattle.row_codec.specs.Meaning.{airport_in, confirmed_in}
@@ -16,6 +20,7 @@ use Rattle.table_audits.specs.Lawful.{IsLawfulTable}
 use Rattle.file_audit.specs.declared.unfit.Unfit.{Unfit}
 use Rattle.file_audit.specs.declared.unfit.Unfit.TheVariants as unfit
 use Rattle.file_audit.specs.Good.{HoldsStation, IsHeld, before, AreGood, IsStationOf, IsFirstBad}
+use Rattle.file_audit.specs.Judged.{HasBefore, IsJudged, JudgesOn}
 use Rattle.file_audit.specs.Verdict.{is_ours, IsUnfit}
 
 -- what a test of a table says, whatever the tables are that are good so far
@@ -33,6 +38,29 @@ stops_at db t name good so_far exact fails = record {
 -- where it says yes of a table that is held, there is one table more
 pub goes_past : (db : Reading) (t : Tables) (name : TableName) (good : Bool) → AreGood db t (before name) → IsExact db name good → good ≡ true → IsHeld name db t → AreGood db t (name ∷ before name)
 goes_past db t name good so_far exact passes held = (record { held = held; lawful = (exact t so_far held).0 passes }, so_far)
+
+-- either
+pub judged : (db : Reading) (t u : Tables) (name : TableName) (good : Bool) → AreGood db t (before name) → IsExact db name good → AreGood db u (before name) → IsHeld name db u → IsJudged name db good
+judged db t u name true so_far exact so held = (u, goes_past db u name true so exact refl held)
+judged db t u name false so_far exact so held = stops_at db t name false so_far exact refl
+
+-- ---- one call after another
+
+reads_back : {X : Type 0} (old mid new : State) (r : Result X Error) (P : X → Type 0) → IsUnchanged old mid → old.faults ≤ mid.faults → Reads mid new r P → Reads old new r P
+reads_back old mid new (Ok x) P same counts (is, again) = (is, unchanged_then old mid new same again)
+reads_back old mid new (Err e) P same counts (inl again) = inl (unchanged_then old mid new same again)
+reads_back old mid new (Err e) P same counts (inr back) = inr (rolled_back_since old mid new same counts back)
+
+pub reads_err : {X : Type 0} (old new : State) (r : Result X Error) (P : X → Type 0) → IsErr r → Stops old new → Reads old new r P
+reads_err old new (Ok x) P is stops = absurd (let no : false ≡ true = is in cc)
+reads_err old new (Err e) P is stops = stops
+
+-- a call after one that changed nothing
+pub then_reads : {S X : Type 0} (g : Ghosts S) (old mid new : Held S) (r : Result X Error) (name : TableName) (Knows : Reading → Type 0) (Says : Reading → X → Type 0) (db : Reading)
+    → db.database ≡ (state g old).now → IsUnchanged (state g old) (state g mid) → (state g old).faults ≤ (state g mid).faults → HasCleanDisk (state g new) → JudgesOn g mid new r name Knows Says → HasBefore name db → Knows db
+    → Reads (state g old) (state g new) r (Says db)
+then_reads g old mid new r name Knows Says db at same counts clean judges so_far knows =
+    reads_back (state g old) (state g mid) (state g new) r (Says db) same counts (judges clean same.0.is_open db (at ∙ sym same.0.now_is) so_far knows)
 
 -- ---- the row of `station`
 
@@ -108,8 +136,3 @@ damaged_stops db says = (
     no_further = λ t all. one_damaged all.0.held.0 all.0.held.1 (sym all.0.held.2 ∙ says);
   },
 )
-
--- a call that read, and then judged what it read
-pub reads_so : {X : Type 0} (old new : State) (r : Result X Error) (P : X → Type 0) → IsUnchanged old new → IfOk r P → Reads old new r P
-reads_so old new (Ok x) P same is = (is, same)
-reads_so old new (Err e) P same is = inl same

@@ -1,6 +1,9 @@
 pub mod Entries
 pub mod ReadLists
 pub mod Judged
+pub mod Kept
+pub mod EachTable
+pub mod Undated
 pub mod WholeBook
 pub mod Declared
 pub mod RowTexts

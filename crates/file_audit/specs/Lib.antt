@@ -1,3 +1,3 @@
 pub mod Good
 pub mod Verdict
-pub mod Made
+pub mod Judged

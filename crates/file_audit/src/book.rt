@@ -1,27 +1,29 @@
 ghost use Rattle.std.specs.Prelude.{◌≡◌, ◌↔◌, map, IfOk, IfSome, IsSome, IsTrue};
 ghost use Rattle.std.specs.List.{list_all};
 ghost use Rattle.std.specs.FinMap.{entries};
-ghost use Rattle.table_load.specs.Reading.{Reading};
 ghost use Rattle.row_schema.specs.Tables.{Tables};
 ghost use Rattle.cargo_rows.specs.Meant.{waybill_meant, move_meant};
 ghost use Rattle.row_codec.specs.Counts.{running};
 ghost use Rattle.row_codec.specs.Flights.{is_flight_row};
 ghost use Rattle.row_codec.specs.Moves.{book_in};
 ghost use Rattle.table_load.specs.Held.{flight_entry};
-ghost use Rattle.table_load.specs.All.{AreTables};
 ghost use Rattle.table_audits.specs.Lawful.{AreMoves};
 ghost use Rattle.table_audits.specs.declared.name.TableName.TheVariants as table;
 ghost use Rattle.table_audits.specs.Order.{RisesByNumber};
 ghost use Rattle.table_audits.specs.Sums.{AreSums};
 ghost use Rattle.table_audits.specs.Audited.{flights_of};
-ghost use Rattle.file_audit.specs.Good.{before, AreGood, IsHeld};
+ghost use Rattle.sqlite.specs.State.{Survives};
+ghost use Rattle.sqlite.specs.Held.{state};
+ghost use Rattle.file_audit.specs.Judged.{HasWaybills, HasFlights, HasSums, HasMoves, IsKept, JudgesOn};
 
+use crate::counted::count_of;
+use sqlite::{Alter, Connection, Error, ErrorCode};
 use station_rows::{MoveRow, WaybillRow};
 use std::alloc::Global;
 use table_audits::{
     BookSums, NoRoom, are_balances_lawful, are_departures_lawful, postings_of, sums_of,
 };
-use table_load::{FlightEntry, FoundTables};
+use table_load::{FlightEntry, found_moves};
 
 /// What the moves of a book come to. `None`: the book isn't lawful.
 fn lawful_sums(
@@ -56,26 +58,37 @@ fn lawful_sums(
     }
 }
 
-/// What the moves of the book that was found come to. `None`: it is missing or not lawful.
-pub(crate) fn good_book(alloc: Global, found: &FoundTables) -> Result<Option<BookSums>, NoRoom>
-    ensures some { IfOk result (λ sums. IsSome sums → IsSome found.now.cargo.moves) }
-    ensures exact { (db : Reading) (t : Tables) → AreTables db found.now
-        → AreGood db t (before table.Moves) → IsHeld table.Moves db t
-        → IfOk result (λ sums. IsSome sums ↔ AreMoves t) }
-    ensures sums { (db : Reading) (t : Tables) → AreTables db found.now
-        → AreGood db t (before table.Moves) → IsHeld table.Moves db t
-        → IfOk result (λ sums. IfSome sums
-        (λ s. AreSums (flights_of (entries t.flights)) s (running (book_in t.moves)))) }
+/// The book of a station that was judged.
+#[derive(Drop)]
+pub(crate) struct Book {
+    /// What its moves come to.
+    pub(crate) sums: BookSums,
+    /// How many moves it has.
+    pub(crate) moves: u32,
+}
+
+/// Reads `moves`. `None`: it is missing or not lawful.
+pub(crate) fn good_book<S: Alter>(
+    alloc: Global,
+    conn: &mut Connection<S>,
+    waybills: &[WaybillRow],
+    flights: &[FlightEntry],
+) -> Result<Option<Book>, Error>
+    ensures read { JudgesOn S.Store conn.old conn.new result table.Moves
+        (λ db. HasWaybills (map waybill_meant waybills.now) db
+        × HasFlights (map flight_entry flights.now) db)
+        (IsKept table.Moves (λ book db. HasSums book.sums db × HasMoves book.moves db)) }
+    ensures survives { Survives (state S.Store conn.old) (state S.Store conn.new) (λ _. ⊥) }
 {
-    let cargo = &found.cargo;
-    let Some(waybills) = &cargo.waybills else {
+    let Some(rows) = found_moves(alloc, conn)? else {
         return Ok(None);
     };
-    let Some(flights) = &cargo.flights else {
+    let Ok(judged) = lawful_sums(alloc, &rows, waybills, flights) else {
+        return Err(Error::SqliteFailure(ErrorCode::OutOfMemory));
+    };
+    let Some(sums) = judged else {
         return Ok(None);
     };
-    match &cargo.moves {
-        None => Ok(None),
-        Some(moves) => lawful_sums(alloc, moves, waybills, flights),
-    }
+    let moves = count_of(&rows)?;
+    Ok(Some(Book { sums, moves }))
 }

@@ -1,195 +1,246 @@
-ghost use Rattle.std.specs.Prelude.{◌≡◌, ◌↔◌, IsTrue, IsSome};
-ghost use Rattle.std.specs.FinMap.{entries};
-ghost use Rattle.table_load.specs.Reading.{Reading};
+ghost use Rattle.std.specs.Prelude.{◌≡◌, ◌↔◌, map, IsTrue, ⊤};
+ghost use Rattle.sqlite.specs.State.{Survives};
+ghost use Rattle.sqlite.specs.Held.{state};
 ghost use Rattle.row_schema.specs.Tables.{Tables};
-ghost use Rattle.row_codec.specs.Counts.{running};
-ghost use Rattle.row_codec.specs.Meaning.{airport_in, confirmed_in};
-ghost use Rattle.row_codec.specs.Moves.{book_in};
-ghost use Rattle.row_codec.specs.Numbers.{natural};
-ghost use Rattle.table_load.specs.All.{AreTables};
+ghost use Rattle.row_codec.specs.Meaning.{confirmed_in};
+ghost use Rattle.cargo_rows.specs.Meant.{waybill_meant};
+ghost use Rattle.text_rows.specs.Meant.{message_meant};
 ghost use Rattle.table_audits.specs.Lawful.{IsLawfulTable};
+ghost use Rattle.table_load.specs.Held.{flight_entry, part_entry};
 ghost use Rattle.table_audits.specs.declared.name.TableName.TheVariants as table;
-ghost use Rattle.table_audits.specs.Sums.{AreSums};
-ghost use Rattle.table_audits.specs.Audited.{flights_of};
-ghost use Rattle.file_audit.specs.Good.{before, AreGood, IsHeld};
+ghost use Rattle.file_audit.specs.Judged.{HasAirport, HasMark, HasWaybills, HasFlights, HasParts, HasSums, HasLines, HasMessages, IsJudged, IsKept, JudgesOn};
 
+use crate::counted::count_of;
+use crate::versions::{read_old_waybills, read_waybills};
+use sqlite::{Alter, Connection, Error};
+use station_rows::{MessageRow, WaybillRow};
+use std::alloc::Global;
 use table_audits::{
     BookSums, are_builds, are_counts, are_expected_lawful, are_flights_lawful,
     are_kept_keys_lawful, are_kept_texts_lawful, are_old_waybills_lawful, are_parts_lawful,
     are_stock_lawful, are_waybills_lawful, is_outbox_lawful, is_trail_lawful,
 };
-use table_load::FoundTables;
+use table_load::{
+    FileVersion, FlightEntry, PartEntry, found_builds, found_counts, found_expected, found_flights,
+    found_kept_keys, found_kept_texts, found_outbox, found_parts, found_stock, found_trail,
+};
 
-/// Whether `waybill` is there and lawful.
-pub(crate) fn are_old_waybills_good(found: &FoundTables) -> bool
-    ensures some { IsTrue result → IsSome found.now.cargo.old_waybills }
-    ensures exact { (db : Reading) (t : Tables) → AreTables db found.now
-        → AreGood db t (before table.Waybill) → IsHeld table.Waybill db t
-        → (IsTrue result ↔ IsLawfulTable table.Waybill t) }
+/// Reads `waybill`: whether it is there and lawful.
+pub(crate) fn are_old_waybills_good<S: Alter>(
+    alloc: Global,
+    conn: &mut Connection<S>,
+    version: FileVersion,
+) -> Result<bool, Error>
+    ensures read { JudgesOn S.Store conn.old conn.new result table.Waybill
+        (λ db. db.version ≡ version) (IsJudged table.Waybill) }
+    ensures survives { Survives (state S.Store conn.old) (state S.Store conn.new) (λ _. ⊥) }
 {
-    match &found.cargo.old_waybills {
-        None => false,
-        Some(rows) => are_old_waybills_lawful(rows),
-    }
-}
-
-/// Whether the waybills are there and lawful.
-pub(crate) fn are_waybills_good(found: &FoundTables) -> bool
-    ensures some { IsTrue result → IsSome found.now.cargo.waybills }
-    ensures exact { (db : Reading) (t : Tables) → AreTables db found.now
-        → AreGood db t (before table.Waybill2) → IsHeld table.Waybill2 db t
-        → (IsTrue result ↔ IsLawfulTable table.Waybill2 t) }
-{
-    match &found.cargo.waybills {
-        None => false,
-        Some(rows) => are_waybills_lawful(rows),
-    }
-}
-
-/// Whether `stock` is there and lawful.
-pub(crate) fn are_stock_good(found: &FoundTables) -> bool
-    ensures some { IsTrue result → IsSome found.now.cargo.stock }
-    ensures exact { (db : Reading) (t : Tables) → AreTables db found.now
-        → AreGood db t (before table.Stock) → IsHeld table.Stock db t
-        → (IsTrue result ↔ IsLawfulTable table.Stock t) }
-{
-    let Some(waybills) = &found.cargo.waybills else {
-        return false;
+    let Some(rows) = read_old_waybills(alloc, conn, version)? else {
+        return Ok(false);
     };
-    match &found.cargo.stock {
-        None => false,
-        Some(rows) => are_stock_lawful(rows, waybills),
-    }
+    Ok(are_old_waybills_lawful(&rows))
 }
 
-/// Whether `flight` is there and lawful.
-pub(crate) fn are_flights_good(found: &FoundTables, here: &str) -> bool
-    ensures some { IsTrue result → IsSome found.now.cargo.flights }
-    ensures exact { (db : Reading) (t : Tables) → AreTables db found.now
-        → AreGood db t (before table.Flight) → IsHeld table.Flight db t
-        → airport_in t.stations ≡ here.now → (IsTrue result ↔ IsLawfulTable table.Flight t) }
+/// Reads the waybills. `None`: they are missing or not lawful.
+pub(crate) fn good_waybills<S: Alter>(
+    alloc: Global,
+    conn: &mut Connection<S>,
+    version: FileVersion,
+) -> Result<Option<Vec<WaybillRow>>, Error>
+    ensures read { JudgesOn S.Store conn.old conn.new result table.Waybill2
+        (λ db. db.version ≡ version)
+        (IsKept table.Waybill2 (λ kept db. HasWaybills (map waybill_meant kept.items) db)) }
+    ensures survives { Survives (state S.Store conn.old) (state S.Store conn.new) (λ _. ⊥) }
 {
-    match &found.cargo.flights {
-        None => false,
-        Some(rows) => are_flights_lawful(rows, here),
-    }
-}
-
-/// Whether `expected` is there and lawful.
-pub(crate) fn are_expected_good(found: &FoundTables) -> bool
-    ensures some { IsTrue result → IsSome found.now.messages.expected }
-    ensures exact { (db : Reading) (t : Tables) → AreTables db found.now
-        → AreGood db t (before table.Expected) → IsHeld table.Expected db t
-        → (IsTrue result ↔ IsLawfulTable table.Expected t) }
-{
-    let Some(waybills) = &found.cargo.waybills else {
-        return false;
+    let Some(rows) = read_waybills(alloc, conn, version)? else {
+        return Ok(None);
     };
-    match &found.messages.expected {
-        None => false,
-        Some(rows) => are_expected_lawful(rows, waybills),
+    if !are_waybills_lawful(&rows) {
+        return Ok(None);
     }
+    Ok(Some(rows))
 }
 
-/// Whether `part` is there and lawful.
-pub(crate) fn are_parts_good(found: &FoundTables) -> bool
-    ensures some { IsTrue result → IsSome found.now.messages.parts }
-    ensures exact { (db : Reading) (t : Tables) → AreTables db found.now
-        → AreGood db t (before table.Part) → IsHeld table.Part db t
-        → (IsTrue result ↔ IsLawfulTable table.Part t) }
+/// Reads `stock`: whether it is there and lawful.
+pub(crate) fn are_stock_good<S: Alter>(
+    alloc: Global,
+    conn: &mut Connection<S>,
+    waybills: &[WaybillRow],
+) -> Result<bool, Error>
+    ensures read { JudgesOn S.Store conn.old conn.new result table.Stock
+        (λ db. HasWaybills (map waybill_meant waybills.now) db) (IsJudged table.Stock) }
+    ensures survives { Survives (state S.Store conn.old) (state S.Store conn.new) (λ _. ⊥) }
 {
-    match &found.messages.parts {
-        None => false,
-        Some(rows) => are_parts_lawful(rows),
-    }
-}
-
-/// Whether `trail` is there and lawful.
-pub(crate) fn is_trail_good(found: &FoundTables) -> bool
-    ensures some { IsTrue result → IsSome found.now.messages.trail }
-    ensures exact { (db : Reading) (t : Tables) → AreTables db found.now
-        → AreGood db t (before table.Trail) → IsHeld table.Trail db t
-        → (IsTrue result ↔ IsLawfulTable table.Trail t) }
-{
-    let Some(waybills) = &found.cargo.waybills else {
-        return false;
+    let Some(rows) = found_stock(alloc, conn)? else {
+        return Ok(false);
     };
-    match &found.messages.trail {
-        None => false,
-        Some(rows) => is_trail_lawful(rows, waybills),
-    }
+    Ok(are_stock_lawful(&rows, waybills))
 }
 
-/// Whether `outbox` is there and lawful.
-pub(crate) fn is_outbox_good(found: &FoundTables, confirmed: i64) -> bool
-    ensures some { IsTrue result → IsSome found.now.messages.outbox }
-    ensures exact { (db : Reading) (t : Tables) → AreTables db found.now
-        → AreGood db t (before table.Outbox) → IsHeld table.Outbox db t
-        → confirmed_in t.stations ≡ natural confirmed
-        → (IsTrue result ↔ IsLawfulTable table.Outbox t) }
+/// Reads the flights. `None`: `flight` is missing or not lawful.
+pub(crate) fn good_flights<S: Alter>(
+    alloc: Global,
+    conn: &mut Connection<S>,
+    airport: &str,
+) -> Result<Option<Vec<FlightEntry>>, Error>
+    ensures read { JudgesOn S.Store conn.old conn.new result table.Flight
+        (λ db. HasAirport airport.now db)
+        (IsKept table.Flight (λ kept db. HasFlights (map flight_entry kept.items) db)) }
+    ensures survives { Survives (state S.Store conn.old) (state S.Store conn.new) (λ _. ⊥) }
 {
-    match &found.messages.outbox {
-        None => false,
-        Some(rows) => is_outbox_lawful(rows, confirmed),
-    }
-}
-
-/// Whether `kept_key` is there and lawful.
-pub(crate) fn are_kept_keys_good(found: &FoundTables) -> bool
-    ensures some { IsTrue result → IsSome found.now.replies.kept_keys }
-    ensures exact { (db : Reading) (t : Tables) → AreTables db found.now
-        → AreGood db t (before table.KeptKey) → IsHeld table.KeptKey db t
-        → (IsTrue result ↔ IsLawfulTable table.KeptKey t) }
-{
-    match &found.replies.kept_keys {
-        None => false,
-        Some(rows) => are_kept_keys_lawful(rows),
-    }
-}
-
-/// Whether `kept_text` is there and lawful.
-pub(crate) fn are_kept_texts_good(found: &FoundTables) -> bool
-    ensures some { IsTrue result → IsSome found.now.replies.kept_texts }
-    ensures exact { (db : Reading) (t : Tables) → AreTables db found.now
-        → AreGood db t (before table.KeptText) → IsHeld table.KeptText db t
-        → (IsTrue result ↔ IsLawfulTable table.KeptText t) }
-{
-    let Some(parts) = &found.messages.parts else {
-        return false;
+    let Some(rows) = found_flights(alloc, conn)? else {
+        return Ok(None);
     };
-    match &found.replies.kept_texts {
-        None => false,
-        Some(rows) => are_kept_texts_lawful(rows, parts),
+    if !are_flights_lawful(&rows, airport) {
+        return Ok(None);
     }
+    Ok(Some(rows))
 }
 
-/// Whether `counts` is there and lawful.
-pub(crate) fn are_counts_good(found: &FoundTables, sums: &BookSums) -> bool
-    ensures some { IsTrue result → IsSome found.now.counts.counts }
-    ensures exact { (db : Reading) (t : Tables) → AreTables db found.now
-        → AreGood db t (before table.Counts) → IsHeld table.Counts db t
-        → AreSums (flights_of (entries t.flights)) sums.now (running (book_in t.moves))
-        → (IsTrue result ↔ IsLawfulTable table.Counts t) }
+/// Reads `expected`: whether it is there and lawful.
+pub(crate) fn are_expected_good<S: Alter>(
+    alloc: Global,
+    conn: &mut Connection<S>,
+    waybills: &[WaybillRow],
+) -> Result<bool, Error>
+    ensures read { JudgesOn S.Store conn.old conn.new result table.Expected
+        (λ db. HasWaybills (map waybill_meant waybills.now) db) (IsJudged table.Expected) }
+    ensures survives { Survives (state S.Store conn.old) (state S.Store conn.new) (λ _. ⊥) }
 {
-    match &found.counts.counts {
-        None => false,
-        Some(rows) => are_counts(sums, rows),
-    }
-}
-
-/// Whether `build` is there and lawful.
-pub(crate) fn are_builds_good(found: &FoundTables, sums: &BookSums) -> bool
-    ensures some { IsTrue result → IsSome found.now.counts.builds }
-    ensures exact { (db : Reading) (t : Tables) → AreTables db found.now
-        → AreGood db t (before table.Build) → IsHeld table.Build db t
-        → AreSums (flights_of (entries t.flights)) sums.now (running (book_in t.moves))
-        → (IsTrue result ↔ IsLawfulTable table.Build t) }
-{
-    let Some(flights) = &found.cargo.flights else {
-        return false;
+    let Some(rows) = found_expected(alloc, conn)? else {
+        return Ok(false);
     };
-    match &found.counts.builds {
-        None => false,
-        Some(rows) => are_builds(sums, flights, rows),
+    Ok(are_expected_lawful(&rows, waybills))
+}
+
+/// Reads the parts of manifests. `None`: `part` is missing or not lawful.
+pub(crate) fn good_parts<S: Alter>(
+    alloc: Global,
+    conn: &mut Connection<S>,
+) -> Result<Option<Vec<PartEntry>>, Error>
+    ensures read { JudgesOn S.Store conn.old conn.new result table.Part
+        (λ _. ⊤)
+        (IsKept table.Part (λ kept db. HasParts (map part_entry kept.items) db)) }
+    ensures survives { Survives (state S.Store conn.old) (state S.Store conn.new) (λ _. ⊥) }
+{
+    let Some(rows) = found_parts(alloc, conn)? else {
+        return Ok(None);
+    };
+    if !are_parts_lawful(&rows) {
+        return Ok(None);
     }
+    Ok(Some(rows))
+}
+
+/// Reads `trail`, and counts its lines. `None`: it is missing or not lawful.
+pub(crate) fn good_trail<S: Alter>(
+    alloc: Global,
+    conn: &mut Connection<S>,
+    waybills: Vec<WaybillRow>,
+) -> Result<Option<u32>, Error>
+    ensures read { JudgesOn S.Store conn.old conn.new result table.Trail
+        (λ db. HasWaybills (map waybill_meant waybills.items) db)
+        (IsKept table.Trail (λ kept db. HasLines kept db)) }
+    ensures survives { Survives (state S.Store conn.old) (state S.Store conn.new) (λ _. ⊥) }
+{
+    let Some(rows) = found_trail(alloc, conn)? else {
+        return Ok(None);
+    };
+    if !is_trail_lawful(&rows, &waybills) {
+        return Ok(None);
+    }
+    Ok(Some(count_of(&rows)?))
+}
+
+/// Whether these rows of `outbox` are lawful where so many messages were confirmed.
+fn has_lawful_outbox(rows: &[MessageRow], confirmed: u32) -> bool
+    ensures exact { (t : Tables) → confirmed_in t.stations ≡ confirmed
+        → t.outbox ≡ map message_meant rows.now → (IsTrue result ↔ IsLawfulTable table.Outbox t) }
+{
+    is_outbox_lawful(rows, i64::from(confirmed))
+}
+
+/// Reads `outbox`, and counts its messages. `None`: it is missing or not lawful.
+pub(crate) fn good_outbox<S: Alter>(
+    alloc: Global,
+    conn: &mut Connection<S>,
+    confirmed: u32,
+) -> Result<Option<u32>, Error>
+    ensures read { JudgesOn S.Store conn.old conn.new result table.Outbox
+        (λ db. HasMark confirmed db)
+        (IsKept table.Outbox (λ kept db. HasMessages kept db)) }
+    ensures survives { Survives (state S.Store conn.old) (state S.Store conn.new) (λ _. ⊥) }
+{
+    let Some(rows) = found_outbox(alloc, conn)? else {
+        return Ok(None);
+    };
+    if !has_lawful_outbox(&rows, confirmed) {
+        return Ok(None);
+    }
+    Ok(Some(count_of(&rows)?))
+}
+
+/// Reads `kept_key`: whether it is there and lawful.
+pub(crate) fn are_kept_keys_good<S: Alter>(
+    alloc: Global,
+    conn: &mut Connection<S>,
+) -> Result<bool, Error>
+    ensures read { JudgesOn S.Store conn.old conn.new result table.KeptKey
+        (λ _. ⊤) (IsJudged table.KeptKey) }
+    ensures survives { Survives (state S.Store conn.old) (state S.Store conn.new) (λ _. ⊥) }
+{
+    let Some(rows) = found_kept_keys(alloc, conn)? else {
+        return Ok(false);
+    };
+    Ok(are_kept_keys_lawful(&rows))
+}
+
+/// Reads `kept_text`: whether it is there and lawful.
+pub(crate) fn are_kept_texts_good<S: Alter>(
+    alloc: Global,
+    conn: &mut Connection<S>,
+    parts: Vec<PartEntry>,
+) -> Result<bool, Error>
+    ensures read { JudgesOn S.Store conn.old conn.new result table.KeptText
+        (λ db. HasParts (map part_entry parts.items) db) (IsJudged table.KeptText) }
+    ensures survives { Survives (state S.Store conn.old) (state S.Store conn.new) (λ _. ⊥) }
+{
+    let Some(rows) = found_kept_texts(alloc, conn)? else {
+        return Ok(false);
+    };
+    Ok(are_kept_texts_lawful(&rows, &parts))
+}
+
+/// Reads `counts`: whether it is there and lawful.
+pub(crate) fn are_counts_good<S: Alter>(
+    alloc: Global,
+    conn: &mut Connection<S>,
+    sums: &BookSums,
+) -> Result<bool, Error>
+    ensures read { JudgesOn S.Store conn.old conn.new result table.Counts
+        (λ db. HasSums sums.now db) (IsJudged table.Counts) }
+    ensures survives { Survives (state S.Store conn.old) (state S.Store conn.new) (λ _. ⊥) }
+{
+    let Some(rows) = found_counts(alloc, conn)? else {
+        return Ok(false);
+    };
+    Ok(are_counts(sums, &rows))
+}
+
+/// Reads `build`: whether it is there and lawful.
+pub(crate) fn are_builds_good<S: Alter>(
+    alloc: Global,
+    conn: &mut Connection<S>,
+    sums: &BookSums,
+    flights: &[FlightEntry],
+) -> Result<bool, Error>
+    ensures read { JudgesOn S.Store conn.old conn.new result table.Build
+        (λ db. HasSums sums.now db × HasFlights (map flight_entry flights.now) db)
+        (IsJudged table.Build) }
+    ensures survives { Survives (state S.Store conn.old) (state S.Store conn.new) (λ _. ⊥) }
+{
+    let Some(rows) = found_builds(alloc, conn)? else {
+        return Ok(false);
+    };
+    Ok(are_builds(sums, flights, &rows))
 }

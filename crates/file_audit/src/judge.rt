@@ -1,137 +1,292 @@
-ghost use Rattle.std.specs.Prelude.{◌≡◌, ℕ, ℤ, List, Ok};
-ghost use Rattle.table_load.specs.Reading.{Reading, station_read};
-ghost use Rattle.table_load.specs.All.{AreTables};
-ghost use Rattle.table_load.specs.Verdict.{one_row};
+ghost use Rattle.std.specs.Prelude.{◌≡◌, map};
+ghost use Rattle.sqlite.specs.State.{Survives};
+ghost use Rattle.sqlite.specs.Held.{state};
+ghost use Rattle.cargo_rows.specs.Meant.{waybill_meant};
+ghost use Rattle.table_load.specs.Held.{flight_entry, part_entry};
 ghost use Rattle.table_audits.specs.declared.name.TableName.TheVariants as table;
-ghost use Rattle.file_audit.specs.Good.{before, AreGood};
-ghost use Rattle.file_audit.specs.Made.{tables_from, NamesFirst, AreSumsOf};
+ghost use Rattle.file_audit.specs.Judged.{HasAirport, HasMark, HasWaybills, HasFlights, HasParts, HasSums, HasMoves, HasLines, HasMessages, AreJudged, JudgesOn};
 
-use crate::book::good_book;
+use crate::book::{Book, good_book};
 use crate::good::{
-    are_builds_good, are_counts_good, are_expected_good, are_flights_good, are_kept_keys_good,
-    are_kept_texts_good, are_old_waybills_good, are_parts_good, are_stock_good, are_waybills_good,
-    is_outbox_good, is_trail_good,
+    are_builds_good, are_counts_good, are_expected_good, are_kept_keys_good, are_kept_texts_good,
+    are_old_waybills_good, are_stock_good, good_flights, good_outbox, good_parts, good_trail,
+    good_waybills,
 };
+use sqlite::{Alter, Connection, Error};
+use station_core::Sizes;
+use station_rows::WaybillRow;
 use std::alloc::Global;
-use table_audits::{BookSums, NoRoom, TableName};
-use table_load::FoundTables;
+use table_audits::TableName;
+use table_load::{FileVersion, FlightEntry, PartEntry};
 
-/// The first table that isn't good, from `counts` on.
-fn bad_count(found: &FoundTables, sums: &BookSums) -> Option<TableName>
-    ensures { (db : Reading) (airport : List ℕ) (confirmed : ℤ) → AreTables db found.now
-        → AreSumsOf db sums.now → AreGood db (tables_from airport confirmed found.now)
-        (before table.Counts)
-        → NamesFirst db (tables_from airport confirmed found.now) (Ok result) }
-{
-    if !are_counts_good(found, sums) {
-        return Some(TableName::Counts);
-    }
-    if !are_builds_good(found, sums) {
-        return Some(TableName::Build);
-    }
-    None
-}
-
-/// The first table that isn't good, from `kept_key` on.
-fn bad_reply(found: &FoundTables, sums: &BookSums) -> Option<TableName>
-    ensures { (db : Reading) (airport : List ℕ) (confirmed : ℤ) → AreTables db found.now
-        → AreSumsOf db sums.now → AreGood db (tables_from airport confirmed found.now)
-        (before table.KeptKey)
-        → NamesFirst db (tables_from airport confirmed found.now) (Ok result) }
-{
-    if !are_kept_keys_good(found) {
-        return Some(TableName::KeptKey);
-    }
-    if !are_kept_texts_good(found) {
-        return Some(TableName::KeptText);
-    }
-    bad_count(found, sums)
-}
-
-/// The first table that isn't good, from `trail` on.
-fn bad_log(found: &FoundTables, confirmed: i64, sums: &BookSums) -> Option<TableName>
-    ensures { (db : Reading) (airport : List ℕ) → AreTables db found.now
-        → station_read db ≡ one_row airport confirmed
-        → AreSumsOf db sums.now → AreGood db (tables_from airport confirmed found.now)
-        (before table.Trail)
-        → NamesFirst db (tables_from airport confirmed found.now) (Ok result) }
-{
-    if !is_trail_good(found) {
-        return Some(TableName::Trail);
-    }
-    if !is_outbox_good(found, confirmed) {
-        return Some(TableName::Outbox);
-    }
-    bad_reply(found, sums)
-}
-
-/// The first table that isn't good, from `expected` on.
-fn bad_message(found: &FoundTables, confirmed: i64, sums: &BookSums) -> Option<TableName>
-    ensures { (db : Reading) (airport : List ℕ) → AreTables db found.now
-        → station_read db ≡ one_row airport confirmed
-        → AreSumsOf db sums.now → AreGood db (tables_from airport confirmed found.now)
-        (before table.Expected)
-        → NamesFirst db (tables_from airport confirmed found.now) (Ok result) }
-{
-    if !are_expected_good(found) {
-        return Some(TableName::Expected);
-    }
-    if !are_parts_good(found) {
-        return Some(TableName::Part);
-    }
-    bad_log(found, confirmed, sums)
-}
-
-/// The first table that isn't good, from `moves` on.
-fn bad_move(alloc: Global, found: &FoundTables, confirmed: i64) -> Result<Option<TableName>, NoRoom>
-    ensures { (db : Reading) (airport : List ℕ) → AreTables db found.now
-        → station_read db ≡ one_row airport confirmed
-        → AreGood db (tables_from airport confirmed found.now) (before table.Moves)
-        → NamesFirst db (tables_from airport confirmed found.now) result }
-{
-    match good_book(alloc, found)? {
-        None => Ok(Some(TableName::Moves)),
-        Some(sums) => Ok(bad_message(found, confirmed, &sums)),
-    }
-}
-
-/// The first table that isn't good, from `stock` on.
-fn bad_stock(
+/// Reads and judges `build`.
+fn judged_builds<S: Alter>(
     alloc: Global,
-    found: &FoundTables,
-    here: &str,
-    confirmed: i64,
-) -> Result<Option<TableName>, NoRoom>
-    ensures { (db : Reading) → AreTables db found.now → station_read db ≡ one_row here.now confirmed
-        → AreGood db (tables_from here.now confirmed found.now) (before table.Stock)
-        → NamesFirst db (tables_from here.now confirmed found.now) result }
+    conn: &mut Connection<S>,
+    book: &Book,
+    flights: &[FlightEntry],
+    sizes: Sizes,
+) -> Result<Result<Sizes, TableName>, Error>
+    ensures read { JudgesOn S.Store conn.old conn.new result table.Build
+        (λ db. HasSums book.now.sums db
+        × HasFlights (map flight_entry flights.now) db × HasMoves sizes.moves db
+        × HasLines sizes.lines db × HasMessages sizes.messages db) AreJudged }
+    ensures survives { Survives (state S.Store conn.old) (state S.Store conn.new) (λ _. ⊥) }
 {
-    if !are_stock_good(found) {
-        return Ok(Some(TableName::Stock));
+    if !are_builds_good(alloc, conn, &book.sums, flights)? {
+        return Ok(Err(TableName::Build));
     }
-    if !are_flights_good(found, here) {
-        return Ok(Some(TableName::Flight));
-    }
-    bad_move(alloc, found, confirmed)
+    Ok(Ok(sizes))
 }
 
-/// The first of the tables that were read that isn't good: it is missing, or it isn't lawful beside
-/// those before it. The row of `station` is.
-pub(crate) fn first_bad(
+/// Reads and judges the tables from `counts` on.
+fn judged_counts<S: Alter>(
     alloc: Global,
-    found: &FoundTables,
-    here: &str,
-    confirmed: i64,
-) -> Result<Option<TableName>, NoRoom>
-    ensures { (db : Reading) → AreTables db found.now → station_read db ≡ one_row here.now confirmed
-        → AreGood db (tables_from here.now confirmed found.now) (before table.Waybill)
-        → NamesFirst db (tables_from here.now confirmed found.now) result }
+    conn: &mut Connection<S>,
+    book: &Book,
+    flights: &[FlightEntry],
+    sizes: Sizes,
+) -> Result<Result<Sizes, TableName>, Error>
+    ensures read { JudgesOn S.Store conn.old conn.new result table.Counts
+        (λ db. HasSums book.now.sums db
+        × HasFlights (map flight_entry flights.now) db × HasMoves sizes.moves db
+        × HasLines sizes.lines db × HasMessages sizes.messages db) AreJudged }
+    ensures survives { Survives (state S.Store conn.old) (state S.Store conn.new) (λ _. ⊥) }
 {
-    if !are_old_waybills_good(found) {
-        return Ok(Some(TableName::Waybill));
+    if !are_counts_good(alloc, conn, &book.sums)? {
+        return Ok(Err(TableName::Counts));
     }
-    if !are_waybills_good(found) {
-        return Ok(Some(TableName::Waybill2));
+    judged_builds(alloc, conn, book, flights, sizes)
+}
+
+/// Reads and judges the tables from `kept_text` on.
+fn judged_kept_texts<S: Alter>(
+    alloc: Global,
+    conn: &mut Connection<S>,
+    parts: Vec<PartEntry>,
+    book: &Book,
+    flights: &[FlightEntry],
+    sizes: Sizes,
+) -> Result<Result<Sizes, TableName>, Error>
+    ensures read { JudgesOn S.Store conn.old conn.new result table.KeptText
+        (λ db. HasParts (map part_entry parts.items) db × HasSums book.now.sums db
+        × HasFlights (map flight_entry flights.now) db
+        × HasMoves sizes.moves db × HasLines sizes.lines db
+        × HasMessages sizes.messages db) AreJudged }
+    ensures survives { Survives (state S.Store conn.old) (state S.Store conn.new) (λ _. ⊥) }
+{
+    if !are_kept_texts_good(alloc, conn, parts)? {
+        return Ok(Err(TableName::KeptText));
     }
-    bad_stock(alloc, found, here, confirmed)
+    judged_counts(alloc, conn, book, flights, sizes)
+}
+
+/// Reads and judges the tables from `kept_key` on.
+fn judged_kept_keys<S: Alter>(
+    alloc: Global,
+    conn: &mut Connection<S>,
+    parts: Vec<PartEntry>,
+    book: &Book,
+    flights: &[FlightEntry],
+    sizes: Sizes,
+) -> Result<Result<Sizes, TableName>, Error>
+    ensures read { JudgesOn S.Store conn.old conn.new result table.KeptKey
+        (λ db. HasParts (map part_entry parts.items) db × HasSums book.now.sums db
+        × HasFlights (map flight_entry flights.now) db
+        × HasMoves sizes.moves db × HasLines sizes.lines db
+        × HasMessages sizes.messages db) AreJudged }
+    ensures survives { Survives (state S.Store conn.old) (state S.Store conn.new) (λ _. ⊥) }
+{
+    if !are_kept_keys_good(alloc, conn)? {
+        return Ok(Err(TableName::KeptKey));
+    }
+    judged_kept_texts(alloc, conn, parts, book, flights, sizes)
+}
+
+/// Reads and judges the tables from `outbox` on.
+fn judged_outbox<S: Alter>(
+    alloc: Global,
+    conn: &mut Connection<S>,
+    confirmed: u32,
+    parts: Vec<PartEntry>,
+    book: &Book,
+    flights: &[FlightEntry],
+    lines: u32,
+) -> Result<Result<Sizes, TableName>, Error>
+    ensures read { JudgesOn S.Store conn.old conn.new result table.Outbox
+        (λ db. HasMark confirmed db × HasParts (map part_entry parts.items) db
+        × HasSums book.now.sums db × HasMoves book.now.moves db
+        × HasFlights (map flight_entry flights.now) db × HasLines lines db) AreJudged }
+    ensures survives { Survives (state S.Store conn.old) (state S.Store conn.new) (λ _. ⊥) }
+{
+    let Some(messages) = good_outbox(alloc, conn, confirmed)? else {
+        return Ok(Err(TableName::Outbox));
+    };
+    let sizes = Sizes {
+        moves: book.moves,
+        lines,
+        messages,
+    };
+    judged_kept_keys(alloc, conn, parts, book, flights, sizes)
+}
+
+/// Reads and judges the tables from `trail` on.
+fn judged_trail<S: Alter>(
+    alloc: Global,
+    conn: &mut Connection<S>,
+    confirmed: u32,
+    waybills: Vec<WaybillRow>,
+    parts: Vec<PartEntry>,
+    book: &Book,
+    flights: &[FlightEntry],
+) -> Result<Result<Sizes, TableName>, Error>
+    ensures read { JudgesOn S.Store conn.old conn.new result table.Trail
+        (λ db. HasMark confirmed db × HasWaybills (map waybill_meant waybills.items) db
+        × HasParts (map part_entry parts.items) db × HasSums book.now.sums db
+        × HasMoves book.now.moves db × HasFlights (map flight_entry flights.now) db) AreJudged }
+    ensures survives { Survives (state S.Store conn.old) (state S.Store conn.new) (λ _. ⊥) }
+{
+    let Some(lines) = good_trail(alloc, conn, waybills)? else {
+        return Ok(Err(TableName::Trail));
+    };
+    judged_outbox(alloc, conn, confirmed, parts, book, flights, lines)
+}
+
+/// Reads and judges the tables from `part` on.
+fn judged_parts<S: Alter>(
+    alloc: Global,
+    conn: &mut Connection<S>,
+    confirmed: u32,
+    waybills: Vec<WaybillRow>,
+    book: &Book,
+    flights: &[FlightEntry],
+) -> Result<Result<Sizes, TableName>, Error>
+    ensures read { JudgesOn S.Store conn.old conn.new result table.Part
+        (λ db. HasMark confirmed db × HasWaybills (map waybill_meant waybills.items) db
+        × HasSums book.now.sums db × HasMoves book.now.moves db
+        × HasFlights (map flight_entry flights.now) db) AreJudged }
+    ensures survives { Survives (state S.Store conn.old) (state S.Store conn.new) (λ _. ⊥) }
+{
+    let Some(parts) = good_parts(alloc, conn)? else {
+        return Ok(Err(TableName::Part));
+    };
+    judged_trail(alloc, conn, confirmed, waybills, parts, book, flights)
+}
+
+/// Reads and judges the tables from `expected` on.
+fn judged_expected<S: Alter>(
+    alloc: Global,
+    conn: &mut Connection<S>,
+    confirmed: u32,
+    waybills: Vec<WaybillRow>,
+    book: &Book,
+    flights: &[FlightEntry],
+) -> Result<Result<Sizes, TableName>, Error>
+    ensures read { JudgesOn S.Store conn.old conn.new result table.Expected
+        (λ db. HasMark confirmed db × HasWaybills (map waybill_meant waybills.items) db
+        × HasSums book.now.sums db × HasMoves book.now.moves db
+        × HasFlights (map flight_entry flights.now) db) AreJudged }
+    ensures survives { Survives (state S.Store conn.old) (state S.Store conn.new) (λ _. ⊥) }
+{
+    if !are_expected_good(alloc, conn, &waybills)? {
+        return Ok(Err(TableName::Expected));
+    }
+    judged_parts(alloc, conn, confirmed, waybills, book, flights)
+}
+
+/// Reads and judges the tables from `moves` on.
+fn judged_moves<S: Alter>(
+    alloc: Global,
+    conn: &mut Connection<S>,
+    confirmed: u32,
+    waybills: Vec<WaybillRow>,
+    flights: &[FlightEntry],
+) -> Result<Result<Sizes, TableName>, Error>
+    ensures read { JudgesOn S.Store conn.old conn.new result table.Moves
+        (λ db. HasMark confirmed db × HasWaybills (map waybill_meant waybills.items) db
+        × HasFlights (map flight_entry flights.now) db) AreJudged }
+    ensures survives { Survives (state S.Store conn.old) (state S.Store conn.new) (λ _. ⊥) }
+{
+    let Some(book) = good_book(alloc, conn, &waybills, flights)? else {
+        return Ok(Err(TableName::Moves));
+    };
+    judged_expected(alloc, conn, confirmed, waybills, &book, flights)
+}
+
+/// Reads and judges the tables from `flight` on.
+fn judged_flights<S: Alter>(
+    alloc: Global,
+    conn: &mut Connection<S>,
+    airport: &str,
+    confirmed: u32,
+    waybills: Vec<WaybillRow>,
+) -> Result<Result<Sizes, TableName>, Error>
+    ensures read { JudgesOn S.Store conn.old conn.new result table.Flight
+        (λ db. HasAirport airport.now db × HasMark confirmed db
+        × HasWaybills (map waybill_meant waybills.items) db) AreJudged }
+    ensures survives { Survives (state S.Store conn.old) (state S.Store conn.new) (λ _. ⊥) }
+{
+    let Some(flights) = good_flights(alloc, conn, airport)? else {
+        return Ok(Err(TableName::Flight));
+    };
+    judged_moves(alloc, conn, confirmed, waybills, &flights)
+}
+
+/// Reads and judges the tables from `stock` on.
+fn judged_stock<S: Alter>(
+    alloc: Global,
+    conn: &mut Connection<S>,
+    airport: &str,
+    confirmed: u32,
+    waybills: Vec<WaybillRow>,
+) -> Result<Result<Sizes, TableName>, Error>
+    ensures read { JudgesOn S.Store conn.old conn.new result table.Stock
+        (λ db. HasAirport airport.now db × HasMark confirmed db
+        × HasWaybills (map waybill_meant waybills.items) db) AreJudged }
+    ensures survives { Survives (state S.Store conn.old) (state S.Store conn.new) (λ _. ⊥) }
+{
+    if !are_stock_good(alloc, conn, &waybills)? {
+        return Ok(Err(TableName::Stock));
+    }
+    judged_flights(alloc, conn, airport, confirmed, waybills)
+}
+
+/// Reads and judges the waybills and the tables after them.
+fn judged_waybills<S: Alter>(
+    alloc: Global,
+    conn: &mut Connection<S>,
+    version: FileVersion,
+    airport: &str,
+    confirmed: u32,
+) -> Result<Result<Sizes, TableName>, Error>
+    ensures read { JudgesOn S.Store conn.old conn.new result table.Waybill2
+        (λ db. (db.version ≡ version) × HasAirport airport.now db
+        × HasMark confirmed db) AreJudged }
+    ensures survives { Survives (state S.Store conn.old) (state S.Store conn.new) (λ _. ⊥) }
+{
+    let Some(waybills) = good_waybills(alloc, conn, version)? else {
+        return Ok(Err(TableName::Waybill2));
+    };
+    judged_stock(alloc, conn, airport, confirmed, waybills)
+}
+
+/// Reads and judges the tables after `station`, each against those before it: how many rows they
+/// have, or the first that is missing or not lawful. Of a table only what a later one is tested
+/// against is kept.
+pub(crate) fn judged_tables<S: Alter>(
+    alloc: Global,
+    conn: &mut Connection<S>,
+    version: FileVersion,
+    airport: &str,
+    confirmed: u32,
+) -> Result<Result<Sizes, TableName>, Error>
+    ensures read { JudgesOn S.Store conn.old conn.new result table.Waybill
+        (λ db. (db.version ≡ version) × HasAirport airport.now db
+        × HasMark confirmed db) AreJudged }
+    ensures survives { Survives (state S.Store conn.old) (state S.Store conn.new) (λ _. ⊥) }
+{
+    if !are_old_waybills_good(alloc, conn, version)? {
+        return Ok(Err(TableName::Waybill));
+    }
+    judged_waybills(alloc, conn, version, airport, confirmed)
 }

@@ -9,6 +9,7 @@ mod judge;
 mod law;
 mod state;
 mod unfit;
+mod versions;
 
 pub use law::{lawful_is_station, station_is_fit, station_is_typed};
 pub use state::{FoundState, found_state};

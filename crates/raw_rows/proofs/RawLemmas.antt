@@ -41,6 +41,7 @@ use Rattle.row_laws.specs.Calls.{Stops}
 use Rattle.row_laws.proofs.Inside.{not_run, query_stops, query_keeps}
 use Rattle.row_laws.proofs.Keyed.{no_overlay}
 use Rattle.raw_rows.specs.Selects.{IsSelect}
+use Rattle.raw_rows.specs.Walks.{IsReadOnly}
 use Rattle.raw_rows.proofs.AnySchema.{InTable, Means, means, names_of, term_in, by_in, asks_of, program_of}
 
 -- ---- options
@@ -236,6 +237,9 @@ module _ (text name : List ℕ) (names : List (List ℕ)) (n : ℕ) (low : n ≤
       let is : map (λ r. map (column r) (map (λ c. place_of at_hand.table c.place) all_of.cs)) (old.now.trees at_hand.table.tree) ≡ raw =
       ap (λ ps. map (λ r. map (column r) ps) (old.now.trees at_hand.table.tree)) all_of.cplaces ∙ at_hand.raw_is in
       (record { same = subst (λ l. IsPermutation l rows) is got.same; sorted = got.sorted }, query_keeps text [] old new old.now.schema refl p.0 rows h)
+
+  pub plain_whole : IsReadOnly old.now.schema text
+  plain_whole c h = (plain c h).0
 
   pub stops_whole : (e : Error) → FailsToQuery text [] old new e → Stops old new
   unfolding FailsToQuery

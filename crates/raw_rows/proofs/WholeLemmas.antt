@@ -11,10 +11,12 @@ use Rattle.sqlite.specs.Table.{Table}
 use Rattle.sqlite.specs.State.{State, Survives, IsUnchanged, FailsToQuery, Shown, CommitsShowing}
 use Rattle.sqlite.specs.declared.error.Error.{Error}
 use Rattle.row_laws.specs.Calls.{Stops}
-use Rattle.raw_rows.specs.Raw.{rows_of, found, found_at, found_in, table_by_name, places_by_name}
+use Rattle.std.specs.List.Sorted.{IsPermutation}
+use Rattle.raw_rows.specs.Raw.{AreInOrder, rows_of, found, found_at, found_in, table_by_name, places_by_name}
 use Rattle.raw_rows.specs.Selects.{IsSelect}
+use Rattle.raw_rows.specs.Walks.{IsReadOnly}
 use Rattle.raw_rows.specs.Whole.{is_whole, is_whole_in, ShowsWhole}
-use Rattle.raw_rows.proofs.RawLemmas.{reads_whole, stops_whole, survives_whole}
+use Rattle.raw_rows.proofs.RawLemmas.{plain_whole, reads_whole, stops_whole, survives_whole}
 
 -- ---- what the schema has
 
@@ -52,6 +54,18 @@ module _ (text name : List ℕ) (names : List (List ℕ)) (n : ℕ) (low : n ≤
   shows_whole rows h =
       let got = reads_whole text name names n low select old new there.0 there.1 rows.items h in
       ((there.0, there.1, got.0.same, got.0.sorted), got.1)
+
+  pub plain : IsReadOnly old.now.schema text
+  plain = plain_whole text name names n low select old new there.0 there.1
+
+  -- the rows that were given are those of the table
+  abbrev pub IsGiven : List Row → Type 0
+  IsGiven rows = (raw : List Row) × (found old.now name names ≡ rows_of raw) × IsPermutation raw rows × AreInOrder n rows
+
+  pub given_whole : (rows : List Row) → Shown text [] old new rows → IsGiven rows
+  given_whole rows h =
+      let got = reads_whole text name names n low select old new there.0 there.1 rows h in
+      (there.0, there.1, got.0.same, got.0.sorted)
 
   pub stops : (e : Error) → FailsToQuery text [] old new e → Stops old new
   stops e h = stops_whole text name names n low select old new there.0 there.1 e h

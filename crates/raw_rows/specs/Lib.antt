@@ -1,3 +1,4 @@
 pub mod Raw
 pub mod Selects
 pub mod Whole
+pub mod Walks

@@ -1,6 +1,5 @@
 -- A table of any database as entries in the order of their keys, and what a call returns of one.
-use Rattle.std.specs.Prelude.{◌≡◌, ◌≢◌, ℕ, ◌+◌, List, slice_index_or, true, map, Bool, false, is_some, IsTrue, Option, Some, None, Vec, Result}
-use Rattle.std.specs.Ordering.{is_lt}
+use Rattle.std.specs.Prelude.{◌≡◌, ◌≢◌, ℕ, List, map, Bool, false, is_some, IsTrue, Option, Some, None, Vec, Result}
 use Rattle.std.specs.List.{AllByRecursion}
 use Rattle.std.specs.List.Sorted.{IsPermutation}
 use Rattle.std.specs.declared.cmp.Ordering.{Ordering}
@@ -67,7 +66,3 @@ TellsTable {X} {E} meant Holds (Some rows) = Holds (map meant rows.items)
 abbrev pub FindsTable : {S X E : Type 0} → Ghosts S → Held S → Held S → Result (Option (Vec X Global)) Error → (X → E) → (Database → List E → Type 0) → Type 0
 FindsTable g old new result meant Holds =
     HasCleanDisk (state g new) → IsTrue (state g old).is_open → Reads (state g old) (state g new) result (TellsTable meant (Holds (state g old).now))
-
--- the key of the row at a place is below the next one
-abbrev pub IsBelowNext : {X E : Type 0} → (X → E) → (E → E → Ordering) → List X → ℕ → Type 0
-IsBelowNext {X} meant cmp rows k = (d : X) → is_lt (cmp (meant (slice_index_or rows k d)) (meant (slice_index_or rows (k + 1) d))) ≡ true

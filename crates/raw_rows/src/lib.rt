@@ -2,10 +2,13 @@
 //! by one query, and given as typed rows in the order of their keys, or found to be none.
 #![tactic(auto)]
 
+mod fold;
 mod query;
 mod tables;
 mod values;
+mod walk;
 
+pub use fold::RowFold;
 pub use query::table_rows;
-pub use tables::{KeyedTable, found_rows, held_once};
+pub use tables::{KeyedTable, fold_rows, found_rows, held_once};
 pub use values::{number, words};

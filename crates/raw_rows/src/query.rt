@@ -36,7 +36,7 @@ fn has_columns(table: &Table, names: &[&str]) -> bool
 }
 
 /// Whether there is a table of this name with these columns.
-fn has_table(schema: &Schema, name: &str, columns: &[&str]) -> bool
+pub(crate) fn has_table(schema: &Schema, name: &str, columns: &[&str]) -> bool
     ensures { result ≡ is_whole schema.now name.now (map (λ n. n.now) columns.now) }
 {
     match schema.table_named(name.as_bytes()) {

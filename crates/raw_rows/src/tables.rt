@@ -1,15 +1,17 @@
-ghost use Rattle.std.specs.Prelude.{◌≡◌, ◌≢◌, ◌<◌, ◌≤◌, ◌+◌, true, false, ℕ, List, map, take, length, IsTrue, IfOk, IfSome, Ok, None};
+ghost use Rattle.std.specs.Prelude.{◌≡◌, ◌≢◌, ◌≤◌, [], ℕ, List, map, take, length, IfOk, IfSome, Ok, None};
 ghost use Rattle.std.specs.Ordering.{is_lt};
-ghost use Rattle.std.specs.List.{AllByRecursion};
 ghost use Rattle.std.specs.declared.cmp.Ordering.{Ordering};
 ghost use Rattle.sqlite.specs.Order.{Row as Values};
 ghost use Rattle.sqlite.specs.State.{Survives};
 ghost use Rattle.sqlite.specs.Effect.{Database};
 ghost use Rattle.sqlite.specs.Held.{state};
 ghost use Rattle.raw_rows.specs.Selects.{IsSelect};
-ghost use Rattle.raw_rows.specs.Whole.{AreLawful, AreRowsOf, HoldsTable, IsBelowNext, Agrees, FindsTable};
+ghost use Rattle.raw_rows.specs.Whole.{AreLawful, HoldsTable, Agrees, FindsTable};
+ghost use Rattle.raw_rows.specs.Walks.{FoldsTable};
 
-use crate::query::table_rows;
+use crate::fold::{Collected, RowFold};
+use crate::query::has_table;
+use crate::walk::{ended, walked};
 use sqlite::{Alter, Connection, Error, Row};
 use std::alloc::Global;
 
@@ -47,57 +49,35 @@ pub trait KeyedTable {
     ghost back: { (e : Entry) → from_row (to_row e) ≡ e };
 }
 
-/// The typed rows that the rows are, if each is one. It fails only where memory runs out.
-fn typed_rows<T: KeyedTable>(alloc: Global, rows: &[Row]) -> Result<Option<Vec<T::Row>>, Error>
-    ensures some { IfOk result (λ o. IfSome o (λ all. rows.now ≡ map T.to_row (map T.meant all.items))) }
-    ensures lawful { IfOk result (λ o. IfSome o (λ all. AllByRecursion T.IsLawful (map T.meant all.items))) }
-    ensures none { result ≡ Ok None → (entries : List T.Entry) → AllByRecursion T.IsLawful entries
-        → rows.now ≢ map T.to_row entries }
-{
-    let mut all = Vec::new(alloc);
-    for row in rows {
-        match T::typed(alloc, row)? {
-            Some(next) => all.push(next)?,
-            None => return Ok(None),
-        }
-    }
-    Ok(Some(all))
-}
-
-/// Whether each key is below the next.
-fn rises<T: KeyedTable>(rows: &[T::Row]) -> bool
-    ensures up { IsTrue result → (k : ℕ) → k + 1 < length rows.now → IsBelowNext T.meant T.cmp rows.now k }
-    ensures falls { result ≡ false
-        → (k : ℕ) × (k + 1 < length rows.now) × ¬ IsBelowNext T.meant T.cmp rows.now k }
-{
-    for at in 1..rows.len() {
-        if !T::is_below(&rows[at - 1], &rows[at]) {
-            return false;
-        }
-    }
-    true
-}
-
-/// The typed rows that the rows are, if each is one and the keys ascend. It fails only where memory runs out.
-fn ordered_rows<T: KeyedTable>(
+/// What the rows of a table of any database make of a fold, one after another in the order of their keys,
+/// which are so many of its first columns, by the text that selects the columns. `None` where no typed rows
+/// are held: the table or a column is missing, a value is of another type or a text that is no UTF-8, or a
+/// key stands twice. The connection is open. On error memory is out, the fold failed, or the database could
+/// not be read: nothing was done, or the transaction that was open is undone.
+pub fn fold_rows<S: Alter, T: KeyedTable, F: RowFold<T::Row> + Drop>(
     alloc: Global,
-    rows: &[Row],
+    conn: &mut Connection<S>,
+    text: &str,
+    name: &str,
+    columns: &[&str],
     keys: usize,
-) -> Result<Option<Vec<T::Row>>, Error>
+    beside: &F::Beside,
+    fold: F,
+) -> Result<Option<F>, Error>
+    requires few { keys ≤ length columns.now }
+    requires selects { let names = map (λ n. n.now) columns.now in
+        IsSelect text.now name.now names (take keys names) }
     requires agrees { Agrees keys T.to_row T.cmp }
-    ensures some { IfOk result (λ o. IfSome o (λ all.
-        AreRowsOf T.to_row (AreLawful T.cmp T.IsLawful) rows.now (map T.meant all.items))) }
-    ensures none { result ≡ Ok None → (entries : List T.Entry)
-        → ¬ AreRowsOf T.to_row (AreLawful T.cmp T.IsLawful) rows.now entries }
+    requires begun { F.has beside.now fold [] }
+    ensures read { FoldsTable S.Store conn.old conn.new result (F.has beside.now) T.meant
+        (λ db. HoldsTable db name.now (map (λ n. n.now) columns.now) T.to_row (AreLawful T.cmp T.IsLawful)) }
+    ensures survives { Survives (state S.Store conn.old) (state S.Store conn.new) (λ _. ⊥) }
 {
-    let Some(all) = typed_rows::<T>(alloc, rows)? else {
+    if !has_table(conn.schema(), name, columns) {
         return Ok(None);
-    };
-    if rises::<T>(&all) {
-        Ok(Some(all))
-    } else {
-        Ok(None)
     }
+    let walk = walked::<S, T, F>(alloc, conn, text, beside, fold)?;
+    ended::<T, F>(walk, beside)
 }
 
 /// A table of any database as typed rows in the order of their keys, which are so many of its first columns,
@@ -121,10 +101,11 @@ pub fn found_rows<S: Alter, T: KeyedTable>(
         (λ db. HoldsTable db name.now (map (λ n. n.now) columns.now) T.to_row (AreLawful T.cmp T.IsLawful)) }
     ensures survives { Survives (state S.Store conn.old) (state S.Store conn.new) (λ _. ⊥) }
 {
-    let Some(rows) = table_rows(conn, text, name, columns, keys)? else {
-        return Ok(None);
-    };
-    ordered_rows::<T>(alloc, &rows, keys)
+    let none = Collected::new(alloc);
+    match fold_rows::<S, T, Collected<T::Row>>(alloc, conn, text, name, columns, keys, &(), none)? {
+        None => Ok(None),
+        Some(collected) => Ok(Some(collected.rows)),
+    }
 }
 
 /// A database holds one list of entries at most.

@@ -3,5 +3,4 @@ pub mod Orders
 pub mod StationLemmas
 pub mod Texts
 pub mod TypedLemmas
-pub mod Undated
 pub mod Values

@@ -1,4 +1,3 @@
-pub mod All
 pub mod Held
 pub mod Reading
 pub mod Typed

@@ -3,7 +3,6 @@
 //! table and of its columns.
 #![tactic(auto)]
 
-mod all;
 mod build;
 mod counts;
 mod expected;
@@ -20,7 +19,6 @@ mod stock;
 mod trail;
 mod waybill;
 
-pub use all::{FoundCargo, FoundCounts, FoundMessages, FoundReplies, FoundTables, all_tables};
 pub use build::found_builds;
 pub use counts::found_counts;
 pub use expected::{ExpectedEntry, found_expected};

@@ -1,27 +1,33 @@
-use Rattle.std.proofs.Common.{subst}
+use Rattle.std.proofs.Common.{subst, sym, ap, inl}
+use Rattle.std.specs.Prelude.{is_some}
+use Rattle.sqlite.specs.Held.{state}
+use Rattle.cargo_rows.specs.Meant.{move_meant}
+use Rattle.table_audits.specs.declared.name.TableName.TheVariants as table
 use Rattle.table_audits.specs.Order.{RisesByNumber}
-use Rattle.file_audit.proofs.ReadLists.{waybills_rise, waybill_none, waybill_is, flight_none, flight_is, moves_none, moves_is}
+use Rattle.file_audit.specs.Judged.{IsJudged}
+use Rattle.file_audit.proofs.ReadLists.{counted, waybills_rise}
+use Rattle.file_audit.proofs.EachTable.{moves_missing, moves_judged, moves_are}
 use Rattle.file_audit.proofs.book.good_book.Goals as goal
 
-pub returns-in_default-clause-exact : goal.returns-in_default-clause-exact
-returns-in_default-clause-exact c = λ db t tables so_far held. absurd (waybill_none db c.args.found.now tables c.in_default.is t so_far.1.1.0.held)
+pub returns-in_default-clause-read : goal.returns-in_default-clause-read
+returns-in_default-clause-read g c = λ clean up db at so_far knows.
+    let read = c.in_ok-rows.ensures.read clean up in
+    (moves_missing db (state g.S.Store c.args.conn.now).now at so_far c.in_ok-rows.field-0 read.0 c.in_default.is, read.1)
 
-pub returns-in_default-flights-clause-exact : goal.returns-in_default-flights-clause-exact
-returns-in_default-flights-clause-exact c = λ db t tables so_far held. absurd (flight_none db c.args.found.now tables c.in_default-flights.is t so_far.0.held)
+pub returns-in_default-judged-clause-read : goal.returns-in_default-judged-clause-read
+returns-in_default-judged-clause-read g c = λ clean up db at so_far knows.
+    let read = c.in_ok-rows.ensures.read clean up in
+    (subst (IsJudged table.Moves db) (ap is_some c.in_default-judged.is) (moves_judged db (state g.S.Store c.args.conn.now).now at so_far c.in_ok-rows.field-0 read.0 c.in-Some.rows c.in-Some.is c.deref.result.now c.deref.ensures.value (is_some c.in-Ok.judged) (λ t so is. let ws = knows.0 t so.1.1 in c.in-Ok.ensures.exact t (subst RisesByNumber ws (waybills_rise db.version db.database t.waybills so.1.1.0.held)) ws so.0.lawful.rows (knows.1 t so) is)), read.1)
 
-pub returns-in-None-clause-exact : goal.returns-in-None-clause-exact
-returns-in-None-clause-exact c = λ db t tables so_far held. absurd (moves_none db c.args.found.now tables c.in-None.is t held)
-
-pub returns-in-Some-moves-clause-exact : goal.returns-in-Some-moves-clause-exact
-returns-in-Some-moves-clause-exact c = λ db t tables so_far held.
-    let waybills = waybill_is db c.args.found.now tables c.in-Some.waybills c.deref-in-Some-moves.result.now c.in-Some.is c.deref-in-Some-moves.ensures.value t so_far.1.1.0.held in
-    let flights = flight_is db c.args.found.now tables c.in-Some-flights.flights c.deref-in-Some-moves-2.result.now c.in-Some-flights.is c.deref-in-Some-moves-2.ensures.value t so_far.0.held in
-    let moves = moves_is db c.args.found.now tables c.in-Some-moves.moves c.deref.result.now c.in-Some-moves.is c.deref.ensures.value t held in
-    c.lawful_sums.ensures.exact t (subst RisesByNumber waybills (waybills_rise db.version db.database t.waybills so_far.1.1.0.held)) waybills so_far.0.lawful.rows flights moves
-
-pub returns-in-Some-moves-clause-sums : goal.returns-in-Some-moves-clause-sums
-returns-in-Some-moves-clause-sums c = λ db t tables so_far held.
-    let waybills = waybill_is db c.args.found.now tables c.in-Some.waybills c.deref-in-Some-moves.result.now c.in-Some.is c.deref-in-Some-moves.ensures.value t so_far.1.1.0.held in
-    let flights = flight_is db c.args.found.now tables c.in-Some-flights.flights c.deref-in-Some-moves-2.result.now c.in-Some-flights.is c.deref-in-Some-moves-2.ensures.value t so_far.0.held in
-    let moves = moves_is db c.args.found.now tables c.in-Some-moves.moves c.deref.result.now c.in-Some-moves.is c.deref.ensures.value t held in
-    c.lawful_sums.ensures.sums t (subst RisesByNumber waybills (waybills_rise db.version db.database t.waybills so_far.1.1.0.held)) waybills so_far.0.lawful.rows flights moves
+pub returns-clause-read : goal.returns-clause-read
+returns-clause-read g c = λ clean up db at so_far knows.
+    let read = c.in_ok-rows.ensures.read clean up in (
+      (
+        subst (IsJudged table.Moves db) (ap is_some c.in-Some-judged.is) (moves_judged db (state g.S.Store c.args.conn.now).now at so_far c.in_ok-rows.field-0 read.0 c.in-Some.rows c.in-Some.is c.deref.result.now c.deref.ensures.value (is_some c.in-Ok.judged) (λ t so is. let ws = knows.0 t so.1.1 in c.in-Ok.ensures.exact t (subst RisesByNumber ws (waybills_rise db.version db.database t.waybills so.1.1.0.held)) ws so.0.lawful.rows (knows.1 t so) is)),
+        (
+          λ t so. let ws = knows.0 t so.1.1.1 in rw c.in-Some-judged.is at (c.in-Ok.ensures.sums t (subst RisesByNumber ws (waybills_rise db.version db.database t.waybills so.1.1.1.0.held)) ws so.1.0.lawful.rows (knows.1 t so.1) (moves_are db (state g.S.Store c.args.conn.now).now at so_far c.in_ok-rows.field-0 read.0 c.in-Some.rows c.in-Some.is c.deref.result.now c.deref.ensures.value t so.0.held)),
+          λ t so. counted move_meant c.in_ok-moves.moves c.deref-2.result.now t.moves c.in_ok-moves.ensures (moves_are db (state g.S.Store c.args.conn.now).now at so_far c.in_ok-rows.field-0 read.0 c.in-Some.rows c.in-Some.is c.deref-2.result.now c.deref-2.ensures.value t so.0.held),
+        ),
+      ),
+      read.1,
+    )

@@ -1,16 +1,25 @@
-use Rattle.std.proofs.Common.{subst}
+use Rattle.std.proofs.Common.{subst, sym, refl, ◌∙◌}
+use Rattle.std.specs.FinMap.{entries}
+use Rattle.sqlite.specs.Held.{state}
+use Rattle.row_codec.specs.Moves.{book_in}
+use Rattle.cargo_rows.specs.Meant.{waybill_meant}
+use Rattle.table_load.specs.Held.{flight_entry, part_entry}
+use Rattle.table_audits.specs.declared.name.TableName.TheVariants as table
 use Rattle.table_audits.specs.Order.{RisesByNumber}
-use Rattle.file_audit.proofs.ReadLists.{expected_none, expected_is, waybill_none, waybill_is, waybills_rise}
+use Rattle.table_audits.specs.Audited.{flights_of}
+use Rattle.table_audits.specs.Sums.{AreFlightsOf}
+use Rattle.table_audits.proofs.Listed.{flights_are}
+use Rattle.file_audit.specs.Judged.{IsJudged}
+use Rattle.file_audit.proofs.ReadLists.{waybills_rise}
+use Rattle.file_audit.proofs.EachTable.{expected_missing, expected_judged, expected_are}
 use Rattle.file_audit.proofs.good.are_expected_good.Goals as goal
 
-pub returns-in_default-clause-exact : goal.returns-in_default-clause-exact
-returns-in_default-clause-exact c = λ db t tables so_far held. absurd (waybill_none db c.args.found.now tables c.in_default.is t so_far.1.1.1.0.held)
+pub returns-in_default-clause-read : goal.returns-in_default-clause-read
+returns-in_default-clause-read g c = λ clean up db at so_far knows.
+    let read = c.in_ok-rows.ensures.read clean up in
+    (expected_missing db (state g.S.Store c.args.conn.now).now at so_far c.in_ok-rows.field-0 read.0 c.in_default.is, read.1)
 
-pub returns-in-None-clause-exact : goal.returns-in-None-clause-exact
-returns-in-None-clause-exact c = λ db t tables so_far held. absurd (expected_none db c.args.found.now tables c.in-None.is t held)
-
-pub returns-in-Some-expected-clause-exact : goal.returns-in-Some-expected-clause-exact
-returns-in-Some-expected-clause-exact c = λ db t tables so_far held.
-    let rows = expected_is db c.args.found.now tables c.in-Some-expected.rows c.deref.result.now c.in-Some-expected.is c.deref.ensures.value t held in
-    let waybills = waybill_is db c.args.found.now tables c.in-Some.waybills c.deref-in-Some-expected.result.now c.in-Some.is c.deref-in-Some-expected.ensures.value t so_far.1.1.1.0.held in
-    c.are_expected_lawful.ensures.exact t (subst RisesByNumber waybills (waybills_rise db.version db.database t.waybills so_far.1.1.1.0.held)) waybills rows
+pub returns-clause-read : goal.returns-clause-read
+returns-clause-read g c = λ clean up db at so_far knows.
+    let read = c.in_ok-rows.ensures.read clean up in
+    ((expected_judged db (state g.S.Store c.args.conn.now).now at so_far c.in_ok-rows.field-0 read.0 c.in-Some.rows c.in-Some.is c.deref.result.now c.deref.ensures.value c.are_expected_lawful.result (λ t so is. let ws = knows t so.1.1.1 in c.are_expected_lawful.ensures.exact t (subst RisesByNumber ws (waybills_rise db.version db.database t.waybills so.1.1.1.0.held)) ws is)), read.1)

@@ -1,10 +1,25 @@
-use Rattle.file_audit.proofs.ReadLists.{kept_key_none, kept_key_is}
+use Rattle.std.proofs.Common.{subst, sym, refl, ◌∙◌}
+use Rattle.std.specs.FinMap.{entries}
+use Rattle.sqlite.specs.Held.{state}
+use Rattle.row_codec.specs.Moves.{book_in}
+use Rattle.cargo_rows.specs.Meant.{waybill_meant}
+use Rattle.table_load.specs.Held.{flight_entry, part_entry}
+use Rattle.table_audits.specs.declared.name.TableName.TheVariants as table
+use Rattle.table_audits.specs.Order.{RisesByNumber}
+use Rattle.table_audits.specs.Audited.{flights_of}
+use Rattle.table_audits.specs.Sums.{AreFlightsOf}
+use Rattle.table_audits.proofs.Listed.{flights_are}
+use Rattle.file_audit.specs.Judged.{IsJudged}
+use Rattle.file_audit.proofs.ReadLists.{waybills_rise}
+use Rattle.file_audit.proofs.EachTable.{kept_missing, kept_judged, kept_are}
 use Rattle.file_audit.proofs.good.are_kept_keys_good.Goals as goal
 
-pub returns-in-None-clause-exact : goal.returns-in-None-clause-exact
-returns-in-None-clause-exact c = λ db t tables so_far held. absurd (kept_key_none db c.args.found.now tables c.in-None.is t held)
+pub returns-in_default-clause-read : goal.returns-in_default-clause-read
+returns-in_default-clause-read g c = λ clean up db at so_far knows.
+    let read = c.in_ok-rows.ensures.read clean up in
+    (kept_missing db (state g.S.Store c.args.conn.now).now at so_far c.in_ok-rows.field-0 read.0 c.in_default.is, read.1)
 
-pub returns-in-Some-clause-exact : goal.returns-in-Some-clause-exact
-returns-in-Some-clause-exact c = λ db t tables so_far held.
-    let rows = kept_key_is db c.args.found.now tables c.in-Some.rows c.deref.result.now c.in-Some.is c.deref.ensures.value t held in
-    c.are_kept_keys_lawful.ensures.exact t rows
+pub returns-clause-read : goal.returns-clause-read
+returns-clause-read g c = λ clean up db at so_far knows.
+    let read = c.in_ok-rows.ensures.read clean up in
+    ((kept_judged db (state g.S.Store c.args.conn.now).now at so_far c.in_ok-rows.field-0 read.0 c.in-Some.rows c.in-Some.is c.deref.result.now c.deref.ensures.value c.are_kept_keys_lawful.result (λ t so is. c.are_kept_keys_lawful.ensures.exact t is)), read.1)

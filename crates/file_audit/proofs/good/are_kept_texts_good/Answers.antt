@@ -1,14 +1,25 @@
-use Rattle.file_audit.proofs.ReadLists.{kept_text_none, kept_text_is, part_none, part_is}
+use Rattle.std.proofs.Common.{subst, sym, refl, ap, map, ◌∙◌}
+use Rattle.std.specs.FinMap.{entries}
+use Rattle.sqlite.specs.Held.{state}
+use Rattle.row_codec.specs.Moves.{book_in}
+use Rattle.cargo_rows.specs.Meant.{waybill_meant}
+use Rattle.table_load.specs.Held.{flight_entry, part_entry}
+use Rattle.table_audits.specs.declared.name.TableName.TheVariants as table
+use Rattle.table_audits.specs.Order.{RisesByNumber}
+use Rattle.table_audits.specs.Audited.{flights_of}
+use Rattle.table_audits.specs.Sums.{AreFlightsOf}
+use Rattle.table_audits.proofs.Listed.{flights_are}
+use Rattle.file_audit.specs.Judged.{IsJudged}
+use Rattle.file_audit.proofs.ReadLists.{waybills_rise}
+use Rattle.file_audit.proofs.EachTable.{kept_texts_missing, kept_texts_judged, kept_texts_are}
 use Rattle.file_audit.proofs.good.are_kept_texts_good.Goals as goal
 
-pub returns-in_default-clause-exact : goal.returns-in_default-clause-exact
-returns-in_default-clause-exact c = λ db t tables so_far held. absurd (part_none db c.args.found.now tables c.in_default.is t so_far.1.1.1.0.held)
+pub returns-in_default-clause-read : goal.returns-in_default-clause-read
+returns-in_default-clause-read g c = λ clean up db at so_far knows.
+    let read = c.in_ok-rows.ensures.read clean up in
+    (kept_texts_missing db (state g.S.Store c.args.conn.now).now at so_far c.in_ok-rows.field-0 read.0 c.in_default.is, read.1)
 
-pub returns-in-None-clause-exact : goal.returns-in-None-clause-exact
-returns-in-None-clause-exact c = λ db t tables so_far held. absurd (kept_text_none db c.args.found.now tables c.in-None.is t held)
-
-pub returns-in-Some-kept_texts-clause-exact : goal.returns-in-Some-kept_texts-clause-exact
-returns-in-Some-kept_texts-clause-exact c = λ db t tables so_far held.
-    let rows = kept_text_is db c.args.found.now tables c.in-Some-kept_texts.rows c.deref.result.now c.in-Some-kept_texts.is c.deref.ensures.value t held in
-    let parts = part_is db c.args.found.now tables c.in-Some.parts c.deref-in-Some-kept_texts.result.now c.in-Some.is c.deref-in-Some-kept_texts.ensures.value t so_far.1.1.1.0.held in
-    c.are_kept_texts_lawful.ensures.exact t so_far.1.1.1.0.lawful parts rows
+pub returns-clause-read : goal.returns-clause-read
+returns-clause-read g c = λ clean up db at so_far knows.
+    let read = c.in_ok-rows.ensures.read clean up in
+    ((kept_texts_judged db (state g.S.Store c.args.conn.now).now at so_far c.in_ok-rows.field-0 read.0 c.in-Some.rows c.in-Some.is c.deref.result.now c.deref.ensures.value c.are_kept_texts_lawful.result (λ t so is. c.are_kept_texts_lawful.ensures.exact t so.1.1.1.0.lawful (knows t so.1.1.1 ∙ ap (map part_entry) (sym c.deref-2.ensures.value)) is)), read.1)

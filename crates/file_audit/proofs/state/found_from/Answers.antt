@@ -1,11 +1,13 @@
-use Rattle.std.proofs.Common.{refl, w64}
+use Rattle.std.proofs.Common.{◌∙◌, ◌∷◌, [], refl, sym, subst, w64}
 use Rattle.std.proofs.lemmas.Int.{to_z-of_z}
 use Rattle.raw_rows.proofs.WholeLemmas.{at_rest}
 use Rattle.sqlite.specs.Held.{state}
+use Rattle.row_schema.specs.Connection.{opening}
+use Rattle.table_audits.specs.declared.name.TableName.TheVariants as table
 use Rattle.table_load.specs.Reading.{read_as}
-use Rattle.file_audit.specs.Made.{tables_from}
-use Rattle.file_audit.specs.Verdict.{Judges}
-use Rattle.file_audit.proofs.Judged.{is_our_row, reads_so, row_stops}
+use Rattle.table_load.specs.Verdict.{new_row}
+use Rattle.file_audit.specs.Judged.{AreJudged, HasAirport, HasBefore, HasMark}
+use Rattle.file_audit.proofs.Judged.{airport_is, is_our_row, mark_is, reads_err, row_stops}
 use Rattle.file_audit.proofs.state.found_from.Goals as goal
 
 pub returns-in_default-clause-read : goal.returns-in_default-clause-read
@@ -17,9 +19,54 @@ returns-in_default-clause-read g c = λ clean up says. (
   at_rest (state g.S.Store c.args.conn.now) up,
 )
 
-pub returns-clause-read : goal.returns-clause-read
-returns-clause-read g c = λ clean up says.
-    let told = c.in_ok-found.ensures.read clean up in
+pub returns-in_err-name-clause-read : goal.returns-in_err-name-clause-read
+returns-in_err-name-clause-read g c = λ clean up says.
     let tz = to_z-of_z w64 c.args.confirmed c.ranges.confirmed in
-    let lawful = (rw tz at (c.in-Some.ensures.exact (tables_from c.args.airport.now c.args.confirmed c.in_ok-found.found)) refl).0 refl in
-    reads_so (state g.S.Store c.args.conn.now) (state g.S.Store c.all_tables.new.conn) c.judged.result (Judges (read_as c.args.version (state g.S.Store c.args.conn.now).now)) told.1 (rw tz at (c.judged.ensures (read_as c.args.version (state g.S.Store c.args.conn.now).now) told.0) says lawful c.in-Some.ensures.told.0 (rw tz at c.in-Some.ensures.told.1))
+    let db = read_as c.args.version (state g.S.Store c.args.conn.now).now in
+    let own = record (opening c.args.airport.now) { stations = new_row c.args.airport.now c.args.confirmed ∷ [] } in
+    let lawful = (rw tz at (c.in-Some.ensures.exact own) refl).0 refl in
+    let so_far : HasBefore table.Waybill db = (own, (record { held = (c.args.airport.now, c.args.confirmed, says, refl); lawful = lawful }, tt)) in
+    let mark = rw tz at c.in-Some.ensures.told.1 in
+    let has_airport : HasAirport c.args.airport.now db = λ t so. airport_is db c.args.airport.now c.args.confirmed says t so.0.held in
+    let has_mark : HasMark c.in-Some.own.confirmed db = λ t so. mark_is db c.args.airport.now c.args.confirmed says t so.0.held ∙ sym mark in
+    reads_err (state g.S.Store c.args.conn.now) (state g.S.Store c.judged_tables.new.conn) c.from_residual.result _ c.from_residual.ensures.0 (c.in_err-name.ensures.read clean up db refl so_far (refl, has_airport, has_mark))
+
+pub returns-in-Err-clause-read : goal.returns-in-Err-clause-read
+returns-in-Err-clause-read g c = λ clean up says.
+    let tz = to_z-of_z w64 c.args.confirmed c.ranges.confirmed in
+    let db = read_as c.args.version (state g.S.Store c.args.conn.now).now in
+    let own = record (opening c.args.airport.now) { stations = new_row c.args.airport.now c.args.confirmed ∷ [] } in
+    let lawful = (rw tz at (c.in-Some.ensures.exact own) refl).0 refl in
+    let so_far : HasBefore table.Waybill db = (own, (record { held = (c.args.airport.now, c.args.confirmed, says, refl); lawful = lawful }, tt)) in
+    let mark = rw tz at c.in-Some.ensures.told.1 in
+    let has_airport : HasAirport c.args.airport.now db = λ t so. airport_is db c.args.airport.now c.args.confirmed says t so.0.held in
+    let has_mark : HasMark c.in-Some.own.confirmed db = λ t so. mark_is db c.args.airport.now c.args.confirmed says t so.0.held ∙ sym mark in
+    let told = c.in_ok-name.ensures.read clean up db refl so_far (refl, has_airport, has_mark) in
+    ((is_our_row db c.args.airport.now c.args.confirmed says, subst (AreJudged db) c.in-Err.is told.0), told.1)
+
+pub returns-in-Ok-clause-read : goal.returns-in-Ok-clause-read
+returns-in-Ok-clause-read g c = λ clean up says.
+    let tz = to_z-of_z w64 c.args.confirmed c.ranges.confirmed in
+    let db = read_as c.args.version (state g.S.Store c.args.conn.now).now in
+    let own = record (opening c.args.airport.now) { stations = new_row c.args.airport.now c.args.confirmed ∷ [] } in
+    let lawful = (rw tz at (c.in-Some.ensures.exact own) refl).0 refl in
+    let so_far : HasBefore table.Waybill db = (own, (record { held = (c.args.airport.now, c.args.confirmed, says, refl); lawful = lawful }, tt)) in
+    let mark = rw tz at c.in-Some.ensures.told.1 in
+    let has_airport : HasAirport c.args.airport.now db = λ t so. airport_is db c.args.airport.now c.args.confirmed says t so.0.held in
+    let has_mark : HasMark c.in-Some.own.confirmed db = λ t so. mark_is db c.args.airport.now c.args.confirmed says t so.0.held ∙ sym mark in
+    let told = c.in_ok-name.ensures.read clean up db refl so_far (refl, has_airport, has_mark) in
+    let all = subst (AreJudged db) c.in-Ok.is told.0 in
+    let row = all.1.1.1.1.1.1.1.1.1.1.1.1.1.1.0.held in (
+      (
+        all.0,
+        all.1,
+        record {
+          here = c.in-Some.ensures.told.0 ∙ sym (airport_is db c.args.airport.now c.args.confirmed says all.0 row);
+          confirmed = mark ∙ sym (mark_is db c.args.airport.now c.args.confirmed says all.0 row);
+          moves = all.2.moves;
+          lines = all.2.lines;
+          messages = all.2.messages;
+        },
+      ),
+      told.1,
+    )

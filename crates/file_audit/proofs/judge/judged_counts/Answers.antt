@@ -1,0 +1,24 @@
+use Rattle.std.proofs.Common.{arith, map, ap, sym, subst, ◌∙◌}
+use Rattle.sqlite.specs.Held.{state}
+use Rattle.sqlite.specs.State.{HasCleanDisk}
+use Rattle.cargo_rows.specs.Meant.{waybill_meant}
+use Rattle.table_load.specs.Held.{flight_entry}
+use Rattle.table_audits.specs.declared.name.TableName.TheVariants as table
+use Rattle.file_audit.specs.Judged.{IsJudged}
+use Rattle.file_audit.proofs.Judged.{reads_err, then_reads}
+use Rattle.file_audit.proofs.judge.judged_counts.Goals as goal
+
+pub returns-in_err-are_counts_good-clause-read : goal.returns-in_err-are_counts_good-clause-read
+returns-in_err-are_counts_good-clause-read g c = λ clean up db at so_far knows. reads_err (state g.S.Store c.args.conn.now) (state g.S.Store c.are_counts_good.new.conn) c.from_residual.result _ c.from_residual.ensures.0 (c.in_err-are_counts_good.ensures.read clean up db at so_far knows.0)
+
+pub returns-then-not-branch-clause-read : goal.returns-then-not-branch-clause-read
+returns-then-not-branch-clause-read g c = λ clean up db at so_far knows.
+    let told = c.in_ok-are_counts_good.ensures.read clean up db at so_far knows.0 in
+    (subst (IsJudged table.Counts db) c.if-not-branch.true told.0, told.1)
+
+pub returns-clause-read : goal.returns-clause-read
+returns-clause-read g c = λ clean up db at so_far knows.
+    let first : HasCleanDisk (state g.S.Store c.are_counts_good.new.conn) = omega (arith, clean, c.judged_builds.ensures.survives.clean) in
+    let told = c.in_ok-are_counts_good.ensures.read first up db at so_far knows.0 in
+    let past = subst (IsJudged table.Counts db) c.if-not-branch.false told.0 in
+    then_reads g.S.Store c.args.conn.now c.are_counts_good.new.conn c.judged_builds.new.conn c.judged_builds.result table.Build _ _ db at told.1 c.are_counts_good.ensures.survives.counts clean c.judged_builds.ensures.read past knows

@@ -1,0 +1,24 @@
+use Rattle.std.proofs.Common.{arith, map, ap, sym, subst, ◌∙◌}
+use Rattle.sqlite.specs.Held.{state}
+use Rattle.sqlite.specs.State.{HasCleanDisk}
+use Rattle.cargo_rows.specs.Meant.{waybill_meant}
+use Rattle.table_load.specs.Held.{flight_entry}
+use Rattle.table_audits.specs.declared.name.TableName.TheVariants as table
+use Rattle.file_audit.specs.Judged.{IsJudged}
+use Rattle.file_audit.proofs.Judged.{reads_err, then_reads}
+use Rattle.file_audit.proofs.judge.judged_kept_keys.Goals as goal
+
+pub returns-in_err-are_kept_keys_good-clause-read : goal.returns-in_err-are_kept_keys_good-clause-read
+returns-in_err-are_kept_keys_good-clause-read g c = λ clean up db at so_far knows. reads_err (state g.S.Store c.args.conn.now) (state g.S.Store c.are_kept_keys_good.new.conn) c.from_residual.result _ c.from_residual.ensures.0 (c.in_err-are_kept_keys_good.ensures.read clean up db at so_far tt)
+
+pub returns-then-not-branch-clause-read : goal.returns-then-not-branch-clause-read
+returns-then-not-branch-clause-read g c = λ clean up db at so_far knows.
+    let told = c.in_ok-are_kept_keys_good.ensures.read clean up db at so_far tt in
+    (subst (IsJudged table.KeptKey db) c.if-not-branch.true told.0, told.1)
+
+pub returns-clause-read : goal.returns-clause-read
+returns-clause-read g c = λ clean up db at so_far knows.
+    let first : HasCleanDisk (state g.S.Store c.are_kept_keys_good.new.conn) = omega (arith, clean, c.judged_kept_texts.ensures.survives.clean) in
+    let told = c.in_ok-are_kept_keys_good.ensures.read first up db at so_far tt in
+    let past = subst (IsJudged table.KeptKey db) c.if-not-branch.false told.0 in
+    then_reads g.S.Store c.args.conn.now c.are_kept_keys_good.new.conn c.judged_kept_texts.new.conn c.judged_kept_texts.result table.KeptText _ _ db at told.1 c.are_kept_keys_good.ensures.survives.counts clean c.judged_kept_texts.ensures.read past knows

@@ -1,0 +1,48 @@
+ghost use Rattle.std.specs.Prelude.{◌≡◌, ◌++◌, ◌∷◌, [], List};
+
+use sqlite::Error;
+use std::alloc::Global;
+
+/// What is made of the rows of a table, one after another, beside what was read before.
+pub trait RowFold<Row> {
+    ghost use Rattle.std.specs.Prelude.{◌++◌, ◌∷◌, [], List, OnOk};
+
+    /// What was read before the table.
+    type Beside;
+
+    /// What rows, in their order, make of it.
+    ghost has: { Self.Beside → Self → List Row → Type 0 };
+
+    /// Takes the next row. On error memory is out, or there is no number for the row.
+    fn take(&mut self, beside: &Self::Beside, row: Row) -> Result<(), Error>
+        ensures { (rows : List Row) → has beside.now self.old rows
+            → OnOk result (has beside.now self.new (rows ++ row ∷ [])) };
+}
+
+/// The rows themselves.
+#[derive(Drop)]
+pub(crate) struct Collected<Row> {
+    pub(crate) rows: Vec<Row>,
+}
+
+impl<Row> Collected<Row> {
+    /// No rows.
+    pub(crate) fn new(alloc: Global) -> Collected<Row>
+        ensures { result.rows.items ≡ [] }
+    {
+        Collected {
+            rows: Vec::new(alloc),
+        }
+    }
+}
+
+impl<Row: Drop> RowFold<Row> for Collected<Row> {
+    type Beside = ();
+
+    ghost has = { λ _ collected rows. collected.rows.items ≡ rows };
+
+    fn take(&mut self, beside: &(), row: Row) -> Result<(), Error> {
+        let _ = beside;
+        Ok(self.rows.push(row)?)
+    }
+}
