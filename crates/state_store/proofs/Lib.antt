@@ -1,4 +1,5 @@
-mod Balances
+mod Examples
+mod Listed
 mod Meant
 mod Stored
 pub mod Walks

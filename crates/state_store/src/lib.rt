@@ -3,10 +3,12 @@
 #![tactic(auto)]
 
 mod lines;
+mod query;
 mod store;
 mod telling;
 mod viewing;
 
+pub use query::WaybillQuery;
 pub use store::{StateStore, StoreFault};
 pub use telling::{expected_rows, flight_rows, irregular_rows, shed_rows, waybill_in};
 pub use viewing::view;

@@ -1,3 +1,4 @@
+use crate::query::WaybillQuery;
 use agent_stock::{Holder, Order, StockFault, StockRun};
 use awb_number::Awb;
 use imp_fields::Airport;
@@ -45,8 +46,9 @@ pub trait StateStore {
     ghost use Rattle.station_core.specs.declared.rows.TrailRow.{TrailRow as AnyTrailRow};
     ghost use Rattle.row_sinks.specs.Handed.{HandedOut, Hands};
     ghost use Rattle.state_store.specs.Store.{Seen, at_rest, inside, Survives, MayLeave};
+    ghost use Rattle.state_store.specs.Waybills.{waybills_for};
     ghost use Rattle.agent_stock.specs.Refusing.{OnRefused, RefusesBy};
-    ghost use Rattle.station_core.specs.Told.{IsRequest, AreAllBalances, kept_of, sizes_of, loads_on, on_cargo, with_moves, with_messages, with_key, with_text, with_order};
+    ghost use Rattle.station_core.specs.Told.{IsRequest, kept_of, sizes_of, loads_on, on_cargo, with_moves, with_messages, with_key, with_text, with_order};
 
     /// It shows this, as long as the disk returned what was written.
     ghost shows: { Self → Seen → Type 0 };
@@ -232,11 +234,10 @@ pub trait StateStore {
         ensures rests { (s : State) → shows self.old (at_rest s) → shows self.new (at_rest s) }
         ensures survives { Survives is_clean is_sound may_find self.old self.new };
 
-    /// The balances of all waybills, ascending. A waybill that isn't listed has nothing anywhere but
-    /// on flights.
-    fn all_balances(&mut self) -> Result<Vec<WaybillBalances>, StoreFault>
+    /// The waybills that are asked for, ascending, each with its balances.
+    fn waybills(&mut self, query: WaybillQuery) -> Result<Vec<WaybillBalances>, StoreFault>
         ensures value { (s : State) → shows self.old (at_rest s) → is_sound self.new
-            → IfOk result (λ rows. AreAllBalances s.cargo.book rows.items) }
+            → IfOk result (λ rows. rows.items ≡ waybills_for query s.cargo.book) }
         ensures rests { (s : State) → shows self.old (at_rest s) → shows self.new (at_rest s) }
         ensures survives { Survives is_clean is_sound may_find self.old self.new };
 

@@ -1,6 +1,6 @@
 //! The readers of the state of a store: nothing is changed.
-ghost use Rattle.std.specs.Prelude.{◌≡◌, ◌≤◌, ℕ, ◌+◌, ◌-◌, ◌++◌, length, map, OnOk, IfOk};
-ghost use Rattle.std.specs.List.{flat_map, sum_by};
+ghost use Rattle.std.specs.Prelude.{◌≡◌, ◌≤◌, ℕ, ◌+◌, ◌-◌, length, map, IfOk};
+ghost use Rattle.std.specs.List.{sum_by};
 ghost use Rattle.shipment_machine.specs.Book.{balances_of, store};
 ghost use Rattle.shipment_machine.specs.Cargo.{Cargo as AnyCargo};
 ghost use Rattle.shipment_machine.specs.Lawful.{IsLawful};
@@ -8,8 +8,9 @@ ghost use Rattle.shipment_machine.specs.Views.{declaration};
 ghost use Rattle.station_core.specs.Readers.{told_of, waybill_of, irregular_rows, shed_rows, flight_row, AreFlightRows, expected_row, AreExpectedRows};
 ghost use Rattle.station_core.specs.Step.{State};
 ghost use Rattle.state_store.specs.Store.{at_rest, Survives};
-ghost use Rattle.station_core.specs.Told.{stored_of, irregular_by, irregulars_by, shed_by, sheds_by};
+ghost use Rattle.station_core.specs.Told.{stored_of, irregular_by, shed_by};
 
+use crate::query::WaybillQuery;
 use crate::store::{StateStore, StoreFault};
 use awb_number::Awb;
 use shipment_machine::laws::conservation_law;
@@ -154,45 +155,27 @@ fn irregular_row<S: StateStore>(
     })
 }
 
-/// Puts a waybill behind the others, if pieces are missing or were found.
-fn put_irregular<S: StateStore>(
-    store: &mut S,
-    rows: &mut Vec<IrregularRow>,
-    waybill: &WaybillBalances,
-) -> Result<(), StoreFault>
-    ensures value { (s : State) → S.shows store.old (at_rest s) → S.is_sound store.new
-        → OnOk result (rows.new.items
-        ≡ rows.old.items ++ irregulars_by s.cargo waybill.now) }
-    ensures rests { (s : State) → S.shows store.old (at_rest s) → S.shows store.new (at_rest s) }
-    ensures survives { Survives S.is_clean S.is_sound S.may_find store.old store.new }
-{
-    if waybill.balances.missing.pieces > 0 || waybill.balances.found.pieces > 0 {
-        rows.push(irregular_row(store, waybill)?)?;
-    }
-    Ok(())
-}
-
-/// Those of some waybills of which pieces are missing or were found.
+/// Some waybills with their pieces missing and found.
 fn irregular_among<S: StateStore>(
     alloc: Global,
     store: &mut S,
     waybills: &[WaybillBalances],
 ) -> Result<Vec<IrregularRow>, StoreFault>
     ensures value { (s : State) → S.shows store.old (at_rest s) → S.is_sound store.new
-        → IfOk result (λ rows. rows.items ≡ flat_map (irregulars_by s.cargo) waybills.now) }
+        → IfOk result (λ rows. rows.items ≡ map (irregular_by s.cargo) waybills.now) }
     ensures rests { (s : State) → S.shows store.old (at_rest s) → S.shows store.new (at_rest s) }
     ensures survives { Survives S.is_clean S.is_sound S.may_find store.old store.new }
 {
     let mut rows = Vec::new(alloc);
     for waybill in waybills {
-        put_irregular(store, &mut rows, waybill)?;
+        rows.push(irregular_row(store, waybill)?)?;
     }
     Ok(rows)
 }
 
-/// The waybills of which pieces are missing or were found, ascending: all balances in one read, and
-/// one read more for each waybill that is listed. A fault says that a call of the store failed, that
-/// memory ran out, or that such a waybill isn't declared.
+/// The waybills of which pieces are missing or were found, ascending: their balances, and one read
+/// more for each. A fault says that a call of the store failed, that memory ran out, or that such a
+/// waybill isn't declared.
 pub fn irregular_rows<S: StateStore>(
     alloc: Global,
     store: &mut S,
@@ -202,22 +185,18 @@ pub fn irregular_rows<S: StateStore>(
     ensures rests { (s : State) → S.shows store.old (at_rest s) → S.shows store.new (at_rest s) }
     ensures survives { Survives S.is_clean S.is_sound S.may_find store.old store.new }
 {
-    let waybills = store.all_balances()?;
+    let waybills = store.waybills(WaybillQuery::Irregular)?;
     irregular_among(alloc, store, &waybills)
 }
 
-/// A waybill with this in store.
-fn shed_row<S: StateStore>(
-    store: &mut S,
-    waybill: &WaybillBalances,
-    stored: &Amount,
-) -> Result<ShedRow, StoreFault>
+/// A waybill with what is free and what is built on flights: the rest of what is in store.
+fn shed_row<S: StateStore>(store: &mut S, waybill: &WaybillBalances) -> Result<ShedRow, StoreFault>
     ensures value { (s : State) → S.shows store.old (at_rest s) → S.is_sound store.new
-        → stored.now ≡ stored_of waybill.now.balances
         → IfOk result (λ row. row ≡ shed_by s.cargo waybill.now) }
     ensures rests { (s : State) → S.shows store.old (at_rest s) → S.shows store.new (at_rest s) }
     ensures survives { Survives S.is_clean S.is_sound S.may_find store.old store.new }
 {
+    let stored = stored(&waybill.balances)?;
     let declared = declaration(store, &waybill.awb)?;
     let free = waybill.balances.free;
     Ok(ShedRow {
@@ -230,45 +209,27 @@ fn shed_row<S: StateStore>(
     })
 }
 
-/// Puts a waybill behind the others, if it has pieces in store.
-fn put_shed<S: StateStore>(
-    store: &mut S,
-    rows: &mut Vec<ShedRow>,
-    waybill: &WaybillBalances,
-) -> Result<(), StoreFault>
-    ensures value { (s : State) → S.shows store.old (at_rest s) → S.is_sound store.new
-        → OnOk result (rows.new.items ≡ rows.old.items ++ sheds_by s.cargo waybill.now) }
-    ensures rests { (s : State) → S.shows store.old (at_rest s) → S.shows store.new (at_rest s) }
-    ensures survives { Survives S.is_clean S.is_sound S.may_find store.old store.new }
-{
-    let stored = stored(&waybill.balances)?;
-    if stored.pieces > 0 {
-        rows.push(shed_row(store, waybill, &stored)?)?;
-    }
-    Ok(())
-}
-
-/// Those of some waybills that have pieces in store.
+/// Some waybills with what of them is in store.
 fn shed_among<S: StateStore>(
     alloc: Global,
     store: &mut S,
     waybills: &[WaybillBalances],
 ) -> Result<Vec<ShedRow>, StoreFault>
     ensures value { (s : State) → S.shows store.old (at_rest s) → S.is_sound store.new
-        → IfOk result (λ rows. rows.items ≡ flat_map (sheds_by s.cargo) waybills.now) }
+        → IfOk result (λ rows. rows.items ≡ map (shed_by s.cargo) waybills.now) }
     ensures rests { (s : State) → S.shows store.old (at_rest s) → S.shows store.new (at_rest s) }
     ensures survives { Survives S.is_clean S.is_sound S.may_find store.old store.new }
 {
     let mut rows = Vec::new(alloc);
     for waybill in waybills {
-        put_shed(store, &mut rows, waybill)?;
+        rows.push(shed_row(store, waybill)?)?;
     }
     Ok(rows)
 }
 
-/// The waybills with pieces in store, ascending: all balances in one read, and one read more for each
-/// waybill that is listed. A fault says that a call of the store failed, that memory ran out, or that
-/// what it returned is no lawful state's.
+/// The waybills with pieces in store, ascending: their balances, and one read more for each. A fault
+/// says that a call of the store failed, that memory ran out, or that what it returned is no lawful
+/// state's.
 pub fn shed_rows<S: StateStore>(alloc: Global, store: &mut S) -> Result<Vec<ShedRow>, StoreFault>
     ensures value { (s : State) → S.shows store.old (at_rest s) → IsLawful s.cargo
         → S.is_sound store.new → IfOk result (λ rows. rows.items ≡ shed_rows s.cargo) }
@@ -276,7 +237,7 @@ pub fn shed_rows<S: StateStore>(alloc: Global, store: &mut S) -> Result<Vec<Shed
     ensures survives { Survives S.is_clean S.is_sound S.may_find store.old store.new }
 {
     conservation_law();
-    let waybills = store.all_balances()?;
+    let waybills = store.waybills(WaybillQuery::Stored)?;
     shed_among(alloc, store, &waybills)
 }
 

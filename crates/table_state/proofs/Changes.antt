@@ -51,7 +51,7 @@ use Rattle.stock_tables.specs.Stocked.{Stocked, restocked, using_up, Restocked}
 use Rattle.table_state.specs.Recorded.{Recorded}
 use Rattle.table_state.specs.Put.{put_over, putting_waybill}
 use Rattle.table_state.specs.declared.counted.Counted.{Counted}
-use Rattle.table_state.specs.Shown.{Knows, AreBoarded, Tells, Shows}
+use Rattle.table_state.specs.Shown.{Knows, AreBoarded, HaveAsked, IsCounted, Tells, Shows}
 use Rattle.table_state.proofs.Lifting.{writes_on, reached}
 
 put_means : (t : Tables) (s : State) (text : List ℕ) (w : ℕ) (d : Declared) (new : table.Waybill) → new ≡ waybill_row w d → is_waybill_row (waybill_row w d) ≡ true → Means t (Some s)
@@ -107,10 +107,17 @@ module _ (old new : View) (here : List ℕ) (counted : Counted) (confirmed : ℕ
 
   -- a list that got one more
 
-  pub adds_line_on : (text : List ℕ) (n w : ℕ) (line : List ℕ) (row_is : table.TrailLine) → row_is ≡ line_row n w line → IsTrue (is_trail_row (line_row n w line)) → n ≡ counted.sizes.lines + 1 → (later : Counted) → later.sizes ≡ record { moves = counted.sizes.moves; lines = n; messages = counted.sizes.messages } → later.boarded ≡ counted.boarded → later.known ≡ counted.known
+  same_counted : (later : Counted) (book : List Move) → later.boarded ≡ counted.boarded → later.known ≡ counted.known → later.waybills ≡ counted.waybills → IsCounted counted book → IsCounted later book
+  same_counted later book same_boarded same_known same_waybills kept = record {
+    boarded = subst (λ o. AreBoarded o book) (sym same_boarded) kept.boarded;
+    known = subst (λ o. AreKnown o (running book)) (sym same_known) kept.known;
+    waybills = subst (λ o. HaveAsked o book) (sym same_waybills) kept.waybills;
+  }
+
+  pub adds_line_on : (text : List ℕ) (n w : ℕ) (line : List ℕ) (row_is : table.TrailLine) → row_is ≡ line_row n w line → IsTrue (is_trail_row (line_row n w line)) → n ≡ counted.sizes.lines + 1 → (later : Counted) → later.sizes ≡ record { moves = counted.sizes.moves; lines = n; messages = counted.sizes.messages } → later.boarded ≡ counted.boarded → later.known ≡ counted.known → later.waybills ≡ counted.waybills
       → (IsShowing old (row.inside old.committed old.now) → IsShowing new (row.inside old.committed (with_trail_line row_is old.now)))
       → Shows new here later confirmed (inside before (on_cargo (written text (Trail w line)) s))
-  adds_line_on text n w line row_is is fits next later sizes_later same_boarded same_known done sound =
+  adds_line_on text n w line row_is is fits next later sizes_later same_boarded same_known same_waybills done sound =
       let had : counted.sizes.lines ≡ length s.cargo.trail = ap (λ (z : Sizes). z.lines) (was (survives.sound sound)).knows.sizes_are in
       let one_more : n ≡ length s.cargo.trail + 1 = next ∙ ap (λ k. k + 1) had in
       writes_on old new here counted confirmed (with_trail_line row_is) later confirmed before s (on_cargo (written text (Trail w line)) s) was survives done
@@ -119,12 +126,12 @@ module _ (old new : View) (here : List ℕ) (counted : Counted) (confirmed : ℕ
         here_is = k.here_is;
         sizes_are = sizes_later ∙ (λ i. record { moves = (k.sizes_are i).moves; lines = (one_more ∙ sym (length-append s.cargo.trail ((w, line) ∷ []))) i; messages = (k.sizes_are i).messages });
         confirmed_is = k.confirmed_is;
-      }) (λ b. (subst (λ o. AreBoarded o s.cargo.book) (sym same_boarded) b.0, subst (λ o. AreKnown o (running s.cargo.book)) (sym same_known) b.1)) sound
+      }) (λ kept. same_counted later s.cargo.book same_boarded same_known same_waybills kept) sound
 
-  pub adds_message_on : (n : ℕ) (text : List ℕ) (row_is : table.Message) → row_is ≡ message_row n text → IsTrue (is_message_row (message_row n text)) → n ≡ counted.sizes.messages + 1 → (later : Counted) → later.sizes ≡ record { moves = counted.sizes.moves; lines = counted.sizes.lines; messages = n } → later.boarded ≡ counted.boarded → later.known ≡ counted.known
+  pub adds_message_on : (n : ℕ) (text : List ℕ) (row_is : table.Message) → row_is ≡ message_row n text → IsTrue (is_message_row (message_row n text)) → n ≡ counted.sizes.messages + 1 → (later : Counted) → later.sizes ≡ record { moves = counted.sizes.moves; lines = counted.sizes.lines; messages = n } → later.boarded ≡ counted.boarded → later.known ≡ counted.known → later.waybills ≡ counted.waybills
       → (IsShowing old (row.inside old.committed old.now) → IsShowing new (row.inside old.committed (with_message row_is old.now)))
       → Shows new here later confirmed (inside before (with_messages (text ∷ []) s))
-  adds_message_on n text row_is is fits next later sizes_later same_boarded same_known done sound =
+  adds_message_on n text row_is is fits next later sizes_later same_boarded same_known same_waybills done sound =
       let had : counted.sizes.messages ≡ length s.cargo.outbox = ap (λ (z : Sizes). z.messages) (was (survives.sound sound)).knows.sizes_are in
       let one_more : n ≡ length s.cargo.outbox + 1 = next ∙ ap (λ k. k + 1) had in
       writes_on old new here counted confirmed (with_message row_is) later confirmed before s (with_messages (text ∷ []) s) was survives done
@@ -133,7 +140,7 @@ module _ (old new : View) (here : List ℕ) (counted : Counted) (confirmed : ℕ
         here_is = k.here_is;
         sizes_are = sizes_later ∙ (λ i. record { moves = (k.sizes_are i).moves; lines = (k.sizes_are i).lines; messages = (one_more ∙ sym (length-append s.cargo.outbox (text ∷ []))) i });
         confirmed_is = k.confirmed_is;
-      }) (λ b. (subst (λ o. AreBoarded o s.cargo.book) (sym same_boarded) b.0, subst (λ o. AreKnown o (running s.cargo.book)) (sym same_known) b.1)) sound
+      }) (λ kept. same_counted later s.cargo.book same_boarded same_known same_waybills kept) sound
 
   pub confirms_on : (text : List ℕ) (number : ℤ) (upto : ℕ) → number ≡ pos upto → IsTrue (is_count (pos upto))
       → (IsShowing old (row.inside old.committed old.now) → IsShowing new (row.inside old.committed (confirming number old.now)))
@@ -218,15 +225,16 @@ module _ (old new : View) (here : List ℕ) (counted : Counted) (confirmed : ℕ
   pub moves_on : (n : ℕ) (m : Move) → n ≡ counted.sizes.moves + 1 → (later : Counted) → later.sizes ≡ record { moves = n; lines = counted.sizes.lines; messages = counted.sizes.messages }
       → (were : ℤ) → ((book : List Move) → AreBoarded counted.boarded book → WereThere book m were → AreBoarded later.boarded (book ++ m ∷ []))
       → ((book : List Move) → AreKnown counted.known (running book) → AreKnown later.known (running (book ++ m ∷ [])))
+      → ((book : List Move) → HaveAsked counted.waybills book → HaveAsked later.waybills (book ++ m ∷ []))
       → (IsShowing old (row.inside old.committed old.now) → (book : List Move) → AreCounts old.now.counts book → AreBuilds old.now.builds book → AreKnown counted.known (running book) → new.IsSound → WereThere book m were)
       → (IsShowing old (row.inside old.committed old.now) → (book : List Move) → AreCounts old.now.counts book → AreBuilds old.now.builds book → AreKnown counted.known (running book) → Recorded new old.committed old.now n m (book ++ m ∷ []))
       → Shows new here later confirmed (inside before (with_moves (m ∷ []) s))
-  moves_on n m next later sizes_later were after knows there done sound =
+  moves_on n m next later sizes_later were after knows asked there done sound =
       let k = was (survives.sound sound) in
       let up = k.holds.inside refl in
       let h = k.holds.stands up in
       let one_more : n ≡ length s.cargo.book + 1 = next ∙ ap (λ (z : Sizes). z.moves + 1) k.knows.sizes_are in
-      let known : AreKnown counted.known (running (book_in old.now.moves)) = subst (λ b. AreKnown counted.known (running b)) (sym (book_told old.now s h.now)) k.kept.1 in
+      let known : AreKnown counted.known (running (book_in old.now.moves)) = subst (λ b. AreKnown counted.known (running b)) (sym (book_told old.now s h.now)) k.kept.known in
       let r = done (λ _. record { is_open = up; now_is = refl; committed_is = refl; mode = h.mode }) (book_in old.now.moves) h.now.0.counts h.now.0.builds known in
       let has = move_written old.now s h.now n m r.row r.is one_more r.fits r.again in
       reached old new here counted confirmed (λ _. record (with_move r.row old.now) { counts = r.posted.counts; builds = r.posted.builds }) later confirmed
@@ -238,10 +246,11 @@ module _ (old new : View) (here : List ℕ) (counted : Counted) (confirmed : ℕ
         sizes_are = sizes_later ∙ (λ i. record { moves = (one_more ∙ sym (length-append s.cargo.book (m ∷ []))) i; lines = (known.sizes_are i).lines; messages = (known.sizes_are i).messages });
         confirmed_is = known.confirmed_is;
       })
-      (λ kept. (
-        after s.cargo.book kept.0 (subst (λ book. WereThere book m were) (book_told old.now s h.now) (there (λ _. record { is_open = up; now_is = refl; committed_is = refl; mode = h.mode }) (book_in old.now.moves) h.now.0.counts h.now.0.builds known sound)),
-        knows s.cargo.book kept.1,
-      )) sound
+      (λ kept. record {
+        boarded = after s.cargo.book kept.boarded (subst (λ book. WereThere book m were) (book_told old.now s h.now) (there (λ _. record { is_open = up; now_is = refl; committed_is = refl; mode = h.mode }) (book_in old.now.moves) h.now.0.counts h.now.0.builds known sound));
+        known = knows s.cargo.book kept.known;
+        waybills = asked s.cargo.book kept.waybills;
+      }) sound
 
 -- a mark of 32 bits
 pub mark_fits : (upto : ℕ) → upto < 4_294_967_296 → is_count (pos upto) ≡ true

@@ -6,4 +6,6 @@ pub mod NewState
 pub mod Putting
 pub mod Values
 pub mod Changes
+pub mod Asked
+pub mod Balances
 mod File

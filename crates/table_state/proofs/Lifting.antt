@@ -22,6 +22,14 @@ displays v up = record { is_open = up; now_is = refl; committed_is = refl; mode 
 pub finds_on : (old new : View) → row.Survives old new → new.IsSound → (found : Option State) → Finds new found → Finds old found
 finds_on old new survives sound found finds = record { tables = finds.tables; left = survives.crash sound finds.tables finds.left; means = finds.means }
 
+pub both_survive : (a b c : View) → row.Survives a b → row.Survives b c → row.Survives a c
+both_survive a b c first second = record {
+  clean = λ clean. first.clean (second.clean clean);
+  still = λ was clean. second.still (first.still was (second.clean clean)) clean;
+  sound = λ sound. first.sound (second.sound sound);
+  crash = λ sound t left. first.crash (second.sound sound) t (second.crash sound t left);
+}
+
 -- what an open store gives back when its transaction is undone
 pub given_back : (old new : View) (here : List ℕ) (counted : Counted) (confirmed : ℕ) (x : Seen) → Shows old here counted confirmed x → (new.IsSound → old.IsSound)
     → (new.IsSound → new.is_open ≡ true → row.Shows old new old.committed old.committed false) → IfGivenBack new x.committed

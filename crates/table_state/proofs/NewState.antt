@@ -21,15 +21,14 @@ use Rattle.row_codec.specs.Numbers.{natural}
 use Rattle.row_codec.specs.Stock.{holder_by, stands_for}
 use Rattle.row_codec.specs.Flights.{is_designator, outbound_by, flight_key, flights_in}
 use Rattle.row_codec.specs.Moves.{plain_place}
-use Rattle.row_codec.specs.Counts.{counted, count_at, built_up, build_at, written_flight, running}
+use Rattle.row_codec.specs.Counts.{counted, count_at, built_up, build_at, written_flight}
 use Rattle.row_codec.specs.Manifests.{expected_by, expected_key, expected_in, part_key, parts_in}
 use Rattle.row_codec.specs.Replies.{kept_by}
 use Rattle.row_codec.specs.Meaning.{meaning_of, IsReadable, Means}
 use Rattle.state_store.specs.Store.{at_rest}
 use Rattle.table_state.specs.Laws.{same_meaning}
-use Rattle.running_totals.specs.Known.{AreKnown}
 use Rattle.table_state.specs.declared.counted.Counted.{Counted}
-use Rattle.table_state.specs.Shown.{Knows, AreBoarded, HasThese, Shows}
+use Rattle.table_state.specs.Shown.{Knows, IsCounted, HasThese, Shows}
 
 none_of : {X : Type 0} (xs : List X) → length xs ≡ 0 → xs ≡ []
 none_of [] e = refl
@@ -112,9 +111,9 @@ pub opening_means : (here : List ℕ) → IsTrue (is_airport here) → Means (op
 opening_means here airport = (opening_readable here airport, meaning_opening here)
 
 -- a store whose tables mean a state
-pub shown : (v : View) (t : Tables) (s : State) (here : List ℕ) (counted : Counted) (confirmed : ℕ) → Means t (Some s) → Knows here counted.sizes confirmed (at_rest s) → AreBoarded counted.boarded s.cargo.book → AreKnown counted.known (running s.cargo.book) → (v.IsSound → HasThese t v)
+pub shown : (v : View) (t : Tables) (s : State) (here : List ℕ) (counted : Counted) (confirmed : ℕ) → Means t (Some s) → Knows here counted.sizes confirmed (at_rest s) → IsCounted counted s.cargo.book → (v.IsSound → HasThese t v)
     → ((u : Tables) → v.is_open ≡ true → v.IsSound → v.may_leave u → u ≡ v.committed) → Shows v here counted confirmed (at_rest s)
-shown v t s here counted confirmed means knows boarded known has settled sound =
+shown v t s here counted confirmed means knows kept has settled sound =
     let these = has sound in
     let committed : v.committed ≡ t = sym these.at_rest.same ∙ these.now_is in
     record {
@@ -129,7 +128,7 @@ shown v t s here counted confirmed means knows boarded known has settled sound =
         found = λ u left. subst (λ x. Means x (Some s)) (sym (settled u these.is_open sound left ∙ committed)) means;
       };
       knows = knows;
-      kept = (boarded, known);
+      kept = kept;
     }
 
 -- a store whose tables are those of a new station

@@ -21,6 +21,7 @@ use Rattle.shipment_machine.specs.declared.flight.FlightDate.{FlightDate}
 use Rattle.shipment_machine.specs.declared.moves.Move.{Move}
 use Rattle.shipment_machine.specs.declared.moves.Part.{Part}
 use Rattle.station_core.specs.Readers.{AreExpectations, AreNoted}
+use Rattle.station_core.specs.Step.{State}
 use Rattle.station_core.specs.declared.rows.Expectation.{Expectation}
 use Rattle.station_core.specs.declared.rows.NotedFlight.{NotedFlight}
 use Rattle.row_schema.specs.Store as row
@@ -44,15 +45,15 @@ use Rattle.row_codec.specs.Replies.{kept_by}
 use Rattle.row_codec.proofs.Reading.{declared_read, outbound_read, expected_read, part_read, kept_key_read, kept_text_read}
 use Rattle.row_codec.proofs.Telling.{holders_told, book_told}
 use Rattle.row_codec.proofs.Noted.{expectations_told, noted_told}
-use Rattle.state_store.specs.Store.{Seen}
+use Rattle.state_store.specs.Store.{Seen, at_rest}
 use Rattle.station_core.specs.Told.{AreAllBalances, kept_of, loads_on}
 use Rattle.station_core.specs.declared.stored.KeptReply.{KeptReply}
 use Rattle.station_core.specs.declared.stored.WaybillBalances.{WaybillBalances}
 use Rattle.running_totals.specs.Known.{AreKnown}
 use Rattle.running_totals.specs.declared.known.KnownSums.{KnownSums}
 use Rattle.table_state.specs.declared.counted.Counted.{Counted}
-use Rattle.table_state.specs.Shown.{Shows}
-use Rattle.table_state.proofs.Lifting.{seen_in, told, told_before}
+use Rattle.table_state.specs.Shown.{AreBoarded, HaveAsked, Shows}
+use Rattle.table_state.proofs.Lifting.{keeps_number, rests_on, seen_in, told, told_before}
 use Rattle.table_state.proofs.HasMoves.{any_move}
 
 module _ (old new : View) (here : List ℕ) (counted : Counted) (confirmed : ℕ) (x : Seen) (was : Shows old here counted confirmed x) (survives : row.Survives old new) where
@@ -171,3 +172,15 @@ module _ (old new : View) (here : List ℕ) (counted : Counted) (confirmed : ℕ
 
     pub some_kept : (key : List ℕ) (row_is : KeptRow) (reply : KeptReply) → kept_of reply ≡ kept_by (kept_meant row_is) → (new.IsSound → Some (kept_meant row_is) ≡ get old.now.kept key) → Some (kept_of reply) ≡ x.now.kept_keys key
     some_kept key row_is reply by tells = ap Some by ∙ kept_key_read old.now x.now (told_before old new here counted confirmed x was survives same sound) key (Some row_is) (tells sound)
+
+-- a read of the balances of a waybill between two transactions, after which more is known of sums
+pub balances_read : (old new : View) (here : List ℕ) (counted : Counted) (confirmed : ℕ) (s : State) → Shows old here counted confirmed (at_rest s) → row.Survives old new → (new.IsSound → row.Rests old new) → (new.IsSound → old.is_open ≡ true)
+    → (later : Counted) → later.sizes ≡ counted.sizes → later.boarded ≡ counted.boarded → later.waybills ≡ counted.waybills
+    → (IsShowing old (seen_in old) → new.IsSound → (book : List Move) → AreCounts old.now.counts book → AreKnown counted.known (running book) → AreKnown later.known (running book)) → Shows new here later confirmed (at_rest s)
+balances_read old new here counted confirmed s was survives rests up later sizes boarded waybills tells =
+    let now = rests_on old new here counted confirmed s was survives rests in
+    keeps_number new here counted confirmed (at_rest s) now later sizes (λ sound. record {
+      boarded = subst (λ o. AreBoarded o s.cargo.book) (sym boarded) (now sound).kept.boarded;
+      known = known_by_counts old new here counted confirmed (at_rest s) was survives up sound counted.known later.known (now sound).kept.known tells;
+      waybills = subst (λ o. HaveAsked o s.cargo.book) (sym waybills) (now sound).kept.waybills;
+    })

@@ -1,7 +1,10 @@
 -- What a store of tables shows of a state.
-use Rattle.std.specs.Prelude.{◌≡◌, ℕ, ℤ, pos, ◌+ℤ◌, int_lt, Bool, true, false, not, ◌&&◌, List, length, All, Option, Some, IfSome}
-use Rattle.shipment_machine.specs.Book.{waybills_on}
+use Rattle.std.specs.Prelude.{◌≡◌, ℕ, ℤ, pos, ◌+ℤ◌, int_lt, Bool, true, false, not, ◌&&◌, ◌||◌, List, length, All, Option, Some, IfSome}
+use Rattle.std.specs.BTreeSet.{BTreeSet}
+use Rattle.shipment_machine.specs.Book.{balances_of, in_store, same_place, waybills_on}
+use Rattle.shipment_machine.specs.Numbers.{is_in}
 use Rattle.shipment_machine.specs.declared.moves.Move.{Move}
+use Rattle.shipment_machine.specs.declared.moves.Place.TheVariants.{Missing, Surplus}
 use Rattle.station_core.specs.Step.{State}
 use Rattle.row_schema.specs.Tables.{Tables}
 use Rattle.row_schema.specs.Store.{View, IsAtRest}
@@ -9,11 +12,15 @@ use Rattle.row_codec.specs.Counts.{running}
 use Rattle.row_codec.specs.Meaning.{Means}
 use Rattle.running_totals.specs.Known.{AreKnown}
 use Rattle.state_store.specs.Store.{Seen}
+use Rattle.state_store.specs.Waybills.{is_asked_for}
+use Rattle.state_store.specs.declared.query.WaybillQuery.{WaybillQuery}
+use Rattle.state_store.specs.declared.query.WaybillQuery.TheVariants.{Irregular, Stored}
 use Rattle.station_core.specs.Told.{sizes_of}
 use Rattle.station_core.specs.declared.stored.Sizes.{Sizes}
 use Rattle.table_state.specs.declared.counted.Boarded.{Boarded}
 use Rattle.table_state.specs.declared.counted.Boardings.{Boardings}
 use Rattle.table_state.specs.declared.counted.Counted.{Counted}
+use Rattle.table_state.specs.declared.waybill_sets.WaybillSets.{WaybillSets}
 
 -- the tables mean what is shown; between two transactions they are those of the last commit
 pub record Stands (v : View) (x : Seen) : Type 0 where
@@ -47,9 +54,27 @@ AreBoarded kept book = All (λ boarded. IsBoarded boarded book) kept.flights
 abbrev pub joins : ℤ → ℕ → Bool
 joins were pieces = not (int_lt (pos 0) were) && int_lt (pos 0) (were +ℤ pos pieces)
 
+-- where waybills are kept, each that is asked for is among them
+abbrev pub HasAsked : WaybillQuery → Option (BTreeSet ℕ) → List Move → Type 0
+HasAsked query kept book =
+    IfSome kept (λ waybills. (w : ℕ) → is_asked_for query (balances_of book w) ≡ true → is_in w waybills.keys ≡ true)
+
+-- so it is of those with pieces in store, and of those with pieces missing or found
+pub record HaveAsked (sets : WaybillSets) (book : List Move) : Type 0 where
+  pub stored : HasAsked Stored sets.stored book
+  pub irregular : HasAsked Irregular sets.irregular book
+
+-- whether a waybill may be asked for after a move and not before: pieces come from outside the store,
+-- or are found or missing
+abbrev pub opens : WaybillQuery → Move → Bool
+opens Stored m = not (in_store m.from)
+opens Irregular m = same_place Surplus m.from || same_place Missing m.to
+
 -- what is kept beside the tables is true of a book
-abbrev pub IsCounted : Counted → List Move → Type 0
-IsCounted counted book = AreBoarded counted.boarded book × AreKnown counted.known (running book)
+pub record IsCounted (counted : Counted) (book : List Move) : Type 0 where
+  pub boarded : AreBoarded counted.boarded book
+  pub known : AreKnown counted.known (running book)
+  pub waybills : HaveAsked counted.waybills book
 
 pub record Tells (v : View) (here : List ℕ) (counted : Counted) (confirmed : ℕ) (x : Seen) : Type 0 where
   pub holds : Holds v x

@@ -5,11 +5,13 @@ mod boarding;
 mod changing;
 mod counted;
 mod handing;
+mod listing;
 mod missed;
 mod noted;
 mod opening;
 mod recording;
 mod state;
+mod waybill_sets;
 mod writing;
 
 pub use opening::create;

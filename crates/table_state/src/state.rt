@@ -12,6 +12,7 @@ use crate::handing::{Telling, ended};
 use crate::missed::Missed;
 use crate::noted::{flights_noted, waybills_expected};
 use crate::recording::record_move;
+use crate::waybill_sets::{WaybillSets, numbers_of};
 use agent_stock::{Holder, Order, StockFault, StockRun};
 use awb_number::Awb;
 use imp_fields::Airport;
@@ -23,7 +24,7 @@ use running_totals::KnownSums;
 use shipment_machine::{
     Amount, Balances, Change, Declared, Expected, FlightDate, Move, Outbound, Part,
 };
-use state_store::{StateStore, StoreFault};
+use state_store::{StateStore, StoreFault, WaybillQuery};
 use station_core::{
     BookQuery, BookRow, Expectation, KeptReply, Key, Load, Message, NotedFlight, Sink, Sizes,
     TrailQuery, TrailRow, WaybillBalances,
@@ -69,6 +70,7 @@ impl<S: TableStore> TableState<S> {
                 sizes,
                 boarded: Boardings::none(),
                 known: KnownSums::none(),
+                waybills: WaybillSets::none(),
             },
             confirmed,
             missed: Missed::new(alloc),
@@ -320,6 +322,7 @@ impl<S: TableStore> StateStore for TableState<S> {
             Ok(were) => {
                 self.counted.sizes.moves = number;
                 self.counted.boarded.post(movement, were);
+                self.counted.waybills.post(movement);
                 Ok(())
             }
         }
@@ -399,12 +402,12 @@ impl<S: TableStore> StateStore for TableState<S> {
         }
     }
 
-    #[tactic(auto, using(crate::proofs::Lifting::rests_on, crate::proofs::Lifting::survives_so))]
-    fn all_balances(&mut self) -> Result<Vec<WaybillBalances>, StoreFault> {
-        match running_totals::all_balances(self.alloc, &mut self.store) {
-            Err(_) => Err(StoreFault),
-            Ok(rows) => Ok(rows),
-        }
+    #[tactic(auto, using(crate::proofs::Lifting::survives_so))]
+    fn waybills(&mut self, query: WaybillQuery) -> Result<Vec<WaybillBalances>, StoreFault> {
+        let rows = self.asked(query)?;
+        let kept = numbers_of(self.alloc, &rows)?;
+        self.counted.waybills.keep(query, kept);
+        Ok(rows)
     }
 
     #[tactic(auto, using(crate::proofs::Lifting::rests_on, crate::proofs::Lifting::survives_so))]

@@ -1,0 +1,28 @@
+-- The waybills that a store lists, by what their moves add up to.
+use Rattle.std.specs.Prelude.{ℕ, Bool, ◌||◌, nat_lt, if◌then◌else◌, List, [], ◌∷◌}
+use Rattle.std.specs.List.{flat_map}
+use Rattle.shipment_machine.specs.Book.{balances_of, waybills_of}
+use Rattle.shipment_machine.specs.declared.moves.Balances.{Balances}
+use Rattle.shipment_machine.specs.declared.moves.Move.{Move}
+use Rattle.station_core.specs.Told.{stored_of}
+use Rattle.station_core.specs.declared.stored.WaybillBalances.{WaybillBalances}
+use Rattle.state_store.specs.declared.query.WaybillQuery.{WaybillQuery}
+use Rattle.state_store.specs.declared.query.WaybillQuery.TheVariants.{Stored, Irregular}
+
+-- whether a waybill with these balances is asked for: with pieces in store, or with pieces missing or
+-- found
+abbrev pub is_asked_for : WaybillQuery → Balances → Bool
+is_asked_for Stored b = nat_lt 0 (stored_of b).pieces
+is_asked_for Irregular b = nat_lt 0 b.missing.pieces || nat_lt 0 b.found.pieces
+
+-- a waybill with its balances
+abbrev pub with_balances : List Move → ℕ → WaybillBalances
+with_balances book w = record { awb = w; balances = balances_of book w }
+
+-- a waybill, if it is asked for
+abbrev pub asked : WaybillQuery → List Move → ℕ → List WaybillBalances
+asked query book w = if is_asked_for query (balances_of book w) then with_balances book w ∷ [] else []
+
+-- the waybills of a book that are asked for, ascending, each with its balances
+abbrev pub waybills_for : WaybillQuery → List Move → List WaybillBalances
+waybills_for query book = flat_map (asked query book) (waybills_of book)

@@ -1,0 +1,39 @@
+//! Which waybills are asked for, by what their moves add up to.
+ghost use Rattle.std.specs.Prelude.{◌≡◌, nat_lt};
+ghost use Rattle.station_core.specs.Told.{stored_of};
+ghost use Rattle.state_store.specs.Waybills.{is_asked_for};
+
+use shipment_machine::Balances;
+
+/// Which waybills are asked for.
+#[derive(Clone, Copy, Debug, PartialEq, Eq)]
+pub enum WaybillQuery {
+    /// Those with pieces in store.
+    Stored,
+    /// Those with pieces missing or found.
+    Irregular,
+}
+
+/// Whether pieces are in store: whether more came in than left or is missing.
+fn has_stored(balances: Balances) -> bool
+    ensures { result ≡ nat_lt 0 (stored_of balances).pieces }
+{
+    let came = u64::from(balances.taken.pieces) + u64::from(balances.found.pieces);
+    let gone = u64::from(balances.departed.pieces)
+        + u64::from(balances.delivered.pieces)
+        + u64::from(balances.missing.pieces)
+        + u64::from(balances.transferred.pieces);
+    gone < came
+}
+
+impl WaybillQuery {
+    /// Whether a waybill with these balances is asked for.
+    pub fn asks_for(&self, balances: &Balances) -> bool
+        ensures { result ≡ is_asked_for self.now balances.now }
+    {
+        match self {
+            WaybillQuery::Stored => has_stored(*balances),
+            WaybillQuery::Irregular => balances.missing.pieces > 0 || balances.found.pieces > 0,
+        }
+    }
+}

@@ -1,0 +1,17 @@
+use Rattle.std.proofs.Common.{map, refl, ap, ◌∙◌}
+use Rattle.shipment_machine.specs.Numbers.{is_in}
+use Rattle.station_core.specs.declared.stored.WaybillBalances.{WaybillBalances}
+use Rattle.state_store.specs.Store.{at_rest}
+use Rattle.table_state.proofs.Balances.{all_listed}
+use Rattle.table_state.proofs.Lifting.{keeps_number}
+use Rattle.table_state.proofs.state.TableStateStateStore.waybills.Goals as goal
+
+pub returns-clause-rests : goal.returns-clause-rests
+returns-clause-rests g c = λ s shown.
+    let now = c.in_ok-rows.ensures.rests s shown in
+    keeps_number _ _ _ _ (at_rest s) now _ refl (λ sound. record {
+      boarded = (now sound).kept.boarded;
+      known = (now sound).kept.known;
+      waybills = c.keep.ensures s.cargo.book (now sound).kept.waybills (λ w has.
+          c.in_ok-kept.ensures w (ap (λ rows. is_in w (map (λ (row : WaybillBalances). row.awb) rows)) (c.deref.ensures.value ∙ c.in_ok-rows.ensures.value s shown sound) ∙ all_listed c.args.query s.cargo.book w has));
+    })

@@ -1,0 +1,8 @@
+use Rattle.std.proofs.Common.{◌≡◌, ℕ, true, take, map}
+use Rattle.shipment_machine.specs.Numbers.{is_in}
+use Rattle.station_core.specs.declared.stored.WaybillBalances.{WaybillBalances}
+use Rattle.table_state.proofs.waybill_sets.numbers_of.Given as goal
+
+-- the numbers of the waybills so far are there
+abbrev pub invariant-loop-waybill : goal.invariant-loop-waybill
+invariant-loop-waybill l = (w : ℕ) → is_in w (map (λ (row : WaybillBalances). row.awb) (take l.waybill-index l.waybills)) ≡ true → is_in w l.numbers.keys ≡ true

@@ -1,0 +1,113 @@
+//! The waybills that are asked for by what their moves add up to.
+ghost use Rattle.std.specs.Prelude.{◌≡◌, ◌++◌, Some, IfOk, OnOk};
+ghost use Rattle.station_core.specs.Step.{State};
+ghost use Rattle.row_schema.specs.Store.{Survives};
+ghost use Rattle.state_store.specs.Store.{at_rest};
+ghost use Rattle.state_store.specs.Waybills.{asked, waybills_for};
+ghost use Rattle.table_state.specs.Shown.{HasAsked, Shows};
+
+use crate::state::TableState;
+use crate::waybill_sets::asked_among;
+use awb_number::Awb;
+use state_store::{StoreFault, WaybillQuery};
+use station_core::WaybillBalances;
+use station_rows::TableStore;
+use std::collections::BTreeSet;
+
+impl<S: TableStore> TableState<S> {
+    /// Puts the waybill of a number behind the others with its balances, if it is asked for.
+    fn put_asked(
+        &mut self,
+        rows: &mut Vec<WaybillBalances>,
+        query: WaybillQuery,
+        number: u64,
+    ) -> Result<(), StoreFault>
+        ensures value { (s : State)
+            → Shows (S.view self.old.store) self.old.here self.old.counted self.old.confirmed
+            (at_rest s) → (S.view self.new.store).IsSound
+            → OnOk result (rows.new.items ≡ rows.old.items ++ asked query s.cargo.book number) }
+        ensures rests { (s : State)
+            → Shows (S.view self.old.store) self.old.here self.old.counted self.old.confirmed
+            (at_rest s) → Shows (S.view self.new.store) self.new.here self.new.counted
+            self.new.confirmed (at_rest s) }
+        ensures survives { Survives (S.view self.old.store) (S.view self.new.store) }
+    {
+        let Some(awb) = Awb::of_key(number) else {
+            return Err(StoreFault);
+        };
+        match running_totals::balances(&mut self.store, &mut self.counted.known, &awb) {
+            Err(_) => Err(StoreFault),
+            Ok(balances) => {
+                if !query.asks_for(&balances) {
+                    return Ok(());
+                }
+                rows.push(WaybillBalances { awb, balances })?;
+                Ok(())
+            }
+        }
+    }
+
+    /// The waybills of the book that are asked for, ascending, each with its balances, where all of
+    /// them are among these numbers: one read for each number.
+    fn asked_in(
+        &mut self,
+        query: WaybillQuery,
+        waybills: &BTreeSet<u64>,
+    ) -> Result<Vec<WaybillBalances>, StoreFault>
+        ensures value { (s : State)
+            → Shows (S.view self.old.store) self.old.here self.old.counted self.old.confirmed
+            (at_rest s) → HasAsked query (Some waybills.now) s.cargo.book
+            → (S.view self.new.store).IsSound
+            → IfOk result (λ rows. rows.items ≡ waybills_for query s.cargo.book) }
+        ensures rests { (s : State)
+            → Shows (S.view self.old.store) self.old.here self.old.counted self.old.confirmed
+            (at_rest s) → Shows (S.view self.new.store) self.new.here self.new.counted
+            self.new.confirmed (at_rest s) }
+        ensures survives { Survives (S.view self.old.store) (S.view self.new.store) }
+    {
+        let mut rows = Vec::new(self.alloc);
+        for number in waybills {
+            self.put_asked(&mut rows, query, *number)?;
+        }
+        Ok(rows)
+    }
+
+    /// The waybills of the book that are asked for, ascending, each with its balances: one pass
+    /// over all balances.
+    fn asked_in_all(&mut self, query: WaybillQuery) -> Result<Vec<WaybillBalances>, StoreFault>
+        ensures value { (s : State)
+            → Shows (S.view self.old.store) self.old.here self.old.counted self.old.confirmed
+            (at_rest s) → (S.view self.new.store).IsSound
+            → IfOk result (λ rows. rows.items ≡ waybills_for query s.cargo.book) }
+        ensures rests { (s : State)
+            → Shows (S.view self.old.store) self.old.here self.old.counted self.old.confirmed
+            (at_rest s) → Shows (S.view self.new.store) self.new.here self.new.counted
+            self.new.confirmed (at_rest s) }
+        ensures survives { Survives (S.view self.old.store) (S.view self.new.store) }
+    {
+        match running_totals::all_balances(self.alloc, &mut self.store) {
+            Err(_) => Err(StoreFault),
+            Ok(all) => asked_among(self.alloc, query, &all),
+        }
+    }
+
+    /// The waybills of the book that are asked for, ascending, each with its balances: one read for
+    /// each that is kept, or one pass over all balances. What is kept of them is handed out of
+    /// `self` before.
+    pub(crate) fn asked(&mut self, query: WaybillQuery) -> Result<Vec<WaybillBalances>, StoreFault>
+        ensures value { (s : State)
+            → Shows (S.view self.old.store) self.old.here self.old.counted self.old.confirmed
+            (at_rest s) → (S.view self.new.store).IsSound
+            → IfOk result (λ rows. rows.items ≡ waybills_for query s.cargo.book) }
+        ensures rests { (s : State)
+            → Shows (S.view self.old.store) self.old.here self.old.counted self.old.confirmed
+            (at_rest s) → Shows (S.view self.new.store) self.new.here self.new.counted
+            self.new.confirmed (at_rest s) }
+        ensures survives { Survives (S.view self.old.store) (S.view self.new.store) }
+    {
+        match self.counted.waybills.take(query) {
+            Some(kept) => self.asked_in(query, &kept),
+            None => self.asked_in_all(query),
+        }
+    }
+}
