@@ -66,6 +66,10 @@ line_rows word n =
     else if bytes_eq word (codes "last") then Some (listing.TrailLast n)
     else None
 
+-- `after` of the outbox, with a number
+abbrev pub message_rows : List ℕ → ℕ → Option Listing
+message_rows word n = where_true (bytes_eq word (codes "after")) (listing.PendingAfter n)
+
 -- the manifest of a flight, on its day
 abbrev pub flight_rows : List ℕ → Designator → Option Listing
 flight_rows day flight = option_map (λ d. listing.Manifest (record { flight = flight; day = d })) (day_of day)
@@ -79,6 +83,7 @@ rows_of_kind kind rest =
     else if bytes_eq kind (codes "flights") then option_and_then (flight_rows (later_part rest)) (flight_of (first_part rest))
     else if bytes_eq kind (codes "movements") then option_and_then (movement_rows (first_part rest)) (row_number (later_part rest))
     else if bytes_eq kind (codes "trail") then option_and_then (line_rows (first_part rest)) (row_number (later_part rest))
+    else if bytes_eq kind (codes "outbox") then option_and_then (message_rows (first_part rest)) (row_number (later_part rest))
     else None
 
 -- the rows behind `/v1/`

@@ -3,7 +3,7 @@ ghost use Rattle.std.specs.Prelude.{◌≡◌, ◌-◌, take, drop, length, opti
 ghost use Rattle.std.specs.Result.{result_ok};
 ghost use Rattle.std.specs.Str.{bytes_eq};
 ghost use Rattle.awb_number.specs.Number.{number_of};
-ghost use Rattle.http_desk.specs.Printouts.{first_part, later_part, waybill_rows, agent_rows, row_number, movement_rows, line_rows, flight_rows, rows_of_kind, rows_behind, rows_at, in_form, printout_at};
+ghost use Rattle.http_desk.specs.Printouts.{first_part, later_part, waybill_rows, agent_rows, row_number, movement_rows, line_rows, message_rows, flight_rows, rows_of_kind, rows_behind, rows_at, in_form, printout_at};
 
 use crate::fields::number_told;
 use agent_stock::AgentCode;
@@ -114,6 +114,16 @@ fn line_rows(word: &str, number: u32) -> Option<Listing>
     }
 }
 
+/// Messages after a number.
+fn message_rows(word: &str, number: u32) -> Option<Listing>
+    ensures { result ≡ message_rows word.now number }
+{
+    match word {
+        "after" => Some(Listing::PendingAfter(number)),
+        _ => None,
+    }
+}
+
 /// The manifest of a flight, on its day.
 fn flight_rows(day: &str, flight: Flight) -> Option<Listing>
     ensures { result ≡ flight_rows day.now flight }
@@ -146,6 +156,10 @@ fn rows_of_kind(kind: &str, rest: &str) -> Option<Listing>
         "trail" => {
             let number = row_number(later_part(rest))?;
             line_rows(first_part(rest), number)
+        }
+        "outbox" => {
+            let number = row_number(later_part(rest))?;
+            message_rows(first_part(rest), number)
         }
         _ => None,
     }

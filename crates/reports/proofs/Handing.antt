@@ -162,25 +162,39 @@ module _ {Row : Type 0} (line : Row → List ℕ) (json : Row → Data) (f : For
   pub every_each : HasEndedEach Open Wanted front old new r → HasEndedEach Open Every front old new r
   every_each = each_known_as Open Wanted Every front old new r from_every
 
--- rows that are one list
-module _ {Row : Type 0} (line : Row → List ℕ) (json : Row → Data) (f : Form) (these : List Row) (Open : Type 0) (front : List ℕ) (old new : Given) (r : Result (Unit {0}) ReportFault) where
+-- those that are picked of rows that are one list
+module _ {Row : Type 0} (line : Row → List ℕ) (json : Row → Data) (picked : List Row → List Row) (f : Form) (these : List Row) (Open : Type 0) (front : List ℕ) (old new : Given) (r : Result (Unit {0}) ReportFault) where
   abbrev These : List ℕ → Type 0
-  These = IsTextOf f line json (λ rows. rows ≡ these) (λ rows. rows)
+  These = IsTextOf f line json (λ rows. rows ≡ these) picked
 
   abbrev IsOne : List ℕ → Type 0
-  IsOne t = t ≡ rows_text f line json these
+  IsOne t = t ≡ rows_text f line json (picked these)
 
   to_one : (t : List ℕ) → These t → IsOne t
-  to_one t (rows, are, text) = text ∙ ap (rows_text f line json) are
+  to_one t (rows, are, text) = text ∙ ap (λ (list : List Row). rows_text f line json (picked list)) are
 
   from_one : (t : List ℕ) → IsOne t → These t
   from_one t text = (these, refl, text)
 
-  pub one_ended : HasEndedBy Open These front old new r → HasEndedBy Open IsOne front old new r
-  one_ended = known_as Open These IsOne front old new r to_one from_one
+  pub picked_ended : HasEndedBy Open These front old new r → HasEndedBy Open IsOne front old new r
+  picked_ended = known_as Open These IsOne front old new r to_one from_one
 
-  pub one_each : HasEndedEach Open These front old new r → HasEndedEach Open IsOne front old new r
-  one_each = each_known_as Open These IsOne front old new r from_one
+  pub picked_each : HasEndedEach Open These front old new r → HasEndedEach Open IsOne front old new r
+  picked_each = each_known_as Open These IsOne front old new r from_one
+
+-- rows that are one list, all of them
+module _ {Row : Type 0} (line : Row → List ℕ) (json : Row → Data) (f : Form) (these : List Row) (Open : Type 0) (front : List ℕ) (old new : Given) (r : Result (Unit {0}) ReportFault) where
+  abbrev AllThese : List ℕ → Type 0
+  AllThese = IsTextOf f line json (λ rows. rows ≡ these) (λ rows. rows)
+
+  abbrev AreAll : List ℕ → Type 0
+  AreAll t = t ≡ rows_text f line json these
+
+  pub one_ended : HasEndedBy Open AllThese front old new r → HasEndedBy Open AreAll front old new r
+  one_ended = picked_ended line json (λ rows. rows) f these Open front old new r
+
+  pub one_each : HasEndedEach Open AllThese front old new r → HasEndedEach Open AreAll front old new r
+  one_each = picked_each line json (λ rows. rows) f these Open front old new r
 
 pub only : {Row : Type 0} (list : List Row) (these others : List Row) → these ≡ list → others ≡ list → these ≡ others
 only list these others are are_too = are ∙ sym are_too

@@ -10,7 +10,7 @@ use Rattle.station_core.specs.declared.rows.BookQuery.TheVariants.{After, Last, 
 use Rattle.station_core.specs.declared.rows.TrailQuery.TheVariants as trail
 use Rattle.station_core.specs.declared.rows.FlightRow.{FlightRow}
 use Rattle.reports.specs.Lines.{stock_line, shed_line, flight_line, expected_line, irregular_line, book_line, message_lines, trail_line}
-use Rattle.reports.specs.Listings.{rows_text, is_open, is_awaited, is_held_by}
+use Rattle.reports.specs.Listings.{rows_text, is_open, is_awaited, is_held_by, is_behind}
 use Rattle.reports.specs.Objects.{stock_data, shed_data, flight_data, expected_data, irregular_data, book_data, message_data, trail_data}
 use Rattle.reports.specs.declared.form.Form.TheVariants.{Text, Json}
 use Rattle.reports.proofs.Examples.{printed, stock_runs, received, departed, told, short, flight_row, checked_row, jfk, on_the_day}
@@ -112,6 +112,15 @@ example_shed_object : rows_text Json shed_line shed_data (shed_rows received.car
     ≡ printed (codes "{\"rows\":[{\"awb\":\"020-12345675\",\"origin\":\"FRA\",\"destination\":\"JFK\",\"free\":{\"pieces\":10,\"tenths\":1000},\"built\":{\"pieces\":0,\"tenths\":0},\"notified\":false}],\"count\":1}" ∷ [])
 unfolding digits day_line serde_json_on_literals
 example_shed_object = refl
+
+-- nothing stands behind the last message, and it behind any other number
+example_pending_after : rows_text Text message_lines message_data (filter (is_behind 4) (pending_messages departed.cargo)) ≡ printed (codes "END 0" ∷ [])
+unfolding digits day_line
+example_pending_after = refl
+
+example_pending_before : filter (is_behind 3) (pending_messages departed.cargo) ≡ pending_messages departed.cargo
+unfolding digits day_line
+example_pending_before = refl
 
 example_pending_object : rows_text Json message_lines message_data (pending_messages departed.cargo)
     ≡ printed (codes "{\"rows\":[{\"number\":4,\"text\":\"FFM/8\\r\\n1/LH400/12JAN/FRA\\r\\nJFK\\r\\n020-12345675FRAJFK/P4K40.0T10/CARGO\\r\\nLAST\\r\\n\"}],\"count\":1}" ∷ [])

@@ -1,5 +1,5 @@
 -- Listings of a station's rows: a report, or some rows of one, in the form of lines or of JSON.
-use Rattle.std.specs.Prelude.{◌≡◌, ℕ, Bool, false, not, if◌then◌else◌, Option, Some, List, [], ◌∷◌, ◌++◌, length, filter, codes, option_map}
+use Rattle.std.specs.Prelude.{◌≡◌, ℕ, nat_lt, Bool, false, not, if◌then◌else◌, Option, Some, List, [], ◌∷◌, ◌++◌, length, filter, codes, option_map}
 use Rattle.std.specs.Str.{bytes_eq}
 use Rattle.serde_json.specs.Data.{Data, array, Items, item, no_items}
 use Rattle.serde_json.specs.Written.{compact_text}
@@ -10,6 +10,7 @@ use Rattle.agent_stock.specs.declared.stock.Holder.TheVariants.{Agent}
 use Rattle.shipment_machine.specs.declared.flight.FlightDate.{FlightDate}
 use Rattle.station_core.specs.declared.rows.FlightRow.{FlightRow}
 use Rattle.station_core.specs.declared.rows.ExpectedRow.{ExpectedRow}
+use Rattle.station_core.specs.declared.rows.Message.{Message}
 use Rattle.station_core.specs.declared.rows.BookQuery.{BookQuery}
 use Rattle.station_core.specs.declared.rows.BookQuery.TheVariants as book
 use Rattle.station_core.specs.declared.rows.TrailQuery.{TrailQuery}
@@ -65,6 +66,10 @@ is_agent code _ = false
 abbrev pub is_held_by : List ℕ → StockRun → Bool
 is_held_by code run = is_agent code run.holder
 
+-- a message with a greater number
+abbrev pub is_behind : ℕ → Message → Bool
+is_behind n message = nat_lt n message.number
+
 -- The listings.
 
 -- the movements that are asked for, and the lines of the trail
@@ -73,6 +78,10 @@ IsMovements f s query text = text ≡ rows_text f book_line book_data (book_by q
 
 abbrev pub IsTrail : Form → State → TrailQuery → List ℕ → Type 0
 IsTrail f s query text = text ≡ rows_text f trail_line trail_data (trail_by query s.cargo)
+
+-- the messages that aren't confirmed, those with a greater number
+abbrev pub IsPendingAfter : Form → State → ℕ → List ℕ → Type 0
+IsPendingAfter f s n text = text ≡ rows_text f message_lines message_data (filter (is_behind n) (pending_messages s.cargo))
 
 -- what is on a flight
 abbrev pub IsManifest : Form → State → FlightDate → List ℕ → Type 0
@@ -104,6 +113,7 @@ IsListing f s (listing.MovementsLast n) text = IsMovements f s (book.Last n) tex
 IsListing f s (listing.Trail w) text = IsTrail f s (trail.Of w) text
 IsListing f s (listing.TrailAfter n) text = IsTrail f s (trail.After n) text
 IsListing f s (listing.TrailLast n) text = IsTrail f s (trail.Last n) text
+IsListing f s (listing.PendingAfter n) text = IsPendingAfter f s n text
 IsListing f s (listing.Manifest flight) text = IsManifest f s flight text
 
 -- the listing of a name: a report's, or one of open rows

@@ -30,6 +30,8 @@ pub enum Listing {
     TrailAfter(u32),
     /// The last lines of the trail, at most this many.
     TrailLast(u32),
+    /// The messages that aren't confirmed and whose number is greater.
+    PendingAfter(u32),
     /// The waybills on a flight, ascending: what is built for it now, and what left with it.
     Manifest(FlightDate),
 }

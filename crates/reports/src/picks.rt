@@ -1,9 +1,9 @@
 //! Rows that are picked out of those of a report.
 ghost use Rattle.std.specs.Prelude.{◌≡◌, true, not};
-ghost use Rattle.reports.specs.Listings.{is_open, is_awaited, is_held_by};
+ghost use Rattle.reports.specs.Listings.{is_open, is_awaited, is_held_by, is_behind};
 
 use agent_stock::{AgentCode, Holder, StockRun};
-use station_core::{ExpectedRow, FlightRow};
+use station_core::{ExpectedRow, FlightRow, Message};
 
 /// Which rows are wanted.
 pub(crate) trait Pick<Row> {
@@ -63,5 +63,19 @@ impl Pick<StockRun> for OfAgent {
             Holder::Agent(code) => code.as_bytes() == self.code.as_bytes(),
             _ => false,
         }
+    }
+}
+
+/// The messages whose number is greater.
+#[derive(Drop)]
+pub(crate) struct Behind {
+    pub(crate) number: u32,
+}
+
+impl Pick<Message> for Behind {
+    ghost wanted = { λ pick message. is_behind pick.number message };
+
+    fn wants(&self, message: &Message) -> bool {
+        self.number < message.number
     }
 }

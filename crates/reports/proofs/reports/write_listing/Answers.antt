@@ -114,3 +114,13 @@ pub returns-in-Manifest-clause-each : goal.returns-in-Manifest-clause-each
 returns-in-Manifest-clause-each g c = λ s keeps sound.
     subst (λ it. HasEndedEach (g.K.Keeper.is_broken c.args.keeper.now ≡ false) (IsListing c.args.form s it) c.args.front.now (g.W.ByteOut.taken c.args.writer.now) (g.W.ByteOut.taken c.write_manifest.new.writer) c.write_manifest.result) (sym c.in-Manifest.is)
     (c.write_manifest.ensures.each s keeps sound)
+
+pub returns-in-PendingAfter-clause-ended : goal.returns-in-PendingAfter-clause-ended
+returns-in-PendingAfter-clause-ended g c = λ s keeps sound.
+    subst (λ it. HasEndedBy (g.K.Keeper.is_broken c.args.keeper.now ≡ false) (IsListing c.args.form s it) c.args.front.now (g.W.ByteOut.taken c.args.writer.now) (g.W.ByteOut.taken c.write_pending_after.new.writer) c.write_pending_after.result) (sym c.in-PendingAfter.is)
+    (c.write_pending_after.ensures.ended s keeps sound)
+
+pub returns-in-PendingAfter-clause-each : goal.returns-in-PendingAfter-clause-each
+returns-in-PendingAfter-clause-each g c = λ s keeps sound.
+    subst (λ it. HasEndedEach (g.K.Keeper.is_broken c.args.keeper.now ≡ false) (IsListing c.args.form s it) c.args.front.now (g.W.ByteOut.taken c.args.writer.now) (g.W.ByteOut.taken c.write_pending_after.new.writer) c.write_pending_after.result) (sym c.in-PendingAfter.is)
+    (c.write_pending_after.ensures.each s keeps sound)
