@@ -27,6 +27,8 @@ pub record HasRunLine {S I E : Type 0} {g : Ghosts S} (line : Line) (keeps : Sta
   pub last : Station S g
   pub between : E
   pub ended : Result Bool RunFault
+  pub clean : is_clean last → is_clean station
+  pub still : is_sound station → is_clean last → is_sound last
   pub sound : is_sound last → is_sound station
   pub works : is_broken station ≡ false → OnOk ended (is_broken last ≡ false)
   pub done : HasDone line.command (here_of line.station) keeps is_clean is_sound is_broken may_find

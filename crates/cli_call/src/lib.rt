@@ -2,12 +2,14 @@
 //! reported.
 #![tactic(auto)]
 
+mod closing;
 mod ended;
 mod migrating;
 mod opening;
 mod run;
 mod version;
 
+pub use closing::close_file;
 pub use ended::{DeskFault, end};
 pub use opening::open_station;
 pub use run::run_line;

@@ -5,8 +5,8 @@ use Rattle.station_days.specs.Date.{LocalMinute}
 use Rattle.shipment_machine.proofs.Conserved.{is_conserved}
 use Rattle.shipment_machine.proofs.Shown.{are_balances}
 use Rattle.station_core.specs.declared.input.Input.{Input}
-use Rattle.station_core.specs.Ranges.{AreInputs}
-use Rattle.station_core.specs.Step.{State, IsLawfulState, opening, step, after_all}
+use Rattle.station_core.specs.Ranges.{IsInput, AreInputs}
+use Rattle.station_core.specs.Step.{State, IsLawfulState, step, after_all}
 use Rattle.station_tables.specs.Lives.{Life, IsAfterLife, AreLives, Counts, AreCounted, in_order, IsAfterLives, migration}
 
 after_append : (s : State) (xs ys : List (Input × LocalMinute)) → after_all s (xs ++ ys) ≡ after_all (after_all s xs) ys
@@ -64,10 +64,18 @@ all_counted s (life ∷ lives) found are (mid, first, more) =
       are = inputs_append one.inputs (in_order rest.counted) one.are rest.are;
     }
 
-pub after_lives : ((here : List ℕ) (inputs : List (Input × LocalMinute)) → AreInputs inputs → IsLawfulState (after_all (opening here) inputs)) → (here : List ℕ) (lives : List Life) (found : State) → AllByRecursion (λ (life : Life). AreInputs life.inputs) lives → AreLives (opening here) lives found → IsAfterLives here lives found
-after_lives run_lawful here lives found are is =
-    let all = all_counted (opening here) lives found are is in
-    let lawful : IsLawfulState found = subst IsLawfulState (sym all.state) (run_lawful here (in_order all.counted) all.are) in
+-- a lawful state stays lawful under a step
+abbrev StaysLawful : Type 0
+StaysLawful = (s : State) (input : Input) (at : LocalMinute) → IsInput input → IsLawfulState s → IsLawfulState (step s input at).state
+
+stays_lawful : StaysLawful → (inputs : List (Input × LocalMinute)) (s : State) → AreInputs inputs → IsLawfulState s → IsLawfulState (after_all s inputs)
+stays_lawful stays [] s range law = law
+stays_lawful stays (one ∷ more) s range law = stays_lawful stays more (step s one.0 one.1).state range.1 (stays s one.0 one.1 range.0 law)
+
+pub after_lives : StaysLawful → (first : State) (lives : List Life) (found : State) → IsLawfulState first → AllByRecursion (λ (life : Life). AreInputs life.inputs) lives → AreLives first lives found → IsAfterLives first lives found
+after_lives stays first lives found law are is =
+    let all = all_counted first lives found are is in
+    let lawful : IsLawfulState found = subst IsLawfulState (sym all.state) (stays_lawful stays (in_order all.counted) first all.are law) in
     record {
       counted = all.counted;
       each = all.each;

@@ -62,6 +62,18 @@ restored_on s inputs answered ended db Clean Declared Sound is_broken keeps (Ok 
     restored s inputs answered ended db (is_broken k) (keeps k) f.0 (after f.0 f.1 t) f.1 t works f.2
 restored_on s inputs answered ended db Clean Declared Sound is_broken keeps (Err e) works found own typed is_own make after = tt
 
+-- a station that was opened over it keeps a state that was left
+pub goes_on : {K E : Type 0} (db : Database) (Clean Declared Sound : K → Type 0) (is_broken : K → Bool) (keeps : K → State → Type 0) (Left : Option State → Type 0) (r : Result K E)
+    → IfOk r (λ k. is_broken k ≡ false) → IfOk r (λ k. Clean k → (it : State) × IsStateIn db it × keeps k it) → IfOk r (λ k. Clean k → IsOwn db.trees → Declared k)
+    → IfOk r (λ k. Sound k → (it : State) → IsStateIn db it → IsTypedState db it) → IsOwn db.trees → ((k : K) → Clean k → Declared k → Sound k)
+    → ((it : State) → IsStateIn db it → IsTypedState db it → Left (Some it))
+    → IfOk r (λ k. Clean k → (s : State) × Left (Some s) × keeps k s × (is_broken k ≡ false))
+goes_on db Clean Declared Sound is_broken keeps Left (Ok k) works found own typed is_own make left = λ clean.
+    let f = found clean in
+    let t = typed (make k clean (own clean is_own)) f.0 f.1 in
+    (f.0, left f.0 f.1 t, f.2, works)
+goes_on db Clean Declared Sound is_broken keeps Left (Err e) works found own typed is_own make left = tt
+
 pub sounds_on : {K E : Type 0} (Clean Declared Sound : K → Type 0) (Own : Type 0) (r : Result K E) → IfOk r (λ k. Clean k → Own → Declared k) → Own → ((k : K) → Clean k → Declared k → Sound k)
     → IfOk r (λ k. Clean k → Sound k)
 sounds_on Clean Declared Sound Own (Ok k) own is_own make = λ clean. make k clean (own clean is_own)

@@ -1,5 +1,5 @@
 -- What each call over a file leaves. A caller that hands a call on cites its record.
-use Rattle.std.specs.Prelude.{◌≡◌, ◌≢◌, ◌⊎◌, ◌↔◌, ℕ, Bool, true, false, IsTrue, Option, Some, Result, Err, IfOk, IfErr, OnOk, List}
+use Rattle.std.specs.Prelude.{◌≡◌, ◌≢◌, ◌⊎◌, ◌↔◌, ℕ, Bool, true, false, IsTrue, Option, Some, None, Result, Err, IfOk, IfErr, OnOk, List}
 use Rattle.sqlite.specs.Held.{Held, state}
 use Rattle.sqlite.specs.State as connection
 use Rattle.sqlite.specs.State.{HasCleanDisk, Survives}
@@ -146,3 +146,15 @@ pub record HasMoved {S : Type 0} (g : Ghosts S) (conn : Held S)
   -- only where the store fails is anything written
   pub spares : IfErr migrated (λ e. e.1 ≢ fault.Store
       → Survives (state g conn) (state g e.0) (λ _. ⊥))
+
+-- A call over what a crash may leave of a station that gave its connection back. Its opening keeps
+-- a state that a reopening of that station may find, works and is sound; and unless such a reopening
+-- may find no station, it fails only where the store does or memory is out.
+pub record GoesOn {S : Type 0} (g : Ghosts S) (keeps : Station S g → State → Type 0) (is_sound : Station S g → Type 0) (is_broken : Station S g → Bool)
+    (may_find : Station S g → Option State → Type 0) (last : Station S g)
+    (opened : Result (Station S g) (Held S × AttachFault)) : Type 0 where
+  pub found : IfOk opened (λ again. HasCleanDisk (state g (connection_in again)) → (s : State)
+      × may_find last (Some s) × keeps again s × (is_broken again ≡ false))
+  pub sound : IfOk opened (λ again. HasCleanDisk (state g (connection_in again)) → is_sound again)
+  pub opens : ¬ (may_find last None)
+      → IfErr opened (λ e. HasCleanDisk (state g e.0) → IsBreakdown e.1)

@@ -7,7 +7,7 @@ use Rattle.station_core.specs.declared.answer.ActFault.{ActFault}
 use Rattle.station_core.specs.declared.answer.ActFault.TheVariants as fault
 use Rattle.station_core.specs.declared.input.Input.{Input}
 use Rattle.station_core.specs.Keeping.{IsAfterAnswered}
-use Rattle.station_core.specs.Step.{State, IsLawfulState, opening, after_all}
+use Rattle.station_core.specs.Step.{State, IsLawfulState, after_all}
 
 -- The inputs that a station was given, how many it answered, and the fault that ended them, if any.
 -- Then it gave its connection back, or was cut off.
@@ -47,10 +47,10 @@ in_order counted = flat_map (λ inputs. inputs) counted
 -- The state after all that counts: it is lawful, and for each waybill what was taken over or found
 -- is in store, departed, delivered, transferred or missing, in pieces and in tenths, and the
 -- amounts that are shown are the balances of its moves.
-pub record IsAfterLives (here : List ℕ) (lives : List Life) (found : State) : Type 0 where
+pub record IsAfterLives (first : State) (lives : List Life) (found : State) : Type 0 where
   pub counted : List (List (Input × LocalMinute))
   pub each : AreCounted lives counted
-  pub state : found ≡ after_all (opening here) (in_order counted)
+  pub state : found ≡ after_all first (in_order counted)
   pub lawful : IsLawfulState found
   pub conserved : (w : ℕ) → IsConserved found.cargo.book w
   pub shown : (w : ℕ) → AreBalances found.cargo.book w

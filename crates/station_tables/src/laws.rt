@@ -1,22 +1,34 @@
 //! What holds of the lives of a file.
-ghost use Rattle.std.specs.Prelude.{◌≡◌, ◌↔◌, ℕ, List, Bool, true};
+ghost use Rattle.std.specs.Prelude.{◌≡◌, ◌↔◌, ℕ, List, Bool, true, Result};
+ghost use Rattle.sqlite.specs.Held.{Held, state};
+ghost use Rattle.sqlite.specs.State.{HasCleanDisk};
 ghost use Rattle.std.specs.List.{AllByRecursion};
 ghost use Rattle.station_core.specs.Ranges.{AreInputs};
-ghost use Rattle.station_core.specs.Step.{State, opening};
+ghost use Rattle.station_core.specs.Step.{State, IsLawfulState, opening};
+ghost use Rattle.station_tables.specs.declared.station.Station.{Station as Kept};
+ghost use Rattle.station_tables.specs.Called.{GoesOn, HasFound, HasReleased};
 ghost use Rattle.station_tables.specs.Calls.{Call, Desk, DoAll, CallsActOnce};
 ghost use Rattle.station_tables.specs.Lives.{Life, AreLives, IsAfterLife, IsAfterLives, migration};
 
-use station_core::laws::{retry_law, run_law};
+use crate::fault::AttachFault;
+use crate::station::Station;
+use sqlite::Alter;
+use station_core::Keeper;
+use station_core::laws::{retry_law, step_law};
 
-/// From a new station through any number of lives, each of which begins with the state that its
-/// opening found: the last opening finds the state after all inputs that were answered and at most
-/// one more for each life that ended by a fault of the store.
+/// From any lawful state, such as that of a new station, of a file that is opened or of one that
+/// was migrated, through any number of lives, each of which begins with the state that its opening
+/// found: the last opening finds the state after all inputs that were answered and at most one more
+/// for each life that ended by a fault of the store.
 pub fn lives_law()
-    ensures { (here : List ℕ) (lives : List Life) (found : State)
+    ensures lawful { (first : State) (lives : List Life) (found : State) → IsLawfulState first
         → AllByRecursion (λ (life : Life). AreInputs life.inputs) lives
-        → AreLives (opening here) lives found → IsAfterLives here lives found }
+        → AreLives first lives found → IsAfterLives first lives found }
+    ensures new { (here : List ℕ) (lives : List Life) (found : State)
+        → AllByRecursion (λ (life : Life). AreInputs life.inputs) lives
+        → AreLives (opening here) lives found → IsAfterLives (opening here) lives found }
 {
-    run_law();
+    step_law();
 }
 
 /// A migration leaves the state as it was, so that it stands anywhere between the lives of a file.
@@ -33,3 +45,19 @@ pub fn calls_law()
 {
     retry_law();
 }
+
+/// What a program leaves to the next one: a station that is opened over what a crash may leave of
+/// one that gave its connection back goes on from a state that a reopening of that one may find.
+pub fn next_call_law<S: Alter>()
+    ensures { (last : Kept S S.Store) (conn other : Held S)
+        (opened : Result (Kept S S.Store) (Held S × AttachFault))
+        → ⟦<Station<S> as Keeper>⟧.is_sound last
+        → HasReleased ⟦<Station<S> as Keeper>⟧.keeps ⟦<Station<S> as Keeper>⟧.is_sound
+        ⟦<Station<S> as Keeper>⟧.may_find last conn
+        → HasCleanDisk (state S.Store conn)
+        → (state S.Store conn).may_leave (state S.Store other).now.trees
+        → HasFound S.Store ⟦<Station<S> as Keeper>⟧.keeps ⟦<Station<S> as Keeper>⟧.is_sound
+        ⟦<Station<S> as Keeper>⟧.is_broken other opened
+        → GoesOn S.Store ⟦<Station<S> as Keeper>⟧.keeps ⟦<Station<S> as Keeper>⟧.is_sound
+        ⟦<Station<S> as Keeper>⟧.is_broken ⟦<Station<S> as Keeper>⟧.may_find last opened }
+{}

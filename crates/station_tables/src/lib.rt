@@ -12,7 +12,7 @@ mod station;
 
 pub use attaching::attach;
 pub use fault::AttachFault;
-pub use laws::{calls_law, lives_law, migration_law};
+pub use laws::{calls_law, lives_law, migration_law, next_call_law};
 pub use migrating::migrate;
 pub use opening::create;
 pub use repeating::attach_and_repeat;
