@@ -2,7 +2,7 @@
 
 use crate::files::{is_undeclared, make_file, open_file, tell_undeclared, tell_unopened};
 use crate::service::{Service, serve_line};
-use cli_call::{DeskFault, end, run_line};
+use cli_call::{DeskFault, close_file, end, run_line};
 use cli_run::{Feed, Tied, Turns, is_opening, tie};
 use cli_words::{Line, LineCommand};
 use memory_files::open_pages;
@@ -169,9 +169,7 @@ fn run_in_file<R: Read + Drop>(
         }
     };
     let (status, conn) = run_task(rt, line, conn, task);
-    if status <= 1 && conn.close().is_err() {
-        return faulted(rt, RunFault::Store);
-    }
+    let (status, _files) = close_file(conn, status, &mut Counted::new(rt.stderr()));
     status
 }
 

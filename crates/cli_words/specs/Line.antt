@@ -3,6 +3,7 @@ use Rattle.std.specs.Prelude.{◌≡◌, ◌≤◌, ℕ, Bool, true, false, List
 use Rattle.awb_number.specs.Number.{number_of}
 use Rattle.imp_fields.specs.Airport.{airport_of}
 use Rattle.desk_commands.specs.Verb.{word}
+use Rattle.reports.specs.declared.listing.Listing.TheVariants as listing
 use Rattle.cli_words.specs.declared.line.Line.{Line}
 use Rattle.cli_words.specs.declared.line.LineCommand.{LineCommand}
 use Rattle.cli_words.specs.declared.line.LineCommand.TheVariants as command
@@ -33,7 +34,9 @@ Means (request.Take files) (command.Take paths) =
 Means (request.Act verb key) (command.Act v k) = (word v ≡ verb.now) × (k ≡ key.now)
 Means request.Acts command.Acts = Unit {0}
 Means (request.Read file) (command.Read path) = path.now ≡ file.now
-Means (request.Outbox json) (command.Outbox f) = f ≡ form_of json
+Means (request.Outbox None json) (command.Outbox f) = f ≡ form_of json
+Means (request.Outbox (Some after) json) (command.Report l f) =
+    ((n : ℕ) × IsNumber 32 after.now n × (l ≡ listing.PendingAfter n)) × (f ≡ form_of json)
 Means (request.Report words) (command.Report l f) = IsListed words l × (f ≡ form_of words.json)
 Means (request.History number) (command.History w) = number_of number.now ≡ Ok w
 Means (request.Waybill number) (command.Waybill w) = number_of number.now ≡ Ok w

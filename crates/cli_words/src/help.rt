@@ -161,6 +161,8 @@ pub(crate) const OF_AWB: &str = "movements, trail: the rows of this waybill";
 
 pub(crate) const AFTER: &str = "movements, trail: the rows after number N";
 
+pub(crate) const MESSAGES_AFTER: &str = "The messages after number N";
+
 pub(crate) const LAST: &str = "movements, trail: the last N rows";
 
 pub(crate) const FLIGHT: &str = "manifest: the flight and its day, such as LH400/2026-01-12";

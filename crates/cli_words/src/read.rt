@@ -5,12 +5,13 @@ ghost use Rattle.cli_words.specs.Line.{IsCalled, IsLine, IsMeant, IsStation, Mea
 
 use crate::fault::{BadValue, WordsFault, value_fault};
 use crate::line::{Line, LineCommand};
-use crate::number::{read_count, read_port};
+use crate::number::{read_count, read_port, read_row};
 use crate::part::{form_of, read_listing};
 use crate::words::{ReportWords, Request, Words, sort_words};
 use awb_number::{Awb, AwbFault};
 use desk_commands::Verb;
 use imp_fields::Airport;
+use reports::Listing;
 use station_core::Key;
 use std::alloc::Global;
 use std::convert::AsStr;
@@ -112,6 +113,23 @@ fn read_serve<'a>(port: &'a str, count: Option<&'a str>) -> Result<LineCommand<'
     }
 }
 
+/// The messages that aren't confirmed: all, or those after a number.
+fn read_outbox<'a>(after: Option<&'a str>, json: bool) -> Result<LineCommand<'a>, BadValue<'a>>
+    ensures means { IfOk result (Means (Request.Outbox after.entry json)) }
+    ensures called { IfOk result (λ command. IsCalled command ⊥ ⊥) }
+{
+    let Some(after) = after else {
+        return Ok(LineCommand::Outbox(form_of(json)));
+    };
+    match read_row(after) {
+        Some(number) => {
+            let listing = Listing::PendingAfter(number);
+            Ok(LineCommand::Report(listing, form_of(json)))
+        }
+        None => Err(BadValue::After(after)),
+    }
+}
+
 /// The command that is asked for.
 fn read_command<'a>(
     request: Request<'a>,
@@ -132,7 +150,7 @@ fn read_command<'a>(
         Request::Act { verb, key } => read_act(verb, key),
         Request::Acts => Ok(LineCommand::Acts),
         Request::Read(file) => Ok(LineCommand::Read(file)),
-        Request::Outbox { json } => Ok(LineCommand::Outbox(form_of(json))),
+        Request::Outbox { after, json } => read_outbox(after, json),
         Request::Report(words) => read_report(words),
         Request::History(number) => read_history(number),
         Request::Waybill(number) => read_waybill(number),

@@ -23,6 +23,7 @@ pub(crate) enum Request<'a> {
     Acts,
     Read(&'a str),
     Outbox {
+        after: Option<&'a str>,
         json: bool,
     },
     Report(ReportWords<'a>),
@@ -131,6 +132,7 @@ fn read<'a>(alloc: Global) -> Result<Command<'a>, AllocError> {
 /// The command that prints the pending messages.
 fn outbox<'a>(alloc: Global) -> Result<Command<'a>, AllocError> {
     let outbox = command(alloc, "outbox", help::OUTBOX, help::OUTBOX_EXAMPLES);
+    let outbox = outbox.arg(option(alloc, "after", "N", help::MESSAGES_AFTER))?;
     outbox.arg(flag(alloc, "json", help::JSON))
 }
 
@@ -258,6 +260,7 @@ fn asked<'a>(name: &str, words: &ArgMatches<'a>) -> Option<Request<'a>> {
         "acts" => Some(Request::Acts),
         "read" => Some(Request::Read(words.get_str("FILE")?)),
         "outbox" => Some(Request::Outbox {
+            after: words.get_str("after"),
             json: words.get_flag("json"),
         }),
         "report" => Some(Request::Report(report_words(words)?)),

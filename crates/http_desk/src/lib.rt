@@ -18,6 +18,7 @@ mod wanted;
 mod writing;
 
 pub use answer::{holder_text, waybill_text};
+pub use fields::{Values, number_told, values_of};
 pub use law::routes_law;
 pub use printout::Printout;
 pub use route::{Page, Route};
