@@ -1,11 +1,11 @@
 //! What a keeper is asked for as bytes: reports, what of the messages goes out to a writer that
 //! fails, and answers over HTTP.
-use case_words::Narrow;
 use http_desk::serve_one;
 use reports::{Report, ReportCause, write_report};
 use station_core::{ActFault, Counted, Keeper};
 use station_days::Moment;
 use std::alloc::Global;
+use test_kit::Narrow;
 
 /// The text of a report. Its writer is memory.
 pub fn report_text<K: Keeper>(

@@ -70,6 +70,7 @@ pub const FILES: &[&str] = &[
     "calendar",
     "http",
     "listings",
+    "shed",
     "manifests",
 ];
 

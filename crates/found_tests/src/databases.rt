@@ -4,7 +4,6 @@ use crate::disks::{FileBytes, found_in};
 use crate::faults::fault_said;
 use crate::listing::{all_rows, columns_of, rows_of};
 use crate::readers::{book, pending, trail};
-use case_words::{answered, holder, keyed, say, shown, stock, waybill};
 use imp_fields::Airport;
 use sqlite::{Connection, MemStore};
 use station_core::{Input, Keeper};
@@ -12,6 +11,7 @@ use station_rows::open_memory;
 use station_tables::{AttachFault, Station, attach, create, migrate};
 use std::alloc::Global;
 use telegrams::read_telegram;
+use test_kit::{answered, holder, keyed, say, shown, stock, waybill};
 
 /// What is asked of the readers of a station that tells what the day's does.
 const ASKED: [(&str, &str); 9] = [

@@ -1,10 +1,10 @@
 //! What a station is asked for once it is there, and what comes of it.
 use crate::readers::pending;
 use awb_number::Awb;
-use case_words::{answer_said, is_done, keyed, noon, say};
 use station_core::{ActFault, Input, Keeper, answer_one};
 use station_days::Moment;
 use std::alloc::Global;
+use test_kit::{answer_said, is_done, keyed, noon, say};
 
 /// The commands of a day, each with its key: numbers are taken in, and four of ten pieces that
 /// were received depart.

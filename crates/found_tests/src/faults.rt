@@ -1,7 +1,7 @@
 //! Why there is no station, as a text.
-use case_words::say;
 use station_tables::AttachFault;
 use std::alloc::Global;
+use test_kit::say;
 
 /// Why there is no station: `601` with the table that isn't good, `602` where there is none, `603`
 /// with the version, or a word.

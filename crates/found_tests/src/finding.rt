@@ -2,11 +2,11 @@
 use crate::faults::fault_said;
 use crate::listing::{all_rows, old_rows, rows_of};
 use awb_number::Awb;
-use case_words::known_said;
 use sqlite::{Alter, Connection};
 use station_core::Keeper;
 use station_tables::{AttachFault, attach};
 use std::alloc::Global;
+use test_kit::known_said;
 
 /// What a station says of waybills.
 fn waybills_said<K: Keeper>(alloc: Global, station: &mut K, numbers: &[Awb]) -> Option<String> {

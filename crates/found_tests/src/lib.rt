@@ -20,12 +20,12 @@ mod stops;
 mod tables;
 mod work;
 
-use case_files::{Answers, go_through_file};
 use databases::FoundAnswers;
 use memory::{Run, Told, migration_told_at_last, told_at_last};
 use repeats::RepeatAnswers;
 use std::alloc::Global;
 use std::io;
+use test_kit::{Answers, go_through_file};
 
 /// The files of cases, in the order in which they are gone through.
 pub const FILES: &[&str] = &["found", "stops", "repeats"];

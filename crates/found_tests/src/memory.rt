@@ -7,7 +7,6 @@ use crate::fused::Fused;
 use crate::listing::{all_rows, old_rows};
 use crate::tables::{Job, over_tables};
 use awb_number::Awb;
-use case_words::{answer_said, is_done, keyed, noon, say};
 use sqlite::{Connection, MemStore};
 use state_store::StateStore;
 use station_core::{ActFault, Answer, Input, Keeper, answer_one};
@@ -16,6 +15,7 @@ use station_engine::StoredStation;
 use station_tables::{AttachFault, attach_and_repeat, migrate};
 use std::alloc::Global;
 use telegrams::read_telegram;
+use test_kit::{answer_said, is_done, keyed, noon, say};
 
 /// How many calls the tables serve: more than are made.
 const CALLS: u32 = 1_000_000;

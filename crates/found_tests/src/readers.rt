@@ -1,7 +1,7 @@
 //! What the readers of a station hand out to a sink that may take no more, as texts.
-use case_words::shown;
 use station_core::{BookRow, Keeper, Message, Sink, TrailRow};
 use std::alloc::Global;
+use test_kit::shown;
 
 /// A sink that keeps its rows, and takes so many at most.
 #[derive(Drop)]

@@ -5,10 +5,10 @@ use crate::errands::Errand;
 use crate::stopping::{Before, stops};
 use crate::work::{InputForm, Work};
 use awb_number::Awb;
-use case_words::{say, shown};
 use imp_fields::Airport;
 use station_days::Moment;
 use std::alloc::Global;
+use test_kit::{say, shown};
 
 /// The day of the calls: 12 January 2026.
 const DAY: u32 = 20_465;

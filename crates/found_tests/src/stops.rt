@@ -7,12 +7,12 @@ use crate::fused::Fused;
 use crate::tables::{Job, over_tables};
 use crate::work::Work;
 use awb_number::Awb;
-use case_words::say;
 use imp_fields::Airport;
 use state_store::StateStore;
 use station_core::{ActFault, Keeper};
 use station_engine::StoredStation;
 use std::alloc::Global;
+use test_kit::say;
 
 /// What is found where there is no station: no table, no index.
 const NO_STATION: &str = "602, 0 tables and indexes";

@@ -3,7 +3,6 @@ use crate::errands::{Came, Errand, give};
 use crate::faults::fault_said;
 use crate::finding::{fault_found, found};
 use awb_number::Awb;
-use case_words::{answer_said, keyed, say, shown};
 use imp_fields::Airport;
 use sqlite::{Alter, Connection};
 use station_core::Input;
@@ -11,6 +10,7 @@ use station_days::Moment;
 use station_tables::{AttachFault, Station, attach, attach_and_repeat, create, migrate};
 use std::alloc::Global;
 use telegrams::read_telegram;
+use test_kit::{answer_said, keyed, say, shown};
 
 /// How a case writes an input.
 #[derive(Clone, Copy, Debug, PartialEq, Eq)]

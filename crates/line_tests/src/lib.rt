@@ -10,10 +10,10 @@ mod desk;
 mod samples;
 mod words;
 
-use case_files::{Answers, go_through_file};
 use desk::Desk;
 use std::alloc::Global;
 use std::io;
+use test_kit::{Answers, go_through_file};
 
 /// The files of cases, in the order in which they are gone through.
 pub const FILES: &[&str] = &[

@@ -24,9 +24,9 @@ mod said;
 mod updates;
 
 use agent_stock::PlainRows;
-use case_files::{Answers, go_through_file};
 use std::alloc::Global;
 use std::io;
+use test_kit::{Answers, go_through_file};
 
 /// The files of cases, in the order in which they are gone through.
 pub const FILES: &[&str] = &[

@@ -1,7 +1,6 @@
 //! The cargo of a station in memory: sinks that take no more, and memory that runs out.
 use crate::sinks::{RowCount, Taken};
 use awb_number::Awb;
-use case_words::{count_said, shown};
 use desk_commands::Command;
 use imp_fields::{Airport, Flight, Goods, Name, Pieces, Tenths};
 use plain_station::PlainStation;
@@ -9,6 +8,7 @@ use shipment_machine::{Amount, DeskCommand, FlightDate};
 use station_core::{ActFault, Input, Keeper, Key};
 use station_days::{LocalDay, Moment};
 use std::alloc::Global;
+use test_kit::{count_said, shown};
 
 /// What the commands name.
 #[derive(Clone, Copy)]

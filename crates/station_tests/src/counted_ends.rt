@@ -1,9 +1,9 @@
 //! Readers and writers that count, some of which fail.
-use case_words::{Narrow, say, shown};
 use station_core::{ByteIn, ByteOut, Counted, ReadFault, WriteFault, send};
 use std::alloc::Global;
 use std::io;
 use std::io::Read;
+use test_kit::{Narrow, say, shown};
 
 /// What comes of what is asked.
 pub fn answer(alloc: Global, asked: &str, text: &[u8]) -> Option<String> {

@@ -12,13 +12,13 @@ mod rows;
 mod sinks;
 mod tables;
 
-use case_files::{Answers, go_through_file};
 use memory::Message;
 use rows::RowAnswers;
 use std::alloc::Global;
 use std::io;
 use std::time::Instant;
 use tables::TableAnswers;
+use test_kit::{Answers, go_through_file};
 
 /// The files of cases, in the order in which they are gone through.
 pub const FILES: &[&str] = &["rows", "tables", "counted-ends", "cargo"];

@@ -2,7 +2,6 @@
 use crate::sinks::{RowCount, Taken};
 use crate::tables::answers_said;
 use awb_number::Awb;
-use case_words::{count_said, is_done, keyed, say, shown};
 use imp_fields::Airport;
 use plain_station::PlainStation;
 use station_core::{ActFault, Answer, Input, Keeper, act_all, answer_one};
@@ -11,6 +10,7 @@ use station_rows::open_memory;
 use station_tables::{AttachFault, create};
 use std::alloc::Global;
 use telegrams::read_telegram;
+use test_kit::{count_said, is_done, keyed, say, shown};
 
 /// A minute of 2026-01-12.
 fn at(hour: u16, minute: u16) -> Option<Moment> {

@@ -1,9 +1,9 @@
 //! The rows of a station's tables in memory.
-use case_words::{count_said, next_whole, say, shown};
 use sqlite::{Connection, MemStore};
 use station_rows::{CreateFault, Rows, StockRow, StoreFault, TableStore, open_memory};
 use std::alloc::Global;
 use std::str::SplitWhitespace;
+use test_kit::{count_said, next_whole, say, shown};
 
 /// The tables on which the calls of a file act.
 #[derive(Drop)]

@@ -2,9 +2,6 @@
 use crate::sinks::RowCount;
 use agent_stock::{AgentCode, Order, Run, RunCount};
 use awb_number::Awb;
-use case_words::{
-    answer_said, answered, holder, next_whole, noon, number, runs_said, say, shown, stock,
-};
 use desk_commands::Command;
 use imp_fields::Airport;
 use sqlite::{Connection, MemStore};
@@ -13,6 +10,9 @@ use station_rows::{Rows, StockRow, TableStore, open_memory};
 use station_tables::{AttachFault, Station, create};
 use std::alloc::Global;
 use std::str::SplitWhitespace;
+use test_kit::{
+    answer_said, answered, holder, next_whole, noon, number, runs_said, say, shown, stock,
+};
 
 /// The station on which the calls of a file act.
 #[derive(Drop)]

@@ -1,0 +1,18 @@
+//! What the test libraries share: files of cases, in which a line says what is asked, of which text,
+//! and what is expected, as `airport 'FRA' = FRA`; and what cases ask with and are answered in, such
+//! as commands as inputs, inputs and outputs that fail, and texts of a station's replies and rows.
+#![tactic(auto)]
+
+mod case;
+mod failing_ends;
+mod going;
+mod inputs;
+mod said;
+mod telling;
+
+pub use case::{Case, read_case};
+pub use failing_ends::{Narrow, Torn};
+pub use going::{Answers, go_through, go_through_file};
+pub use inputs::{is_done, keyed};
+pub use said::{count_said, holder_said, known_said, next_whole, runs_said, say, shown};
+pub use telling::{answer_said, answered, holder, noon, number, stock, waybill};
