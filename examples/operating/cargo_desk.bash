@@ -23,7 +23,7 @@ _cargo_desk() {
             esac ;;
         report) COMPREPLY=($(compgen -W 'stock shed flights expected irregularities movements trail manifest
             --open --agent --awb --after --last --json' -- "$cur")) ;;
-        outbox) COMPREPLY=($(compgen -W '--json' -- "$cur")) ;;
+        outbox) COMPREPLY=($(compgen -W '--after --json' -- "$cur")) ;;
         act) [ $((COMP_CWORD - i)) -ne 1 ] || COMPREPLY=($(compgen -W "$_cargo_desk_verbs" -- "$cur")) ;;
         help) COMPREPLY=($(compgen -W "$_cargo_desk_commands" -- "$cur")) ;;
         take | read) COMPREPLY=($(compgen -f -- "$cur")) ;;
