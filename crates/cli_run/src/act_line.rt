@@ -32,8 +32,8 @@ fn text_at<'a>(value: &'a Value, name: &str) -> Option<&'a str>
     value.get(name)?.as_str()
 }
 
-/// The verb, the key and the body of a command's line.
-fn frame(value: &Value) -> Option<(Verb, Key, &Value)>
+/// The verb, the key and the body of a command's line; `None` for any other line.
+pub fn frame(value: &Value) -> Option<(Verb, Key, &Value)>
     ensures some { IfSome result (λ f. IsFrame (view value.now) f.0 f.1 (view f.2.now)) }
     ensures none { result ≡ None → (verb : AnyVerb) (key : List ℕ) (body : Data)
         → ¬ (IsFrame (view value.now) verb key body) }
@@ -47,8 +47,8 @@ fn frame(value: &Value) -> Option<(Verb, Key, &Value)>
     Some((verb, key, body))
 }
 
-/// The telegram of a telegram's line.
-fn wired<'a>(value: &'a Value) -> Option<&'a str>
+/// The telegram of a telegram's line; `None` for any other line.
+pub fn wired<'a>(value: &'a Value) -> Option<&'a str>
     ensures some { IfSome result (λ text. IsWired (view value.entry.now) text.now) }
     ensures none { result ≡ None → (text : List ℕ) → ¬ (IsWired (view value.entry.now) text) }
 {
@@ -61,7 +61,7 @@ fn wired<'a>(value: &'a Value) -> Option<&'a str>
 /// The value that a line writes, where it isn't too long.
 ///
 /// Returns [`AllocError`] when out of memory.
-pub(crate) fn line_value(alloc: Global, line: &[u8]) -> Result<Option<Value>, AllocError>
+pub fn line_value(alloc: Global, line: &[u8]) -> Result<Option<Value>, AllocError>
     ensures some { IfOk result (λ v. IfSome v (λ value. IsWritten line.now (view value))) }
     ensures none { IfOk result (λ v. v ≡ None → (d : Data) → ¬ (IsWritten line.now d)) }
 {
@@ -103,7 +103,7 @@ fn value_asked<'a>(alloc: Global, value: &'a Value, line: &'a [u8]) -> Result<As
 /// What a line asks, by the value that it writes.
 ///
 /// Returns [`AllocError`] when out of memory.
-pub(crate) fn line_asked<'a>(
+pub fn line_asked<'a>(
     alloc: Global,
     value: &'a Option<Value>,
     line: &'a [u8],

@@ -15,7 +15,7 @@ use std::io::{BufRead, BufReader, ErrorKind, Read};
 use stock_list::{RunFault, Watched, told_by};
 
 /// Whether a line has no byte but those of its end.
-fn is_blank(line: &[u8]) -> bool
+pub fn is_blank(line: &[u8]) -> bool
     ensures { result ≡ is_blank line.now }
 {
     line.iter().all(|b| *b == b'\n' || *b == b'\r')
@@ -53,7 +53,7 @@ fn answer_line<K: Keeper, W: ByteOut, E: ByteOut>(
 }
 
 /// Why a run ends where no line was read.
-fn reader_fault(error: &io::Error) -> RunFault
+pub fn line_fault(error: &io::Error) -> RunFault
     ensures { IsReadersFault result }
 {
     match error.kind() {
@@ -63,7 +63,9 @@ fn reader_fault(error: &io::Error) -> RunFault
 }
 
 /// Lines of a reader that is read ahead.
-fn buffered<R: Read + Drop>(alloc: Global, reader: R) -> Result<BufReader<R>, AllocError>
+///
+/// Returns [`AllocError`] when out of memory.
+pub fn buffered<R: Read + Drop>(alloc: Global, reader: R) -> Result<BufReader<R>, AllocError>
     ensures { IfOk result (λ lines. reader_remaining R.remaining lines ≡ R.remaining reader) }
 {
     match BufReader::new(alloc, reader) {
@@ -100,7 +102,7 @@ fn run_lines<K: Keeper, R: BufRead + Drop, W: ByteOut, E: ByteOut>(
                 let accepted = answer_line(alloc, keeper, writer, errors, number, text, at)?;
                 good &= accepted;
             }
-            Err(error) => return Err(reader_fault(&error)),
+            Err(error) => return Err(line_fault(&error)),
         }
     }
     Err(RunFault::Memory)

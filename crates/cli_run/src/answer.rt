@@ -72,6 +72,25 @@ fn keyed_line(
     }
 }
 
+/// The line of the text that an input is answered by. `number` is the line's of `acts`: it begins
+/// with the key of a command, or with the number of a telegram.
+///
+/// Returns [`AllocError`] when out of memory.
+pub fn named_line(
+    alloc: Global,
+    number: Option<u64>,
+    input: &Input<'_>,
+    text: &str,
+) -> Result<String, AllocError>
+    ensures { IfOk result (λ line. string_bytes line
+        ≡ named number (Asked.Input input.now) (text.now ++ 10 ∷ [])) }
+{
+    match input {
+        Input::Keyed(key, _) => keyed_line(alloc, number, key, text),
+        Input::Wire(_) => numbered_line(alloc, number, text),
+    }
+}
+
 /// The line of an answer.
 fn answer_line(
     alloc: Global,
@@ -83,10 +102,7 @@ fn answer_line(
         ≡ named number (Asked.Input input.now) (answer_text answer.now ++ 10 ∷ [])) }
 {
     let text = answer_text(alloc, answer)?;
-    match input {
-        Input::Keyed(key, _) => keyed_line(alloc, number, key, text.as_str()),
-        Input::Wire(_) => numbered_line(alloc, number, text.as_str()),
-    }
+    named_line(alloc, number, input, text.as_str())
 }
 
 /// The line of a refusal.
@@ -156,7 +172,10 @@ fn answer_input<K: Keeper, O: ByteOut, E: ByteOut>(
 }
 
 /// Writes the line of a telegram that is refused unread, and why.
-fn answer_refusal<O: ByteOut, E: ByteOut>(
+///
+/// Returns [`RunFault::Write`] where the writer fails, and [`RunFault::Memory`] when out of memory: a
+/// beginning of the line was written, or nothing.
+pub fn answer_refusal<O: ByteOut, E: ByteOut>(
     alloc: Global,
     writer: &mut O,
     errors: &mut E,
@@ -188,7 +207,9 @@ fn answer_refusal<O: ByteOut, E: ByteOut>(
 }
 
 /// Writes the line of a body that is none of a verb, and why.
-fn answer_bad<O: ByteOut, E: ByteOut>(
+///
+/// Returns [`RunFault::Write`] where the writer fails: a beginning of the line was written.
+pub fn answer_bad<O: ByteOut, E: ByteOut>(
     alloc: Global,
     writer: &mut O,
     errors: &mut E,
@@ -214,7 +235,10 @@ fn answer_bad<O: ByteOut, E: ByteOut>(
 }
 
 /// Writes the line of a line of `acts` that is neither a command nor a telegram, and why.
-fn answer_bad_line<O: ByteOut, E: ByteOut>(
+///
+/// Returns [`RunFault::Write`] where the writer fails, and [`RunFault::Memory`] when out of memory: a
+/// beginning of the line was written, or nothing.
+pub fn answer_bad_line<O: ByteOut, E: ByteOut>(
     alloc: Global,
     writer: &mut O,
     errors: &mut E,

@@ -24,7 +24,9 @@ pub enum Asked<'a> {
 }
 
 /// What a telegram asks.
-pub(crate) fn telegram_asked<'a>(alloc: Global, bytes: &'a [u8]) -> Result<Asked<'a>, AllocError>
+///
+/// Returns [`AllocError`] when out of memory.
+pub fn telegram_asked<'a>(alloc: Global, bytes: &'a [u8]) -> Result<Asked<'a>, AllocError>
     ensures { IfOk result (IsTelegramAsked bytes.entry.now) }
 {
     match read_telegram(alloc, bytes) {
@@ -35,7 +37,9 @@ pub(crate) fn telegram_asked<'a>(alloc: Global, bytes: &'a [u8]) -> Result<Asked
 }
 
 /// What a body of JSON asks under a key.
-pub(crate) fn command_asked<'a>(
+///
+/// Returns [`AllocError`] when out of memory.
+pub fn command_asked<'a>(
     alloc: Global,
     verb: Verb,
     key: Key,

@@ -42,8 +42,10 @@ fn read_more<I: ByteIn>(reader: &mut I, bytes: &mut Vec<u8>) -> Result<bool, Run
 }
 
 /// Reads an input to its end, or until more bytes have come than a telegram or a body has.
+///
+/// Returns [`RunFault::Read`] where the reader fails, and [`RunFault::Memory`] when out of memory.
 #[tactic(auto, using(crate::proofs::Grown::more_within, crate::proofs::Grown::still_within))]
-pub(crate) fn read_input<I: ByteIn>(alloc: Global, reader: &mut I) -> Result<Vec<u8>, RunFault>
+pub fn read_input<I: ByteIn>(alloc: Global, reader: &mut I) -> Result<Vec<u8>, RunFault>
     ensures come { IfOk result
         (λ bytes. HasCome (I.given reader.old) (I.given reader.new) bytes.items) }
     ensures fault { IfErr result IsReadersFault }

@@ -42,8 +42,8 @@ fn tell_unread<E: ByteOut>(alloc: Global, errors: &mut E, number: Option<u64>, r
     }
 }
 
-/// Writes why a telegram can't be read, where its refusal says that.
-pub(crate) fn tell_refusal<E: ByteOut>(
+/// Writes why a telegram can't be read, where its refusal says that, as far as the writer takes it.
+pub fn tell_refusal<E: ByteOut>(
     alloc: Global,
     errors: &mut E,
     number: Option<u64>,

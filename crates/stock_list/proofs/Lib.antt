@@ -1,7 +1,7 @@
 pub mod Digits
 mod Fields
 mod ListLaw
-mod More
+pub mod More
 mod Reasons
 mod Records
 mod Told

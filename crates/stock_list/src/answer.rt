@@ -1,4 +1,4 @@
-ghost use Rattle.std.specs.Prelude.{◌≡◌, ℕ, true, false, Err, ◌++◌, ◌⊎◌, IfOk, IfErr, OnErr, OnOk, take, string_bytes};
+ghost use Rattle.std.specs.Prelude.{◌≡◌, ℕ, true, false, Err, None, ◌++◌, ◌⊎◌, IfOk, IfErr, OnErr, OnOk, take, string_bytes};
 ghost use Rattle.csv.specs.Records.{fields_of};
 ghost use Rattle.station_core.specs.Ends.{HasCause};
 ghost use Rattle.station_core.specs.Step.{State};
@@ -104,6 +104,37 @@ fn tell_row<E: ByteOut>(alloc: Global, errors: &mut E, row: &ByteRecord, line: u
     tell_reason(errors, row_reason(alloc, row, line));
 }
 
+/// Writes the line of a row that asks nothing, and why it asks nothing.
+///
+/// Returns [`RunFault::Write`] where the writer fails, and [`RunFault::Memory`] when out of memory: a
+/// beginning of the line was written, or nothing.
+pub fn answer_bad_row<W: ByteOut, E: ByteOut>(
+    alloc: Global,
+    writer: &mut W,
+    errors: &mut E,
+    place: RowPlace,
+    row: &ByteRecord,
+) -> Result<bool, RunFault>
+    ensures answered { IfOk result (λ good. (good ≡ false)
+        × ((W.taken writer.new).bytes ≡ (W.taken writer.old).bytes ++ bad_line place.number)) }
+    ensures stopped { IfErr result (λ e. ((e ≡ RunFault.Write) ⊎ (e ≡ RunFault.Memory))
+        × ((sent : ℕ) × ((W.taken writer.new).bytes ≡ (W.taken writer.old).bytes ++ take sent
+        (bad_line place.number)))) }
+    ensures untroubled { OnOk result (IsUntroubled (W.taken writer.old) (W.taken writer.new)) }
+    ensures write_cause { result ≡ Err RunFault.Write
+        → HasCause (W.taken writer.old) (W.taken writer.new) }
+    ensures write_told { IfErr result (λ e. (e ≡ RunFault.Write)
+        ⊎ IsUntroubled (W.taken writer.old) (W.taken writer.new)) }
+    ensures reasons { HasToldRow E.taken result None errors.old errors.new }
+{
+    let Ok(line) = bad_line(alloc, place.number) else {
+        return Err(RunFault::Memory);
+    };
+    send_line(writer, &line)?;
+    tell_row(alloc, errors, row, place.line);
+    Ok(false)
+}
+
 /// Answers a row, after what it asks was done, at a moment. `Ok` says whether it was accepted. One
 /// that asks nothing has its reason on `errors`, behind its line.
 pub fn answer_row<K: Keeper, W: ByteOut, E: ByteOut>(
@@ -146,12 +177,7 @@ pub fn answer_row<K: Keeper, W: ByteOut, E: ByteOut>(
         (W.taken writer.new) result }
 {
     let Some(asked) = read_row(row) else {
-        let Ok(line) = bad_line(alloc, place.number) else {
-            return Err(RunFault::Memory);
-        };
-        send_line(writer, &line)?;
-        tell_row(alloc, errors, row, place.line);
-        return Ok(false);
+        return answer_bad_row(alloc, writer, errors, place, row);
     };
     let input = Input::Keyed(asked.0, Command::Stock(asked.1));
     let answer = match answer_one(keeper, &input, at) {

@@ -8,8 +8,11 @@ mod row;
 mod run;
 mod watched;
 
-pub use answer::{RowPlace, RunFault, answer_row, answer_text, keeper_fault, send_line};
+pub use answer::{
+    RowPlace, RunFault, answer_bad_row, answer_row, answer_text, keeper_fault, send_line,
+};
 pub use law::list_law;
+pub use lines::{LineByLine, LineCount, line_by_line};
 pub use row::read_row;
-pub use run::{run_stock, told_by};
+pub use run::{list_fault, run_stock, told_by};
 pub use watched::Watched;

@@ -10,7 +10,7 @@ use std::io::{BufReader, Read};
 
 /// How far a list was read.
 #[derive(Drop)]
-pub(crate) struct LineCount {
+pub struct LineCount {
     /// How many lines were read to their end.
     ended: Cell<u64>,
     /// The line of the last byte, from 1; the one behind it where the list has ended.
@@ -25,7 +25,7 @@ fn ends_within(row: &ByteRecord) -> u64 {
 
 impl LineCount {
     /// Nothing was read yet.
-    pub(crate) fn new() -> LineCount {
+    pub fn new() -> LineCount {
         LineCount {
             ended: Cell::new(0),
             line: Cell::new(1),
@@ -43,14 +43,14 @@ impl LineCount {
     }
 
     /// The line on which the record begins that was read last.
-    pub(crate) fn first_line(&self, row: &ByteRecord) -> u64 {
+    pub fn first_line(&self, row: &ByteRecord) -> u64 {
         self.line.get().saturating_sub(ends_within(row))
     }
 }
 
 /// A reader whose reads end where a line does.
 #[derive(Drop)]
-pub(crate) struct LineByLine<'a, R> {
+pub struct LineByLine<'a, R> {
     reader: BufReader<R>,
     count: &'a LineCount,
 }
@@ -78,7 +78,9 @@ impl<R: Read> Read for LineByLine<'_, R> {
 }
 
 /// A list, to be read line by line.
-pub(crate) fn line_by_line<'a, R: Read + Drop>(
+///
+/// Returns [`AllocError`] when out of memory.
+pub fn line_by_line<'a, R: Read + Drop>(
     alloc: Global,
     reader: R,
     count: &'a LineCount,

@@ -16,8 +16,8 @@ use station_days::Moment;
 use std::alloc::Global;
 use std::io::Read;
 
-/// Why a run ends where no row was read.
-fn reader_fault(e: Error) -> RunFault
+/// Why a run ends where no row was read: the reader failed, or memory ran out.
+pub fn list_fault(e: Error) -> RunFault
     ensures { result ≡ reader_fault (error_kind e) }
 {
     match e.kind() {
@@ -82,7 +82,7 @@ fn run_rows<K: Keeper, R: Read + Drop, W: ByteOut, E: ByteOut>(
                 let accepted = answer_row(alloc, keeper, writer, errors, place, &row, at)?;
                 good &= accepted;
             }
-            Err(e) => return Err(reader_fault(e)),
+            Err(e) => return Err(list_fault(e)),
         }
     }
     Ok(good)

@@ -121,7 +121,7 @@ pub returns-clause-works : goal.returns-clause-works
 returns-clause-works g c = c.loop-row.invariant.works
 
 pub returns-in-Err-clause-breaks : goal.returns-in-Err-clause-breaks
-returns-in-Err-clause-breaks g c = λ works. works_still _ c.reader_fault.result _ c.reader_fault.ensures (c.loop-row.invariant.works works)
+returns-in-Err-clause-breaks g c = λ works. works_still _ c.list_fault.result _ c.list_fault.ensures (c.loop-row.invariant.works works)
 
 pub returns-in_err-accepted-in-Ok-clause-breaks : goal.returns-in_err-accepted-in-Ok-clause-breaks
 returns-in_err-accepted-in-Ok-clause-breaks g c = λ works.
@@ -144,7 +144,7 @@ returns-in-Err-clause-stopped g c = λ s keeps works sound.
         None,
         (
           known_first g.R.Read.remaining c.loop-row.row-iterator.rdr inv.rows.0 (g.R.Read.remaining c.args.reader) inv.rows.2,
-          (subst IsReadersFault (sym c.reader_fault.ensures) (readers_fault _), run.lines, run.state),
+          (subst IsReadersFault (sym c.list_fault.ensures) (readers_fault _), run.lines, run.state),
         ),
       ),
     )
@@ -170,7 +170,7 @@ returns-in_err-accepted-in-Ok-clause-stopped g c = λ s keeps works sound.
     )
 
 pub returns-in-Err-clause-write_cause : goal.returns-in-Err-clause-write_cause
-returns-in-Err-clause-write_cause g c = λ is. no_write _ c.reader_fault.result _ c.reader_fault.ensures is
+returns-in-Err-clause-write_cause g c = λ is. no_write _ c.list_fault.result _ c.list_fault.ensures is
 
 pub returns-in_err-accepted-in-Ok-clause-write_cause : goal.returns-in_err-accepted-in-Ok-clause-write_cause
 returns-in_err-accepted-in-Ok-clause-write_cause g c = λ is.
@@ -221,7 +221,7 @@ returns-in-Err-clause-reopen g c = λ broken.
         None,
         (
           known_first g.R.Read.remaining c.loop-row.row-iterator.rdr inv.rows.0 (g.R.Read.remaining c.args.reader) inv.rows.2,
-          (shut.have.ask, (subst IsReadersFault (sym c.reader_fault.ensures) (readers_fault _), shut.have.lines)),
+          (shut.have.ask, (subst IsReadersFault (sym c.list_fault.ensures) (readers_fault _), shut.have.lines)),
         ),
       ),
     )

@@ -1,0 +1,37 @@
+-- A whole answer is one, and no beginning of another.
+use Rattle.std.proofs.Common.{arith, ◌≡◌, ◌∙◌, ap, sym, subst, inl, inr, ℕ, ◌+◌, true, Some, Option, List, [], ◌∷◌, ◌++◌, length, map, codes, length-append}
+use Rattle.std.specs.Prelude.{◌⊎◌}
+use Rattle.std.proofs.lemmas.List.{nil_from_length}
+use Rattle.httparse.specs.Grammar.{ResponseHead, status_code}
+use Rattle.httparse.specs.Spans.{name_and_value}
+use Rattle.httparse.proofs.GrammarLemmas.{ReadsResponse-append, response_unique}
+use Rattle.http_desk.specs.Request.{values_of}
+use Rattle.desk_client.specs.Ended.{has_end}
+use Rattle.desk_client.specs.Whole.{IsAsLong, IsWhole}
+
+abbrev lengths_of : ResponseHead → List (List ℕ)
+lengths_of h = values_of (codes "content-length") (map name_and_value h.fields)
+
+some_is : (x y : ℕ) → ◌≡◌ {A = Option ℕ} (Some x) (Some y) → x ≡ y
+some_is x y e = cc e
+
+none_more : (b m : ℕ) → b ≡ b + m → m ≡ 0
+none_more b m e = omega (arith, e)
+
+by_lengths : (lengths : List (List ℕ)) (body more : List ℕ) → IsAsLong lengths body → IsAsLong lengths (body ++ more) → (more ≡ []) ⊎ (has_end body ≡ true)
+by_lengths [] body more short long = inr short
+by_lengths (value ∷ []) body more short long =
+    let same : length body ≡ length (body ++ more) = some_is (length body) (length (body ++ more)) (sym short ∙ long) in
+    inl (nil_from_length more (none_more (length body) (length more) (same ∙ length-append body more)))
+by_lengths (value ∷ other ∷ values) body more short long = absurd short
+
+pub one : (bytes : List ℕ) (s t : ℕ) (b c : List ℕ) → IsWhole bytes s b → IsWhole bytes t c → (s ≡ t) × (b ≡ c)
+one bytes s t b c x y =
+    let same = response_unique bytes x.head y.head b c x.reads y.reads in
+    (x.status_is ∙ ap status_code same.0 ∙ sym y.status_is, same.1)
+
+pub cut : (front more : List ℕ) (s t : ℕ) (b c : List ℕ) → IsWhole front s b → IsWhole (front ++ more) t c → (more ≡ []) ⊎ (has_end b ≡ true)
+cut front more s t b c x y =
+    let same = response_unique (front ++ more) x.head y.head (b ++ more) c (ReadsResponse-append front x.head b more x.reads) y.reads in
+    let long : IsAsLong (lengths_of y.head) (b ++ more) = subst (λ l. IsAsLong (lengths_of y.head) l) (sym same.1) y.whole.long in
+    by_lengths (lengths_of x.head) b more x.whole.long (subst (λ h. IsAsLong (lengths_of h) (b ++ more)) (sym same.0) long)

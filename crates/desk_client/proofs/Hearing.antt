@@ -1,0 +1,68 @@
+-- What an input leaves that a service was asked for.
+use Rattle.std.proofs.Common.{◌≡◌, ◌∙◌, sym, refl, ap, subst, inl, inr, ℕ, Bool, true, false, List, [], ◌∷◌, ◌++◌, Option, None, Result, Ok, Err, string_bytes}
+use Rattle.std.proofs.lemmas.List.{append-nil}
+use Rattle.station_core.specs.Given.{Given}
+use Rattle.station_core.specs.declared.input.Input.{Input}
+use Rattle.stock_list.specs.declared.answer.RunFault.{RunFault}
+use Rattle.stock_list.specs.declared.answer.RunFault.TheVariants as fault
+use Rattle.cli_run.specs.declared.asked.Asked.{Asked}
+use Rattle.cli_run.specs.declared.asked.Asked.TheVariants as asked
+use Rattle.cli_run.specs.Asked.{named}
+use Rattle.cli_run.specs.Came.{HasCome}
+use Rattle.cli_run.specs.Ended.{HasToldPart}
+use Rattle.cli_run.specs.Explained.{reason_head, HasToldWhy}
+use Rattle.cli_run.specs.InTurn.{Come}
+use Rattle.desk_client.specs.Again.{Talk, IsAnswered}
+use Rattle.desk_client.specs.Heard.{is_late, HasAnswered, HasAnsweredInput, HasHeard, HasUnderstoodLine}
+use Rattle.desk_client.specs.Ran.{HasRun}
+use Rattle.desk_client.specs.Request.{most_answer}
+use Rattle.desk_client.specs.declared.ask.Answer.{Answer}
+use Rattle.desk_client.specs.declared.line.Heard.{Heard}
+
+-- the service answered, and its answer tells that
+pub heard_by : (request : List ℕ) (most : ℕ) (old new : Talk) (a : Answer) (r : Result Heard RunFault) → IsAnswered most request old new (Ok a)
+    → HasUnderstoodLine a r → HasHeard request most old new r
+heard_by request most old new a (Ok heard) answered is = (a, answered, is)
+heard_by request most old new a (Err e) answered is = inl (a, answered, is)
+
+-- its line's beginning, which is nothing
+pub unsent : (line : List ℕ) (old : Given) → HasToldPart line old old fault.Memory
+unsent line old = record {
+  why = inr refl;
+  sent = 0;
+  part = sym (append-nil old.bytes);
+  cause = λ (is : fault.Memory ≡ fault.Write). cc;
+}
+
+-- its line's memory ran out
+pub unlined : {E : Type 0} (taken : E → Given) (number : Option ℕ) (input : Input) (request : List ℕ) (most : ℕ) (old new : Come Talk E) (heard : Heard)
+    → HasHeard request most old.keeper new.keeper (Ok heard) → new.sent ≡ old.sent → new.errors ≡ old.errors
+    → HasAnsweredInput taken number input request most old new (Err fault.Memory)
+unlined taken number input request most old new heard is sent errors =
+    let line = named number (asked.Input input) (string_bytes heard.text ++ 10 ∷ []) in
+    (errors, (Ok heard, is, subst (λ (g : Given). HasToldPart line old.sent g fault.Memory) (sym sent) (unsent line old.sent)))
+
+-- its line went out, and why a telegram can't be read
+pub told : {E : Type 0} (taken : E → Given) (number : Option ℕ) (input : Input) (request : List ℕ) (most : ℕ) (old new : Come Talk E) (heard : Heard) (line text : List ℕ)
+    → HasHeard request most old.keeper new.keeper (Ok heard) → new.sent.bytes ≡ old.sent.bytes ++ line
+    → line ≡ named number (asked.Input input) (text ++ 10 ∷ []) → text ≡ string_bytes heard.text
+    → HasToldWhy taken (is_late input text) (reason_head number (asked.Input input)) old.errors new.errors
+    → HasAnsweredInput taken number input request most old new (Ok heard.good)
+told taken number input request most old new heard line text is sent line_is text_is why = (
+  heard,
+  is,
+  record {
+    line = sent ∙ ap (λ (l : List ℕ). old.sent.bytes ++ l) (line_is ∙ ap (λ (t : List ℕ). named number (asked.Input input) (t ++ 10 ∷ [])) text_is);
+    reason = subst (λ (t : List ℕ). HasToldWhy taken (is_late input t) (reason_head number (asked.Input input)) old.errors new.errors) text_is why;
+  },
+  refl,
+)
+
+-- a command whose input came
+pub has_run : {E : Type 0} (IsAsked : List ℕ → Asked → Type 0) (request : List ℕ → List ℕ) (taken : E → Given) (read_old read_new : Given) (old new : Come Talk E)
+    (text bytes : List ℕ) (asks : Asked) (r : Result Bool RunFault) → text ≡ bytes → HasCome read_old read_new bytes → IsAsked text asks
+    → HasAnswered taken None asks (request text) most_answer old new r → HasRun IsAsked request taken read_old read_new old new r
+has_run IsAsked request taken read_old read_new old new text bytes asks (Ok good) same come is answered =
+    (bytes, come, (asks, subst (λ (b : List ℕ). IsAsked b asks) same is, subst (λ (b : List ℕ). HasAnswered taken None asks (request b) most_answer old new (Ok good)) same answered))
+has_run IsAsked request taken read_old read_new old new text bytes asks (Err e) same come is answered =
+    inr (bytes, come, (asks, subst (λ (b : List ℕ). IsAsked b asks) same is, subst (λ (b : List ℕ). HasAnswered taken None asks (request b) most_answer old new (Err e)) same answered))

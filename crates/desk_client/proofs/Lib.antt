@@ -1,0 +1,14 @@
+pub mod Asking
+pub mod Bodies
+pub mod Cuts
+pub mod Ends
+pub mod Going
+pub mod Grown
+pub mod Hearing
+pub mod Replies
+pub mod ListRows
+pub mod OrderTexts
+pub mod Posts
+pub mod ReadBack
+pub mod Trying
+pub mod Unread

@@ -1,0 +1,335 @@
+-- A desk reads the request of a command as what it is.
+use Rattle.std.proofs.Common.{arith, inl, ◌≡◌, ◌∙◌, ap, sym, subst, refl, ℕ, ◌+◌, ◌-◌, ◌/◌, ◌%◌, ◌<◌, ◌≤◌, ◌^◌, Bool, true, false, Some, None, Option, Result, Ok, Err, List, [], ◌∷◌, ◌++◌, length, map, take, drop, reverse, codes, decimal, length-append, append_assoc}
+use Rattle.std.specs.Prelude.{◌↔◌, ◌&&◌, ◌||◌, ◌==◌, not, nat_le, if◌then◌else◌}
+use Rattle.std.specs.List.{list_all}
+use Rattle.std.specs.Fmt.{digits}
+use Rattle.std.proofs.lemmas.Bool.{and_parts, and_from, leb-true, le-leb}
+use Rattle.std.proofs.lemmas.Bool.Decides.{nat_tests}
+use Rattle.std.proofs.lemmas.Fmt.{length-decimal-le, decimal_nonempty, decimal_by_steps}
+use Rattle.std.proofs.lemmas.List.Sums.{AllPass-from_list_all, list_all-from_AllPass}
+use Rattle.std.proofs.lemmas.List.Folds.{list_all-append}
+use Rattle.std.proofs.Math.Seq.{take-append-add, drop-append_seam}
+use Rattle.httparse.specs.Grammar.{RequestHead, print_request, is_token_byte, is_ows, is_value_byte, ReadsRequest}
+use Rattle.httparse.specs.Spans.{name_and_value}
+use Rattle.httparse.proofs.GrammarLemmas.{cons-append}
+use Rattle.httparse.proofs.TrimLemmas.{AllPass-reverse}
+use Rattle.http1.specs.Fields.{Header}
+use Rattle.http1.specs.Head.{starts_visible, is_trimmed_value, is_header, are_headers, is_request_line, head_refusal, field_of, request_head, request_text, print_headers, section_text}
+use Rattle.http1.proofs.HeadLemmas.{request_text_is}
+use Rattle.http1.proofs.HeadRoundTrip.{RequestReadsBack, request_reads_back}
+use Rattle.awb_number.specs.Digits.{is_digit, decimal_value}
+use Rattle.awb_number.proofs.Padded.{is_digit_from, decimal_value-last}
+use Rattle.imp_fields.proofs.WrittenLaws.{decimal_digits}
+use Rattle.station_days.specs.Steps.{where_true}
+use Rattle.desk_commands.specs.declared.verb.Verb.{Verb}
+use Rattle.desk_commands.specs.Verb.{word}
+use Rattle.desk_commands.proofs.Words.{of_every}
+use Rattle.station_core.specs.Key.{is_key, is_key_byte}
+use Rattle.reports.specs.declared.report.Report.{Report}
+use Rattle.reports.specs.declared.report.Report.TheVariants as report
+use Rattle.http_desk.specs.Printouts.{as_text}
+use Rattle.http_desk.specs.Paths.{report_path, IsPath, LeadsTo, is_path_byte}
+use Rattle.http_desk.specs.Routes.{Got, got_report, gets, Place, posts, posted_command, posted_telegram, place_of}
+use Rattle.http_desk.specs.Request.{Head, looks_up, sends, sends_body, place_asks, own_asks, head_asks, key_of, key_among, body_length, length_in, within_length}
+use Rattle.http_desk.specs.Digits.{is_number}
+use Rattle.http_desk.specs.Answer.{head_of, HasHead}
+use Rattle.desk_client.specs.Request.{command_lines, key_line, command_head, telegram_head, get_request}
+use Rattle.desk_client.specs.Read.{IsRead}
+
+abbrev fields_of : List ℕ → List ℕ → List Header
+fields_of key count = (codes "Host", codes "127.0.0.1") ∷ (codes "Connection", codes "close") ∷ (codes "Request-Key", key) ∷ (codes "Content-Length", count) ∷ []
+
+abbrev target_of : List ℕ → List ℕ
+target_of name = codes "/v1/act/" ++ name
+
+-- the bytes
+
+count_tail : (count : List ℕ) → ((count ++ (13 ∷ 10 ∷ [])) ++ []) ++ (13 ∷ 10 ∷ []) ≡ count ++ codes "\r\n\r\n"
+count_tail count = append_assoc (count ++ (13 ∷ 10 ∷ [])) [] (13 ∷ 10 ∷ []) ∙ append_assoc count (13 ∷ 10 ∷ []) (13 ∷ 10 ∷ [])
+
+tail_is : (key count : List ℕ)
+    → ((key ++ (13 ∷ 10 ∷ [])) ++ (codes "Content-Length: " ++ ((count ++ (13 ∷ 10 ∷ [])) ++ []))) ++ (13 ∷ 10 ∷ [])
+    ≡ (key ++ (13 ∷ 10 ∷ [])) ++ (codes "Content-Length: " ++ (count ++ codes "\r\n\r\n"))
+tail_is key count =
+    append_assoc (key ++ (13 ∷ 10 ∷ [])) (codes "Content-Length: " ++ ((count ++ (13 ∷ 10 ∷ [])) ++ [])) (13 ∷ 10 ∷ [])
+    ∙ ap (λ l. (key ++ (13 ∷ 10 ∷ [])) ++ (codes "Content-Length: " ++ l)) (count_tail count)
+
+lines_are : (name key count : List ℕ)
+    → section_text (codes "POST" ++ (32 ∷ (target_of name ++ (codes " HTTP/1." ++ (49 ∷ 13 ∷ 10 ∷ []))))) (fields_of key count)
+    ≡ command_lines name ++ (key_line key ++ (codes "Content-Length: " ++ (count ++ codes "\r\n\r\n")))
+lines_are name key count =
+    let crlf : List ℕ = 13 ∷ 10 ∷ [] in
+    let behind : List ℕ = (key ++ crlf) ++ (codes "Content-Length: " ++ (count ++ codes "\r\n\r\n")) in
+    ap (λ l. codes "POST /v1/act/" ++ l)
+    (append_assoc name (codes " HTTP/1.1\r\n") (print_headers (fields_of key count) ++ crlf)
+    ∙ ap (λ l. name ++ (codes " HTTP/1.1\r\nHost: 127.0.0.1\r\nConnection: close\r\nRequest-Key: " ++ l)) (tail_is key count)
+    ∙ sym (append_assoc name (codes " HTTP/1.1\r\nHost: 127.0.0.1\r\nConnection: close\r\n") (codes "Request-Key: " ++ behind)))
+
+text_is : (name key : List ℕ) (n : ℕ) → request_text (codes "POST") (target_of name) 1 (fields_of key (decimal n)) ≡ command_head name key n
+text_is name key n = sym (request_text_is (codes "POST") (target_of name) 1 (fields_of key (decimal n))) ∙ lines_are name key (decimal n)
+
+-- a value of bytes that are shown
+
+abbrev is_shown : ℕ → Bool
+is_shown b = not (is_ows b) && is_value_byte b
+
+all_weaker : (p q : ℕ → Bool) → ((b : ℕ) → p b ≡ true → q b ≡ true) → (xs : List ℕ) → list_all p xs ≡ true → list_all q xs ≡ true
+all_weaker p q weaker [] all = refl
+all_weaker p q weaker (x ∷ xs) all =
+    let parts = and_parts (p x) (list_all p xs) all in
+    and_from _ _ (weaker x parts.0) (all_weaker p q weaker xs parts.1)
+
+visible : (xs : List ℕ) → list_all is_shown xs ≡ true → starts_visible xs ≡ true
+visible [] all = refl
+visible (b ∷ bs) all = (and_parts _ _ (and_parts (is_shown b) (list_all is_shown bs) all).0).0
+
+trimmed : (xs : List ℕ) → list_all is_shown xs ≡ true → is_trimmed_value xs ≡ true
+trimmed xs all =
+    let back : list_all is_shown (reverse xs) ≡ true = list_all-from_AllPass is_shown (reverse xs) (AllPass-reverse is_shown xs (AllPass-from_list_all is_shown xs all)) in
+    and_from _ _ (visible xs all) (and_from _ _ (visible (reverse xs) back)
+    (all_weaker is_shown is_value_byte (λ b h. (and_parts (not (is_ows b)) (is_value_byte b) h).1) xs all))
+
+key_shown : (b : ℕ) → is_key_byte b ≡ true → is_shown b ≡ true
+key_shown b h = grind (arith, nat_tests)
+
+digit_shown : (b : ℕ) → is_digit b ≡ true → is_shown b ≡ true
+digit_shown b h = grind (arith, nat_tests)
+
+-- the head may be written
+
+line_good : (v : Verb) → is_request_line (codes "POST") (target_of (word v)) 1 ≡ true
+unfolding is_token_byte
+line_good v = of_every (λ v. is_request_line (codes "POST") (target_of (word v)) 1) refl v
+
+headers_good : (key count : List ℕ) → is_trimmed_value key ≡ true → is_trimmed_value count ≡ true → are_headers (fields_of key count) ≡ true
+unfolding are_headers is_token_byte
+headers_good key count k n = and_from _ _ k (and_from _ _ n refl)
+
+refused_if : (line headers : Bool) (hs : List Header) → line ≡ true → are_headers hs ≡ true → head_refusal line hs ≡ None
+refused_if line headers hs l h = rw (l, h) refl
+
+-- the length
+
+record Writes (n : ℕ) (ds : List ℕ) : Type 0 where
+  value : decimal_value ds ≡ n
+
+writes : (n : ℕ) → n < 2 ^ 64 → Writes n (decimal n)
+writes n lt = decimal_by_steps Writes one more n lt
+  where
+    one : (m : ℕ) → m < 10 → Writes m ((48 + m) ∷ [])
+    one m low = record { value = omega arith }
+
+    more : (m : ℕ) (ds : List ℕ) → 10 ≤ m → Writes (m / 10) ds → Writes m (ds ++ ((48 + m % 10) ∷ []))
+    more m ds high h = record {
+      value = let v = decimal_value-last ds (48 + m % 10) in let w = h.value in omega (arith, v, w);
+    }
+
+length_read : (n : ℕ) → n ≤ 65_536 → length_in (decimal n) ≡ Ok n
+length_read n le =
+    let wide : n < 2 ^ 64 = omega (arith, le) in
+    let few : length (decimal n) ≤ 10 = length-decimal-le 10 n (omega arith) (omega (arith, le)) wide in
+    let some : 1 ≤ length (decimal n) = decimal_nonempty n wide in
+    let is : is_number (decimal n) ≡ true = and_from _ _ (and_from _ _ (le-leb 1 (length (decimal n)) some) (le-leb (length (decimal n)) 10 few)) (decimal_digits n wide) in
+    ap (λ t. within_length (where_true t (decimal_value (decimal n)))) is
+    ∙ ap (λ m. within_length (Some m)) (writes n wide).value
+    ∙ ap (λ t. if t then Ok n else Err (record { status = 413; word = []; allow = None })) (le-leb n 65_536 le)
+
+-- what the head asks
+
+abbrev head_with : List ℕ → List ℕ → List ℕ → Head
+head_with name key count = record { method = codes "POST"; target = target_of name; fields = fields_of key count }
+
+asked : (v : Verb) (key : List ℕ) (n : ℕ) → n ≤ 65_536 → place_of (target_of (word v)) ≡ Some (posts (posted_command v))
+    → head_asks (head_with (word v) key (decimal n)) ≡ sends (posted_command v) n
+asked v key n le place =
+    ap (place_asks (head_with (word v) key (decimal n))) place ∙ ap (sends_body (posted_command v)) (length_read n le)
+
+keyed : (key count : List ℕ) → is_key key ≡ true → key_of (fields_of key count) ≡ Some key
+keyed key count is = ap (λ t. if t then Some key else None) is
+
+path_good : (v : Verb) → IsPath (target_of (word v))
+path_good v = of_every (λ v. list_all is_path_byte (target_of (word v))) refl v
+
+name_short : (v : Verb) → length (word v) ≤ 20
+name_short v = leb-true _ _ (of_every (λ v. nat_le (length (word v)) 20) refl v)
+
+head_short : (name key count : List ℕ) → length name ≤ 20 → length key ≤ 40 → length count ≤ 20
+    → length (command_lines name ++ (key_line key ++ (codes "Content-Length: " ++ (count ++ codes "\r\n\r\n")))) ≤ 16_384
+head_short name key count a b d =
+    omega (
+      arith,
+      a,
+      b,
+      d,
+      length-append (name ++ codes " HTTP/1.1\r\nHost: 127.0.0.1\r\nConnection: close\r\n") (key_line key ++ (codes "Content-Length: " ++ (count ++ codes "\r\n\r\n"))),
+      length-append name (codes " HTTP/1.1\r\nHost: 127.0.0.1\r\nConnection: close\r\n"),
+      length-append (key ++ codes "\r\n") (codes "Content-Length: " ++ (count ++ codes "\r\n\r\n")),
+      length-append key (codes "\r\n"),
+      length-append count (codes "\r\n\r\n"),
+    )
+
+-- the head of bytes that begin with its text
+has_head : (front body : List ℕ) (h : RequestHead) → ((rest : List ℕ) → ReadsRequest (front ++ rest) h rest) → length front ≤ 16_384 → length h.fields ≤ 64 → HasHead (front ++ body) h
+has_head front body h reads short few =
+    let room : length front + (16_384 - length front) ≡ 16_384 = omega (arith, short) in
+    let cut : take 16_384 (front ++ body) ≡ front ++ take (16_384 - length front) body = ap (λ n. take n (front ++ body)) (sym room) ∙ take-append-add front body (16_384 - length front) in
+    ((take (16_384 - length front) body, subst (λ b. ReadsRequest b h (take (16_384 - length front) body)) (sym cut) (reads (take (16_384 - length front) body))), few)
+
+pub command_read : ((path : List ℕ) (place : Place) → IsPath path → (place_of path ≡ Some place) ↔ LeadsTo path place)
+    → (v : Verb) (key body : List ℕ) → is_key key ≡ true → length body ≤ 65_536
+    → IsRead (command_head (word v) key (length body) ++ body) (sends (posted_command v) (length body)) (Some key) body
+command_read leads v key body is le =
+    let n = length body in
+    let key_parts = and_parts (nat_le 1 (length key) && nat_le (length key) 40) (list_all is_key_byte key) is in
+    let key_len : length key ≤ 40 = leb-true (length key) 40 (and_parts (nat_le 1 (length key)) (nat_le (length key) 40) key_parts.0).1 in
+    let wide : n < 2 ^ 64 = omega (arith, le) in
+    let hs = fields_of key (decimal n) in
+    let h : RequestHead = request_head (codes "POST") (target_of (word v)) 1 hs in
+    let shown = headers_good key (decimal n) (trimmed key (all_weaker is_key_byte is_shown key_shown key key_parts.1)) (trimmed (decimal n) (all_weaker is_digit is_shown digit_shown (decimal n) (decimal_digits n wide))) in
+    let accepted : head_refusal (is_request_line (codes "POST") (target_of (word v)) 1) hs ≡ None = refused_if (is_request_line (codes "POST") (target_of (word v)) 1) true hs (line_good v) shown in
+    let back : (rest : List ℕ) → RequestReadsBack (codes "POST") (target_of (word v)) 1 hs rest = λ rest. request_reads_back (codes "POST") (target_of (word v)) 1 hs rest accepted in
+    let text : request_text (codes "POST") (target_of (word v)) 1 hs ≡ command_head (word v) key n = text_is (word v) key n in
+    let count_len : length (decimal n) ≤ 20 = length-decimal-le 20 n (omega arith) (omega (arith, le)) wide in
+    let fields : map name_and_value h.fields ≡ hs = (back []).fields in
+    let head_is : head_of h ≡ head_with (word v) key (decimal n) = ap (λ fs. record { method = codes "POST"; target = target_of (word v); fields = fs }) fields in
+    record {
+      head = h;
+      has = has_head (command_head (word v) key n) body h (λ rest. subst (λ t. ReadsRequest (t ++ rest) h rest) text (back rest).reads) (head_short (word v) key (decimal n) (name_short v) key_len count_len) (omega arith);
+      asks_is = ap head_asks head_is ∙ asked v key n le ((leads (target_of (word v)) (posts (posted_command v)) (path_good v)).1 (inl refl));
+      key_is = ap key_of fields ∙ keyed key (decimal n) is;
+      body_is = ap (λ t. drop (length t) (command_head (word v) key n ++ body)) text ∙ drop-append_seam (command_head (word v) key n) body;
+    }
+
+-- The same of a telegram.
+
+abbrev telegram_fields : List ℕ → List Header
+telegram_fields count = (codes "Host", codes "127.0.0.1") ∷ (codes "Connection", codes "close") ∷ (codes "Content-Length", count) ∷ []
+
+telegram_lines : (count : List ℕ)
+    → section_text (codes "POST" ++ (32 ∷ (codes "/v1/telegrams" ++ (codes " HTTP/1." ++ (49 ∷ 13 ∷ 10 ∷ []))))) (telegram_fields count)
+    ≡ codes "POST /v1/telegrams HTTP/1.1\r\nHost: 127.0.0.1\r\nConnection: close\r\nContent-Length: " ++ (count ++ codes "\r\n\r\n")
+telegram_lines count =
+    ap (λ l. codes "POST /v1/telegrams HTTP/1.1\r\nHost: 127.0.0.1\r\nConnection: close\r\nContent-Length: " ++ l) (count_tail count)
+
+telegram_text : (n : ℕ) → request_text (codes "POST") (codes "/v1/telegrams") 1 (telegram_fields (decimal n)) ≡ telegram_head n
+telegram_text n = sym (request_text_is (codes "POST") (codes "/v1/telegrams") 1 (telegram_fields (decimal n))) ∙ telegram_lines (decimal n)
+
+telegram_line_good : is_request_line (codes "POST") (codes "/v1/telegrams") 1 ≡ true
+unfolding is_token_byte
+telegram_line_good = refl
+
+telegram_headers : (count : List ℕ) → is_trimmed_value count ≡ true → are_headers (telegram_fields count) ≡ true
+unfolding are_headers is_token_byte
+telegram_headers count n = and_from _ _ n refl
+
+abbrev telegram_with : List ℕ → Head
+telegram_with count = record { method = codes "POST"; target = codes "/v1/telegrams"; fields = telegram_fields count }
+
+telegram_asked : (n : ℕ) → n ≤ 65_536 → place_of (codes "/v1/telegrams") ≡ Some (posts posted_telegram)
+    → head_asks (telegram_with (decimal n)) ≡ sends posted_telegram n
+telegram_asked n le place =
+    ap (place_asks (telegram_with (decimal n))) place ∙ ap (sends_body posted_telegram) (length_read n le)
+
+telegram_short : (count : List ℕ) → length count ≤ 20
+    → length (codes "POST /v1/telegrams HTTP/1.1\r\nHost: 127.0.0.1\r\nConnection: close\r\nContent-Length: " ++ (count ++ codes "\r\n\r\n")) ≤ 16_384
+telegram_short count d = omega (arith, d, length-append count (codes "\r\n\r\n"))
+
+pub telegram_read : ((path : List ℕ) (place : Place) → IsPath path → (place_of path ≡ Some place) ↔ LeadsTo path place)
+    → (body : List ℕ) → length body ≤ 65_536
+    → IsRead (telegram_head (length body) ++ body) (sends posted_telegram (length body)) None body
+telegram_read leads body le =
+    let n = length body in
+    let wide : n < 2 ^ 64 = omega (arith, le) in
+    let hs = telegram_fields (decimal n) in
+    let h : RequestHead = request_head (codes "POST") (codes "/v1/telegrams") 1 hs in
+    let shown = telegram_headers (decimal n) (trimmed (decimal n) (all_weaker is_digit is_shown digit_shown (decimal n) (decimal_digits n wide))) in
+    let accepted : head_refusal (is_request_line (codes "POST") (codes "/v1/telegrams") 1) hs ≡ None = refused_if (is_request_line (codes "POST") (codes "/v1/telegrams") 1) true hs telegram_line_good shown in
+    let back : (rest : List ℕ) → RequestReadsBack (codes "POST") (codes "/v1/telegrams") 1 hs rest = λ rest. request_reads_back (codes "POST") (codes "/v1/telegrams") 1 hs rest accepted in
+    let text : request_text (codes "POST") (codes "/v1/telegrams") 1 hs ≡ telegram_head n = telegram_text n in
+    let count_len : length (decimal n) ≤ 20 = length-decimal-le 20 n (omega arith) (omega (arith, le)) wide in
+    let fields : map name_and_value h.fields ≡ hs = (back []).fields in
+    let head_is : head_of h ≡ telegram_with (decimal n) = ap (λ fs. record { method = codes "POST"; target = codes "/v1/telegrams"; fields = fs }) fields in
+    record {
+      head = h;
+      has = has_head (telegram_head n) body h (λ rest. subst (λ t. ReadsRequest (t ++ rest) h rest) text (back rest).reads) (telegram_short (decimal n) count_len) (omega arith);
+      asks_is = ap head_asks head_is ∙ telegram_asked n le ((leads (codes "/v1/telegrams") (posts posted_telegram) refl).1 (inl refl));
+      key_is = ap key_of fields;
+      body_is = ap (λ t. drop (length t) (telegram_head n ++ body)) text ∙ drop-append_seam (telegram_head n) body;
+    }
+
+-- The same of what is got.
+
+abbrev get_fields : List Header
+get_fields = (codes "Host", codes "127.0.0.1") ∷ (codes "Connection", codes "close") ∷ []
+
+get_text : (path : List ℕ) → request_text (codes "GET") path 1 get_fields ≡ get_request path
+get_text path =
+    sym (request_text_is (codes "GET") path 1 get_fields)
+    ∙ ap (λ l. codes "GET " ++ l) (append_assoc path (codes " HTTP/1.1\r\n") (print_headers get_fields ++ 13 ∷ 10 ∷ [])
+    ∙ sym (append_assoc (codes "") path (codes " HTTP/1.1\r\nHost: 127.0.0.1\r\nConnection: close\r\n\r\n")))
+
+get_headers : are_headers get_fields ≡ true
+unfolding are_headers is_token_byte
+get_headers = refl
+
+abbrev getting : List ℕ → Head
+getting path = record { method = codes "GET"; target = path; fields = get_fields }
+
+get_short : (path : List ℕ) → length path ≤ 100 → length (codes "GET " ++ (path ++ codes " HTTP/1.1\r\nHost: 127.0.0.1\r\nConnection: close\r\n\r\n")) ≤ 16_384
+get_short path few = omega (arith, few, length-append path (codes " HTTP/1.1\r\nHost: 127.0.0.1\r\nConnection: close\r\n\r\n"))
+
+nothing_behind : (xs : List ℕ) → drop (length xs) (xs ++ []) ≡ []
+nothing_behind xs = drop-append_seam xs []
+
+get_read : (path : List ℕ) (got : Got) → is_request_line (codes "GET") path 1 ≡ true → length path ≤ 100 → place_of path ≡ Some (gets got)
+    → IsRead (get_request path ++ []) (looks_up got) None []
+get_read path got line few place =
+    let h : RequestHead = request_head (codes "GET") path 1 get_fields in
+    let accepted : head_refusal (is_request_line (codes "GET") path 1) get_fields ≡ None = refused_if (is_request_line (codes "GET") path 1) true get_fields line get_headers in
+    let back : (rest : List ℕ) → RequestReadsBack (codes "GET") path 1 get_fields rest = λ rest. request_reads_back (codes "GET") path 1 get_fields rest accepted in
+    let text : request_text (codes "GET") path 1 get_fields ≡ get_request path = get_text path in
+    let fields : map name_and_value h.fields ≡ get_fields = (back []).fields in
+    let head_is : head_of h ≡ getting path = ap (λ fs. record { method = codes "GET"; target = path; fields = fs }) fields in
+    record {
+      head = h;
+      has = has_head (get_request path) [] h (λ rest. subst (λ t. ReadsRequest (t ++ rest) h rest) text (back rest).reads) (get_short path few) (omega arith);
+      asks_is = ap head_asks head_is ∙ ap (place_asks (getting path)) place;
+      key_is = ap key_of fields;
+      body_is = ap (λ t. drop (length t) (get_request path ++ [])) text ∙ nothing_behind (get_request path);
+    }
+
+report_line : (name : Report) → is_request_line (codes "GET") (report_path name) 1 ≡ true
+unfolding is_token_byte
+report_line report.Stock = refl
+report_line report.Shed = refl
+report_line report.Flights = refl
+report_line report.Expected = refl
+report_line report.Irregularities = refl
+report_line report.Movements = refl
+report_line report.Trail = refl
+report_line report.Pending = refl
+
+report_is_path : (name : Report) → IsPath (report_path name)
+report_is_path report.Stock = refl
+report_is_path report.Shed = refl
+report_is_path report.Flights = refl
+report_is_path report.Expected = refl
+report_is_path report.Irregularities = refl
+report_is_path report.Movements = refl
+report_is_path report.Trail = refl
+report_is_path report.Pending = refl
+
+report_short : (name : Report) → length (report_path name) ≤ 100
+report_short report.Stock = omega arith
+report_short report.Shed = omega arith
+report_short report.Flights = omega arith
+report_short report.Expected = omega arith
+report_short report.Irregularities = omega arith
+report_short report.Movements = omega arith
+report_short report.Trail = omega arith
+report_short report.Pending = omega arith
+
+pub report_read : ((path : List ℕ) (place : Place) → IsPath path → (place_of path ≡ Some place) ↔ LeadsTo path place)
+    → (name : Report) → IsRead (get_request (report_path name) ++ []) (looks_up (got_report (as_text name))) None []
+report_read leads name =
+    get_read (report_path name) (got_report (as_text name)) (report_line name) (report_short name) ((leads (report_path name) (gets (got_report (as_text name))) (report_is_path name)).1 (inl (name, refl, refl)))

@@ -1,0 +1,31 @@
+-- A request that is sent once, twice or three times.
+use Rattle.std.proofs.Common.{◌≡◌, ◌∙◌, refl, subst, inl, inr, ℕ, ◌+◌, true, false, List, Result, Ok, Err}
+use Rattle.desk_client.specs.Again.{is_vain, Talk, HasTried, HasTriedAgain, HasTriedThrice, IsAnswered, IsSettled}
+use Rattle.desk_client.specs.Asked.{HasAsked}
+use Rattle.desk_client.specs.Count.{one_more}
+use Rattle.desk_client.specs.declared.ask.Answer.{Answer}
+use Rattle.desk_client.specs.declared.ask.AskFault.{AskFault}
+use Rattle.desk_client.specs.declared.ask.AskFault.TheVariants as fault
+
+pub refused : (most : ℕ) (request : List ℕ) (old new : Talk) → new.tried ≡ one_more old.tried → new.opened ≡ old.opened → new.sent ≡ old.sent → new.come ≡ old.come
+    → HasTried most request old new (Err fault.Refused)
+refused most request old new tried none unsent unread = inl (record { why = refl; tried = tried; none = none; unsent = unsent; unread = unread })
+
+pub talked : (most : ℕ) (request : List ℕ) (old new : Talk) (result : Result Answer AskFault) → new.tried ≡ one_more old.tried → new.opened ≡ old.opened + 1
+    → HasAsked most request old.sent new.sent old.come new.come result → HasTried most request old new result
+talked most request old new result tried one asked = inr (record { tried = tried; one = one; asked = asked })
+
+pub settled : (Once More : Talk → Talk → Result Answer AskFault → Type 0) (old new : Talk) (result : Result Answer AskFault)
+    → Once old new result → IsSettled result → HasTriedAgain Once More old new result
+settled Once More old new result once is = inl (once, is)
+
+pub again : (Once More : Talk → Talk → Result Answer AskFault → Type 0) (old mid new : Talk) (e : AskFault) (result : Result Answer AskFault)
+    → is_vain e ≡ true → Once old mid (Err e) → More mid new result → HasTriedAgain Once More old new result
+again Once More old mid new e result vain once more = inr (mid, (e, vain, once, more))
+
+-- the tries of a request are those of its question
+pub asked : (most n : ℕ) (request bytes items : List ℕ) (old new : Talk) (result : Result Answer AskFault) → n ≡ most → bytes ≡ items → items ≡ request
+    → HasTriedThrice n bytes old new result → IsAnswered most request old new result
+asked most n request bytes items old new result most_is bytes_are items_are tried =
+    let same : HasTriedThrice n request old new result = subst (λ (b : List ℕ). HasTriedThrice n b old new result) (bytes_are ∙ items_are) tried in
+    inr (subst (λ (m : ℕ). HasTriedThrice m request old new result) most_is same)

@@ -1,0 +1,12 @@
+use Rattle.std.proofs.Common.{◌≡◌, rules}
+use Rattle.serde_json.specs.View.{view}
+use Rattle.serde_json.specs.declared.value.Value.{the_lemmas}
+use Rattle.serde_json.proofs.OnLiterals.{serde_json_on_literals}
+use Rattle.desk_client.specs.Orders.{run_object}
+use Rattle.desk_client.proofs.order.run_text.Goals as goal
+
+pub returns : goal.returns
+unfolding serde_json_on_literals
+returns c =
+    let built : view c.in_ok-json.field-0 ≡ run_object c.args.count c.args.prefix.now c.args.serial.now = search (rules, the_lemmas) in
+    search rules

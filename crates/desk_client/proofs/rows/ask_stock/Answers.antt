@@ -1,0 +1,22 @@
+use Rattle.std.proofs.Common.{◌∙◌, refl, sym, inr, true, None, []}
+use Rattle.cli_run.specs.InTurn.{come}
+use Rattle.cli_run.proofs.Told.{told_read, told_whole}
+use Rattle.desk_client.specs.ListRows.{HasAnsweredRow}
+use Rattle.desk_client.proofs.ListRows.{none_first, told_rows}
+use Rattle.desk_client.proofs.Unread.{row_reads}
+use Rattle.desk_client.proofs.rows.ask_stock.Goals as goal
+
+pub returns-in_default-clause-answered : goal.returns-in_default-clause-answered
+returns-in_default-clause-answered g c = ([], (None, none_first (g.R.Read.remaining c.args.reader.now), (inr refl, (true, (refl, refl)))))
+
+pub returns-clause-answered : goal.returns-clause-answered
+returns-clause-answered g c =
+    rw c.told_by.ensures (told_rows (HasAnsweredRow g.E.ByteOut.taken) (row_reads g.E.ByteOut.taken)
+    (g.R.Read.remaining c.args.reader.now) (come (g.S.Ask.talk c.args.service.now) (g.W.ByteOut.taken c.args.output.now) c.args.errors.now)
+    (come (g.S.Ask.talk c.ask_rows-ended.new.service) (g.W.ByteOut.taken c.ask_rows-ended.new.output) c.ask_rows-ended.new.errors) c.ask_rows-ended.result c.has_failed.result (rw c.in-Ok.ensures at c.ask_rows-ended.ensures))
+
+pub returns-clause-read_cause : goal.returns-clause-read_cause
+returns-clause-read_cause g c = λ is. told_read _ c.ask_rows-ended.result c.has_failed.result c.has_failed.ensures.0 (sym c.told_by.ensures ∙ is)
+
+pub returns-clause-no_failure : goal.returns-clause-no_failure
+returns-clause-no_failure g c = rw c.told_by.ensures (told_whole _ c.ask_rows-ended.result c.has_failed.result c.has_failed.ensures.1)

@@ -1,0 +1,12 @@
+use Rattle.std.proofs.Common.{subst, sym}
+use Rattle.cli_words.specs.declared.line.LineCommand.{LineCommand}
+use Rattle.cli_run.specs.InTurn.{come}
+use Rattle.desk_client.specs.Done.{HasDone}
+use Rattle.desk_client.proofs.run.ask_command.Goals as goal
+
+pub returns-in-Report : goal.returns-in-Report
+returns-in-Report g c =
+    subst (λ (k : LineCommand). HasDone k g.I.ByteIn.given g.I.Inputs.turned g.E.ByteOut.taken (g.I.Read.remaining c.args.reader.now)
+    (come (g.S.Ask.talk c.args.service.now) (g.W.ByteOut.taken c.args.output.now) c.args.errors.now, c.args.reader.now)
+    (come (g.S.Ask.talk c.ask_report-in-Report.new.service) (g.W.ByteOut.taken c.ask_report-in-Report.new.output) c.args.errors.now, c.args.reader.now)
+    c.ask_report-in-Report.result) (sym c.in-Report.is) c.ask_report-in-Report.ensures

@@ -1,0 +1,70 @@
+-- A question that is asked again.
+use Rattle.std.specs.Prelude.{◌≡◌, ◌⊎◌, ℕ, ◌+◌, Bool, true, false, List, Result, Ok, Err}
+use Rattle.station_core.specs.Given.{Given}
+use Rattle.desk_client.specs.Asked.{HasAsked}
+use Rattle.desk_client.specs.Count.{one_more}
+use Rattle.desk_client.specs.declared.ask.Answer.{Answer}
+use Rattle.desk_client.specs.declared.ask.AskFault.{AskFault}
+use Rattle.desk_client.specs.declared.ask.AskFault.TheVariants as fault
+use Rattle.desk_client.specs.declared.connect.Service.{Service}
+
+-- what was done with a service so far: how many connections were tried, and how many opened, and
+-- what was sent and what came over all of them
+pub record Talk : Type 0 where
+  pub tried : ℕ
+  pub opened : ℕ
+  pub sent : Given
+  pub come : Given
+
+abbrev pub talk : {C I O : Type 0} → (C → ℕ) → (C → ℕ) → (I → Given) → (O → Given) → Service C I O → Talk
+talk tried opened given taken s =
+    record { tried = tried s.connections; opened = opened s.connections; sent = taken s.writer; come = given s.reader }
+
+-- The request was sent over a connection more, and its answer read.
+pub record HasTalked (most : ℕ) (request : List ℕ) (old new : Talk) (result : Result Answer AskFault) : Type 0 where
+  pub tried : new.tried ≡ one_more old.tried
+  pub one : new.opened ≡ old.opened + 1
+  pub asked : HasAsked most request old.sent new.sent old.come new.come result
+
+-- A connection was refused, and nothing was sent.
+pub record IsRefused (old new : Talk) (result : Result Answer AskFault) : Type 0 where
+  pub why : result ≡ Err fault.Refused
+  pub tried : new.tried ≡ one_more old.tried
+  pub none : new.opened ≡ old.opened
+  pub unsent : new.sent ≡ old.sent
+  pub unread : new.come ≡ old.come
+
+abbrev pub HasTried : ℕ → List ℕ → Talk → Talk → Result Answer AskFault → Type 0
+HasTried most request old new result = IsRefused old new result ⊎ HasTalked most request old new result
+
+-- a question that ended by this fault is asked again: no whole answer has come
+abbrev pub is_vain : AskFault → Bool
+is_vain fault.Memory = false
+is_vain _ = true
+
+-- it isn't asked again
+abbrev pub IsSettled : Result Answer AskFault → Type 0
+IsSettled (Ok a) = Unit {0}
+IsSettled (Err e) = is_vain e ≡ false
+
+-- asked once, and if that was vain, again
+abbrev pub HasTriedAgain : (Talk → Talk → Result Answer AskFault → Type 0)
+    → (Talk → Talk → Result Answer AskFault → Type 0) → Talk → Talk → Result Answer AskFault → Type 0
+HasTriedAgain Once More old new result =
+    (Once old new result × IsSettled result)
+    ⊎ ((mid : Talk) × ((e : AskFault) × (is_vain e ≡ true) × Once old mid (Err e) × More mid new result))
+
+-- once or twice, the same bytes
+abbrev pub HasTriedTwice : ℕ → List ℕ → Talk → Talk → Result Answer AskFault → Type 0
+HasTriedTwice most request old new result =
+    HasTriedAgain (HasTried most request) (HasTried most request) old new result
+
+-- and three times at most
+abbrev pub HasTriedThrice : ℕ → List ℕ → Talk → Talk → Result Answer AskFault → Type 0
+HasTriedThrice most request old new result =
+    HasTriedAgain (HasTried most request) (HasTriedTwice most request) old new result
+
+-- the question was asked so; or memory ran out before it was, and nothing was done
+abbrev pub IsAnswered : ℕ → List ℕ → Talk → Talk → Result Answer AskFault → Type 0
+IsAnswered most request old new result =
+    ((result ≡ Err fault.Memory) × (new ≡ old)) ⊎ HasTriedThrice most request old new result

@@ -1,0 +1,22 @@
+-- The line that a reply tells.
+use Rattle.std.specs.Prelude.{ℕ, ◌<◌, ◌^◌, List, Option, None, ⊤}
+use Rattle.shipment_machine.specs.declared.plans.Detail.{Detail}
+use Rattle.shipment_machine.specs.declared.plans.Detail.TheVariants as detail
+use Rattle.station_core.specs.declared.answer.Answer.{Answer}
+use Rattle.station_core.specs.declared.answer.Answer.TheVariants.{Done, Refused}
+use Rattle.http_desk.specs.Reply.{Reply, json_reply, look_reply, report_reply}
+use Rattle.desk_client.specs.Told.{told_line}
+
+abbrev pub reply_line : Reply → Option (List ℕ)
+reply_line (json_reply status allow d) = told_line status d
+reply_line (look_reply seen) = None
+reply_line (report_reply name) = None
+
+-- pieces are a number of the program
+abbrev pub AreFew : Detail → Type 0
+AreFew (detail.Pieces pieces) = pieces < 2 ^ 64
+AreFew _ = ⊤
+
+abbrev pub HasFew : Answer → Type 0
+HasFew (Done reply) = ⊤
+HasFew (Refused refusal) = AreFew refusal.detail

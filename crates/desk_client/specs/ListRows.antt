@@ -1,0 +1,69 @@
+-- What the rows of a stock list leave.
+use Rattle.std.specs.Prelude.{◌≡◌, ◌⊎◌, ◌+◌, ◌&&◌, ℕ, Bool, true, false, List, [], ◌∷◌, ◌++◌, length, Option, Some, None, Result, Ok, Err, IfSome}
+use Rattle.serde_json.specs.Written.{compact_text}
+use Rattle.agent_stock.specs.declared.stock.Order.{Order}
+use Rattle.desk_commands.specs.Command.{order_verb}
+use Rattle.desk_commands.specs.Verb.{word}
+use Rattle.station_core.specs.Given.{Given}
+use Rattle.stock_list.specs.declared.answer.RunFault.{RunFault}
+use Rattle.stock_list.specs.declared.answer.RunFault.TheVariants as fault
+use Rattle.stock_list.specs.Ended.{rows_read, AreFirst, IsReadersFault}
+use Rattle.stock_list.specs.Lines.{bad_line, input_of, stock_rows, Row}
+use Rattle.stock_list.specs.Reasons.{HasToldRow}
+use Rattle.stock_list.specs.Row.{row_asks}
+use Rattle.cli_run.specs.InTurn.{Come}
+use Rattle.cli_run.specs.Shut.{HasToldLine}
+use Rattle.desk_client.specs.Again.{Talk}
+use Rattle.desk_client.specs.Heard.{HasAnsweredInput}
+use Rattle.desk_client.specs.Orders.{order_data}
+use Rattle.desk_client.specs.Request.{command_request, most_answer}
+
+-- the request of an order under its key
+abbrev pub order_request : List ℕ → Order → List ℕ
+order_request key order = command_request (word (order_verb order)) key (compact_text (order_data order))
+
+-- memory ran out before the service was asked: nothing was done or written
+abbrev pub HasNotBegun : {E : Type 0} → Come Talk E → Come Talk E → Result Bool RunFault → Type 0
+HasNotBegun old new result = (new ≡ old) × (result ≡ Err fault.Memory)
+
+-- the service was asked for the order, and answered
+abbrev pub HasAnsweredOrder : {E : Type 0} → (E → Given) → ℕ → List ℕ → Order → Come Talk E → Come Talk E → Result Bool RunFault → Type 0
+HasAnsweredOrder taken number key order old new result =
+    HasNotBegun old new result
+    ⊎ HasAnsweredInput taken (Some number) (input_of (key, order)) (order_request key order) most_answer old new result
+
+-- a row that asks nothing has its line and its reason, and the service isn't asked
+pub record HasToldBadRow {E : Type 0} (taken : E → Given) (number : ℕ) (old new : Come Talk E) (result : Result Bool RunFault) : Type 0 where
+  pub same : new.keeper ≡ old.keeper
+  pub line : HasToldLine (bad_line number) old.sent new.sent result
+  pub reason : HasToldRow taken result None old.errors new.errors
+
+abbrev pub HasAnsweredAsks : {E : Type 0} → (E → Given) → ℕ → Option (List ℕ × Order) → Come Talk E → Come Talk E → Result Bool RunFault → Type 0
+HasAnsweredAsks taken number None old new result = HasToldBadRow taken number old new result
+HasAnsweredAsks taken number (Some asked) old new result = HasAnsweredOrder taken number asked.0 asked.1 old new result
+
+-- the row of this number was answered
+abbrev pub HasAnsweredRow : {E : Type 0} → (E → Given) → ℕ → Row → Come Talk E → Come Talk E → Result Bool RunFault → Type 0
+HasAnsweredRow taken number row old new result = HasAnsweredAsks taken number (row_asks row) old new result
+
+-- Rows were answered, each from where the one before it has come; the first has this number. All is
+-- good where each row is.
+abbrev pub AreAnswered : {C : Type 0} → (ℕ → Row → C → C → Result Bool RunFault → Type 0) → ℕ → List Row → C → C → Bool → Type 0
+AreAnswered {C} Step number [] old new good = (new ≡ old) × (good ≡ true)
+AreAnswered {C} Step number (row ∷ rows) old new good =
+    (mid : C) × ((one rest : Bool) × Step number row old mid (Ok one)
+    × AreAnswered Step (number + 1) rows mid new rest × (good ≡ (one && rest)))
+
+-- these rows were answered, and then no row came for want of a reader or of memory, or the next one
+-- ended the call
+abbrev pub HasEndedAt : {C : Type 0} → (ℕ → Row → C → C → Result Bool RunFault → Type 0) → List Row → Option Row → C → C → RunFault → Type 0
+HasEndedAt Step rows None old new e = IsReadersFault e × ((good : Bool) × AreAnswered Step 1 rows old new good)
+HasEndedAt {C} Step rows (Some row) old new e =
+    (mid : C) × ((good : Bool) × AreAnswered Step 1 rows old mid good × Step (length rows + 1) row mid new (Err e))
+
+-- Every row was answered, or those up to a fault. `left` is the list, where it is known.
+abbrev pub HaveRowsBeenAnswered : {C : Type 0} → (ℕ → Row → C → C → Result Bool RunFault → Type 0) → Option (List ℕ) → C → C → Result Bool RunFault → Type 0
+HaveRowsBeenAnswered Step left old new (Ok good) =
+    (rows : List Row) × IfSome left (λ bytes. rows ≡ stock_rows bytes) × AreAnswered Step 1 rows old new good
+HaveRowsBeenAnswered Step left old new (Err e) =
+    (rows : List Row) × ((next : Option Row) × IfSome left (AreFirst (rows_read rows next)) × HasEndedAt Step rows next old new e)

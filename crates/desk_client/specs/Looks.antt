@@ -1,0 +1,85 @@
+-- Reports and look-ups that are asked of a service.
+use Rattle.std.specs.Prelude.{◌≡◌, ◌⊎◌, ◌==◌, ◌&&◌, ℕ, Bool, true, false, List, [], ◌∷◌, ◌++◌, codes, Result, Ok, Err}
+use Rattle.std.specs.Str.{bytes_eq}
+use Rattle.reports.specs.declared.form.Form.TheVariants as form
+use Rattle.reports.specs.declared.listing.Listing.TheVariants as listing
+use Rattle.station_core.specs.Ends.{HasCause}
+use Rattle.station_core.specs.Given.{Given}
+use Rattle.stock_list.specs.declared.answer.RunFault.{RunFault}
+use Rattle.stock_list.specs.declared.answer.RunFault.TheVariants as fault
+use Rattle.cli_run.specs.Sent.{HasSent}
+use Rattle.desk_client.specs.Again.{Talk, IsAnswered}
+use Rattle.desk_client.specs.Ended.{has_end}
+use Rattle.desk_client.specs.Heard.{body_of, service_fault}
+use Rattle.desk_client.specs.Request.{get_request, most_answer, most_rows, rows_path, waybill_path}
+use Rattle.desk_client.specs.declared.ask.Answer.{Answer}
+use Rattle.desk_client.specs.declared.ask.AskFault.{AskFault}
+
+-- where a call has come: what was done with the service, and what was written
+pub record Shown : Type 0 where
+  pub talk : Talk
+  pub sent : Given
+
+abbrev pub shown : Talk → Given → Shown
+shown talk sent = record { talk = talk; sent = sent }
+
+-- the desk's own answer of a number of which it knows nothing
+abbrev pub is_unknown : Answer → Bool
+is_unknown a = (a.status == 404) && bytes_eq (body_of a) (codes "{\"detail\":\"\",\"refused\":404}")
+
+-- a text was written, and that is good or not; or a beginning of it, where the writer failed or took
+-- no byte
+abbrev pub HasShown : List ℕ → Bool → Given → Given → Result Bool RunFault → Type 0
+HasShown text good old new (Ok g) = (new.bytes ≡ old.bytes ++ text) × (g ≡ good)
+HasShown text good old new (Err e) = (e ≡ fault.Write) × HasSent text old new × HasCause old new
+
+-- an answer that isn't a desk's: nothing was written
+abbrev pub HasShownNothing : Given → Given → Result Bool RunFault → Type 0
+HasShownNothing old new result = (new ≡ old) × (result ≡ Err fault.Store)
+
+-- an answer with rows: they are written as they came
+abbrev pub HasShownRows : Answer → Given → Given → Result Bool RunFault → Type 0
+HasShownRows a old new result =
+    ((a.status ≡ 200) × (has_end (body_of a) ≡ true) × HasShown (body_of a) true old new result)
+    ⊎ HasShownNothing old new result
+
+-- an answer to a look-up: the object is written on a line, or that nothing is known
+abbrev pub HasShownFound : Answer → Given → Given → Result Bool RunFault → Type 0
+HasShownFound a old new result =
+    ((a.status ≡ 200) × HasShown (body_of a ++ 10 ∷ []) true old new result)
+    ⊎ (((is_unknown a ≡ true) × HasShown (codes "unknown\n") false old new result)
+    ⊎ HasShownNothing old new result)
+
+-- the service was asked, and its answer shown so; or it didn't answer, and nothing was written
+abbrev pub HasLooked : (Answer → Given → Given → Result Bool RunFault → Type 0) → ℕ → List ℕ → Shown → Shown
+    → Result Bool RunFault → Type 0
+HasLooked Shows most request old new result =
+    ((a : Answer) × IsAnswered most request old.talk new.talk (Ok a) × Shows a old.sent new.sent result)
+    ⊎ ((f : AskFault) × IsAnswered most request old.talk new.talk (Err f) × (new.sent ≡ old.sent)
+    × (result ≡ Err (service_fault f)))
+
+-- the request of rows
+abbrev pub rows_request : List ℕ → List ℕ
+rows_request path = get_request path ++ []
+
+abbrev pub HasAskedRows : List ℕ → Shown → Shown → Result Bool RunFault → Type 0
+HasAskedRows path old new result = HasLooked HasShownRows most_rows (rows_request path) old new result
+
+-- a step, and after a good one the next
+abbrev pub HasGoneOn : (Shown → Shown → Result Bool RunFault → Type 0) → (Shown → Shown → Result Bool RunFault → Type 0)
+    → Shown → Shown → Result Bool RunFault → Type 0
+HasGoneOn First Next old new result =
+    ((mid : Shown) × First old mid (Ok true) × Next mid new result)
+    ⊎ (First old new result × (result ≡ Ok true → ⊥))
+
+-- the moves of a waybill, and its trail
+abbrev pub HasAskedMoves : ℕ → Shown → Shown → Result Bool RunFault → Type 0
+HasAskedMoves w old new result =
+    HasGoneOn (HasAskedRows (rows_path (listing.Movements w) form.Text))
+    (HasAskedRows (rows_path (listing.Trail w) form.Text)) old new result
+
+-- what is known of a waybill, and its moves and its trail where it is known
+abbrev pub HasAskedHistory : ℕ → Shown → Shown → Result Bool RunFault → Type 0
+HasAskedHistory w old new result =
+    HasGoneOn (HasLooked HasShownFound most_answer (get_request (waybill_path w) ++ []))
+    (HasAskedMoves w) old new result

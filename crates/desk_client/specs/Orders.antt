@@ -1,0 +1,34 @@
+-- The body of an order on the stock.
+use Rattle.std.specs.Prelude.{ℕ, List, codes}
+use Rattle.serde_json.specs.Data.{Data, number, unsigned, string, object, member, no_members}
+use Rattle.awb_number.specs.Digits.{padded}
+use Rattle.awb_number.specs.Number.{prefix_of, serial_of}
+use Rattle.agent_stock.specs.declared.stock.Run.{Run}
+use Rattle.agent_stock.specs.declared.stock.Order.{Order}
+use Rattle.agent_stock.specs.declared.stock.Order.TheVariants.{TakeIn, Issue, GiveBack, Void}
+
+-- how many numbers, and the prefix and the serial of the first
+abbrev pub run_object : ℕ → List ℕ → List ℕ → Data
+run_object count prefix serial =
+    object (member (codes "count") (number (unsigned count))
+    (member (codes "prefix") (string prefix) (member (codes "serial") (string serial) no_members)))
+
+-- and before them an agent
+abbrev pub agents_object : List ℕ → ℕ → List ℕ → List ℕ → Data
+agents_object agent count prefix serial =
+    object (member (codes "agent") (string agent) (member (codes "count") (number (unsigned count))
+    (member (codes "prefix") (string prefix) (member (codes "serial") (string serial) no_members))))
+
+-- of a run, a prefix of three digits and a serial of seven
+abbrev pub run_data : Run → Data
+run_data run = run_object run.count (padded 3 (prefix_of run.first)) (padded 7 (serial_of run.first))
+
+abbrev pub agents_data : Run → List ℕ → Data
+agents_data run agent =
+    agents_object agent run.count (padded 3 (prefix_of run.first)) (padded 7 (serial_of run.first))
+
+abbrev pub order_data : Order → Data
+order_data (TakeIn run) = run_data run
+order_data (Issue run agent) = agents_data run agent
+order_data (GiveBack run agent) = agents_data run agent
+order_data (Void run) = run_data run

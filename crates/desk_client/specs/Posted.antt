@@ -1,0 +1,66 @@
+-- What a line of `acts` has for a service.
+use Rattle.std.specs.Prelude.{◌≡◌, ◌⊎◌, ◌≤◌, ℕ, Bool, false, List, Option, Some, None, Result, string_bytes}
+use Rattle.serde_json.specs.Data.{Data, depth}
+use Rattle.serde_json.specs.Read.{read, max_depth}
+use Rattle.desk_commands.specs.Verb.{word}
+use Rattle.desk_commands.specs.declared.verb.Verb.{Verb}
+use Rattle.station_core.specs.Given.{Given}
+use Rattle.stock_list.specs.declared.answer.RunFault.{RunFault}
+use Rattle.cli_run.specs.ActLine.{IsActAsked, IsFrame, IsWired, IsWritten}
+use Rattle.cli_run.specs.Acts.{is_blank, HasNotHeard, HasSkipped}
+use Rattle.cli_run.specs.declared.asked.Asked.{Asked}
+use Rattle.cli_run.specs.InTurn.{Come}
+use Rattle.desk_client.specs.Again.{Talk}
+use Rattle.desk_client.specs.Heard.{HasAnswered}
+use Rattle.desk_client.specs.Request.{command_request, most_answer, telegram_request}
+use Rattle.desk_client.specs.declared.lines.Posted.{Posted}
+
+abbrev pub request_by : Option (Verb × List ℕ) → List ℕ → List ℕ
+request_by (Some (verb, key)) text = command_request (word verb) key text
+request_by None text = telegram_request text
+
+abbrev pub posted_request : Posted → List ℕ
+posted_request p = request_by p.head (string_bytes p.text)
+
+-- the request has the body of a command's line, in a text that is read back as that body
+pub record IsPostedCommand (d : Data) (request : List ℕ) : Type 0 where
+  pub verb : Verb
+  pub key : List ℕ
+  pub body : Data
+  pub text : List ℕ
+  pub frame : IsFrame d verb key body
+  pub reads_back : depth body ≤ max_depth → read text ≡ Some body
+  pub request_is : request ≡ command_request (word verb) key text
+
+-- or the text of a telegram's line
+pub record IsPostedTelegram (d : Data) (request : List ℕ) : Type 0 where
+  pub text : List ℕ
+  pub wired : IsWired d text
+  pub request_is : request ≡ telegram_request text
+
+-- or the line is neither
+pub record IsNoPost (d : Data) : Type 0 where
+  pub no_command : (verb : Verb) (key : List ℕ) (body : Data) → ¬ (IsFrame d verb key body)
+  pub no_telegram : (text : List ℕ) → ¬ (IsWired d text)
+
+abbrev pub IsPosted : Data → List ℕ → Type 0
+IsPosted d request = IsPostedCommand d request ⊎ (IsPostedTelegram d request ⊎ IsNoPost d)
+
+-- the line asks this, and was answered by a request of what it has for the service
+pub record HasHeardLine {E : Type 0} (taken : E → Given) (number : ℕ) (line : List ℕ) (old new : Come Talk E)
+    (result : Result Bool RunFault) : Type 0 where
+  pub asks : Asked
+  pub request : List ℕ
+  pub asked : IsActAsked line asks
+  pub posted : (d : Data) → IsWritten line d → IsPosted d request
+  pub answer : HasAnswered taken (Some number) asks request most_answer old new result
+
+abbrev pub HasHeardValue : {E : Type 0} → (E → Given) → ℕ → List ℕ → Come Talk E → Come Talk E → Result Bool RunFault → Type 0
+HasHeardValue taken number line old new result =
+    HasNotHeard old new result ⊎ HasHeardLine taken number line old new result
+
+-- A line of this number was answered. An empty line is skipped.
+abbrev pub HasAnsweredLine : {E : Type 0} → (E → Given) → ℕ → List ℕ → Come Talk E → Come Talk E → Result Bool RunFault → Type 0
+HasAnsweredLine taken number line old new result =
+    HasSkipped line old new result
+    ⊎ ((is_blank line ≡ false) × HasHeardValue taken number line old new result)

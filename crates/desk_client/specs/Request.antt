@@ -1,0 +1,87 @@
+-- What is sent for a question.
+use Rattle.std.specs.Prelude.{ℕ, List, [], ◌++◌, length, codes, decimal}
+use Rattle.awb_number.specs.Number.{number_text}
+use Rattle.desk_commands.specs.Verb.{word}
+use Rattle.shipment_machine.specs.Texts.{flight_date_text}
+use Rattle.reports.specs.declared.form.Form.{Form}
+use Rattle.reports.specs.declared.form.Form.TheVariants as form
+use Rattle.reports.specs.declared.listing.Listing.{Listing}
+use Rattle.reports.specs.declared.listing.Listing.TheVariants as listing
+use Rattle.http_desk.specs.Paths.{report_path}
+use Rattle.desk_client.specs.declared.question.Question.{Question}
+use Rattle.desk_client.specs.declared.question.Question.TheVariants as question
+
+-- the most bytes of an answer that is one JSON object
+abbrev pub most_answer : ℕ
+most_answer = 65_536
+
+-- only rows have no bound, but that of the machine's memory
+abbrev pub most_rows : ℕ
+most_rows = 18_446_744_073_709_551_615
+
+abbrev pub most_of : Question → ℕ
+most_of (question.Rows l f) = most_rows
+most_of _ = most_answer
+
+-- The lines of a request's head.
+abbrev pub command_lines : List ℕ → List ℕ
+command_lines name = codes "POST /v1/act/" ++ (name ++ codes " HTTP/1.1\r\nHost: 127.0.0.1\r\nConnection: close\r\n")
+
+abbrev pub key_line : List ℕ → List ℕ
+key_line key = codes "Request-Key: " ++ (key ++ codes "\r\n")
+
+abbrev pub length_line : ℕ → List ℕ
+length_line len = codes "Content-Length: " ++ (decimal len ++ codes "\r\n\r\n")
+
+-- before a command's body, by its word, its key and its length
+abbrev pub command_head : List ℕ → List ℕ → ℕ → List ℕ
+command_head name key len = command_lines name ++ (key_line key ++ length_line len)
+
+-- before a telegram
+abbrev pub telegram_head : ℕ → List ℕ
+telegram_head len =
+    codes "POST /v1/telegrams HTTP/1.1\r\nHost: 127.0.0.1\r\nConnection: close\r\nContent-Length: " ++ decimal len ++ codes "\r\n\r\n"
+
+-- what is at a path
+abbrev pub get_request : List ℕ → List ℕ
+get_request path = codes "GET " ++ path ++ codes " HTTP/1.1\r\nHost: 127.0.0.1\r\nConnection: close\r\n\r\n"
+
+abbrev pub waybill_path : ℕ → List ℕ
+waybill_path w = codes "/v1/waybills/" ++ number_text w
+
+abbrev pub holder_path : ℕ → List ℕ
+holder_path w = codes "/v1/stock/" ++ number_text w
+
+-- the path of rows as text
+abbrev pub listing_path : Listing → List ℕ
+listing_path (listing.All r) = report_path r
+listing_path listing.OpenFlights = codes "/v1/reports/open-flights"
+listing_path listing.OpenExpected = codes "/v1/reports/open-expected"
+listing_path (listing.AgentStock code) = codes "/v1/agents/" ++ (code ++ codes "/stock")
+listing_path (listing.Movements w) = codes "/v1/waybills/" ++ (number_text w ++ codes "/movements")
+listing_path (listing.MovementsAfter n) = codes "/v1/movements/after/" ++ decimal n
+listing_path (listing.MovementsLast n) = codes "/v1/movements/last/" ++ decimal n
+listing_path (listing.Trail w) = codes "/v1/waybills/" ++ (number_text w ++ codes "/trail")
+listing_path (listing.TrailAfter n) = codes "/v1/trail/after/" ++ decimal n
+listing_path (listing.TrailLast n) = codes "/v1/trail/last/" ++ decimal n
+listing_path (listing.PendingAfter n) = codes "/v1/outbox/after/" ++ decimal n
+listing_path (listing.Manifest f) = codes "/v1/flights/" ++ flight_date_text f
+
+-- and as JSON
+abbrev pub rows_path : Listing → Form → List ℕ
+rows_path l form.Text = listing_path l
+rows_path l form.Json = listing_path l ++ codes ".json"
+
+-- the request of each question: its head, and the body that it sends
+abbrev pub command_request : List ℕ → List ℕ → List ℕ → List ℕ
+command_request name key body = command_head name key (length body) ++ body
+
+abbrev pub telegram_request : List ℕ → List ℕ
+telegram_request text = telegram_head (length text) ++ text
+
+abbrev pub request_of : Question → List ℕ
+request_of (question.Command verb key body) = command_request (word verb) key body.now
+request_of (question.Telegram text) = telegram_request text.now
+request_of (question.Waybill w) = get_request (waybill_path w) ++ []
+request_of (question.Holder w) = get_request (holder_path w) ++ []
+request_of (question.Rows l f) = get_request (rows_path l f) ++ []

@@ -1,0 +1,179 @@
+//! Asking a question, by one try or by up to three.
+ghost use Rattle.std.specs.Prelude.{◌≡◌};
+ghost use Rattle.desk_client.specs.Asked.{HasAsked, HasSent, HasUnderstood};
+ghost use Rattle.desk_client.specs.Again.{is_vain, talk, Talk, HasTried, HasTriedTwice, HasTriedThrice, IsAnswered};
+ghost use Rattle.desk_client.specs.Request.{most_of, request_of};
+
+use crate::connect::{Connect, Service};
+use crate::question::{Question, most_of, request_of};
+use crate::reading::read_all;
+use crate::whole::whole_at;
+use station_core::{ByteIn, ByteOut, send};
+use std::alloc::Global;
+
+/// Why a question wasn't answered.
+#[derive(Clone, Copy, Debug, PartialEq, Eq)]
+pub enum AskFault {
+    /// No connection was opened.
+    Refused,
+    /// The writer failed, or took nothing: a beginning of the request went out.
+    Write,
+    /// The reader failed.
+    Read,
+    /// Memory ran out.
+    Memory,
+    /// What came is no whole answer.
+    Cut,
+}
+
+/// An answer that came whole.
+#[derive(Debug, Drop)]
+pub struct Answer {
+    pub status: u16,
+    /// All that came.
+    pub bytes: Vec<u8>,
+    /// Where its body starts.
+    pub start: usize,
+}
+
+/// The answer that the bytes are, where they are not more than an answer may have.
+#[tactic(auto, using(crate::proofs::Asking::too_long, crate::proofs::Asking::not_whole))]
+fn understood(bytes: Vec<u8>, most: usize) -> Result<Answer, AskFault>
+    ensures { HasUnderstood most bytes.items result }
+{
+    if bytes.len() > most {
+        return Err(AskFault::Cut);
+    }
+    match whole_at(bytes.as_slice()) {
+        Some(place) => Ok(Answer {
+            status: place.status,
+            bytes,
+            start: place.start,
+        }),
+        None => Err(AskFault::Cut),
+    }
+}
+
+/// Writes a request.
+fn send_request<O: ByteOut>(writer: &mut O, request: &[u8]) -> Result<(), AskFault>
+    ensures { HasSent request.now (O.taken writer.old) (O.taken writer.new) result }
+{
+    match send(writer, request) {
+        Ok(()) => Ok(()),
+        Err(_sent) => Err(AskFault::Write),
+    }
+}
+
+/// Sends a request, and reads its answer to the end of the connection, or until more bytes have
+/// come than the answer may have.
+#[tactic(auto, using(crate::proofs::Asking::not_sent))]
+fn ask_one<I: ByteIn, O: ByteOut>(
+    alloc: Global,
+    reader: &mut I,
+    writer: &mut O,
+    request: &[u8],
+    most: usize,
+) -> Result<Answer, AskFault>
+    ensures { HasAsked most request.now (O.taken writer.old) (O.taken writer.new)
+        (I.given reader.old) (I.given reader.new) result }
+{
+    match send_request(writer, request) {
+        Ok(()) => {}
+        Err(fault) => return Err(fault),
+    }
+    match read_all(alloc, reader, most) {
+        Ok(bytes) => understood(bytes, most),
+        Err(fault) => Err(fault),
+    }
+}
+
+impl AskFault {
+    /// Whether a question that ended so is asked again.
+    fn is_vain(self) -> bool
+        ensures { result ≡ is_vain self }
+    {
+        self != AskFault::Memory
+    }
+}
+
+/// Sends a request over a new connection, and reads its answer.
+fn try_once<C: Connect, I: ByteIn, O: ByteOut>(
+    alloc: Global,
+    service: &mut Service<C, I, O>,
+    request: &[u8],
+    most: usize,
+) -> Result<Answer, AskFault>
+    ensures { HasTried most request.now (talk C.tried C.opened I.given O.taken service.old)
+        (talk C.tried C.opened I.given O.taken service.new) result }
+{
+    if !service.connections.connect() {
+        return Err(AskFault::Refused);
+    }
+    ask_one(
+        alloc,
+        &mut service.reader,
+        &mut service.writer,
+        request,
+        most,
+    )
+}
+
+/// Sends a request, and again after a try that was vain.
+fn try_twice<C: Connect, I: ByteIn, O: ByteOut>(
+    alloc: Global,
+    service: &mut Service<C, I, O>,
+    request: &[u8],
+    most: usize,
+) -> Result<Answer, AskFault>
+    ensures { HasTriedTwice most request.now (talk C.tried C.opened I.given O.taken service.old)
+        (talk C.tried C.opened I.given O.taken service.new) result }
+{
+    match try_once(alloc, service, request, most) {
+        Err(fault) if fault.is_vain() => try_once(alloc, service, request, most),
+        ended => ended,
+    }
+}
+
+/// Sends a request, and up to twice again after tries that were vain.
+fn try_thrice<C: Connect, I: ByteIn, O: ByteOut>(
+    alloc: Global,
+    service: &mut Service<C, I, O>,
+    request: &[u8],
+    most: usize,
+) -> Result<Answer, AskFault>
+    ensures { HasTriedThrice most request.now (talk C.tried C.opened I.given O.taken service.old)
+        (talk C.tried C.opened I.given O.taken service.new) result }
+{
+    match try_once(alloc, service, request, most) {
+        Err(fault) if fault.is_vain() => try_twice(alloc, service, request, most),
+        ended => ended,
+    }
+}
+
+/// What can be asked a question.
+pub trait Ask {
+    /// What was done so far: how many connections were tried and opened, what was sent, and what
+    /// came.
+    ghost talk: { Self → Talk };
+
+    /// Asks a question, by up to three tries: each time the same bytes, and again only where the
+    /// connection was refused or broke, or what came is no whole answer.
+    ///
+    /// `Ok` is an answer that came whole. Returns [`AskFault::Memory`] when out of memory, and else
+    /// the fault of the third try. A command or a telegram may have been done then: ask again,
+    /// under the same key.
+    fn ask(&mut self, alloc: Global, question: &Question<'_>) -> Result<Answer, AskFault>
+        ensures { IsAnswered (most_of question.now) (request_of question.now) (talk self.old)
+            (talk self.new) result };
+}
+
+impl<C: Connect, I: ByteIn, O: ByteOut> Ask for Service<C, I, O> {
+    ghost talk = { talk C.tried C.opened I.given O.taken };
+
+    fn ask(&mut self, alloc: Global, question: &Question<'_>) -> Result<Answer, AskFault> {
+        let Ok(request) = request_of(alloc, question) else {
+            return Err(AskFault::Memory);
+        };
+        try_thrice(alloc, self, request.as_slice(), most_of(question))
+    }
+}

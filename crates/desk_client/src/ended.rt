@@ -1,0 +1,85 @@
+//! The end of a report.
+ghost use Rattle.std.specs.Prelude.{◌≡◌, ◌≤◌, codes, length, option_map};
+ghost use Rattle.desk_client.specs.Ended.{before_digits, has_count, has_count_in, has_end, is_before_count, is_before_json_count, without};
+
+/// What is before the digits at a text's end.
+#[tactic(auto, using(crate::proofs::Ends::more_digits, crate::proofs::Ends::no_digit))]
+fn before_digits(text: &[u8]) -> &[u8]
+    ensures value { result.now ≡ before_digits text.entry.now }
+    ensures within { length result.now ≤ length text.entry.now }
+{
+    match text.split_last() {
+        Some((last, front)) => {
+            if last.is_ascii_digit() {
+                before_digits(front)
+            } else {
+                text
+            }
+        }
+        None => text,
+    }
+}
+
+/// Whether a text ends with the word of a report's last line, where that begins a line.
+fn is_before_count(front: &[u8]) -> bool
+    ensures { result ≡ is_before_count front.now }
+{
+    front == b"END ".as_slice() || front.ends_with(b"\nEND ")
+}
+
+/// Whether a text ends with the end of the rows as JSON.
+fn is_before_json_count(front: &[u8]) -> bool
+    ensures { result ≡ is_before_json_count front.now }
+{
+    front.ends_with(b"],\"count\":")
+}
+
+/// Whether digits end a text, and the word of a report's last line is before them.
+fn has_count(line: &[u8]) -> bool
+    ensures { result ≡ has_count is_before_count line.now }
+{
+    let front = before_digits(line);
+    front.len() < line.len() && is_before_count(front)
+}
+
+/// Whether digits end a text, and the end of the rows as JSON is before them.
+fn has_json_count(object: &[u8]) -> bool
+    ensures { result ≡ has_count is_before_json_count object.now }
+{
+    let front = before_digits(object);
+    front.len() < object.len() && is_before_json_count(front)
+}
+
+/// A text without its end, where it has that one.
+fn without<'a>(text: &'a [u8], end: &[u8]) -> Option<&'a [u8]>
+    ensures { option_map (λ front. front.now) result ≡ without end.now text.entry.now }
+{
+    text.strip_suffix(end)
+}
+
+/// Whether a text ends with the line that ends a report, `END 12`.
+fn is_text_end(text: &[u8]) -> bool
+    ensures { result ≡ has_count_in is_before_count (without (codes "\n") text.now) }
+{
+    match without(text, b"\n") {
+        Some(line) => has_count(line),
+        None => false,
+    }
+}
+
+/// Whether a text ends as a report as JSON does, `],"count":12}`.
+fn is_json_end(text: &[u8]) -> bool
+    ensures { result ≡ has_count_in is_before_json_count (without (codes "}\n") text.now) }
+{
+    match without(text, b"}\n") {
+        Some(object) => has_json_count(object),
+        None => false,
+    }
+}
+
+/// Whether a text ends as a report does.
+pub(crate) fn has_end(text: &[u8]) -> bool
+    ensures { result ≡ has_end text.now }
+{
+    is_text_end(text) || is_json_end(text)
+}

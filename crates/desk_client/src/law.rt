@@ -1,0 +1,49 @@
+//! Laws of the lines, and of whole answers.
+ghost use Rattle.std.specs.Prelude.{◌≡◌, ◌⊎◌, ◌++◌, ◌≤◌, [], ℕ, List, Some, None, length, true};
+ghost use Rattle.station_core.specs.declared.answer.Answer.{Answer};
+ghost use Rattle.stock_list.specs.Lines.{answer_text};
+ghost use Rattle.http_desk.specs.Reply.{answer_reply};
+ghost use Rattle.desk_client.specs.Law.{HasFew, reply_line};
+ghost use Rattle.desk_client.specs.Ended.{has_end};
+ghost use Rattle.desk_client.specs.Whole.{IsWhole};
+ghost use Rattle.desk_client.specs.Read.{IsRead};
+ghost use Rattle.desk_client.specs.Request.{command_head, telegram_head, get_request};
+ghost use Rattle.desk_commands.specs.Verb.{word};
+ghost use Rattle.desk_commands.specs.declared.verb.Verb.{Verb};
+ghost use Rattle.http_desk.specs.Request.{looks_up, sends};
+ghost use Rattle.http_desk.specs.Paths.{report_path};
+ghost use Rattle.reports.specs.declared.report.Report.{Report};
+ghost use Rattle.http_desk.specs.Printouts.{as_text};
+ghost use Rattle.http_desk.specs.Routes.{posted_command, posted_telegram, got_report};
+ghost use Rattle.station_core.specs.Key.{is_key};
+
+/// What a desk replies to an input tells the line that the command line prints of the same answer.
+pub fn lines_law()
+    ensures { (a : Answer) → HasFew a → reply_line (answer_reply a) ≡ Some (answer_text a) }
+{}
+
+/// The bytes that came are one whole answer at most, so what is returned is a function of them. And
+/// a whole answer is no beginning of another, but where its body ends with a report's last line: so
+/// no answer that tells its length is taken as whole where it was cut.
+pub fn whole_law()
+    ensures one { (bytes : List ℕ) (s t : ℕ) (b c : List ℕ) → IsWhole bytes s b → IsWhole bytes t c
+        → (s ≡ t) × (b ≡ c) }
+    ensures cut { (front more : List ℕ) (s t : ℕ) (b c : List ℕ) → IsWhole front s b
+        → IsWhole (front ++ more) t c → (more ≡ []) ⊎ (has_end b ≡ true) }
+{}
+
+/// A desk reads the request of a command as what it is: a post of the verb, this key, this body. And
+/// that of a telegram: its post, no key, this text; and that of a report.
+pub fn request_law()
+    ensures command { (verb : Verb) (key body : List ℕ) → is_key key ≡ true
+        → length body ≤ 65_536 → IsRead (command_head (word verb) key (length body) ++ body)
+        (sends (posted_command verb) (length body)) (Some key) body }
+    ensures telegram { (text : List ℕ) → length text ≤ 65_536
+        → IsRead (telegram_head (length text) ++ text) (sends posted_telegram (length text)) None
+        text }
+    ensures report { (name : Report)
+        → IsRead (get_request (report_path name) ++ []) (looks_up (got_report (as_text name)))
+        None [] }
+{
+    http_desk::routes_law();
+}

@@ -1,0 +1,27 @@
+//! The command line's side of a running service: what each command asks, and what it prints.
+#![tactic(auto)]
+
+mod ask;
+mod connect;
+mod ended;
+mod inputs;
+mod law;
+mod line;
+mod lines;
+mod looks;
+mod order;
+mod question;
+mod reading;
+mod rows;
+mod run;
+mod status;
+mod told;
+mod whole;
+
+pub use ask::{Answer, Ask, AskFault};
+pub use connect::{Connect, Service};
+pub use law::{lines_law, request_law, whole_law};
+pub use question::Question;
+pub use run::ask_command;
+pub use status::end_asked;
+pub use told::{Told, told_answer};

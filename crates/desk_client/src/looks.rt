@@ -1,0 +1,130 @@
+//! Reports and look-ups.
+ghost use Rattle.std.specs.Prelude.{◌≡◌};
+ghost use Rattle.desk_client.specs.Looks.{is_unknown, shown, HasAskedHistory, HasAskedMoves, HasAskedRows, HasLooked, HasShownFound, HasShownRows};
+ghost use Rattle.desk_client.specs.Request.{most_of, request_of, rows_path};
+
+use crate::ask::{Answer, Ask};
+use crate::ended::has_end;
+use crate::line::service_fault;
+use crate::question::Question;
+use awb_number::Awb;
+use cli_run::{send_part, send_word};
+use reports::{Form, Listing};
+use station_core::ByteOut;
+use std::alloc::Global;
+use stock_list::RunFault;
+
+/// What the desk says of a number of which nothing is known.
+const UNKNOWN_BODY: &[u8] = b"{\"detail\":\"\",\"refused\":404}";
+
+/// Whether an answer is that of a desk which knows nothing of a number.
+fn is_unknown(answer: &Answer) -> bool
+    ensures { result ≡ is_unknown answer.now }
+{
+    answer.status == 404 && answer.body() == UNKNOWN_BODY
+}
+
+/// Writes the rows of an answer.
+fn show_rows<W: ByteOut>(answer: &Answer, output: &mut W) -> Result<bool, RunFault>
+    ensures { HasShownRows answer.now (W.taken output.old) (W.taken output.new) result }
+{
+    if answer.status != 200 || !has_end(answer.body()) {
+        return Err(RunFault::Store);
+    }
+    match send_part(output, answer.body()) {
+        Ok(()) => Ok(true),
+        Err(fault) => Err(fault),
+    }
+}
+
+/// Asks for rows, and writes them: a report, or a part of one.
+pub(crate) fn ask_report<S: Ask, W: ByteOut>(
+    alloc: Global,
+    service: &mut S,
+    listing: &Listing,
+    form: Form,
+    output: &mut W,
+) -> Result<bool, RunFault>
+    ensures { HasAskedRows (rows_path listing.now form)
+        (shown (S.talk service.old) (W.taken output.old))
+        (shown (S.talk service.new) (W.taken output.new)) result }
+{
+    match service.ask(alloc, &Question::Rows(*listing, form)) {
+        Ok(answer) => show_rows(&answer, output),
+        Err(fault) => Err(service_fault(fault)),
+    }
+}
+
+/// Writes the object of an answer to a look-up, or that nothing is known.
+fn show_found<W: ByteOut>(answer: &Answer, output: &mut W) -> Result<bool, RunFault>
+    ensures { HasShownFound answer.now (W.taken output.old) (W.taken output.new) result }
+{
+    if answer.status == 200 {
+        return match send_word(output, "", answer.body()) {
+            Ok(()) => Ok(true),
+            Err(fault) => Err(fault),
+        };
+    }
+    if !is_unknown(answer) {
+        return Err(RunFault::Store);
+    }
+    match send_word(output, "", b"unknown") {
+        Ok(()) => Ok(false),
+        Err(fault) => Err(fault),
+    }
+}
+
+/// Asks for a waybill or a number, and writes the object that is known of it, or that nothing is.
+pub(crate) fn ask_number<S: Ask, W: ByteOut>(
+    alloc: Global,
+    service: &mut S,
+    question: &Question<'_>,
+    output: &mut W,
+) -> Result<bool, RunFault>
+    ensures { HasLooked HasShownFound (most_of question.now) (request_of question.now)
+        (shown (S.talk service.old) (W.taken output.old))
+        (shown (S.talk service.new) (W.taken output.new)) result }
+{
+    match service.ask(alloc, question) {
+        Ok(answer) => show_found(&answer, output),
+        Err(fault) => Err(service_fault(fault)),
+    }
+}
+
+/// The moves of a waybill, and then its trail.
+fn ask_moves<S: Ask, W: ByteOut>(
+    alloc: Global,
+    service: &mut S,
+    number: &Awb,
+    output: &mut W,
+) -> Result<bool, RunFault>
+    ensures { HasAskedMoves number.now (shown (S.talk service.old) (W.taken output.old))
+        (shown (S.talk service.new) (W.taken output.new)) result }
+{
+    match ask_report(
+        alloc,
+        service,
+        &Listing::Movements(*number),
+        Form::Text,
+        output,
+    ) {
+        Ok(true) => ask_report(alloc, service, &Listing::Trail(*number), Form::Text, output),
+        ended => ended,
+    }
+}
+
+/// `history AWB`: what is known of a waybill, its moves and its trail.
+pub(crate) fn ask_history<S: Ask, W: ByteOut>(
+    alloc: Global,
+    service: &mut S,
+    number: &Awb,
+    output: &mut W,
+) -> Result<bool, RunFault>
+    ensures { HasAskedHistory number.now (shown (S.talk service.old) (W.taken output.old))
+        (shown (S.talk service.new) (W.taken output.new)) result }
+{
+    match ask_number(alloc, service, &Question::Waybill(*number), output) {
+        Ok(true) => ask_moves(alloc, service, number, output),
+        ended => ended,
+    }
+}

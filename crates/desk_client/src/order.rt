@@ -1,0 +1,98 @@
+//! The body of an order on the stock.
+ghost use Rattle.std.specs.Prelude.{◌≡◌, IfOk, string_bytes};
+ghost use Rattle.serde_json.specs.View.{view};
+ghost use Rattle.serde_json.specs.Written.{compact_text};
+ghost use Rattle.desk_commands.specs.Command.{order_verb};
+ghost use Rattle.desk_client.specs.Orders.{agents_data, agents_object, order_data, run_data, run_object};
+
+use agent_stock::{AgentCode, Order, Run};
+use awb_number::ascii_text;
+use desk_commands::Verb;
+use serde_json::{Value, json};
+use std::alloc::{AllocError, Global};
+
+/// The verb of an order.
+pub(crate) fn verb_of(order: &Order) -> Verb
+    ensures { result ≡ order_verb order.now }
+{
+    match order {
+        Order::TakeIn(_) => Verb::TakeIn,
+        Order::Issue(_, _) => Verb::Issue,
+        Order::GiveBack(_, _) => Verb::Return,
+        Order::Void(_) => Verb::Void,
+    }
+}
+
+/// The JSON object of a run.
+fn run_text(alloc: Global, count: u32, prefix: &str, serial: &str) -> Result<String, AllocError>
+    ensures { IfOk result
+        (λ text. string_bytes text ≡ compact_text (run_object count prefix.now serial.now)) }
+{
+    json!(in alloc; {"count": count, "prefix": prefix, "serial": serial})?.to_string(alloc)
+}
+
+/// The JSON object of a run and an agent.
+fn agents_value(
+    alloc: Global,
+    agent: &str,
+    count: u32,
+    prefix: &str,
+    serial: &str,
+) -> Result<Value, AllocError>
+    ensures { IfOk result
+        (λ v. view v ≡ agents_object agent.now count prefix.now serial.now) }
+{
+    json!(in alloc; {"agent": agent, "count": count, "prefix": prefix, "serial": serial})
+}
+
+/// Its text.
+fn agents_text(
+    alloc: Global,
+    agent: &str,
+    count: u32,
+    prefix: &str,
+    serial: &str,
+) -> Result<String, AllocError>
+    ensures { IfOk result (λ text. string_bytes text
+        ≡ compact_text (agents_object agent.now count prefix.now serial.now)) }
+{
+    let value = agents_value(alloc, agent, count, prefix, serial)?;
+    value.to_string(alloc)
+}
+
+/// The body of an order that names no agent.
+fn run_body(alloc: Global, run: &Run) -> Result<String, AllocError>
+    ensures { IfOk result (λ text. string_bytes text ≡ compact_text (run_data run.now)) }
+{
+    let number = run.first.write();
+    let prefix = ascii_text(&number[..3]);
+    let serial = ascii_text(&number[4..11]);
+    let count = run.count.number();
+    run_text(alloc, count, prefix, serial)
+}
+
+/// The body of an order that names an agent.
+fn agents_body(alloc: Global, run: &Run, agent: &AgentCode) -> Result<String, AllocError>
+    ensures { IfOk result (λ text. string_bytes text ≡ compact_text (agents_data run.now agent.now)) }
+{
+    let number = run.first.write();
+    let prefix = ascii_text(&number[..3]);
+    let serial = ascii_text(&number[4..11]);
+    let count = run.count.number();
+    let code = agent.as_str();
+    agents_text(alloc, code, count, prefix, serial)
+}
+
+/// The body of an order, as `act` takes it.
+///
+/// Returns [`AllocError`] when out of memory.
+pub(crate) fn order_body(alloc: Global, order: &Order) -> Result<String, AllocError>
+    ensures { IfOk result (λ text. string_bytes text ≡ compact_text (order_data order.now)) }
+{
+    match order {
+        Order::TakeIn(run) => run_body(alloc, run),
+        Order::Issue(run, agent) => agents_body(alloc, run, agent),
+        Order::GiveBack(run, agent) => agents_body(alloc, run, agent),
+        Order::Void(run) => run_body(alloc, run),
+    }
+}

@@ -1,0 +1,190 @@
+//! What is asked of a service, and the request that asks it.
+ghost use Rattle.std.specs.Prelude.{◌≡◌, ◌++◌, IfOk, length, string_bytes};
+ghost use Rattle.http_desk.specs.Paths.{report_path};
+ghost use Rattle.desk_client.specs.Request.{command_lines, key_line, command_head, get_request, holder_path, length_line, listing_path, most_of, request_of, rows_path, telegram_head, waybill_path};
+
+use awb_number::Awb;
+use desk_commands::Verb;
+use reports::{Form, Listing, Report};
+use station_core::Key;
+use std::alloc::{AllocError, Global};
+
+/// The most bytes of an answer that is one JSON object.
+const MOST_ANSWER: usize = 65_536;
+
+/// What is asked of a service.
+#[derive(Clone, Copy)]
+pub enum Question<'a> {
+    /// A command's body under its key.
+    Command(Verb, Key, &'a [u8]),
+    /// A telegram.
+    Telegram(&'a [u8]),
+    /// What is known of a waybill.
+    Waybill(Awb),
+    /// Who holds a number.
+    Holder(Awb),
+    /// A report, or a part of one.
+    Rows(Listing, Form),
+}
+
+/// How many bytes the answer to a question may have. Only rows have no bound.
+pub(crate) fn most_of(question: &Question<'_>) -> usize
+    ensures { result ≡ most_of question.now }
+{
+    match question {
+        Question::Rows(_, _) => usize::MAX,
+        _ => MOST_ANSWER,
+    }
+}
+
+/// The path of a report.
+fn report_path(report: Report) -> &'static str
+    ensures { result.now ≡ report_path report }
+{
+    match report {
+        Report::Stock => "/v1/reports/stock",
+        Report::Shed => "/v1/reports/shed",
+        Report::Flights => "/v1/reports/flights",
+        Report::Expected => "/v1/reports/expected",
+        Report::Irregularities => "/v1/reports/irregularities",
+        Report::Movements => "/v1/reports/movements",
+        Report::Trail => "/v1/reports/trail",
+        Report::Pending => "/v1/outbox",
+    }
+}
+
+/// The path of rows as text.
+fn listing_path(alloc: Global, listing: &Listing) -> Result<String, AllocError>
+    ensures { IfOk result (λ path. string_bytes path ≡ listing_path listing.now) }
+{
+    match listing {
+        Listing::All(report) => String::from_str(alloc, report_path(*report)),
+        Listing::OpenFlights => String::from_str(alloc, "/v1/reports/open-flights"),
+        Listing::OpenExpected => String::from_str(alloc, "/v1/reports/open-expected"),
+        Listing::AgentStock(code) => {
+            let code = code.as_str();
+            format!(in alloc; "/v1/agents/{code}/stock")
+        }
+        Listing::Movements(number) => format!(in alloc; "/v1/waybills/{number}/movements"),
+        Listing::MovementsAfter(row) => format!(in alloc; "/v1/movements/after/{row}"),
+        Listing::MovementsLast(rows) => format!(in alloc; "/v1/movements/last/{rows}"),
+        Listing::Trail(number) => format!(in alloc; "/v1/waybills/{number}/trail"),
+        Listing::TrailAfter(row) => format!(in alloc; "/v1/trail/after/{row}"),
+        Listing::TrailLast(rows) => format!(in alloc; "/v1/trail/last/{rows}"),
+        Listing::PendingAfter(row) => format!(in alloc; "/v1/outbox/after/{row}"),
+        Listing::Manifest(flight) => format!(in alloc; "/v1/flights/{flight}"),
+    }
+}
+
+/// The path of rows in a form.
+fn rows_path(alloc: Global, listing: &Listing, form: Form) -> Result<String, AllocError>
+    ensures { IfOk result (λ path. string_bytes path ≡ rows_path listing.now form) }
+{
+    let path = listing_path(alloc, listing)?;
+    match form {
+        Form::Text => Ok(path),
+        Form::Json => format!(in alloc; "{path}.json"),
+    }
+}
+
+/// The first lines of a command's request.
+fn command_lines(alloc: Global, word: &str) -> Result<String, AllocError>
+    ensures { IfOk result (λ text. string_bytes text ≡ command_lines word.now) }
+{
+    format!(in alloc; "POST /v1/act/{word} HTTP/1.1\r\nHost: 127.0.0.1\r\nConnection: close\r\n")
+}
+
+/// The line of a key.
+fn key_line(alloc: Global, key: &Key) -> Result<String, AllocError>
+    ensures { IfOk result (λ text. string_bytes text ≡ key_line key.now) }
+{
+    format!(in alloc; "Request-Key: {key}\r\n")
+}
+
+/// The line of a body's length, and the empty line after it.
+fn length_line(alloc: Global, len: usize) -> Result<String, AllocError>
+    ensures { IfOk result (λ text. string_bytes text ≡ length_line len) }
+{
+    format!(in alloc; "Content-Length: {len}\r\n\r\n")
+}
+
+/// What is before a command's body.
+fn command_head(alloc: Global, word: &str, key: &Key, len: usize) -> Result<String, AllocError>
+    ensures { IfOk result (λ text. string_bytes text ≡ command_head word.now key.now len) }
+{
+    let lines = command_lines(alloc, word)?;
+    let key = key_line(alloc, key)?;
+    let length = length_line(alloc, len)?;
+    format!(in alloc; "{lines}{key}{length}")
+}
+
+/// What is before a telegram.
+fn telegram_head(alloc: Global, len: usize) -> Result<String, AllocError>
+    ensures { IfOk result (λ text. string_bytes text ≡ telegram_head len) }
+{
+    format!(in alloc;
+        "POST /v1/telegrams HTTP/1.1\r\nHost: 127.0.0.1\r\nConnection: close\r\nContent-Length: {len}\r\n\r\n"
+    )
+}
+
+/// The request that gets what is at a path.
+fn get_request(alloc: Global, path: &str) -> Result<String, AllocError>
+    ensures { IfOk result (λ text. string_bytes text ≡ get_request path.now) }
+{
+    format!(in alloc; "GET {path} HTTP/1.1\r\nHost: 127.0.0.1\r\nConnection: close\r\n\r\n")
+}
+
+/// The path of a waybill.
+fn waybill_path(alloc: Global, number: &Awb) -> Result<String, AllocError>
+    ensures { IfOk result (λ text. string_bytes text ≡ waybill_path number.now) }
+{
+    format!(in alloc; "/v1/waybills/{number}")
+}
+
+/// The path of a number in stock.
+fn holder_path(alloc: Global, number: &Awb) -> Result<String, AllocError>
+    ensures { IfOk result (λ text. string_bytes text ≡ holder_path number.now) }
+{
+    format!(in alloc; "/v1/stock/{number}")
+}
+
+/// A head and its body.
+fn with_body(alloc: Global, head: &str, body: &[u8]) -> Result<Vec<u8>, AllocError>
+    ensures { IfOk result (λ bytes. bytes.items ≡ head.now ++ body.now) }
+{
+    let mut bytes = Vec::new(alloc);
+    bytes.extend_from_slice(head.as_bytes())?;
+    bytes.extend_from_slice(body)?;
+    Ok(bytes)
+}
+
+/// The request that asks a question.
+pub(crate) fn request_of(alloc: Global, question: &Question<'_>) -> Result<Vec<u8>, AllocError>
+    ensures { IfOk result (λ bytes. bytes.items ≡ request_of question.now) }
+{
+    match question {
+        Question::Command(verb, key, body) => {
+            let head = command_head(alloc, verb.word(), key, body.len())?;
+            with_body(alloc, head.as_str(), body)
+        }
+        Question::Telegram(text) => {
+            let head = telegram_head(alloc, text.len())?;
+            with_body(alloc, head.as_str(), text)
+        }
+        Question::Waybill(number) => {
+            let path = waybill_path(alloc, number)?;
+            let request = get_request(alloc, path.as_str())?;
+            with_body(alloc, request.as_str(), &[])
+        }
+        Question::Holder(number) => {
+            let path = holder_path(alloc, number)?;
+            let request = get_request(alloc, path.as_str())?;
+            with_body(alloc, request.as_str(), &[])
+        }
+        Question::Rows(listing, form) => {
+            let path = rows_path(alloc, listing, *form)?;
+            let request = get_request(alloc, path.as_str())?;
+            with_body(alloc, request.as_str(), &[])
+        }
+    }
+}

@@ -1,0 +1,59 @@
+//! Reading an answer to its end.
+ghost use Rattle.std.specs.Prelude.{◌≡◌, ◌<◌, ◌+◌, true, Err, IfOk, OnOk};
+ghost use Rattle.desk_client.specs.Came.{HasGrown, HasCome, HasFailed, IsReadersFault};
+
+use crate::ask::AskFault;
+use station_core::{ByteIn, ReadFault};
+use std::alloc::Global;
+
+/// The most bytes of one read.
+const CHUNK: usize = 16_384;
+
+/// One read behind the bytes that have come. `true`: the input has ended. An interrupted read
+/// brings nothing.
+fn read_more<I: ByteIn>(reader: &mut I, bytes: &mut Vec<u8>) -> Result<bool, AskFault>
+    ensures come { OnOk result
+        (HasGrown (I.given reader.old) (I.given reader.new) bytes.old.items bytes.new.items) }
+    ensures calls { OnOk result ((I.given reader.new).calls ≡ (I.given reader.old).calls + 1) }
+    ensures ended { IfOk result (λ ended. ended ≡ true
+        → (I.given reader.old).idle < (I.given reader.new).idle) }
+    ensures fault { IsReadersFault result }
+    ensures failed { result ≡ Err AskFault.Read
+        → (I.given reader.old).failures < (I.given reader.new).failures }
+{
+    let mut room = [0; CHUNK];
+    match reader.read(&mut room) {
+        Ok(0) => Ok(true),
+        Ok(n) => match bytes.extend_from_slice(&room[..n]) {
+            Ok(()) => Ok(false),
+            Err(_) => Err(AskFault::Memory),
+        },
+        Err(ReadFault::Interrupted) => Ok(false),
+        Err(ReadFault::Failed) => Err(AskFault::Read),
+    }
+}
+
+/// Reads an input to its end, or until more than so many bytes have come.
+#[tactic(auto, using(crate::proofs::Grown::grown_more, crate::proofs::Grown::come_more, crate::proofs::Grown::come_over))]
+pub(crate) fn read_all<I: ByteIn>(
+    alloc: Global,
+    reader: &mut I,
+    most: usize,
+) -> Result<Vec<u8>, AskFault>
+    ensures come { IfOk result
+        (λ bytes. HasCome most (I.given reader.old) (I.given reader.new) bytes.items) }
+    ensures fault { IsReadersFault result }
+    ensures failed { result ≡ Err AskFault.Read
+        → HasFailed (I.given reader.old) (I.given reader.new) }
+{
+    let mut bytes = Vec::new(alloc);
+    for _turn in 0..u64::MAX {
+        if read_more(reader, &mut bytes)? {
+            return Ok(bytes);
+        }
+        if bytes.len() > most {
+            return Ok(bytes);
+        }
+    }
+    Err(AskFault::Read)
+}

@@ -1,0 +1,93 @@
+//! What an answer tells, as the line that the command line prints.
+ghost use Rattle.std.specs.Prelude.{◌≡◌, IfOk, option_map, string_bytes, Some, None};
+ghost use Rattle.serde_json.specs.View.{view};
+ghost use Rattle.desk_client.specs.Told.{ok_line, refused_line, refusal_told, told_line, Tells};
+
+use serde_json::Value;
+use std::alloc::{AllocError, Global};
+
+/// What an answer to a command or a telegram tells.
+#[derive(Debug, Drop)]
+pub enum Told {
+    /// The line without its end, `ok 10`, `refused 102 020-12345723` or `body bad`, and whether it
+    /// was accepted.
+    Line { good: bool, text: String },
+    /// No line: it isn't an answer that a desk gives to a command.
+    Nothing,
+}
+
+/// `ok 10`.
+fn ok_line(alloc: Global, count: u64) -> Result<String, AllocError>
+    ensures { IfOk result (λ line. string_bytes line ≡ ok_line count) }
+{
+    format!(in alloc; "ok {count}")
+}
+
+/// `refused 102 020-12345723`, or `refused 501`.
+fn refused_line(alloc: Global, number: u64, detail: &str) -> Result<String, AllocError>
+    ensures { IfOk result (λ line. string_bytes line ≡ refused_line number detail.now) }
+{
+    if detail.is_empty() {
+        return format!(in alloc; "refused {number}");
+    }
+    format!(in alloc; "refused {number} {detail}")
+}
+
+/// The number and the detail of a refusal.
+fn refusal_told(value: &Value) -> Option<(u64, &str)>
+    ensures { option_map (λ told. (told.0, told.1.now)) result ≡ refusal_told (view value.now) }
+{
+    let number = value.get("refused")?.as_u64()?;
+    let detail = value.get("detail")?.as_str()?;
+    Some((number, detail))
+}
+
+/// The line that an object under a status tells.
+fn told_line(alloc: Global, status: u16, value: &Value) -> Result<Option<String>, AllocError>
+    ensures { IfOk result
+        (λ line. option_map (λ line. string_bytes line) line ≡ told_line status (view value.now)) }
+{
+    if status == 200 {
+        let Some(count) = value.get("count").and_then(Value::as_u64) else {
+            return Ok(None);
+        };
+        let line = ok_line(alloc, count)?;
+        return Ok(Some(line));
+    }
+    let Some((number, detail)) = refusal_told(value) else {
+        return Ok(None);
+    };
+    if status == 409 || (status == 400 && (number == 301 || number == 302)) {
+        let line = refused_line(alloc, number, detail)?;
+        return Ok(Some(line));
+    }
+    if status == 400 && number == 400 && detail == "body" {
+        let line = format!(in alloc; "body bad")?;
+        return Ok(Some(line));
+    }
+    Ok(None)
+}
+
+/// What an answer to a command or a telegram tells, by its status and its body.
+///
+/// Returns [`AllocError`] when out of memory.
+pub fn told_answer(alloc: Global, status: u16, body: &[u8]) -> Result<Told, AllocError>
+    ensures { IfOk result (Tells status body.now) }
+{
+    match Value::from_slice(alloc, body) {
+        Ok(value) => match told_line(alloc, status, &value)? {
+            Some(text) => Ok(Told::Line {
+                good: status == 200,
+                text,
+            }),
+            None => Ok(Told::Nothing),
+        },
+        Err(e) => {
+            if e.is_memory() {
+                Err(AllocError)
+            } else {
+                Ok(Told::Nothing)
+            }
+        }
+    }
+}
