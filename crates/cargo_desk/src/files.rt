@@ -142,7 +142,8 @@ pub fn tell_unopened(rt: &HostRuntime, path: &str, fault: FileFault) {
     let _told = match fault {
         FileFault::NoStation | FileFault::Memory => Ok(()),
         FileFault::Busy => eprint!(rt;
-            "{path}: another program has this file; wait until that ends, or ask it over HTTP\n"
+            "{path}: another program has this file; wait until that ends, or ask the service that has \
+            it by --at PORT\n"
         ),
         FileFault::Store(ErrorCode::CannotOpen) => match fs::File::open(rt, path) {
             Ok(_) => eprint!(rt; "{path}: it can't be opened for reading and writing\n"),

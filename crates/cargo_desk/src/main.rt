@@ -1,6 +1,7 @@
 //! The cargo desk of one air cargo station.
 #![tactic(auto)]
 
+mod client;
 mod files;
 mod service;
 mod task;
@@ -9,6 +10,7 @@ mod telegram_files;
 use cli_call::{DeskFault, version_line};
 use cli_run::{Turns, run_read};
 use cli_words::{Line, LineCommand, WordsFault, parse_words, usage_fault};
+use client::ask_port;
 use desk_clock::{Zone, moment_now};
 use desk_server::listen;
 use service::Service;
@@ -16,7 +18,7 @@ use station_core::Counted;
 use station_days::Moment;
 use std::cell::RefCell;
 use std::fs::File;
-use std::io::ErrorKind;
+use std::io::{ErrorKind, Read};
 use std::process::ExitCode;
 use std::{env, io};
 use stock_list::RunFault;
@@ -51,35 +53,55 @@ fn refuse_words(rt: &HostRuntime, fault: &WordsFault) -> u8 {
     }
 }
 
+/// Where a command runs.
+#[derive(Clone, Copy)]
+enum Way {
+    /// Over the line's station, at a moment.
+    Station(Moment),
+    /// In the service on a port.
+    Service(u16),
+}
+
+/// Runs a line over the inputs of a reader.
+fn run_inputs<R: Read + Drop>(
+    rt: &HostRuntime,
+    line: &Line<'_>,
+    way: Way,
+    reader: R,
+    turns: &Turns,
+) -> u8 {
+    match way {
+        Way::Station(at) => run_over(rt, line, Task::Run { reader, turns, at }),
+        Way::Service(port) => ask_port(rt, &line.command, port, reader, turns),
+    }
+}
+
 /// Takes the telegrams of files, of which the first is open.
 fn take_files<'a>(
     rt: &'a HostRuntime,
     line: &Line<'_>,
     paths: &'a [String],
     first: File,
-    at: Moment,
+    way: Way,
 ) -> u8 {
     let turns = Turns::new();
     let unopened = RefCell::new(None);
     let reader = Telegrams::new(rt, paths, &turns, &unopened, first);
-    let turns = &turns;
-    let status = run_over(rt, line, Task::Run { reader, turns, at });
+    let status = run_inputs(rt, line, way, reader, &turns);
     tell_unopened(rt, paths, &unopened);
     status
 }
 
-/// Runs a line at a moment, over its telegrams' files or standard input.
-fn run_at(rt: &HostRuntime, line: &Line<'_>, at: Moment) -> u8 {
+/// Runs a line over its telegrams' files or standard input.
+fn run_way(rt: &HostRuntime, line: &Line<'_>, way: Way) -> u8 {
     let LineCommand::Take(paths) = &line.command else {
-        let reader = rt.stdin();
-        let turns = &Turns::new();
-        return run_over(rt, line, Task::Run { reader, turns, at });
+        return run_inputs(rt, line, way, rt.stdin(), &Turns::new());
     };
     let paths = paths.as_slice();
     let path = paths.first().copied().unwrap_or("");
     match File::open(rt, path) {
         Ok(first) => match owned_paths(rt.alloc(), paths) {
-            Ok(paths) => take_files(rt, line, paths.as_slice(), first, at),
+            Ok(paths) => take_files(rt, line, paths.as_slice(), first, way),
             Err(_) => faulted(rt, RunFault::Memory),
         },
         Err(error) => {
@@ -135,7 +157,8 @@ fn serve_at(rt: &HostRuntime, line: &Line<'_>, zone: &Zone, port: u16, count: Op
     }
 }
 
-/// Runs a line. The clock is read once, but by `serve`, which reads it once for each connection.
+/// Runs a line. The clock is read once, but by `serve`, which reads it once for each connection, and
+/// not where a running service is asked: the moment is the service's.
 fn run_now(rt: &HostRuntime, line: &Line<'_>) -> u8 {
     let Some(zone) = Zone::read(line.zone) else {
         return refuse_words(rt, &usage_fault(rt.alloc(), NO_ZONE));
@@ -146,8 +169,11 @@ fn run_now(rt: &HostRuntime, line: &Line<'_>) -> u8 {
     if let LineCommand::Read(path) = line.command {
         return read_file(rt, path);
     }
+    if let Some(port) = line.at {
+        return run_way(rt, line, Way::Service(port));
+    }
     match moment_now(rt, &zone) {
-        Some(at) => run_at(rt, line, at),
+        Some(at) => run_way(rt, line, Way::Station(at)),
         None => end_call(rt, Err(DeskFault::Clock)),
     }
 }

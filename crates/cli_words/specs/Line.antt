@@ -1,5 +1,5 @@
 -- What the words of a call ask.
-use Rattle.std.specs.Prelude.{◌≡◌, ◌≤◌, ℕ, Bool, true, false, List, map, Option, Some, None, Ok, IsSome, IfSome, IsTrue, codes, option_map, if◌then◌else◌}
+use Rattle.std.specs.Prelude.{◌≡◌, ◌≤◌, ◌||◌, ℕ, Bool, true, false, is_some, List, map, Option, Some, None, Ok, IsSome, IfSome, IsTrue, codes, option_map, if◌then◌else◌}
 use Rattle.awb_number.specs.Number.{number_of}
 use Rattle.imp_fields.specs.Airport.{airport_of}
 use Rattle.desk_commands.specs.Verb.{word}
@@ -21,8 +21,23 @@ IsCalled command.Migrate HasFile HasAirport = HasFile
 IsCalled (command.Serve port count) HasFile HasAirport = (1 ≤ port) × IfSome count (λ k. 1 ≤ k)
 IsCalled _ HasFile HasAirport = Unit {0}
 
+-- a running service is asked anything but to make, to upgrade or to serve a station
+abbrev pub is_asked : LineCommand → Bool
+is_asked command.Init = false
+is_asked command.Migrate = false
+is_asked (command.Serve port count) = false
+is_asked _ = true
+
+-- a line that asks a running service names no file and no airport of its own
+pub record AsksService (line : Line) : Type 0 where
+  pub no_file : line.db ≡ None
+  pub no_airport : line.station ≡ None
+  pub asked : is_asked line.command ≡ true
+
 abbrev pub IsLine : Line → Type 0
-IsLine line = IsCalled line.command (IsSome line.db) (IsSome line.station)
+IsLine line =
+    IsCalled line.command (IsSome line.db) (IsSome line.station)
+    × IfSome line.at (λ port. (1 ≤ port) × AsksService line)
 
 -- each word of a command is read by its own rule
 abbrev pub Means : Request → LineCommand → Type 0
@@ -50,6 +65,16 @@ abbrev pub IsStation : Option (List ℕ) → Option (List ℕ) → Type 0
 IsStation None airport = airport ≡ None
 IsStation (Some text) airport = IsSome airport × (airport ≡ airport_of text)
 
+-- the port of the service that is asked, if one is named
+abbrev pub IsAt : Option (List ℕ) → Option ℕ → Type 0
+IsAt None port = port ≡ None
+IsAt (Some text) (Some port) = IsNumber 16 text port × (1 ≤ port)
+IsAt (Some text) None = ⊥
+
+-- the words name what a running service has itself: a file, an airport or a zone
+abbrev pub has_own : Words → Bool
+has_own words = is_some words.db || is_some words.station || is_some words.zone
+
 -- the zone of the rule that is named, or of UTC0
 abbrev pub rule_of : Option (List ℕ) → List ℕ
 rule_of None = codes "UTC0"
@@ -58,6 +83,8 @@ rule_of (Some rule) = rule
 -- the line says what the words say
 pub record IsMeant (words : Words) (line : Line) : Type 0 where
   pub db : line.db ≡ words.db
+  pub at : IsAt (option_map (λ text. text.now) words.at) line.at
+  pub beside : IfSome line.at (λ port. has_own words ≡ false)
   pub station : IsStation (option_map (λ text. text.now) words.station) line.station
   pub zone : line.zone.now ≡ rule_of (option_map (λ text. text.now) words.zone)
   pub command : Means words.request line.command

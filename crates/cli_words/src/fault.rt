@@ -17,6 +17,7 @@ pub enum WordsFault {
 #[derive(Clone, Copy, Debug, PartialEq, Eq)]
 pub(crate) enum BadValue<'a> {
     Station(&'a str),
+    At(&'a str),
     Verb(&'a str),
     Key(&'a str),
     ReportName(&'a str),
@@ -39,6 +40,8 @@ pub(crate) enum BadValue<'a> {
     Migrate,
     /// `report manifest` without a flight.
     Manifest,
+    /// `--at` with an option or a command that needs the station itself.
+    Beside,
 }
 
 /// What is wanted where a key stands.
@@ -62,6 +65,11 @@ const PART: &str =
     "only flights and expected take --open, only stock takes --agent, only movements and trail \
     take --awb, --after or --last, only manifest takes FLIGHT; a report takes one of them";
 
+/// What `--at` doesn't go with.
+const BESIDE: &str =
+    "--at asks the service that runs, which has its own file, airport and zone: it \
+    goes with no --db, --station or --zone, and not with init, migrate or serve";
+
 /// What is expected as the flight of a manifest.
 const FLIGHT: &str = "FLIGHT is wanted: a flight, a slash and its day, as LH400/2026-01-12";
 
@@ -75,6 +83,7 @@ impl BadValue<'_> {
     fn told(self, alloc: Global) -> Result<String, AllocError> {
         let (word, wanted) = match self {
             BadValue::Station(word) => (word, "--station wants an airport: three letters, A to Z"),
+            BadValue::At(word) => (word, "--at wants a port: a number from 1 to 65535"),
             BadValue::Verb(word) => (word, "VERB is wanted: `cargo_desk act --help` lists them"),
             BadValue::Key(word) => (word, KEY),
             BadValue::ReportName(word) => (word, REPORT_NAME),
@@ -101,6 +110,7 @@ impl BadValue<'_> {
             BadValue::Manifest => {
                 return String::from_str(alloc, "report manifest needs FLIGHT after it");
             }
+            BadValue::Beside => return String::from_str(alloc, BESIDE),
         };
         told_of(alloc, word, wanted)
     }

@@ -4,8 +4,9 @@ pub(crate) const DESK: &str = "The cargo desk of one air cargo station";
 
 pub(crate) const DESK_EXAMPLES: &str = "\
 Exit status: 0 everything was accepted; 1 something was refused, a row or body was malformed, or a
-number is unknown; 2 wrong usage; 3 the store, memory, the clock, a file, a socket or a stream
-failed; 4 the file has no station that the command can use (601 to 603), or already has one (604).
+number is unknown; 2 wrong usage; 3 the store, memory, the clock, a file, a socket, a stream or the
+service that --at asks failed; 4 the file has no station that the command can use (601 to 603), or
+already has one (604).
 `fault 603 1`: the file is of version 1; `migrate` upgrades it to version 2.
 
 Examples:
@@ -15,10 +16,13 @@ Examples:
   cargo_desk --db fra.db acts < lines.txt
   cargo_desk --db fra.db --zone CET-1CEST,M3.5.0,M10.5.0/3 act issue k9 < body.json
   cargo_desk --db fra.db waybill 020-12345675
+  cargo_desk --at 8080 act issue k9 < body.json
 
 `cargo_desk COMMAND --help` explains a command.";
 
 pub(crate) const DB: &str = "The station's file; without it, a new station in memory";
+
+pub(crate) const AT: &str = "Asks the service that runs on this port, instead of a file";
 
 pub(crate) const STATION: &str = "The airport of a new station, three letters; XXX by default";
 

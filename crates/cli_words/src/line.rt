@@ -9,6 +9,8 @@ use station_core::Key;
 pub struct Line<'a> {
     /// The path of the file that keeps the station; absent, the station is in memory.
     pub db: Option<&'a str>,
+    /// The port of the running service that is asked instead of a file.
+    pub at: Option<u16>,
     /// The station's airport.
     pub station: Option<Airport>,
     /// The rule of the zone of local time, as the words have it: `UTC0` where they have none.

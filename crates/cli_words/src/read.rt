@@ -1,7 +1,7 @@
 //! The words of a call, to what they ask.
-ghost use Rattle.std.specs.Prelude.{◌≡◌, true, IfOk, Ok, option_map};
+ghost use Rattle.std.specs.Prelude.{◌≡◌, true, false, IfOk, Ok, IsSome, option_map};
 ghost use Rattle.awb_number.specs.Number.{number_of};
-ghost use Rattle.cli_words.specs.Line.{IsCalled, IsLine, IsMeant, IsStation, Means, rule_of};
+ghost use Rattle.cli_words.specs.Line.{has_own, is_asked, IsAt, IsCalled, IsLine, IsMeant, IsStation, Means, rule_of};
 
 use crate::fault::{BadValue, WordsFault, value_fault};
 use crate::line::{Line, LineCommand};
@@ -172,6 +172,36 @@ fn read_station<'a>(station: Option<&'a str>) -> Result<Option<Airport>, BadValu
     }
 }
 
+/// The port of the service that is asked, if one is named.
+fn read_at<'a>(at: Option<&'a str>) -> Result<Option<u16>, BadValue<'a>>
+    ensures { IfOk result (IsAt (option_map (λ text. text.now) at.entry)) }
+{
+    let Some(at) = at else {
+        return Ok(None);
+    };
+    match read_port(at) {
+        Some(port) => Ok(Some(port)),
+        None => Err(BadValue::At(at)),
+    }
+}
+
+/// Whether a command can be asked of a running service. One that needs no station can, too.
+fn is_asked(command: &LineCommand<'_>) -> bool
+    ensures { result ≡ is_asked command.now }
+{
+    !matches!(
+        command,
+        LineCommand::Init | LineCommand::Migrate | LineCommand::Serve { .. }
+    )
+}
+
+/// Whether the words name a file, an airport or a zone, which a running service has itself.
+fn has_own<'a>(words: &Words<'a>) -> bool
+    ensures { result ≡ has_own words.now }
+{
+    words.db.is_some() || words.station.is_some() || words.zone.is_some()
+}
+
 /// The rule of the zone: `UTC0` where none is named.
 fn rule_of<'a>(zone: Option<&'a str>) -> &'a str
     ensures { result.now ≡ rule_of (option_map (λ rule. rule.now) zone.entry) }
@@ -182,19 +212,48 @@ fn rule_of<'a>(zone: Option<&'a str>) -> &'a str
     }
 }
 
+/// The command of a call that may ask a running service.
+fn read_asked<'a>(
+    words: Words<'a>,
+    at: bool,
+    has_airport: bool,
+) -> Result<LineCommand<'a>, BadValue<'a>>
+    ensures means { IfOk result (Means words.entry.request) }
+    ensures called { IfOk result
+        (λ command. IsCalled command (IsSome words.entry.db) (has_airport ≡ true)) }
+    ensures asked { IfOk result
+        (λ command. at ≡ true → (is_asked command ≡ true) × (has_own words.entry ≡ false)) }
+{
+    if at && has_own(&words) {
+        return Err(BadValue::Beside);
+    }
+    match read_command(words.request, words.db.is_some(), has_airport) {
+        Ok(command) => {
+            if at && !is_asked(&command) {
+                Err(BadValue::Beside)
+            } else {
+                Ok(command)
+            }
+        }
+        Err(BadValue::Init | BadValue::Migrate) if at => Err(BadValue::Beside),
+        Err(bad) => Err(bad),
+    }
+}
+
 /// What sorted words ask.
 fn read_line<'a>(words: Words<'a>) -> Result<Line<'a>, BadValue<'a>>
     ensures whole { IfOk result IsLine }
     ensures meant { IfOk result (IsMeant words.entry) }
 {
     let station = read_station(words.station)?;
-    let has_file = words.db.is_some();
-    let has_airport = station.is_some();
-    match read_command(words.request, has_file, has_airport) {
+    let at = read_at(words.at)?;
+    let (db, zone) = (words.db, rule_of(words.zone));
+    match read_asked(words, at.is_some(), station.is_some()) {
         Ok(command) => Ok(Line {
-            db: words.db,
+            db,
+            at,
             station,
-            zone: rule_of(words.zone),
+            zone,
             command,
         }),
         Err(bad) => Err(bad),
@@ -206,7 +265,8 @@ fn read_line<'a>(words: Words<'a>) -> Result<Line<'a>, BadValue<'a>>
 /// Returns [`WordsFault::Help`] where the words ask for the help, and [`WordsFault::Version`] where
 /// they ask for the version; [`WordsFault::Usage`] for other words than a command's, a bad key,
 /// number or option's value, an unknown verb or name, an option given twice, `init` without `--db`
-/// and `--station`, and `migrate` without `--db`, but not for a text that is no zone's rule;
+/// and `--station`, `migrate` without `--db`, and `--at` with an option or a command that it doesn't go
+/// with, but not for a text that is no zone's rule;
 /// [`WordsFault::Memory`] when out of memory.
 pub fn parse_words<'a, S: AsStr>(alloc: Global, words: &'a [S]) -> Result<Line<'a>, WordsFault>
     ensures { IfOk result IsLine }

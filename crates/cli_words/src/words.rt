@@ -54,6 +54,7 @@ pub(crate) struct ReportWords<'a> {
 #[derive(Debug, Drop)]
 pub(crate) struct Words<'a> {
     pub(crate) db: Option<&'a str>,
+    pub(crate) at: Option<&'a str>,
     pub(crate) station: Option<&'a str>,
     pub(crate) zone: Option<&'a str>,
     pub(crate) request: Request<'a>,
@@ -211,6 +212,7 @@ fn telling<'a>(alloc: Global, top: Command<'a>) -> Result<Command<'a>, AllocErro
 fn desk<'a>(alloc: Global) -> Result<Command<'a>, AllocError> {
     let top = command(alloc, "cargo_desk", help::DESK, help::DESK_EXAMPLES)
         .arg(option(alloc, "db", "FILE", help::DB))?
+        .arg(option(alloc, "at", "PORT", help::AT))?
         .arg(option(alloc, "station", "AAA", help::STATION))?
         .arg(option(alloc, "zone", "RULE", help::ZONE))?
         .version(program_version())
@@ -297,6 +299,7 @@ fn sorted<'a>(alloc: Global, matches: &ArgMatches<'a>) -> Result<Words<'a>, Word
     match requested(alloc, matches) {
         Ok(Some(request)) => Ok(Words {
             db: matches.get_str("db"),
+            at: matches.get_str("at"),
             station: matches.get_str("station"),
             zone: matches.get_str("zone"),
             request,
@@ -312,6 +315,7 @@ fn late_option(told: &str) -> Option<&'static str> {
     let (name, _) = told.split_once('\'')?;
     match name {
         "db" => Some("--db stands before the command"),
+        "at" => Some("--at stands before the command"),
         "station" => Some("--station stands before the command"),
         "zone" => Some("--zone stands before the command"),
         _ => None,

@@ -1,0 +1,152 @@
+//! A call that asks the service which runs on a port.
+
+use cli_run::{Feed, Turns};
+use cli_words::LineCommand;
+use desk_client::{Connect, Service, ask_command, end_asked};
+use station_core::Counted;
+use std::cell::RefCell;
+use std::io;
+use std::io::{ErrorKind, Read, Write};
+use std::net::{Ipv4Addr, SocketAddr, TcpStream};
+use std::time::Duration;
+
+/// How many seconds a read or a write of a connection may wait. The service gives up on a request
+/// after 30 seconds.
+const MOST_WAIT: u64 = 40;
+
+/// The connection that is open, if there is one.
+type Open = RefCell<Option<TcpStream>>;
+
+/// The connections to a port of this machine, one after another.
+#[derive(Drop)]
+struct Connections<'a> {
+    rt: &'a HostRuntime,
+    port: u16,
+    open: &'a Open,
+    tried: u64,
+    opened: u64,
+}
+
+/// A connection to a port of this machine, whose reads and writes have their time.
+fn connected(rt: &HostRuntime, port: u16) -> io::Result<TcpStream> {
+    let stream = TcpStream::connect(rt, SocketAddr::from((Ipv4Addr::LOCALHOST, port)))?;
+    let wait = Some(Duration::from_secs(MOST_WAIT));
+    stream.set_nodelay(true)?;
+    stream.set_read_timeout(wait)?;
+    stream.set_write_timeout(wait)?;
+    Ok(stream)
+}
+
+impl Connections<'_> {
+    /// Opens the next connection, and closes the one before it.
+    fn open_next(&self) -> bool {
+        let Ok(stream) = connected(self.rt, self.port) else {
+            return false;
+        };
+        match self.open.try_borrow_mut() {
+            Ok(mut open) => {
+                *open = Some(stream);
+                true
+            }
+            Err(_) => false,
+        }
+    }
+}
+
+impl Connect for Connections<'_> {
+    ghost tried = { λ c. c.tried };
+
+    ghost opened = { λ c. c.opened };
+
+    fn connect(&mut self) -> bool {
+        self.tried = self.tried.saturating_add(1);
+        let Some(opened) = self.opened.checked_add(1) else {
+            return false;
+        };
+        if !self.open_next() {
+            return false;
+        }
+        self.opened = opened;
+        true
+    }
+}
+
+/// One end of the connection that is open.
+#[derive(Drop)]
+struct End<'a> {
+    open: &'a Open,
+}
+
+/// The error of a connection that isn't there. It never occurs: a question opens one first.
+fn not_open() -> io::Error {
+    ErrorKind::NotConnected.into()
+}
+
+impl Read for End<'_> {
+    fn read(&mut self, buf: &mut [u8]) -> io::Result<usize> {
+        let Ok(open) = self.open.try_borrow() else {
+            return Err(not_open());
+        };
+        match &*open {
+            Some(stream) => {
+                let mut stream = stream;
+                stream.read(buf)
+            }
+            None => Err(not_open()),
+        }
+    }
+}
+
+impl Write for End<'_> {
+    fn write(&mut self, buf: &[u8]) -> io::Result<usize> {
+        let Ok(open) = self.open.try_borrow() else {
+            return Err(not_open());
+        };
+        match &*open {
+            Some(stream) => {
+                let mut stream = stream;
+                stream.write(buf)
+            }
+            None => Err(not_open()),
+        }
+    }
+
+    fn flush(&mut self) -> io::Result<()> {
+        Ok(())
+    }
+}
+
+/// Asks the service on a port for what a command wants, over the inputs of a reader, and ends the
+/// call. Each line goes out when its answer came.
+pub fn ask_port<R: Read + Drop>(
+    rt: &HostRuntime,
+    command: &LineCommand<'_>,
+    port: u16,
+    reader: R,
+    turns: &Turns,
+) -> u8 {
+    let open = RefCell::new(None);
+    let mut service = Service {
+        connections: Connections {
+            rt,
+            port,
+            open: &open,
+            tried: 0,
+            opened: 0,
+        },
+        reader: Counted::new(End { open: &open }),
+        writer: Counted::new(End { open: &open }),
+    };
+    let mut output = Counted::new(rt.stdout());
+    let mut errors = Counted::new(rt.stderr());
+    let mut feed = Feed::new(reader, turns);
+    let ended = ask_command(
+        rt.alloc(),
+        &mut service,
+        command,
+        &mut feed,
+        &mut output,
+        &mut errors,
+    );
+    end_asked(&mut errors, ended)
+}
