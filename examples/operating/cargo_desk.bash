@@ -1,5 +1,5 @@
 # Completion for bash: source it, or put it into /usr/share/bash-completion/completions/cargo_desk.
-_cargo_desk_options='--db --station --zone --help --version'
+_cargo_desk_options='--db --at --station --zone --help --version'
 _cargo_desk_commands='init migrate stock take read act acts outbox report history waybill holder serve help'
 _cargo_desk_verbs='take-in issue return void book receive withdraw manifest offload reroute depart check-in notify
     deliver transfer missing found confirm'
@@ -9,7 +9,7 @@ _cargo_desk() {
     while [ $i -lt $COMP_CWORD ]; do
         word=${COMP_WORDS[i]}
         case $word in
-            --db | --station | --zone) i=$((i + 1)) ;;
+            --db | --at | --station | --zone) i=$((i + 1)) ;;
             init | migrate | stock | take | read | act | acts | outbox | report | history | waybill | holder | serve | help)
                 command=$word; break ;;
         esac
@@ -18,7 +18,7 @@ _cargo_desk() {
     case $command in
         '') case ${COMP_WORDS[COMP_CWORD - 1]} in
                 --db) COMPREPLY=($(compgen -f -- "$cur")) ;;
-                --station | --zone) ;;
+                --at | --station | --zone) ;;
                 *) COMPREPLY=($(compgen -W "$_cargo_desk_options $_cargo_desk_commands" -- "$cur")) ;;
             esac ;;
         report) COMPREPLY=($(compgen -W 'stock shed flights expected irregularities movements trail manifest
