@@ -51,6 +51,12 @@ fn run_service<K: Keeper>(
     }
 }
 
+/// Serves a station. It returns the exit status; a fault is reported on standard error.
+pub fn serve_keeper<K: Keeper>(rt: &HostRuntime, keeper: &mut K, service: Service<'_>) -> u8 {
+    let ended = run_service(rt, keeper, service);
+    end(&mut Counted::new(rt.stderr()), ended)
+}
+
 /// Serves the station of a line over a connection. It returns the exit status and gives the
 /// connection back; a fault is reported on standard error.
 pub fn serve_line<S: Alter>(
@@ -59,16 +65,17 @@ pub fn serve_line<S: Alter>(
     conn: Connection<S>,
     service: Service<'_>,
 ) -> (u8, Connection<S>) {
-    let mut errors = Counted::new(rt.stderr());
     let undeclared = is_undeclared(line, &conn);
     match open_station(rt.alloc(), line, conn) {
         Ok(mut station) => {
             if undeclared {
                 tell_undeclared(rt, line);
             }
-            let ended = run_service(rt, &mut station, service);
-            (end(&mut errors, ended), station.release())
+            (serve_keeper(rt, &mut station, service), station.release())
         }
-        Err((conn, fault)) => (end(&mut errors, Err(DeskFault::Attach(fault))), conn),
+        Err((conn, fault)) => {
+            let mut errors = Counted::new(rt.stderr());
+            (end(&mut errors, Err(DeskFault::Attach(fault))), conn)
+        }
     }
 }

@@ -1,14 +1,15 @@
-//! A line over its store: memory, or a file.
+//! A line over its station: in memory, or in a file.
 
 use crate::files::{is_undeclared, make_file, open_file, tell_undeclared, tell_unopened};
-use crate::service::{Service, serve_line};
-use cli_call::{DeskFault, close_file, end, run_line};
-use cli_run::{Feed, Tied, Turns, is_opening, tie};
+use crate::service::{Service, serve_keeper, serve_line};
+use cli_call::{DeskFault, close_file, end, run_kept, run_line};
+use cli_run::{Feed, Tied, TiedOutput, Turns, airport_of_line, is_opening, tie};
 use cli_words::{Line, LineCommand};
-use memory_files::open_pages;
+use map_state::MapState;
 use sqlite::{Alter, Connection};
-use station_core::Counted;
+use station_core::{Counted, Keeper};
 use station_days::Moment;
+use station_engine::StoredStation;
 use std::io::{Read, Write};
 use stock_list::RunFault;
 
@@ -69,6 +70,14 @@ fn run_direct<S: Alter, R: Read + Drop>(
     )
 }
 
+/// Flushes what is gathered of a call's output, and returns the call's status.
+fn let_out<W: Write + Drop>(rt: &HostRuntime, output: Counted<TiedOutput<W>>, status: u8) -> u8 {
+    match output.into_inner().flush() {
+        Ok(()) => status,
+        Err(_) => failed_late(rt, status, RunFault::Write),
+    }
+}
+
 /// Runs a line over a connection. What it writes is gathered, and goes out before its input is read
 /// again, before anything is told on standard error, and before the end.
 fn run_gathered<S: Alter, R: Read + Drop>(
@@ -92,19 +101,41 @@ fn run_gathered<S: Alter, R: Read + Drop>(
     let mut errors = Counted::new(errors);
     let mut feed = Feed::new(input, turns);
     let (status, conn) = run_line(alloc, line, conn, &mut feed, &mut output, &mut errors, at);
-    if output.into_inner().flush().is_err() {
-        return (failed_late(rt, status, RunFault::Write), conn);
-    }
-    (status, conn)
+    (let_out(rt, output, status), conn)
 }
 
-/// Whether each answer of a line goes out before the next input acts.
+/// Runs a line over a station in memory. What it writes is gathered in the same way.
+fn run_keeper<K: Keeper, R: Read + Drop>(
+    rt: &HostRuntime,
+    line: &Line<'_>,
+    keeper: &mut K,
+    reader: R,
+    turns: &Turns,
+    at: Moment,
+) -> u8 {
+    let alloc = rt.alloc();
+    let Ok(tied) = tie(alloc, reader, rt.stdout(), rt.stderr()) else {
+        return faulted(rt, RunFault::Memory);
+    };
+    let Tied {
+        input,
+        output,
+        errors,
+    } = tied;
+    let mut output = Counted::new(output);
+    let mut errors = Counted::new(errors);
+    let mut feed = Feed::new(input, turns);
+    let status = run_kept(alloc, line, keeper, &mut feed, &mut output, &mut errors, at);
+    let_out(rt, output, status)
+}
+
+/// Whether each answer of a line over a file goes out before the next input acts.
 fn is_direct(line: &Line<'_>) -> bool {
-    line.db.is_some() && matches!(&line.command, LineCommand::Stock | LineCommand::Acts)
+    matches!(&line.command, LineCommand::Stock | LineCommand::Acts)
 }
 
-/// Runs a line's command over a connection: a stock list over a file row by row, `acts` line by
-/// line, any other command gathered.
+/// Runs a line's command over a connection: a stock list row by row, `acts` line by line, any other
+/// command gathered.
 fn run_command<S: Alter, R: Read + Drop>(
     rt: &HostRuntime,
     line: &Line<'_>,
@@ -137,14 +168,14 @@ fn run_task<S: Alter, R: Read + Drop>(
     }
 }
 
-/// Does a line's task over a new store in memory.
+/// Does a line's task over a new station in memory.
 fn run_in_memory<R: Read + Drop>(rt: &HostRuntime, line: &Line<'_>, task: Task<'_, R>) -> u8 {
-    match open_pages(rt.alloc()) {
-        Ok(conn) => {
-            let (status, _conn) = run_task(rt, line, conn, task);
-            status
-        }
-        Err(_) => faulted(rt, RunFault::Memory),
+    let alloc = rt.alloc();
+    let state = MapState::new(alloc, airport_of_line(line));
+    let mut station = StoredStation::over(alloc, state);
+    match task {
+        Task::Run { reader, turns, at } => run_keeper(rt, line, &mut station, reader, turns, at),
+        Task::Serve(service) => serve_keeper(rt, &mut station, service),
     }
 }
 
@@ -173,7 +204,7 @@ fn run_in_file<R: Read + Drop>(
     status
 }
 
-/// Does a line's task over its store.
+/// Does a line's task over its station.
 pub fn run_over<R: Read + Drop>(rt: &HostRuntime, line: &Line<'_>, task: Task<'_, R>) -> u8 {
     match line.db {
         Some(path) => run_in_file(rt, line, path, task),

@@ -1,0 +1,15 @@
+mod Ahead
+mod BookLists
+mod Examples
+mod InOrder
+mod JoinedRuns
+mod KeptRows
+mod Keyed
+mod Named
+mod Numbered
+mod Posting
+mod Serials
+mod Steps
+mod StillOk
+mod Surviving
+mod Writing

@@ -1,0 +1,42 @@
+-- Which rows of the book and of the trail are asked for: from which one on, and of what.
+use Rattle.std.specs.Prelude.{ℕ, ◌-◌, Bool, true, ◌==◌, if◌then◌else◌, List, [], ◌∷◌}
+use Rattle.std.proofs.Common.{min}
+use Rattle.shipment_machine.specs.declared.moves.Move.{Move}
+use Rattle.station_core.specs.Readers.{is_of_flight}
+use Rattle.station_core.specs.declared.rows.BookRow.{BookRow}
+use Rattle.station_core.specs.declared.rows.BookQuery.{BookQuery}
+use Rattle.station_core.specs.declared.rows.BookQuery.TheVariants as book
+use Rattle.station_core.specs.declared.rows.TrailRow.{TrailRow}
+use Rattle.station_core.specs.declared.rows.TrailQuery.{TrailQuery}
+use Rattle.station_core.specs.declared.rows.TrailQuery.TheVariants as trail
+
+-- how many rows are passed over
+abbrev pub first_movement : BookQuery → ℕ → ℕ
+first_movement book.All len = 0
+first_movement (book.After n) len = min n len
+first_movement (book.Last n) len = len - n
+first_movement (book.Of w) len = 0
+first_movement (book.On f) len = 0
+
+abbrev pub first_line : TrailQuery → ℕ → ℕ
+first_line trail.All len = 0
+first_line (trail.After n) len = min n len
+first_line (trail.Last n) len = len - n
+first_line (trail.Of w) len = 0
+
+-- whether a row is of the waybill or the flight, if one is named
+abbrev pub is_movement_of : BookQuery → Move → Bool
+is_movement_of (book.Of w) m = m.awb == w
+is_movement_of (book.On f) m = is_of_flight f m
+is_movement_of _ m = true
+
+abbrev pub is_line_of : TrailQuery → ℕ × List ℕ → Bool
+is_line_of (trail.Of w) row = row.0 == w
+is_line_of _ row = true
+
+-- a row, if it is of what is asked for
+abbrev pub if_movement : BookQuery → BookRow → List BookRow
+if_movement query row = if is_movement_of query row.movement then row ∷ [] else []
+
+abbrev pub if_line : TrailQuery → TrailRow → List TrailRow
+if_line query row = if is_line_of query (row.awb, row.line) then row ∷ [] else []

@@ -1,0 +1,34 @@
+-- The flights of a map in the order of the readers.
+use Rattle.std.specs.Prelude.{Bool}
+use Rattle.std.proofs.Common.{ap, Ordering, is_eq}
+use Rattle.std.specs.Ordering.{eq_by_cmp}
+use Rattle.std.specs.Cmp.{IsTotalOrder, IsEquivalence, IsPartialEquivalence, Equal-is, both_ways, partial_equiv_from_equiv, tied_itself, tied_back, on_total, then_total, nat_cmp_total}
+use Rattle.std.specs.Cmp.Lexicographic.{nat_list_cmp_total}
+use Rattle.imp_fields.specs.Flight.{flight_text}
+use Rattle.shipment_machine.specs.declared.flight.FlightDate.{FlightDate}
+use Rattle.station_core.specs.Readers.{by_flight}
+use Rattle.map_state.specs.declared.flight_key.FlightKey.{FlightKey}
+
+-- flights are ordered by their written form, and then by the day
+abbrev pub by_key : FlightKey → FlightKey → Ordering
+by_key a b = by_flight a.flight b.flight
+
+flights_total : IsTotalOrder by_flight
+flights_total = then_total (on_total (λ (f : FlightDate). flight_text f.flight) nat_list_cmp_total) (on_total (λ (f : FlightDate). f.day) nat_cmp_total)
+
+pub key_total : IsTotalOrder by_key
+key_total = on_total (λ (k : FlightKey). k.flight) flights_total
+
+-- what the order doesn't tell apart is one key
+abbrev pub same_key : FlightKey → FlightKey → Bool
+same_key a b = eq_by_cmp by_key a b
+
+pub key_equiv : IsEquivalence same_key
+key_equiv = record {
+  refl = λ a. ap is_eq (tied_itself key_total a);
+  symm = λ a b. both_ways (same_key a b) (same_key b a) (λ e. ap is_eq (tied_back key_total a b ((Equal-is (by_key a b)).0 e))) (λ e. ap is_eq (tied_back key_total b a ((Equal-is (by_key b a)).0 e)));
+  congr = λ a b c e. ap is_eq (key_total.congr a b c ((Equal-is (by_key a b)).0 e));
+}
+
+pub key_per : IsPartialEquivalence same_key
+key_per = partial_equiv_from_equiv key_equiv

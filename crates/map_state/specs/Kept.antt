@@ -1,0 +1,14 @@
+-- What was kept under keys and of texts.
+use Rattle.std.specs.Prelude.{ℕ, Option, List, Vec}
+use Rattle.std.specs.HashMap.{HashMap, get_by}
+use Rattle.std.specs.Option.{option_map}
+use Rattle.std.specs.Str.{bytes_eq}
+use Rattle.station_core.specs.Step.{Kept}
+use Rattle.station_core.specs.Told.{kept_of}
+use Rattle.station_core.specs.declared.stored.KeptReply.{KeptReply}
+
+abbrev pub kept_under : {Z S : Type 0} → HashMap (Vec ℕ Z) KeptReply S → List ℕ → Option Kept
+kept_under replies key = option_map kept_of (get_by (λ k. bytes_eq key k.items) replies)
+
+abbrev pub count_under : {Z S : Type 0} → HashMap (Vec ℕ Z) ℕ S → List ℕ → Option ℕ
+count_under texts text = get_by (λ k. bytes_eq text k.items) texts

@@ -1,0 +1,11 @@
+pub mod Asked
+pub mod FlightKey
+pub mod Flow
+pub mod Kept
+pub mod Listed
+pub mod Maps
+pub mod Runs
+pub mod Shown
+pub mod Stock
+pub mod Summed
+pub mod WaybillFlows

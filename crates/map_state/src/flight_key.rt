@@ -1,0 +1,39 @@
+ghost use Rattle.std.specs.Prelude.{◌≡◌, ◌≤◌, take};
+ghost use Rattle.std.proofs.Props.{props};
+ghost use Rattle.imp_fields.specs.Flight.{IsDesignator, flight_text};
+
+use shipment_machine::FlightDate;
+
+/// A flight of a day, in the order of the readers: by its written form, then by the day.
+#[derive(Clone, Copy)]
+pub(crate) struct FlightKey {
+    pub(crate) flight: FlightDate,
+    // The written form, and what is behind it.
+    pub(crate) bytes: [u8; 7],
+    pub(crate) len: usize,
+    ghost is_flight: { IsDesignator flight.flight } by { Prim.hlevel props },
+    ghost is_text: { take len bytes ≡ flight_text flight.flight } by { Prim.hlevel props },
+    ghost within: { len ≤ 7 } by { Prim.hlevel props },
+}
+
+impl FlightKey {
+    /// The key of a flight.
+    pub(crate) fn of(flight: &FlightDate) -> FlightKey
+        ensures { result.flight ≡ flight.now }
+    {
+        let mut bytes = [0; 7];
+        let len = flight.flight.write(&mut bytes);
+        FlightKey {
+            flight: *flight,
+            bytes,
+            len,
+        }
+    }
+
+    /// The written form.
+    pub(crate) fn text(&self) -> &[u8]
+        ensures { result.now ≡ flight_text self.now.flight.flight }
+    {
+        &self.bytes[..self.len]
+    }
+}

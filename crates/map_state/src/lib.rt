@@ -1,0 +1,21 @@
+//! The state of a station in maps and lists in memory.
+#![tactic(auto)]
+
+mod asked;
+mod book;
+mod flight_key;
+mod flight_order;
+mod flow;
+mod keeping;
+mod listed;
+mod listing;
+mod opening;
+mod state;
+mod stock;
+mod stock_orders;
+mod stock_runs;
+mod store;
+mod waybill_flows;
+mod writes;
+
+pub use state::MapState;

@@ -1,0 +1,37 @@
+use crate::book::MovementBook;
+use crate::flight_key::FlightKey;
+use crate::stock::MapStock;
+use awb_number::Awb;
+use imp_fields::Airport;
+use shipment_machine::{Declared, Expected, Outbound};
+use station_core::KeptReply;
+use std::alloc::Global;
+use std::collections::{BTreeMap, HashMap};
+
+/// A line of the trail.
+#[derive(Drop)]
+pub(crate) struct TrailEntry {
+    pub(crate) awb: Awb,
+    pub(crate) line: Vec<u8>,
+}
+
+/// The state of a station in memory: a look-up for what a command reads, and sums beside the book.
+///
+/// Its only fault is that memory runs out. Nothing is said of what it shows after a fault.
+#[derive(Drop)]
+pub struct MapState {
+    pub(crate) alloc: Global,
+    pub(crate) here: Airport,
+    pub(crate) stock: MapStock,
+    pub(crate) declared: BTreeMap<u64, Declared>,
+    pub(crate) book: MovementBook,
+    pub(crate) flights: BTreeMap<FlightKey, Outbound>,
+    pub(crate) expected: BTreeMap<(FlightKey, u64), Expected>,
+    pub(crate) parts: BTreeMap<(FlightKey, [u8; 3], u32), Vec<u8>>,
+    // In the order in which they were added, as the outbox.
+    pub(crate) trail: Vec<TrailEntry>,
+    pub(crate) outbox: Vec<Vec<u8>>,
+    pub(crate) confirmed: u32,
+    pub(crate) kept_keys: HashMap<Vec<u8>, KeptReply>,
+    pub(crate) kept_texts: HashMap<Vec<u8>, u32>,
+}
