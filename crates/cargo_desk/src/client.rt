@@ -1,10 +1,11 @@
 //! A call that asks the service which runs on a port.
+ghost use Rattle.std.specs.Io.{ReadsAtMost};
 
 use cli_run::{Feed, Turns};
 use cli_words::LineCommand;
-use desk_client::{Connect, Service, ask_command, end_asked};
+use desk_client::{Connect, LastTry, Service, ask_command, end_asked};
 use station_core::Counted;
-use std::cell::RefCell;
+use std::cell::{Cell, RefCell};
 use std::io;
 use std::io::{ErrorKind, Read, Write};
 use std::net::{Ipv4Addr, SocketAddr, TcpStream};
@@ -14,15 +15,54 @@ use std::time::Duration;
 /// after 30 seconds.
 const MOST_WAIT: u64 = 40;
 
-/// The connection that is open, if there is one.
-type Open = RefCell<Option<TcpStream>>;
+/// The connection that is open, if there is one, and whether its last read ran out of time.
+#[derive(Drop)]
+struct Link {
+    open: RefCell<Option<TcpStream>>,
+    is_late: Cell<bool>,
+}
+
+impl Link {
+    /// No connection is open.
+    fn new() -> Link {
+        Link {
+            open: RefCell::new(None),
+            is_late: Cell::new(false),
+        }
+    }
+
+    /// Reads from the connection that is open.
+    fn read_open(&self, buf: &mut [u8]) -> io::Result<usize>
+        ensures { ReadsAtMost result buf.new }
+    {
+        let Ok(open) = self.open.try_borrow() else {
+            return Err(not_open());
+        };
+        match &*open {
+            Some(stream) => {
+                let mut stream = stream;
+                stream.read(buf)
+            }
+            None => Err(not_open()),
+        }
+    }
+
+    /// Notes whether a read ran out of time.
+    fn note(&self, read: &io::Result<usize>) {
+        let is_late = match read {
+            Ok(_) => false,
+            Err(error) => matches!(error.kind(), ErrorKind::WouldBlock | ErrorKind::TimedOut),
+        };
+        self.is_late.set(is_late);
+    }
+}
 
 /// The connections to a port of this machine, one after another.
 #[derive(Drop)]
 struct Connections<'a> {
     rt: &'a HostRuntime,
     port: u16,
-    open: &'a Open,
+    link: &'a Link,
     tried: u64,
     opened: u64,
 }
@@ -43,9 +83,10 @@ impl Connections<'_> {
         let Ok(stream) = connected(self.rt, self.port) else {
             return false;
         };
-        match self.open.try_borrow_mut() {
+        match self.link.open.try_borrow_mut() {
             Ok(mut open) => {
                 *open = Some(stream);
+                self.link.is_late.set(false);
                 true
             }
             Err(_) => false,
@@ -69,12 +110,16 @@ impl Connect for Connections<'_> {
         self.opened = opened;
         true
     }
+
+    fn is_late(&self) -> bool {
+        self.link.is_late.get()
+    }
 }
 
 /// One end of the connection that is open.
 #[derive(Drop)]
 struct End<'a> {
-    open: &'a Open,
+    link: &'a Link,
 }
 
 /// The error of a connection that isn't there. It never occurs: a question opens one first.
@@ -84,22 +129,15 @@ fn not_open() -> io::Error {
 
 impl Read for End<'_> {
     fn read(&mut self, buf: &mut [u8]) -> io::Result<usize> {
-        let Ok(open) = self.open.try_borrow() else {
-            return Err(not_open());
-        };
-        match &*open {
-            Some(stream) => {
-                let mut stream = stream;
-                stream.read(buf)
-            }
-            None => Err(not_open()),
-        }
+        let read = self.link.read_open(buf);
+        self.link.note(&read);
+        read
     }
 }
 
 impl Write for End<'_> {
     fn write(&mut self, buf: &[u8]) -> io::Result<usize> {
-        let Ok(open) = self.open.try_borrow() else {
+        let Ok(open) = self.link.open.try_borrow() else {
             return Err(not_open());
         };
         match &*open {
@@ -125,17 +163,18 @@ pub fn ask_port<R: Read + Drop>(
     reader: R,
     turns: &Turns,
 ) -> u8 {
-    let open = RefCell::new(None);
+    let link = Link::new();
     let mut service = Service {
         connections: Connections {
             rt,
             port,
-            open: &open,
+            link: &link,
             tried: 0,
             opened: 0,
         },
-        reader: Counted::new(End { open: &open }),
-        writer: Counted::new(End { open: &open }),
+        reader: Counted::new(End { link: &link }),
+        writer: Counted::new(End { link: &link }),
+        last: LastTry::Nothing,
     };
     let mut output = Counted::new(rt.stdout());
     let mut errors = Counted::new(rt.stderr());
@@ -148,5 +187,5 @@ pub fn ask_port<R: Read + Drop>(
         &mut output,
         &mut errors,
     );
-    end_asked(&mut errors, ended)
+    end_asked(&mut errors, ended, port, service.last)
 }

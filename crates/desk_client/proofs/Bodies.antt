@@ -1,10 +1,10 @@
--- Whole bodies, by what the head tells of their length.
-use Rattle.std.proofs.Common.{◌≡◌, ◌∙◌, ap, sym, subst, refl, ℕ, Bool, true, false, Some, Option, List, [], ◌∷◌, length, codes}
-use Rattle.std.specs.Prelude.{◌↔◌}
+-- What a body is, by what its head tells of its length.
+use Rattle.std.proofs.Common.{arith, ◌≡◌, ◌∙◌, ap, sym, subst, ℕ, ◌+◌, ◌<◌, Some, None, Option, List, [], ◌∷◌, ◌++◌, length, length-append, codes}
 use Rattle.http_desk.specs.Digits.{number_told}
 use Rattle.http_desk.specs.Request.{values_of}
-use Rattle.desk_client.specs.Ended.{has_end}
-use Rattle.desk_client.specs.Whole.{IsAsLong, IsWholeBody}
+use Rattle.desk_client.specs.Whole.{IsAsLong, IsTooShort, IsExtent, IsExtentOf}
+use Rattle.desk_client.specs.declared.whole.Extent.{Extent}
+use Rattle.desk_client.specs.declared.whole.Extent.TheVariants as extent
 
 abbrev parts : List (List ℕ × List ℕ) → List (List ℕ)
 parts fields = values_of (codes "transfer-encoding") fields
@@ -12,25 +12,37 @@ parts fields = values_of (codes "transfer-encoding") fields
 abbrev lengths : List (List ℕ × List ℕ) → List (List ℕ)
 lengths fields = values_of (codes "content-length") fields
 
-whole_by : (fields : List (List ℕ × List ℕ)) (body : List ℕ) (found : List (List ℕ)) (b : Bool) → parts fields ≡ [] → lengths fields ≡ found
-    → ((b ≡ true) ↔ IsAsLong found body) → (b ≡ true) ↔ IsWholeBody fields body
-whole_by fields body found b plain long is = (
-  λ yes. record { plain = plain; long = subst (λ l. IsAsLong l body) (sym long) (is.0 yes) },
-  λ whole. is.1 (subst (λ l. IsAsLong l body) long whole.long),
-)
+some_is : (x y : ℕ) → ◌≡◌ {A = Option ℕ} (Some x) (Some y) → x ≡ y
+some_is x y e = cc e
 
-pub whole_report : (fields : List (List ℕ × List ℕ)) (body : List ℕ) (b : Bool) → parts fields ≡ [] → lengths fields ≡ []
-    → b ≡ has_end body → (b ≡ true) ↔ IsWholeBody fields body
-whole_report fields body b plain long is = whole_by fields body [] b plain long (λ yes. sym is ∙ yes, λ ends. is ∙ ends)
+too_long : (a b c n : ℕ) → n < a → b ≡ a + c → n ≡ b → ⊥
+too_long a b c n less sum is = omega (arith, less, sum, is)
 
-pub whole_json : (fields : List (List ℕ × List ℕ)) (body value : List ℕ) (b : Bool) → parts fields ≡ [] → lengths fields ≡ value ∷ []
-    → ((b ≡ true) ↔ (number_told value ≡ Some (length body))) → (b ≡ true) ↔ IsWholeBody fields body
-whole_json fields body value b plain long is = whole_by fields body (value ∷ []) b plain long is
+-- by one length
+pub as_told : (value body : List ℕ) (told len : ℕ) → number_told value ≡ Some told → len ≡ length body → told ≡ len → IsExtent (value ∷ []) body extent.Whole
+as_told value body told len is len_is same = is ∙ ap Some (same ∙ len_is)
 
-pub of_several : (fields : List (List ℕ × List ℕ)) (body first next : List ℕ) (rest : List (List ℕ)) → parts fields ≡ [] → lengths fields ≡ first ∷ next ∷ rest
-    → (◌≡◌ {A = Bool} false true) ↔ IsWholeBody fields body
-of_several fields body first next rest plain long = whole_by fields body (first ∷ next ∷ rest) false plain long (λ (no : false ≡ true). cc, λ none. absurd none)
+pub less_than_told : (value body : List ℕ) (told len : ℕ) → number_told value ≡ Some told → len ≡ length body → len < told → IsExtent (value ∷ []) body extent.Short
+less_than_told value body told len is len_is less = (told, is, subst (λ (n : ℕ). n < told) len_is less)
+
+pub more_than_told : (value body : List ℕ) (told len : ℕ) → number_told value ≡ Some told → len ≡ length body → told < len → IsExtent (value ∷ []) body extent.Never
+more_than_told value body told len is len_is less more long =
+    too_long (length body) (length (body ++ more)) (length more) told (subst (λ (n : ℕ). told < n) len_is less) (length-append body more) (some_is told (length (body ++ more)) (sym is ∙ long))
+
+pub untold : (value body : List ℕ) → number_told value ≡ None → IsExtent (value ∷ []) body extent.Never
+untold value body is more long = let no : None ≡ Some (length (body ++ more)) = sym is ∙ long in cc no
+
+-- by all of them
+pub by_lengths : (fields : List (List ℕ × List ℕ)) (body : List ℕ) (found : List (List ℕ)) (e : Extent) → parts fields ≡ [] → lengths fields ≡ found
+    → IsExtent found body e → IsExtentOf fields body e
+by_lengths fields body found extent.Whole plain long is = record { plain = plain; long = subst (λ l. IsAsLong l body) (sym long) is }
+by_lengths fields body found extent.Short plain long is = record { plain = plain; short = subst (λ l. IsTooShort l body) (sym long) is }
+by_lengths fields body found extent.Never plain long is = λ more whole. is more (subst (λ l. IsAsLong l (body ++ more)) long whole.long)
+
+pub of_several : (fields : List (List ℕ × List ℕ)) (body first next : List ℕ) (rest : List (List ℕ)) → lengths fields ≡ first ∷ next ∷ rest
+    → IsExtentOf fields body extent.Never
+of_several fields body first next rest long more whole = absurd (subst (λ l. IsAsLong l (body ++ more)) long whole.long)
 
 pub in_parts : (fields : List (List ℕ × List ℕ)) (body first : List ℕ) (rest : List (List ℕ)) → parts fields ≡ first ∷ rest
-    → (◌≡◌ {A = Bool} false true) ↔ IsWholeBody fields body
-in_parts fields body first rest some = (λ (no : false ≡ true). cc, λ (whole : IsWholeBody fields body). let none : first ∷ rest ≡ [] = sym some ∙ whole.plain in cc)
+    → IsExtentOf fields body extent.Never
+in_parts fields body first rest some more whole = let none : first ∷ rest ≡ [] = sym some ∙ whole.plain in cc none

@@ -1,5 +1,5 @@
 -- A step after a good one.
-use Rattle.std.proofs.Common.{◌≡◌, inl, subst, ap, Bool, true, Result, Ok}
+use Rattle.std.proofs.Common.{◌≡◌, inl, subst, Bool, true, Result, Ok}
 use Rattle.stock_list.specs.declared.answer.RunFault.{RunFault}
 use Rattle.desk_client.specs.Looks.{HasGoneOn, Shown}
 

@@ -1,5 +1,5 @@
 -- What an input leaves that a service was asked for.
-use Rattle.std.proofs.Common.{◌≡◌, ◌∙◌, sym, refl, ap, subst, inl, inr, ℕ, Bool, true, false, List, [], ◌∷◌, ◌++◌, Option, None, Result, Ok, Err, string_bytes}
+use Rattle.std.proofs.Common.{◌≡◌, ◌∙◌, sym, refl, ap, subst, inl, inr, ℕ, Bool, List, [], ◌∷◌, ◌++◌, Option, None, Result, Ok, Err, string_bytes}
 use Rattle.std.proofs.lemmas.List.{append-nil}
 use Rattle.station_core.specs.Given.{Given}
 use Rattle.station_core.specs.declared.input.Input.{Input}

@@ -2,6 +2,7 @@ pub mod Asking
 pub mod Bodies
 pub mod Cuts
 pub mod Ends
+pub mod Found
 pub mod Going
 pub mod Grown
 pub mod Hearing
@@ -10,5 +11,7 @@ pub mod ListRows
 pub mod OrderTexts
 pub mod Posts
 pub mod ReadBack
+pub mod RowPaths
+pub mod Telling
 pub mod Trying
 pub mod Unread

@@ -1,11 +1,13 @@
 -- One row more.
-use Rattle.std.proofs.Common.{arith, ◌≡◌, ◌∙◌, sym, refl, ap, subst, inl, inr, ⊎_elim, ℕ, suc, ◌+◌, ◌<◌, Bool, true, false, ◌&&◌, List, [], ◌∷◌, ◌++◌, length, Option, Some, None, IfSome, Result, Ok, Err}
+use Rattle.std.proofs.Common.{arith, ◌≡◌, ◌∙◌, sym, refl, ap, subst, inl, inr, ℕ, ◌+◌, Bool, true, false, ◌&&◌, List, [], ◌∷◌, ◌++◌, length, Option, Some, None, IfSome, Result, Ok, Err}
 use Rattle.std.specs.Result.{IsErrAnd}
-use Rattle.serde_json.specs.Written.{compact_text}
+use Rattle.std.specs.Prelude.{IsUtf8}
 use Rattle.agent_stock.specs.declared.stock.Order.{Order}
 use Rattle.desk_commands.specs.Command.{order_verb}
 use Rattle.desk_commands.specs.Verb.{word}
 use Rattle.desk_commands.specs.declared.verb.Verb.{Verb}
+use Rattle.desk_commands.specs.declared.command.Command.TheVariants.{Stock}
+use Rattle.http_desk.specs.Request.{IsSaid}
 use Rattle.station_core.specs.Given.{Given}
 use Rattle.stock_list.specs.declared.answer.RunFault.{RunFault}
 use Rattle.stock_list.specs.declared.answer.RunFault.TheVariants as fault
@@ -15,7 +17,7 @@ use Rattle.cli_run.specs.InTurn.{Come}
 use Rattle.desk_client.specs.Again.{Talk}
 use Rattle.desk_client.specs.Heard.{HasAnsweredInput}
 use Rattle.desk_client.specs.ListRows.{AreAnswered, HasAnsweredOrder, HasEndedAt, HaveRowsBeenAnswered}
-use Rattle.desk_client.specs.Orders.{order_data}
+use Rattle.desk_client.specs.Orders.{order_data, IsOrderText}
 use Rattle.desk_client.specs.Request.{command_request, most_answer}
 
 and_true : (b : Bool) → (b && true) ≡ b
@@ -87,12 +89,16 @@ passed_rows Step left old new (Ok x) e same run = absurd same
 passed_rows Step left old new (Err x) e same run = subst (λ (f : RunFault). HaveRowsBeenAnswered Step left old new (Err f)) (sym same) run
 
 -- an order that was asked by its verb and its body
-pub ordered : {E : Type 0} (taken : E → Given) (number : ℕ) (key : List ℕ) (order : Order) (verb : Verb) (body : List ℕ) (old new : Come Talk E) (r : Result Bool RunFault)
-    → verb ≡ order_verb order → body ≡ compact_text (order_data order)
+pub ordered : {E : Type 0} (taken : E → Given) (number : ℕ) (key : List ℕ) (order : Order) (verb : Verb) (text body : List ℕ) (old new : Come Talk E) (r : Result Bool RunFault)
+    → verb ≡ order_verb order → body ≡ text → IsUtf8 text → IsOrderText order text
     → HasAnsweredInput taken (Some number) (input_of (key, order)) (command_request (word verb) key body) most_answer old new r
     → HasAnsweredOrder taken number key order old new r
-ordered taken number key order verb body old new r verb_is body_is answered =
+ordered taken number key order verb text body old new r verb_is body_is utf8 is answered =
     let input = input_of (key, order) in
     let by_verb : HasAnsweredInput taken (Some number) input (command_request (word (order_verb order)) key body) most_answer old new r =
     subst (λ (v : Verb). HasAnsweredInput taken (Some number) input (command_request (word v) key body) most_answer old new r) verb_is answered in
-    inr (subst (λ (b : List ℕ). HasAnsweredInput taken (Some number) input (command_request (word (order_verb order)) key b) most_answer old new r) body_is by_verb)
+    let said : IsSaid (order_verb order) text (Stock order) = (utf8, (order_data order, is.text_is.1, is.body)) in
+    inr (
+      subst (λ (b : List ℕ). IsSaid (order_verb order) b (Stock order)) is.text_is.0 said,
+      subst (λ (b : List ℕ). HasAnsweredInput taken (Some number) input (command_request (word (order_verb order)) key b) most_answer old new r) (body_is ∙ is.text_is.0) by_verb,
+    )

@@ -1,24 +1,21 @@
 -- A desk reads the request of a command as what it is.
-use Rattle.std.proofs.Common.{arith, inl, ◌≡◌, ◌∙◌, ap, sym, subst, refl, ℕ, ◌+◌, ◌-◌, ◌/◌, ◌%◌, ◌<◌, ◌≤◌, ◌^◌, Bool, true, false, Some, None, Option, Result, Ok, Err, List, [], ◌∷◌, ◌++◌, length, map, take, drop, reverse, codes, decimal, length-append, append_assoc}
-use Rattle.std.specs.Prelude.{◌↔◌, ◌&&◌, ◌||◌, ◌==◌, not, nat_le, if◌then◌else◌}
+use Rattle.std.proofs.Common.{arith, inl, ◌≡◌, ◌∙◌, ap, sym, subst, refl, ℕ, ◌+◌, ◌-◌, ◌/◌, ◌%◌, ◌<◌, ◌≤◌, ◌^◌, Bool, true, Some, None, Ok, Err, List, [], ◌∷◌, ◌++◌, length, map, take, drop, reverse, codes, decimal, length-append, append_assoc}
+use Rattle.std.specs.Prelude.{◌↔◌, ◌&&◌, not, nat_le, if◌then◌else◌}
 use Rattle.std.specs.List.{list_all}
-use Rattle.std.specs.Fmt.{digits}
 use Rattle.std.proofs.lemmas.Bool.{and_parts, and_from, leb-true, le-leb}
 use Rattle.std.proofs.lemmas.Bool.Decides.{nat_tests}
 use Rattle.std.proofs.lemmas.Fmt.{length-decimal-le, decimal_nonempty, decimal_by_steps}
 use Rattle.std.proofs.lemmas.List.Sums.{AllPass-from_list_all, list_all-from_AllPass}
-use Rattle.std.proofs.lemmas.List.Folds.{list_all-append}
 use Rattle.std.proofs.Math.Seq.{take-append-add, drop-append_seam}
-use Rattle.httparse.specs.Grammar.{RequestHead, print_request, is_token_byte, is_ows, is_value_byte, ReadsRequest}
+use Rattle.httparse.specs.Grammar.{RequestHead, is_token_byte, is_ows, is_value_byte, ReadsRequest}
 use Rattle.httparse.specs.Spans.{name_and_value}
-use Rattle.httparse.proofs.GrammarLemmas.{cons-append}
 use Rattle.httparse.proofs.TrimLemmas.{AllPass-reverse}
 use Rattle.http1.specs.Fields.{Header}
-use Rattle.http1.specs.Head.{starts_visible, is_trimmed_value, is_header, are_headers, is_request_line, head_refusal, field_of, request_head, request_text, print_headers, section_text}
+use Rattle.http1.specs.Head.{starts_visible, is_trimmed_value, are_headers, is_request_line, head_refusal, request_head, request_text, print_headers, section_text}
 use Rattle.http1.proofs.HeadLemmas.{request_text_is}
 use Rattle.http1.proofs.HeadRoundTrip.{RequestReadsBack, request_reads_back}
 use Rattle.awb_number.specs.Digits.{is_digit, decimal_value}
-use Rattle.awb_number.proofs.Padded.{is_digit_from, decimal_value-last}
+use Rattle.awb_number.proofs.Padded.{decimal_value-last}
 use Rattle.imp_fields.proofs.WrittenLaws.{decimal_digits}
 use Rattle.station_days.specs.Steps.{where_true}
 use Rattle.desk_commands.specs.declared.verb.Verb.{Verb}
@@ -30,7 +27,7 @@ use Rattle.reports.specs.declared.report.Report.TheVariants as report
 use Rattle.http_desk.specs.Printouts.{as_text}
 use Rattle.http_desk.specs.Paths.{report_path, IsPath, LeadsTo, is_path_byte}
 use Rattle.http_desk.specs.Routes.{Got, got_report, gets, Place, posts, posted_command, posted_telegram, place_of}
-use Rattle.http_desk.specs.Request.{Head, looks_up, sends, sends_body, place_asks, own_asks, head_asks, key_of, key_among, body_length, length_in, within_length}
+use Rattle.http_desk.specs.Request.{Head, looks_up, sends, sends_body, place_asks, head_asks, key_of, length_in, within_length}
 use Rattle.http_desk.specs.Digits.{is_number}
 use Rattle.http_desk.specs.Answer.{head_of, HasHead}
 use Rattle.desk_client.specs.Request.{command_lines, key_line, command_head, telegram_head, get_request}
@@ -73,7 +70,7 @@ text_is name key n = sym (request_text_is (codes "POST") (target_of name) 1 (fie
 abbrev is_shown : ℕ → Bool
 is_shown b = not (is_ows b) && is_value_byte b
 
-all_weaker : (p q : ℕ → Bool) → ((b : ℕ) → p b ≡ true → q b ≡ true) → (xs : List ℕ) → list_all p xs ≡ true → list_all q xs ≡ true
+pub all_weaker : (p q : ℕ → Bool) → ((b : ℕ) → p b ≡ true → q b ≡ true) → (xs : List ℕ) → list_all p xs ≡ true → list_all q xs ≡ true
 all_weaker p q weaker [] all = refl
 all_weaker p q weaker (x ∷ xs) all =
     let parts = and_parts (p x) (list_all p xs) all in
@@ -110,10 +107,10 @@ refused_if line headers hs l h = rw (l, h) refl
 
 -- the length
 
-record Writes (n : ℕ) (ds : List ℕ) : Type 0 where
-  value : decimal_value ds ≡ n
+pub record Writes (n : ℕ) (ds : List ℕ) : Type 0 where
+  pub value : decimal_value ds ≡ n
 
-writes : (n : ℕ) → n < 2 ^ 64 → Writes n (decimal n)
+pub writes : (n : ℕ) → n < 2 ^ 64 → Writes n (decimal n)
 writes n lt = decimal_by_steps Writes one more n lt
   where
     one : (m : ℕ) → m < 10 → Writes m ((48 + m) ∷ [])
@@ -281,7 +278,7 @@ get_short path few = omega (arith, few, length-append path (codes " HTTP/1.1\r\n
 nothing_behind : (xs : List ℕ) → drop (length xs) (xs ++ []) ≡ []
 nothing_behind xs = drop-append_seam xs []
 
-get_read : (path : List ℕ) (got : Got) → is_request_line (codes "GET") path 1 ≡ true → length path ≤ 100 → place_of path ≡ Some (gets got)
+pub get_read : (path : List ℕ) (got : Got) → is_request_line (codes "GET") path 1 ≡ true → length path ≤ 100 → place_of path ≡ Some (gets got)
     → IsRead (get_request path ++ []) (looks_up got) None []
 get_read path got line few place =
     let h : RequestHead = request_head (codes "GET") path 1 get_fields in

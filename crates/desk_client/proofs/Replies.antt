@@ -1,5 +1,5 @@
 -- What a reply tells is the line of its answer.
-use Rattle.std.proofs.Common.{arith, ◌≡◌, ◌∙◌, sym, ap, refl, ℕ, ◌+◌, ◌<◌, ◌^◌, Bool, true, false, Some, None, Option, List, [], ◌∷◌, ◌++◌, length, length-append, codes, decimal}
+use Rattle.std.proofs.Common.{arith, ◌≡◌, ◌∙◌, ap, refl, ℕ, ◌<◌, Bool, true, false, Some, None, List, [], ◌∷◌, ◌++◌, length, length-append, codes, decimal}
 use Rattle.std.specs.Prelude.{◌==◌, ◌||◌, ◌&&◌, if◌then◌else◌, option_map, option_and_then}
 use Rattle.std.specs.Str.{bytes_eq}
 use Rattle.imp_fields.specs.Fault.{why_word}
@@ -11,8 +11,7 @@ use Rattle.station_days.specs.Date.{day_line}
 use Rattle.imp_fields.specs.Flight.{flight_text}
 use Rattle.shipment_machine.specs.declared.plans.Detail.{Detail}
 use Rattle.shipment_machine.specs.declared.plans.Detail.TheVariants as detail
-use Rattle.shipment_machine.specs.declared.plans.Refusal.{Refusal}
-use Rattle.shipment_machine.specs.Texts.{detail_text, refused_with, refusal_text, flight_date_text}
+use Rattle.shipment_machine.specs.Texts.{detail_text, refused_with, flight_date_text}
 use Rattle.station_core.specs.declared.answer.Answer.{Answer}
 use Rattle.station_core.specs.declared.answer.Answer.TheVariants.{Done, Refused}
 use Rattle.stock_list.specs.Lines.{answer_text}

@@ -1,20 +1,20 @@
 -- No input and no row ends a run by `Read`.
-use Rattle.std.proofs.Common.{◌≡◌, ◌∙◌, sym, refl, ap, subst, ⊎_elim, ℕ, Bool, true, false, List, Option, Some, None, Result, Ok, Err}
+use Rattle.std.proofs.Common.{◌≡◌, sym, subst, ⊎_elim, ℕ, Bool, true, List, Option, Some, None, Result, Ok, Err}
 use Rattle.agent_stock.specs.declared.stock.Order.{Order}
 use Rattle.station_core.specs.Given.{Given}
 use Rattle.station_core.specs.declared.input.Input.{Input}
 use Rattle.stock_list.specs.declared.answer.RunFault.{RunFault}
 use Rattle.stock_list.specs.declared.answer.RunFault.TheVariants as fault
-use Rattle.stock_list.specs.Lines.{bad_line, input_of, Row}
+use Rattle.stock_list.specs.Lines.{input_of, Row}
 use Rattle.stock_list.specs.Row.{row_asks}
 use Rattle.cli_run.specs.declared.asked.Asked.{Asked}
 use Rattle.cli_run.specs.declared.asked.Asked.TheVariants as asked
 use Rattle.cli_run.specs.Acts.{HasNotHeard, HasSkipped}
 use Rattle.cli_run.specs.Ended.{HasToldPart}
 use Rattle.cli_run.specs.InTurn.{Come}
-use Rattle.desk_client.specs.Again.{Talk, IsAnswered}
+use Rattle.desk_client.specs.Again.{Talk}
 use Rattle.desk_client.specs.Heard.{service_fault, HasAnswered, HasAnsweredInput, HasHeard, HasStoppedInput, HasUnderstoodLine}
-use Rattle.desk_client.specs.ListRows.{order_request, HasAnsweredAsks, HasAnsweredOrder, HasAnsweredRow, HasNotBegun, HasToldBadRow}
+use Rattle.desk_client.specs.ListRows.{order_request, HasAnsweredAsks, HasAnsweredOrder, HasAnsweredRow, HasNotBegun}
 use Rattle.desk_client.specs.Posted.{HasAnsweredLine, HasHeardLine, HasHeardValue}
 use Rattle.desk_client.specs.Request.{most_answer}
 use Rattle.desk_client.specs.declared.ask.Answer.{Answer}
@@ -31,6 +31,9 @@ no_service vain.Refused is = cc
 no_service vain.Write is = cc
 no_service vain.Read is = cc
 no_service vain.Cut is = cc
+no_service vain.Late is = cc
+no_service vain.Long is = cc
+no_service vain.Foreign is = cc
 
 no_line : (a : Answer) → HasUnderstoodLine a (Err fault.Read) → ⊥
 no_line a is = cc
@@ -78,7 +81,7 @@ no_begin old new none = let is : ◌≡◌ {A = Result Bool RunFault} (Err fault
 order_reads : {E : Type 0} (taken : E → Given) (number : ℕ) (key : List ℕ) (order : Order) (old new : Come Talk E)
     → HasAnsweredOrder taken number key order old new (Err fault.Read) → ⊥
 order_reads taken number key order old new answered =
-    ⊎_elim (no_begin old new) (λ input. input_reads taken (Some number) (input_of (key, order)) (order_request key order) most_answer old new input) answered
+    ⊎_elim (no_begin old new) (λ asked. input_reads taken (Some number) (input_of (key, order)) (order_request key order) most_answer old new asked.1) answered
 
 asks_reads : {E : Type 0} (taken : E → Given) (number : ℕ) (asks : Option (List ℕ × Order)) (old new : Come Talk E)
     → HasAnsweredAsks taken number asks old new (Err fault.Read) → ⊥

@@ -6,19 +6,27 @@ use Rattle.desk_client.specs.Count.{one_more}
 use Rattle.desk_client.specs.declared.ask.Answer.{Answer}
 use Rattle.desk_client.specs.declared.ask.AskFault.{AskFault}
 use Rattle.desk_client.specs.declared.ask.AskFault.TheVariants as fault
+use Rattle.desk_client.specs.declared.connect.LastTry.{LastTry}
+use Rattle.desk_client.specs.declared.connect.LastTry.TheVariants as last
 use Rattle.desk_client.specs.declared.connect.Service.{Service}
 
--- what was done with a service so far: how many connections were tried, and how many opened, and
--- what was sent and what came over all of them
+-- what was done with a service so far: how many connections were tried, and how many opened, what
+-- was sent and what came over all of them, and how the last try ended
 pub record Talk : Type 0 where
   pub tried : ℕ
   pub opened : ℕ
   pub sent : Given
   pub come : Given
+  pub last : LastTry
 
 abbrev pub talk : {C I O : Type 0} → (C → ℕ) → (C → ℕ) → (I → Given) → (O → Given) → Service C I O → Talk
 talk tried opened given taken s =
-    record { tried = tried s.connections; opened = opened s.connections; sent = taken s.writer; come = given s.reader }
+    record { tried = tried s.connections; opened = opened s.connections; sent = taken s.writer; come = given s.reader; last = s.last }
+
+-- how a try ended
+abbrev pub last_of : Result Answer AskFault → LastTry
+last_of (Ok a) = last.Answered a.status
+last_of (Err e) = last.Failed e
 
 -- The request was sent over a connection more, and its answer read.
 pub record HasTalked (most : ℕ) (request : List ℕ) (old new : Talk) (result : Result Answer AskFault) : Type 0 where
@@ -34,8 +42,13 @@ pub record IsRefused (old new : Talk) (result : Result Answer AskFault) : Type 0
   pub unsent : new.sent ≡ old.sent
   pub unread : new.come ≡ old.come
 
+-- one of the two
+abbrev pub HasOpened : ℕ → List ℕ → Talk → Talk → Result Answer AskFault → Type 0
+HasOpened most request old new result = IsRefused old new result ⊎ HasTalked most request old new result
+
+-- one try, and how it ended is kept
 abbrev pub HasTried : ℕ → List ℕ → Talk → Talk → Result Answer AskFault → Type 0
-HasTried most request old new result = IsRefused old new result ⊎ HasTalked most request old new result
+HasTried most request old new result = HasOpened most request old new result × (new.last ≡ last_of result)
 
 -- a question that ended by this fault is asked again: no whole answer has come
 abbrev pub is_vain : AskFault → Bool

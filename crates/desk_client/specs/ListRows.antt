@@ -1,9 +1,11 @@
 -- What the rows of a stock list leave.
-use Rattle.std.specs.Prelude.{◌≡◌, ◌⊎◌, ◌+◌, ◌&&◌, ℕ, Bool, true, false, List, [], ◌∷◌, ◌++◌, length, Option, Some, None, Result, Ok, Err, IfSome}
+use Rattle.std.specs.Prelude.{◌≡◌, ◌⊎◌, ◌+◌, ◌&&◌, ℕ, Bool, true, List, [], ◌∷◌, length, Option, Some, None, Result, Ok, Err, IfSome}
 use Rattle.serde_json.specs.Written.{compact_text}
 use Rattle.agent_stock.specs.declared.stock.Order.{Order}
 use Rattle.desk_commands.specs.Command.{order_verb}
 use Rattle.desk_commands.specs.Verb.{word}
+use Rattle.desk_commands.specs.declared.command.Command.TheVariants.{Stock}
+use Rattle.http_desk.specs.Request.{IsSaid}
 use Rattle.station_core.specs.Given.{Given}
 use Rattle.stock_list.specs.declared.answer.RunFault.{RunFault}
 use Rattle.stock_list.specs.declared.answer.RunFault.TheVariants as fault
@@ -26,11 +28,12 @@ order_request key order = command_request (word (order_verb order)) key (compact
 abbrev pub HasNotBegun : {E : Type 0} → Come Talk E → Come Talk E → Result Bool RunFault → Type 0
 HasNotBegun old new result = (new ≡ old) × (result ≡ Err fault.Memory)
 
--- the service was asked for the order, and answered
+-- the service was asked for the order, by a body that says it to a desk, and answered
 abbrev pub HasAnsweredOrder : {E : Type 0} → (E → Given) → ℕ → List ℕ → Order → Come Talk E → Come Talk E → Result Bool RunFault → Type 0
 HasAnsweredOrder taken number key order old new result =
     HasNotBegun old new result
-    ⊎ HasAnsweredInput taken (Some number) (input_of (key, order)) (order_request key order) most_answer old new result
+    ⊎ (IsSaid (order_verb order) (compact_text (order_data order)) (Stock order)
+    × HasAnsweredInput taken (Some number) (input_of (key, order)) (order_request key order) most_answer old new result)
 
 -- a row that asks nothing has its line and its reason, and the service isn't asked
 pub record HasToldBadRow {E : Type 0} (taken : E → Given) (number : ℕ) (old new : Come Talk E) (result : Result Bool RunFault) : Type 0 where

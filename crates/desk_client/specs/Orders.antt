@@ -1,11 +1,16 @@
 -- The body of an order on the stock.
-use Rattle.std.specs.Prelude.{ℕ, List, codes}
+use Rattle.std.specs.Prelude.{◌≡◌, ℕ, List, codes, Some}
 use Rattle.serde_json.specs.Data.{Data, number, unsigned, string, object, member, no_members}
+use Rattle.serde_json.specs.Read.{read}
+use Rattle.serde_json.specs.Written.{compact_text}
 use Rattle.awb_number.specs.Digits.{padded}
 use Rattle.awb_number.specs.Number.{prefix_of, serial_of}
 use Rattle.agent_stock.specs.declared.stock.Run.{Run}
 use Rattle.agent_stock.specs.declared.stock.Order.{Order}
 use Rattle.agent_stock.specs.declared.stock.Order.TheVariants.{TakeIn, Issue, GiveBack, Void}
+use Rattle.desk_commands.specs.Body.{IsBodyOf}
+use Rattle.desk_commands.specs.Command.{order_verb}
+use Rattle.desk_commands.specs.declared.command.Command.TheVariants.{Stock}
 
 -- how many numbers, and the prefix and the serial of the first
 abbrev pub run_object : ℕ → List ℕ → List ℕ → Data
@@ -32,3 +37,12 @@ order_data (TakeIn run) = run_data run
 order_data (Issue run agent) = agents_data run agent
 order_data (GiveBack run agent) = agents_data run agent
 order_data (Void run) = run_data run
+
+-- the text of a value, which is read as that value
+abbrev pub IsTextOf : Data → List ℕ → Type 0
+IsTextOf d text = (text ≡ compact_text d) × (read text ≡ Some d)
+
+-- the text of an order's body, which says the order
+pub record IsOrderText (order : Order) (text : List ℕ) : Type 0 where
+  pub text_is : IsTextOf (order_data order) text
+  pub body : IsBodyOf (order_verb order) (order_data order) (Stock order)

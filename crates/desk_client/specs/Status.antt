@@ -1,7 +1,11 @@
 -- How a call ends that asked a service.
-use Rattle.std.specs.Prelude.{ℕ, Bool, true, false, List, codes, Result, Ok, Err}
+use Rattle.std.specs.Prelude.{ℕ, ◌==◌, Bool, true, false, List, [], ◌∷◌, ◌++◌, codes, decimal, Option, Some, None, Result, Ok, Err, if◌then◌else◌}
 use Rattle.stock_list.specs.declared.answer.RunFault.{RunFault}
 use Rattle.stock_list.specs.declared.answer.RunFault.TheVariants as fault
+use Rattle.desk_client.specs.declared.ask.AskFault.{AskFault}
+use Rattle.desk_client.specs.declared.ask.AskFault.TheVariants as vain
+use Rattle.desk_client.specs.declared.connect.LastTry.{LastTry}
+use Rattle.desk_client.specs.declared.connect.LastTry.TheVariants as last
 
 -- the line of a fault; the store is the service's
 abbrev pub fault_line : RunFault → List ℕ
@@ -9,6 +13,36 @@ fault_line fault.Read = codes "fault read\n"
 fault_line fault.Write = codes "fault write\n"
 fault_line fault.Memory = codes "fault memory\n"
 fault_line fault.Store = codes "fault service\n"
+
+-- what is wrong with a service that answers as no desk does
+abbrev pub no_desk : List ℕ
+no_desk = codes "the answer isn't a cargo desk's; give --at the port of the service"
+
+-- what went wrong at a try, and what to do
+abbrev pub fault_why : AskFault → Option (List ℕ)
+fault_why vain.Refused = Some (codes "nothing listens here; start the service on this port, or give --at the port that it has")
+fault_why vain.Write = Some (codes "the connection ended before the whole answer; call again, with the same keys")
+fault_why vain.Read = Some (codes "the connection ended before the whole answer; call again, with the same keys")
+fault_why vain.Late = Some (codes "no answer in time; the service is busy or hangs: call again later, with the same keys")
+fault_why vain.Memory = None
+fault_why vain.Cut = Some (codes "the connection ended before the whole answer; call again, with the same keys")
+fault_why vain.Long = Some (codes "the answer is longer than a cargo desk's; give --at the port of the service")
+fault_why vain.Foreign = Some no_desk
+
+-- the same by how the last try ended; a desk that answers 503 says why on its own output
+abbrev pub last_why : LastTry → Option (List ℕ)
+last_why last.Nothing = None
+last_why (last.Answered status) = if status == 503 then None else Some no_desk
+last_why (last.Failed e) = fault_why e
+
+-- the line of a service that didn't answer, and then why, at its port
+abbrev pub service_text : ℕ → Option (List ℕ) → List ℕ
+service_text port None = fault_line fault.Store
+service_text port (Some why) = codes "fault service\nport " ++ (decimal port ++ (codes ": " ++ why ++ 10 ∷ []))
+
+abbrev pub fault_text : ℕ → LastTry → RunFault → List ℕ
+fault_text port how fault.Store = service_text port (last_why how)
+fault_text port how e = fault_line e
 
 abbrev pub status_of : Result Bool RunFault → ℕ
 status_of (Ok true) = 0

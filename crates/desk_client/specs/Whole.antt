@@ -1,10 +1,14 @@
 -- What a whole answer is.
-use Rattle.std.specs.Prelude.{◌≡◌, ◌≤◌, ℕ, true, Some, List, [], ◌∷◌, length, map, codes}
-use Rattle.httparse.specs.Grammar.{ResponseHead, ReadsResponse, status_code}
+use Rattle.std.specs.Prelude.{◌≡◌, ◌⊎◌, ◌≤◌, ◌<◌, ℕ, true, false, Some, List, [], ◌∷◌, ◌++◌, drop, length, map, codes}
+use Rattle.httparse.specs.Grammar.{ResponseHead, ReadsResponse, HasNoResponse, MayBecomeResponse, status_code}
 use Rattle.httparse.specs.Spans.{name_and_value}
 use Rattle.http_desk.specs.Digits.{number_told}
 use Rattle.http_desk.specs.Request.{values_of}
 use Rattle.desk_client.specs.Ended.{has_end}
+use Rattle.desk_client.specs.declared.whole.Extent.{Extent}
+use Rattle.desk_client.specs.declared.whole.Extent.TheVariants as extent
+use Rattle.desk_client.specs.declared.whole.Found.{Found}
+use Rattle.desk_client.specs.declared.whole.Found.TheVariants as found
 
 abbrev pub most_fields : ℕ
 most_fields = 16
@@ -27,3 +31,50 @@ pub record IsWhole (bytes : List ℕ) (status : ℕ) (body : List ℕ) : Type 0 
   pub few : length head.fields ≤ most_fields
   pub status_is : status ≡ status_code head
   pub whole : IsWholeBody (map name_and_value head.fields) body
+
+-- they are none
+abbrev pub IsNotWhole : List ℕ → Type 0
+IsNotWhole bytes = (status : ℕ) (body : List ℕ) → ¬ (IsWhole bytes status body)
+
+-- and no bytes that follow make them one
+abbrev pub IsNeverWhole : List ℕ → Type 0
+IsNeverWhole bytes = (more : List ℕ) (status : ℕ) (body : List ℕ) → ¬ (IsWhole (bytes ++ more) status body)
+
+-- the body is shorter than the length that is told; or none is told, and it has no report's end
+abbrev pub IsTooShort : List (List ℕ) → List ℕ → Type 0
+IsTooShort [] body = has_end body ≡ false
+IsTooShort (value ∷ []) body = (n : ℕ) × (number_told value ≡ Some n) × (length body < n)
+IsTooShort (value ∷ other ∷ values) body = ⊥
+
+pub record IsShortBody (fields : List (List ℕ × List ℕ)) (body : List ℕ) : Type 0 where
+  pub plain : values_of (codes "transfer-encoding") fields ≡ []
+  pub short : IsTooShort (values_of (codes "content-length") fields) body
+
+-- a head of a desk's, whose body is too short
+pub record IsShortBehind (bytes : List ℕ) : Type 0 where
+  pub head : ResponseHead
+  pub body : List ℕ
+  pub reads : ReadsResponse bytes head body
+  pub few : length head.fields ≤ most_fields
+  pub short : IsShortBody (map name_and_value head.fields) body
+
+-- the bytes end before the whole answer: within its head, or within its body
+abbrev pub IsCutShort : List ℕ → Type 0
+IsCutShort bytes = (HasNoResponse bytes × MayBecomeResponse bytes) ⊎ IsShortBehind bytes
+
+-- what a body is of the one that its head tells
+abbrev pub IsExtent : List (List ℕ) → List ℕ → Extent → Type 0
+IsExtent lengths body extent.Whole = IsAsLong lengths body
+IsExtent lengths body extent.Short = IsTooShort lengths body
+IsExtent lengths body extent.Never = (more : List ℕ) → ¬ (IsAsLong lengths (body ++ more))
+
+abbrev pub IsExtentOf : List (List ℕ × List ℕ) → List ℕ → Extent → Type 0
+IsExtentOf fields body extent.Whole = IsWholeBody fields body
+IsExtentOf fields body extent.Short = IsShortBody fields body
+IsExtentOf fields body extent.Never = (more : List ℕ) → ¬ (IsWholeBody fields (body ++ more))
+
+-- what bytes are: a whole answer, a beginning of one, or neither
+abbrev pub IsFound : List ℕ → Found → Type 0
+IsFound bytes (found.Whole place) = (place.start ≤ length bytes) × IsWhole bytes place.status (drop place.start bytes)
+IsFound bytes found.Cut = IsNotWhole bytes × IsCutShort bytes
+IsFound bytes found.Foreign = IsNeverWhole bytes

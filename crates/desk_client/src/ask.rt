@@ -1,13 +1,13 @@
 //! Asking a question, by one try or by up to three.
 ghost use Rattle.std.specs.Prelude.{◌≡◌};
-ghost use Rattle.desk_client.specs.Asked.{HasAsked, HasSent, HasUnderstood};
-ghost use Rattle.desk_client.specs.Again.{is_vain, talk, Talk, HasTried, HasTriedTwice, HasTriedThrice, IsAnswered};
+ghost use Rattle.desk_client.specs.Asked.{by_time, HasAsked, HasSent, HasUnderstood};
+ghost use Rattle.desk_client.specs.Again.{is_vain, last_of, talk, Talk, HasOpened, HasTried, HasTriedTwice, HasTriedThrice, IsAnswered};
 ghost use Rattle.desk_client.specs.Request.{most_of, request_of};
 
-use crate::connect::{Connect, Service};
+use crate::connect::{Connect, LastTry, Service};
 use crate::question::{Question, most_of, request_of};
 use crate::reading::read_all;
-use crate::whole::whole_at;
+use crate::whole::{Found, found_in};
 use station_core::{ByteIn, ByteOut, send};
 use std::alloc::Global;
 
@@ -20,10 +20,16 @@ pub enum AskFault {
     Write,
     /// The reader failed.
     Read,
+    /// The reader failed because its time ran out.
+    Late,
     /// Memory ran out.
     Memory,
-    /// What came is no whole answer.
+    /// The connection ended before the whole answer.
     Cut,
+    /// More bytes came than an answer may have.
+    Long,
+    /// What came is no answer that a desk gives, whatever follows.
+    Foreign,
 }
 
 /// An answer that came whole.
@@ -37,20 +43,20 @@ pub struct Answer {
 }
 
 /// The answer that the bytes are, where they are not more than an answer may have.
-#[tactic(auto, using(crate::proofs::Asking::too_long, crate::proofs::Asking::not_whole))]
 fn understood(bytes: Vec<u8>, most: usize) -> Result<Answer, AskFault>
     ensures { HasUnderstood most bytes.items result }
 {
     if bytes.len() > most {
-        return Err(AskFault::Cut);
+        return Err(AskFault::Long);
     }
-    match whole_at(bytes.as_slice()) {
-        Some(place) => Ok(Answer {
+    match found_in(bytes.as_slice()) {
+        Found::Whole(place) => Ok(Answer {
             status: place.status,
             bytes,
             start: place.start,
         }),
-        None => Err(AskFault::Cut),
+        Found::Cut => Err(AskFault::Cut),
+        Found::Foreign => Err(AskFault::Foreign),
     }
 }
 
@@ -94,9 +100,55 @@ impl AskFault {
     {
         self != AskFault::Memory
     }
+
+    /// A read that failed because its time ran out is told as that.
+    fn by_time(self, is_late: bool) -> AskFault
+        ensures { result ≡ by_time is_late self }
+    {
+        match self {
+            AskFault::Read if is_late => AskFault::Late,
+            fault => fault,
+        }
+    }
+}
+
+/// How a try ended.
+fn last_of(ended: &Result<Answer, AskFault>) -> LastTry
+    ensures { result ≡ last_of ended.now }
+{
+    match ended {
+        Ok(answer) => LastTry::Answered(answer.status),
+        Err(fault) => LastTry::Failed(*fault),
+    }
 }
 
 /// Sends a request over a new connection, and reads its answer.
+#[tactic(auto, using(crate::proofs::Asking::timed))]
+fn ask_over_new<C: Connect, I: ByteIn, O: ByteOut>(
+    alloc: Global,
+    service: &mut Service<C, I, O>,
+    request: &[u8],
+    most: usize,
+) -> Result<Answer, AskFault>
+    ensures { HasOpened most request.now (talk C.tried C.opened I.given O.taken service.old)
+        (talk C.tried C.opened I.given O.taken service.new) result }
+{
+    if !service.connections.connect() {
+        return Err(AskFault::Refused);
+    }
+    match ask_one(
+        alloc,
+        &mut service.reader,
+        &mut service.writer,
+        request,
+        most,
+    ) {
+        Ok(answer) => Ok(answer),
+        Err(fault) => Err(fault.by_time(service.connections.is_late())),
+    }
+}
+
+/// Sends a request over a new connection, reads its answer, and notes how that ended.
 fn try_once<C: Connect, I: ByteIn, O: ByteOut>(
     alloc: Global,
     service: &mut Service<C, I, O>,
@@ -106,16 +158,9 @@ fn try_once<C: Connect, I: ByteIn, O: ByteOut>(
     ensures { HasTried most request.now (talk C.tried C.opened I.given O.taken service.old)
         (talk C.tried C.opened I.given O.taken service.new) result }
 {
-    if !service.connections.connect() {
-        return Err(AskFault::Refused);
-    }
-    ask_one(
-        alloc,
-        &mut service.reader,
-        &mut service.writer,
-        request,
-        most,
-    )
+    let ended = ask_over_new(alloc, service, request, most);
+    service.last = last_of(&ended);
+    ended
 }
 
 /// Sends a request, and again after a try that was vain.
@@ -160,7 +205,7 @@ pub trait Ask {
     /// connection was refused or broke, or what came is no whole answer.
     ///
     /// `Ok` is an answer that came whole. Returns [`AskFault::Memory`] when out of memory, and else
-    /// the fault of the third try. A command or a telegram may have been done then: ask again,
+    /// the fault of the third try, which the talk has as how the last try ended. A command or a telegram may have been done then: ask again,
     /// under the same key.
     fn ask(&mut self, alloc: Global, question: &Question<'_>) -> Result<Answer, AskFault>
         ensures { IsAnswered (most_of question.now) (request_of question.now) (talk self.old)

@@ -2,6 +2,8 @@
 ghost use Rattle.std.specs.Prelude.{◌≡◌, ℕ, ◌+◌, true, false};
 ghost use Rattle.desk_client.specs.Count.{one_more};
 
+use crate::ask::AskFault;
+
 /// Opens connections to a service, one after another.
 pub trait Connect {
     /// How many connections were tried, the refused ones too. It stays at the largest `u64`.
@@ -15,13 +17,29 @@ pub trait Connect {
         ensures tried { tried self.new ≡ one_more (tried self.old) }
         ensures one { result ≡ true → opened self.new ≡ opened self.old + 1 }
         ensures none { result ≡ false → opened self.new ≡ opened self.old };
+
+    /// Whether the last read of the connection that is open failed because its time ran out. No
+    /// contract can say what a network gives.
+    fn is_late(&self) -> bool;
 }
 
-/// A service on a port: what opens connections to it, and the reader and the writer of the one that
-/// was opened last.
+/// How the last try of a question ended.
+#[derive(Clone, Copy, Debug, PartialEq, Eq)]
+pub enum LastTry {
+    /// Nothing was tried yet.
+    Nothing,
+    /// A whole answer came, of this status.
+    Answered(u16),
+    /// No whole answer came.
+    Failed(AskFault),
+}
+
+/// A service on a port: what opens connections to it, the reader and the writer of the one that was
+/// opened last, and how the last try ended.
 #[derive(Drop)]
 pub struct Service<C, I, O> {
     pub connections: C,
     pub reader: I,
     pub writer: O,
+    pub last: LastTry,
 }

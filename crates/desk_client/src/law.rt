@@ -3,18 +3,21 @@ ghost use Rattle.std.specs.Prelude.{◌≡◌, ◌⊎◌, ◌++◌, ◌≤◌, [
 ghost use Rattle.station_core.specs.declared.answer.Answer.{Answer};
 ghost use Rattle.stock_list.specs.Lines.{answer_text};
 ghost use Rattle.http_desk.specs.Reply.{answer_reply};
-ghost use Rattle.desk_client.specs.Law.{HasFew, reply_line};
+ghost use Rattle.desk_client.specs.Law.{HasFew, reply_line, IsListed};
 ghost use Rattle.desk_client.specs.Ended.{has_end};
 ghost use Rattle.desk_client.specs.Whole.{IsWhole};
 ghost use Rattle.desk_client.specs.Read.{IsRead};
-ghost use Rattle.desk_client.specs.Request.{command_head, telegram_head, get_request};
+ghost use Rattle.desk_client.specs.Request.{command_head, telegram_head, get_request, holder_path, rows_path, waybill_path};
+ghost use Rattle.awb_number.specs.Number.{number_of, number_text, IsNumber};
 ghost use Rattle.desk_commands.specs.Verb.{word};
 ghost use Rattle.desk_commands.specs.declared.verb.Verb.{Verb};
 ghost use Rattle.http_desk.specs.Request.{looks_up, sends};
 ghost use Rattle.http_desk.specs.Paths.{report_path};
+ghost use Rattle.reports.specs.declared.form.Form.{Form};
+ghost use Rattle.reports.specs.declared.listing.Listing.{Listing};
 ghost use Rattle.reports.specs.declared.report.Report.{Report};
-ghost use Rattle.http_desk.specs.Printouts.{as_text};
-ghost use Rattle.http_desk.specs.Routes.{posted_command, posted_telegram, got_report};
+ghost use Rattle.http_desk.specs.Printouts.{as_text, in_form};
+ghost use Rattle.http_desk.specs.Routes.{posted_command, posted_telegram, got_holder, got_report, got_waybill};
 ghost use Rattle.station_core.specs.Key.{is_key};
 
 /// What a desk replies to an input tells the line that the command line prints of the same answer.
@@ -32,8 +35,10 @@ pub fn whole_law()
         → IsWhole (front ++ more) t c → (more ≡ []) ⊎ (has_end b ≡ true) }
 {}
 
-/// A desk reads the request of a command as what it is: a post of the verb, this key, this body. And
-/// that of a telegram: its post, no key, this text; and that of a report.
+/// A desk reads the request of a command as what it is: a post of the verb, this key, this body. It
+/// reads that of a telegram as its post, with no key and this text; that of a waybill and of a
+/// number as the look-up of that number; and that of a report, or of a part of one, as those rows in
+/// that form.
 pub fn request_law()
     ensures command { (verb : Verb) (key body : List ℕ) → is_key key ≡ true
         → length body ≤ 65_536 → IsRead (command_head (word verb) key (length body) ++ body)
@@ -44,6 +49,14 @@ pub fn request_law()
     ensures report { (name : Report)
         → IsRead (get_request (report_path name) ++ []) (looks_up (got_report (as_text name)))
         None [] }
+    ensures waybill { (w : ℕ) → IsNumber w
+        → IsRead (get_request (waybill_path w) ++ []) (looks_up (got_waybill (number_text w)))
+        None [] × (number_of (number_text w) ≡ Ok w) }
+    ensures holder { (w : ℕ) → IsNumber w
+        → IsRead (get_request (holder_path w) ++ []) (looks_up (got_holder (number_text w)))
+        None [] × (number_of (number_text w) ≡ Ok w) }
+    ensures rows { (l : Listing) (f : Form) → IsListed l
+        → IsRead (get_request (rows_path l f) ++ []) (looks_up (got_report (in_form f l))) None [] }
 {
     http_desk::routes_law();
 }

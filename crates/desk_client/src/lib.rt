@@ -19,7 +19,7 @@ mod told;
 mod whole;
 
 pub use ask::{Answer, Ask, AskFault};
-pub use connect::{Connect, Service};
+pub use connect::{Connect, LastTry, Service};
 pub use law::{lines_law, request_law, whole_law};
 pub use question::Question;
 pub use run::ask_command;

@@ -1,9 +1,9 @@
 //! The body of an order on the stock.
-ghost use Rattle.std.specs.Prelude.{◌≡◌, IfOk, string_bytes};
+ghost use Rattle.std.specs.Prelude.{◌≡◌, IfOk, IsTrue, string_bytes};
 ghost use Rattle.serde_json.specs.View.{view};
-ghost use Rattle.serde_json.specs.Written.{compact_text};
-ghost use Rattle.desk_commands.specs.Command.{order_verb};
-ghost use Rattle.desk_client.specs.Orders.{agents_data, agents_object, order_data, run_data, run_object};
+ghost use Rattle.agent_stock.specs.Code.{is_agent_code};
+ghost use Rattle.desk_commands.specs.Command.{order_verb, IsRun};
+ghost use Rattle.desk_client.specs.Orders.{agents_data, agents_object, run_data, run_object, IsOrderText, IsTextOf};
 
 use agent_stock::{AgentCode, Order, Run};
 use awb_number::ascii_text;
@@ -26,7 +26,7 @@ pub(crate) fn verb_of(order: &Order) -> Verb
 /// The JSON object of a run.
 fn run_text(alloc: Global, count: u32, prefix: &str, serial: &str) -> Result<String, AllocError>
     ensures { IfOk result
-        (λ text. string_bytes text ≡ compact_text (run_object count prefix.now serial.now)) }
+        (λ text. IsTextOf (run_object count prefix.now serial.now) (string_bytes text)) }
 {
     json!(in alloc; {"count": count, "prefix": prefix, "serial": serial})?.to_string(alloc)
 }
@@ -53,8 +53,8 @@ fn agents_text(
     prefix: &str,
     serial: &str,
 ) -> Result<String, AllocError>
-    ensures { IfOk result (λ text. string_bytes text
-        ≡ compact_text (agents_object agent.now count prefix.now serial.now)) }
+    ensures { IfOk result (λ text.
+        IsTextOf (agents_object agent.now count prefix.now serial.now) (string_bytes text)) }
 {
     let value = agents_value(alloc, agent, count, prefix, serial)?;
     value.to_string(alloc)
@@ -62,7 +62,8 @@ fn agents_text(
 
 /// The body of an order that names no agent.
 fn run_body(alloc: Global, run: &Run) -> Result<String, AllocError>
-    ensures { IfOk result (λ text. string_bytes text ≡ compact_text (run_data run.now)) }
+    ensures text { IfOk result (λ text. IsTextOf (run_data run.now) (string_bytes text)) }
+    ensures run { IsRun run.now }
 {
     let number = run.first.write();
     let prefix = ascii_text(&number[..3]);
@@ -73,7 +74,10 @@ fn run_body(alloc: Global, run: &Run) -> Result<String, AllocError>
 
 /// The body of an order that names an agent.
 fn agents_body(alloc: Global, run: &Run, agent: &AgentCode) -> Result<String, AllocError>
-    ensures { IfOk result (λ text. string_bytes text ≡ compact_text (agents_data run.now agent.now)) }
+    ensures text { IfOk result
+        (λ text. IsTextOf (agents_data run.now agent.now) (string_bytes text)) }
+    ensures run { IsRun run.now }
+    ensures agent { IsTrue (is_agent_code agent.now) }
 {
     let number = run.first.write();
     let prefix = ascii_text(&number[..3]);
@@ -87,7 +91,7 @@ fn agents_body(alloc: Global, run: &Run, agent: &AgentCode) -> Result<String, Al
 ///
 /// Returns [`AllocError`] when out of memory.
 pub(crate) fn order_body(alloc: Global, order: &Order) -> Result<String, AllocError>
-    ensures { IfOk result (λ text. string_bytes text ≡ compact_text (order_data order.now)) }
+    ensures { IfOk result (λ text. IsOrderText order.now (string_bytes text)) }
 {
     match order {
         Order::TakeIn(run) => run_body(alloc, run),

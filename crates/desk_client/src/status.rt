@@ -1,11 +1,29 @@
 //! How a call ends that asked a service.
-ghost use Rattle.std.specs.Prelude.{◌≡◌, IfErr, OnOk};
+ghost use Rattle.std.specs.Prelude.{◌≡◌, ◌++◌, ◌∷◌, [], Some, decimal, IfErr, OnOk, option_map};
 ghost use Rattle.cli_run.specs.Sent.{SendsLine};
-ghost use Rattle.desk_client.specs.Status.{fault_line, status_of};
+ghost use Rattle.desk_client.specs.Status.{fault_line, fault_text, fault_why, last_why, service_text, status_of};
 
-use cli_run::send_part;
+use crate::ask::AskFault;
+use crate::connect::LastTry;
+use cli_run::{send_part, send_word};
+use itoa::Buffer;
 use station_core::ByteOut;
 use stock_list::RunFault;
+
+const REFUSED: &str =
+    "nothing listens here; start the service on this port, or give --at the port that it has";
+
+const ENDED: &str = "the connection ended before the whole answer; call again, with the same keys";
+
+const LATE: &str =
+    "no answer in time; the service is busy or hangs: call again later, with the same keys";
+
+const LONG: &str = "the answer is longer than a cargo desk's; give --at the port of the service";
+
+const FOREIGN: &str = "the answer isn't a cargo desk's; give --at the port of the service";
+
+/// The status of a desk that can't answer now. Its own output says why.
+const UNAVAILABLE: u16 = 503;
 
 /// The line of a fault.
 fn fault_line(fault: RunFault) -> &'static str
@@ -16,6 +34,37 @@ fn fault_line(fault: RunFault) -> &'static str
         RunFault::Write => "fault write\n",
         RunFault::Memory => "fault memory\n",
         RunFault::Store => "fault service\n",
+    }
+}
+
+/// What went wrong at a try, and what to do.
+fn fault_why(fault: AskFault) -> Option<&'static str>
+    ensures { option_map (λ why. why.now) result ≡ fault_why fault }
+{
+    match fault {
+        AskFault::Refused => Some(REFUSED),
+        AskFault::Write | AskFault::Read | AskFault::Cut => Some(ENDED),
+        AskFault::Late => Some(LATE),
+        AskFault::Memory => None,
+        AskFault::Long => Some(LONG),
+        AskFault::Foreign => Some(FOREIGN),
+    }
+}
+
+/// Why a service didn't answer, by how the last try ended.
+fn last_why(last: LastTry) -> Option<&'static str>
+    ensures { option_map (λ why. why.now) result ≡ last_why last }
+{
+    match last {
+        LastTry::Nothing => None,
+        LastTry::Answered(status) => {
+            if status == UNAVAILABLE {
+                None
+            } else {
+                Some(FOREIGN)
+            }
+        }
+        LastTry::Failed(fault) => fault_why(fault),
     }
 }
 
@@ -41,16 +90,79 @@ fn tell_line<E: ByteOut>(errors: &mut E, line: &str)
     }
 }
 
-/// Ends a call that asked a service: its fault is reported, and the exit status is returned. Where
-/// the service didn't answer the fault is `fault service`.
-pub fn end_asked<E: ByteOut>(errors: &mut E, ended: Result<bool, RunFault>) -> u8
+/// Writes a line of a head and a word in the same way.
+fn tell_word<E: ByteOut>(errors: &mut E, head: &str, word: &str)
+    ensures { SendsLine (head.now ++ word.now ++ 10 ∷ []) (E.taken errors.old)
+        (E.taken errors.new) }
+{
+    match send_word(errors, head, word.as_bytes()) {
+        Ok(()) => {}
+        Err(_unreported) => {}
+    }
+}
+
+/// Writes a text, and then a line of a head and a word, in the same way.
+fn tell_parts<E: ByteOut>(errors: &mut E, text: &str, head: &str, word: &str)
+    ensures { SendsLine (text.now ++ (head.now ++ word.now ++ 10 ∷ [])) (E.taken errors.old)
+        (E.taken errors.new) }
+{
+    match send_part(errors, text.as_bytes()) {
+        Ok(()) => tell_word(errors, head, word),
+        Err(_unreported) => {}
+    }
+}
+
+/// Writes the line of a service that didn't answer, and then why, in the same way.
+fn tell_why<E: ByteOut>(errors: &mut E, port: u16, why: &str)
+    ensures { SendsLine (service_text port (Some why.now)) (E.taken errors.old)
+        (E.taken errors.new) }
+{
+    let mut buffer = Buffer::new();
+    let digits = buffer.format(port);
+    match send_part(errors, b"fault service\nport ") {
+        Ok(()) => tell_parts(errors, digits, ": ", why),
+        Err(_unreported) => {}
+    }
+}
+
+/// Writes the line of a service that didn't answer, and then why, where that is known.
+fn tell_service<E: ByteOut>(errors: &mut E, port: u16, last: LastTry)
+    ensures { SendsLine (service_text port (last_why last)) (E.taken errors.old)
+        (E.taken errors.new) }
+{
+    match last_why(last) {
+        Some(why) => tell_why(errors, port, why),
+        None => tell_line(errors, fault_line(RunFault::Store)),
+    }
+}
+
+/// Writes the line of a fault, and why the service on a port didn't answer.
+fn tell_fault<E: ByteOut>(errors: &mut E, fault: RunFault, port: u16, last: LastTry)
+    ensures { SendsLine (fault_text port last fault) (E.taken errors.old) (E.taken errors.new) }
+{
+    match fault {
+        RunFault::Store => tell_service(errors, port, last),
+        other => tell_line(errors, fault_line(other)),
+    }
+}
+
+/// Ends a call that asked the service on a port: its fault is reported, and the exit status is
+/// returned. Where the service didn't answer the fault is `fault service`, and a second line says
+/// why, by how the last try ended, and what to do.
+pub fn end_asked<E: ByteOut>(
+    errors: &mut E,
+    ended: Result<bool, RunFault>,
+    port: u16,
+    last: LastTry,
+) -> u8
     ensures status { result ≡ status_of ended }
     ensures told { IfErr ended
-        (λ fault. SendsLine (fault_line fault) (E.taken errors.old) (E.taken errors.new)) }
+        (λ fault. SendsLine (fault_text port last fault) (E.taken errors.old)
+        (E.taken errors.new)) }
     ensures silent { OnOk ended (errors.new ≡ errors.old) }
 {
     if let Err(fault) = ended {
-        tell_line(errors, fault_line(fault));
+        tell_fault(errors, fault, port, last);
     }
     status_of(ended)
 }

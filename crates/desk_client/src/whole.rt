@@ -1,8 +1,7 @@
 //! Whether an answer has come whole.
-ghost use Rattle.std.specs.Prelude.{◌≡◌, ◌≤◌, ◌↔◌, ℕ, List, None, Some, drop, length, map, true, IfSome, All};
+ghost use Rattle.std.specs.Prelude.{◌∷◌, [], length, map, All};
 ghost use Rattle.httparse.specs.Spans.{header_bytes, IsHeaderWithin};
-ghost use Rattle.http_desk.specs.Digits.{number_told};
-ghost use Rattle.desk_client.specs.Whole.{IsWhole, IsWholeBody};
+ghost use Rattle.desk_client.specs.Whole.{IsExtent, IsExtentOf, IsFound};
 
 use crate::ended::has_end;
 use http_desk::{Values, number_told, values_of};
@@ -19,51 +18,93 @@ pub(crate) struct Place {
     pub(crate) start: usize,
 }
 
-/// Whether a value says how long a body is.
-fn is_length(value: &[u8], body: &[u8]) -> bool
-    ensures { (result ≡ true) ↔ (number_told value.now ≡ Some (length body.now)) }
+/// What the bytes behind a head are of the body that it tells.
+#[derive(Clone, Copy, Debug, PartialEq, Eq)]
+pub(crate) enum Extent {
+    /// All of it.
+    Whole,
+    /// A beginning of it.
+    Short,
+    /// Neither, whatever follows.
+    Never,
+}
+
+/// What bytes are of an answer.
+#[derive(Clone, Copy, Debug, PartialEq, Eq)]
+pub(crate) enum Found {
+    /// A whole one.
+    Whole(Place),
+    /// They end before the whole answer.
+    Cut,
+    /// Nothing that a desk answers, whatever follows.
+    Foreign,
+}
+
+/// What a body is of one whose length is told.
+#[tactic(auto, using(crate::proofs::Bodies::as_told, crate::proofs::Bodies::less_than_told, crate::proofs::Bodies::more_than_told, crate::proofs::Bodies::untold))]
+fn extent_by(value: &[u8], body: &[u8]) -> Extent
+    ensures { IsExtent (value.now ∷ []) body.now result }
 {
+    let len = body.len() as u64;
     match number_told(value) {
-        Some(told) => told == body.len() as u64,
-        None => false,
+        Some(told) => {
+            if told == len {
+                Extent::Whole
+            } else if told > len {
+                Extent::Short
+            } else {
+                Extent::Never
+            }
+        }
+        None => Extent::Never,
     }
 }
 
-/// Whether a body is as long as its head says; one whose length isn't told is a report, and ends as
-/// a report does.
-#[tactic(auto, using(crate::proofs::Bodies::whole_report, crate::proofs::Bodies::whole_json, crate::proofs::Bodies::in_parts, crate::proofs::Bodies::of_several))]
-fn is_whole(buf: &[u8], fields: &[HeaderSpan], body: &[u8]) -> bool
+/// What a body is of one whose length isn't told: a report, which ends as a report does.
+fn extent_of_report(body: &[u8]) -> Extent
+    ensures { IsExtent [] body.now result }
+{
+    if has_end(body) {
+        Extent::Whole
+    } else {
+        Extent::Short
+    }
+}
+
+/// What a body is of the one that its head tells. A body in parts is none that a desk sends.
+#[tactic(auto, using(crate::proofs::Bodies::by_lengths, crate::proofs::Bodies::in_parts, crate::proofs::Bodies::of_several))]
+fn extent_of(buf: &[u8], fields: &[HeaderSpan], body: &[u8]) -> Extent
     requires { All (IsHeaderWithin (length buf.now)) fields.now }
-    ensures { (result ≡ true) ↔ IsWholeBody (map (header_bytes buf.now) fields.now) body.now }
+    ensures { IsExtentOf (map (header_bytes buf.now) fields.now) body.now result }
 {
     let Values::Nothing = values_of(buf, fields, b"transfer-encoding") else {
-        return false;
+        return Extent::Never;
     };
     match values_of(buf, fields, b"content-length") {
-        Values::Nothing => has_end(body),
-        Values::One(value) => is_length(value, body),
-        Values::More => false,
+        Values::Nothing => extent_of_report(body),
+        Values::One(value) => extent_by(value, body),
+        Values::More => Extent::Never,
     }
 }
 
-/// Where the parts of a whole answer are; `None` if the bytes are none.
-pub(crate) fn whole_at(bytes: &[u8]) -> Option<Place>
-    ensures some { IfSome result (λ place. (place.start ≤ length bytes.now)
-        × IsWhole bytes.now place.status (drop place.start bytes.now)) }
-    ensures none { result ≡ None → (status : ℕ) (body : List ℕ) → ¬ (IsWhole bytes.now status body) }
+/// What bytes are of an answer, and where the parts of a whole one are.
+pub(crate) fn found_in(bytes: &[u8]) -> Found
+    ensures { IsFound bytes.now result }
 {
     let mut headers = [EMPTY_HEADER_SPAN; MOST_FIELDS];
     match parse_response(bytes, &mut headers) {
         Ok(Status::Complete(spans)) => {
-            if is_whole(bytes, &headers[..spans.headers], &bytes[spans.len..]) {
-                Some(Place {
+            let fields = &headers[..spans.headers];
+            match extent_of(bytes, fields, &bytes[spans.len..]) {
+                Extent::Whole => Found::Whole(Place {
                     status: spans.code,
                     start: spans.len,
-                })
-            } else {
-                None
+                }),
+                Extent::Short => Found::Cut,
+                Extent::Never => Found::Foreign,
             }
         }
-        _ => None,
+        Ok(Status::Partial) => Found::Cut,
+        Err(_) => Found::Foreign,
     }
 }

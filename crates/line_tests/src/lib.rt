@@ -1,10 +1,12 @@
 //! Calls of the program: what their words are read as, what they print, and how they end. Each is
 //! asked as a file of cases says.
 //!
-//! The station of `--db` is in memory, and is the same for all calls of a file of cases.
+//! The station of `--db` is in memory, and is the same for all calls of a file of cases. The service
+//! of `--at` is a script of connections.
 #![tactic(auto)]
 
 mod calls;
+mod client;
 mod clock;
 mod desk;
 mod samples;
@@ -24,6 +26,7 @@ pub const FILES: &[&str] = &[
     "reasons",
     "many-inputs",
     "parts",
+    "client",
 ];
 
 /// What answers the cases of a file.
@@ -45,6 +48,7 @@ impl Answers for FileAnswers<'_> {
                 asked,
                 text,
             ),
+            "client" => client::answer(self.alloc, asked, text),
             _ => None,
         }
     }

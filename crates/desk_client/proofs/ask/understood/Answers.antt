@@ -1,9 +1,15 @@
-use Rattle.std.proofs.Common.{subst, ℕ, List}
-use Rattle.desk_client.specs.Whole.{IsWhole}
-use Rattle.desk_client.proofs.Asking.{not_whole}
+use Rattle.std.proofs.Common.{rules, ◌≤◌, subst, List, ℕ, length}
+use Rattle.desk_client.specs.Whole.{IsFound}
+use Rattle.desk_client.specs.declared.whole.Found.TheVariants as found
 use Rattle.desk_client.proofs.ask.understood.Goals as goal
 
-pub returns-in-None : goal.returns-in-None
-returns-in-None c =
-    not_whole c.args.most c.args.bytes.items
-    (λ status body. subst (λ (came : List ℕ). ¬ (IsWhole came status body)) c.as_slice.ensures.value (c.whole_at.ensures.none c.in-None.is status body))
+pub returns-in-Cut : goal.returns-in-Cut
+returns-in-Cut c =
+    let few : length c.args.bytes.items ≤ c.args.most = search rules in
+    let is : IsFound c.args.bytes.items found.Cut = subst (λ (b : List ℕ). IsFound b found.Cut) c.as_slice.ensures.value c.in-Cut.ensures in
+    (few, is.0, is.1)
+
+pub returns-in-Foreign : goal.returns-in-Foreign
+returns-in-Foreign c =
+    let few : length c.args.bytes.items ≤ c.args.most = search rules in
+    (few, subst (λ (b : List ℕ). IsFound b found.Foreign) c.as_slice.ensures.value c.in-Foreign.ensures)

@@ -1,18 +1,17 @@
-use Rattle.std.proofs.Common.{ap, string_bytes, sym}
-use Rattle.serde_json.specs.Written.{compact_text}
-use Rattle.agent_stock.specs.declared.stock.Order.{Order}
-use Rattle.desk_client.specs.Orders.{order_data}
-use Rattle.desk_client.proofs.OrderTexts.{same_text}
+use Rattle.std.proofs.Common.{string_bytes}
+use Rattle.desk_client.proofs.OrderTexts.{of_order}
 use Rattle.desk_client.proofs.order.order_body.Goals as goal
 
 pub returns-in-TakeIn : goal.returns-in-TakeIn
-returns-in-TakeIn c = same_text c.run_body.result string_bytes _ _ (ap (λ (o : Order). compact_text (order_data o)) (sym c.in-TakeIn.is)) c.run_body.ensures
+returns-in-TakeIn c = of_order c.run_body.result string_bytes _ _ c.in-TakeIn.is c.run_body.ensures.run c.run_body.ensures.text
 
 pub returns-in-Issue : goal.returns-in-Issue
-returns-in-Issue c = same_text c.agents_body.result string_bytes _ _ (ap (λ (o : Order). compact_text (order_data o)) (sym c.in-Issue.is)) c.agents_body.ensures
+returns-in-Issue c = of_order c.agents_body.result string_bytes _ _ c.in-Issue.is (c.agents_body.ensures.run, c.agents_body.ensures.agent) c.agents_body.ensures.text
 
 pub returns-in-GiveBack : goal.returns-in-GiveBack
-returns-in-GiveBack c = same_text c.agents_body-in-GiveBack.result string_bytes _ _ (ap (λ (o : Order). compact_text (order_data o)) (sym c.in-GiveBack.is)) c.agents_body-in-GiveBack.ensures
+returns-in-GiveBack c =
+    of_order c.agents_body-in-GiveBack.result string_bytes _ _ c.in-GiveBack.is (c.agents_body-in-GiveBack.ensures.run, c.agents_body-in-GiveBack.ensures.agent)
+    c.agents_body-in-GiveBack.ensures.text
 
 pub returns-in-Void : goal.returns-in-Void
-returns-in-Void c = same_text c.run_body-in-Void.result string_bytes _ _ (ap (λ (o : Order). compact_text (order_data o)) (sym c.in-Void.is)) c.run_body-in-Void.ensures
+returns-in-Void c = of_order c.run_body-in-Void.result string_bytes _ _ c.in-Void.is c.run_body-in-Void.ensures.run c.run_body-in-Void.ensures.text

@@ -1,4 +1,4 @@
-use Rattle.std.proofs.Common.{rules, arith, ◌≡◌, ◌∙◌, sym, refl, inl, inr, ap, ℕ, ◌+◌, ◌<◌, ◌≤◌, List, [], ◌∷◌, ◌++◌, length, Some, None, Ok, Err, subst, Fits, w64}
+use Rattle.std.proofs.Common.{rules, arith, ◌≡◌, ◌∙◌, sym, refl, inl, inr, ℕ, ◌+◌, ◌<◌, ◌≤◌, List, [], ◌∷◌, ◌++◌, length, Some, None, Ok, Err, subst, Fits, w64}
 use Rattle.csv.specs.Records.{fields_of}
 use Rattle.stock_list.specs.Ended.{IsReadersFault}
 use Rattle.stock_list.specs.Lines.{Row}
