@@ -1,17 +1,21 @@
 //! The keepers of a station's state on which a day is played.
 use imp_fields::Airport;
+use map_state::MapState;
 use plain_station::PlainStation;
 use sqlite::MemStore;
-use station_core::{ActFault, Keeper};
+use station_engine::StoredStation;
 use station_rows::open_memory;
 use station_tables::{AttachFault, Station, attach, create};
 use std::alloc::Global;
+use test_kit::Job;
 
 /// A kind of keeper.
 #[derive(Clone, Copy, Debug, PartialEq, Eq)]
 pub enum Kind {
     /// Lists in memory.
     Plain,
+    /// Maps in memory.
+    Maps,
     /// The tables of a store in memory.
     Tables,
     /// The same, where the station is given back and its tables are opened again in the midst of
@@ -24,44 +28,41 @@ impl Kind {
     pub fn name(self) -> &'static str {
         match self {
             Kind::Plain => "the plain station",
+            Kind::Maps => "maps",
             Kind::Tables => "tables",
             Kind::Reopened => "tables that were opened again",
         }
     }
 }
 
-/// What any keeper can be asked.
-pub trait Job {
-    /// What comes of it.
-    type Out;
-
-    /// Asks a keeper.
-    fn run<K: Keeper>(self, keeper: &mut K) -> Self::Out;
-}
-
 /// A station with its keeper.
 #[derive(Drop)]
 pub enum Desk {
     Plain(PlainStation),
+    Maps(StoredStation<MapState>),
     Tables(Station<MemStore>),
 }
 
 /// A new station over tables in memory.
-fn tables(alloc: Global, here: Airport) -> Result<Desk, ActFault> {
+fn tables(alloc: Global, here: Airport) -> Result<Desk, AttachFault> {
     let Ok(conn) = open_memory(alloc) else {
-        return Err(ActFault::Memory);
+        return Err(AttachFault::Memory);
     };
     match create(alloc, conn, here) {
         Ok(station) => Ok(Desk::Tables(station)),
-        Err(_) => Err(ActFault::Store),
+        Err((_, fault)) => Err(fault),
     }
 }
 
 impl Desk {
-    /// A new station.
-    pub fn new(alloc: Global, kind: Kind, here: Airport) -> Result<Desk, ActFault> {
+    /// A new station. Where memory is out before there are tables, the fault is `Memory`.
+    pub fn new(alloc: Global, kind: Kind, here: Airport) -> Result<Desk, AttachFault> {
         match kind {
             Kind::Plain => Ok(Desk::Plain(PlainStation::new(alloc, here))),
+            Kind::Maps => {
+                let state = MapState::new(alloc, here);
+                Ok(Desk::Maps(StoredStation::over(alloc, state)))
+            }
             Kind::Tables | Kind::Reopened => tables(alloc, here),
         }
     }
@@ -70,6 +71,7 @@ impl Desk {
     pub fn opened_again(self, alloc: Global) -> Result<Desk, AttachFault> {
         match self {
             Desk::Plain(station) => Ok(Desk::Plain(station)),
+            Desk::Maps(station) => Ok(Desk::Maps(station)),
             Desk::Tables(station) => match attach(alloc, station.release()) {
                 Ok(station) => Ok(Desk::Tables(station)),
                 Err((_, fault)) => Err(fault),
@@ -82,6 +84,7 @@ impl Desk {
     pub fn ask<J: Job>(&mut self, job: J) -> J::Out {
         match self {
             Desk::Plain(station) => job.run(station),
+            Desk::Maps(station) => job.run(station),
             Desk::Tables(station) => job.run(station),
         }
     }

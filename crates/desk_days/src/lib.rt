@@ -31,25 +31,36 @@
 //! `run_by_rule` gives each keeper two hundred inputs by a fixed rule, one by one and as one list:
 //! their answers, and all that their readers hand out, have to be equal. Or it does so with two
 //! thousand orders on the stock.
+//!
+//! `run_cases` goes through a file of cases about sinks that take no more and inputs that come as
+//! one list. `run_memory` goes through what wants memory alone: run it with each allocation failing in
+//! turn. `run_first_steps` has the first lines that a reader of the libraries writes.
 #![tactic(auto)]
 
 mod asking;
+mod cargo;
 mod compare;
 mod day;
 mod desk;
+mod first_steps;
+mod memory;
 mod objects;
 mod play;
 mod reading;
 mod rule;
 mod statement;
 mod telegram;
+mod waybill;
 
+use cargo::CargoAnswers;
 use day::{Day, DayFault};
 use desk::Kind;
+pub use first_steps::run as run_first_steps;
 use play::Played;
 pub use rule::Inputs;
 use std::alloc::{AllocError, Global};
 use std::{fs, io};
+use test_kit::{go_through_file, print_told};
 
 /// The scripts, in the order in which they are played: `days/NAME.day`.
 pub const FILES: &[&str] = &[
@@ -95,6 +106,7 @@ fn verdict(
 fn play_on_all(alloc: Global, name: &str, day: &Day<'_>) -> Result<Played, DayFault> {
     let mut played = Played::new(alloc);
     play::play(alloc, name, day, Kind::Plain, &mut played)?;
+    play::play(alloc, name, day, Kind::Maps, &mut played)?;
     play::play(alloc, name, day, Kind::Tables, &mut played)?;
     play::play(alloc, name, day, Kind::Reopened, &mut played)?;
     Ok(played)
@@ -164,4 +176,41 @@ pub fn run_by_rule(rt: &HostRuntime, given: Inputs) -> Result<bool, io::Error> {
     let are_equal = rule::are_equal(rt.alloc(), given);
     println!(rt; "{}: {}", given.name(), rule_told(given, are_equal))?;
     Ok(are_equal == Some(true))
+}
+
+/// Goes through a file of cases of a folder, and prints those that came out otherwise, or how many
+/// there were. Whether all came out as they must.
+///
+/// # Errors
+///
+/// Where nothing can be printed, or memory is out.
+pub fn run_cases(rt: &HostRuntime, folder: &str, file: &str) -> Result<bool, io::Error> {
+    let mut answers = CargoAnswers { alloc: rt.alloc() };
+    go_through_file(rt, folder, file, &mut answers)
+}
+
+/// Reads a trail of two rows, whose first may be handed out before memory is refused, and prints
+/// what came of it. Whether it came out as it must.
+fn run_trail(rt: &HostRuntime) -> Result<bool, io::Error> {
+    let Some(told) = memory::trail_at_last(rt.alloc()) else {
+        return Ok(false);
+    };
+    println!(rt; "memory: a trail of two rows: {told}")?;
+    Ok(told.starts_with("told"))
+}
+
+/// Gives stations what needs memory, and prints what came of each. Whether all came out as they
+/// must.
+///
+/// # Errors
+///
+/// Where nothing can be printed, or memory is out.
+pub fn run_memory(rt: &HostRuntime) -> Result<bool, io::Error> {
+    let alloc = rt.alloc();
+    let mut all = print_told(rt, "cargo in memory", memory::is_told_of_cargo(alloc))?;
+    let is_told = memory::is_told_of_plain_station(alloc);
+    all &= print_told(rt, "a station in memory", is_told)?;
+    let is_told = memory::is_told_of_tables(alloc);
+    all &= print_told(rt, "a station over tables", is_told)?;
+    Ok(all && run_trail(rt)?)
 }

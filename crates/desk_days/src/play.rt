@@ -2,7 +2,7 @@
 use crate::asking::{cut_pending, report_text, served};
 use crate::compare::compare;
 use crate::day::{Ask, Day, DayFault, Form, Repeated, Step};
-use crate::desk::{Desk, Job, Kind};
+use crate::desk::{Desk, Kind};
 use crate::objects::{holder_object, waybill_object};
 use crate::telegram::bytes_of;
 use awb_number::Awb;
@@ -13,6 +13,7 @@ use station_core::{ActFault, Answer, Input, Keeper, Key, answer_one, refusal_tex
 use station_days::Moment;
 use std::alloc::{AllocError, Global};
 use telegrams::{TelegramFault, read_telegram};
+use test_kit::Job;
 
 /// A day that says more lines than these is a long one.
 const LONG: u64 = 300;

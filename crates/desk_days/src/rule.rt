@@ -1,7 +1,7 @@
 //! Inputs by a fixed rule: each keeper has to give the same answers, one by one and to the list of
 //! all, and to hand out the same rows.
 use crate::asking::report_text;
-use crate::desk::{Desk, Job, Kind};
+use crate::desk::{Desk, Kind};
 use crate::play::{holder_text, put_text, waybill_text};
 use awb_number::Awb;
 use desk_commands::read_command_text;
@@ -13,6 +13,7 @@ use station_core::{
 use station_days::Moment;
 use std::alloc::{AllocError, Global};
 use telegrams::read_telegram;
+use test_kit::Job;
 
 /// Which inputs are given.
 #[derive(Clone, Copy, Debug, PartialEq, Eq)]
@@ -430,6 +431,8 @@ pub fn are_equal(alloc: Global, given: Inputs) -> Option<bool> {
     let first = told(alloc, Kind::Plain, &inputs, false)?;
     for (kind, as_list) in [
         (Kind::Plain, true),
+        (Kind::Maps, false),
+        (Kind::Maps, true),
         (Kind::Tables, false),
         (Kind::Tables, true),
         (Kind::Reopened, false),

@@ -1,5 +1,5 @@
 //! The tests of public calls, which go through data: days, requests over HTTP and files of cases.
-//! Each part of them is a library. The words choose what is run:
+//! Libraries play them, each case in the lowest one that can. The words choose what is run:
 //!
 //! - `days`, `messages`, `station`, `found`, `lines`, `http`: each file of the folder of that name;
 //! - such a name and a file, as `days/stock`: that file alone;
@@ -11,11 +11,12 @@
 //! - `bench`: how fast messages are written and read, by hand.
 #![tactic(auto)]
 
-mod first_steps;
-
 use desk_days::Inputs;
 use std::process::ExitCode;
 use std::{env, io};
+
+/// The files of the folder `station`.
+const STATION_FILES: &[&str] = &["rows", "tables", "counted-ends", "cargo"];
 
 /// The files of a part, in the order in which they are gone through; none where a word is no such
 /// part.
@@ -23,7 +24,7 @@ fn files_of(part: &str) -> &'static [&'static str] {
     match part {
         "days" => desk_days::FILES,
         "messages" => message_tests::FILES,
-        "station" => station_tests::FILES,
+        "station" => STATION_FILES,
         "found" => found_tests::FILES,
         "lines" => line_tests::FILES,
         "http" => http_tests::FILES,
@@ -31,13 +32,22 @@ fn files_of(part: &str) -> &'static [&'static str] {
     }
 }
 
+/// Goes through a file of the folder `station`. Whether all came out as it must.
+fn run_station_file(rt: &HostRuntime, file: &str) -> Result<bool, io::Error> {
+    match file {
+        "counted-ends" => message_tests::run_file(rt, "station", file),
+        "cargo" => desk_days::run_cases(rt, "station", file),
+        _ => found_tests::run_file(rt, "station", file),
+    }
+}
+
 /// Goes through a file of a part. Whether all came out as it must, if there is such a part.
 fn run_file(rt: &HostRuntime, part: &str, file: &str) -> Result<Option<bool>, io::Error> {
     Ok(Some(match part {
         "days" => desk_days::run_file(rt, file)?,
-        "messages" => message_tests::run_file(rt, file)?,
-        "station" => station_tests::run_file(rt, file)?,
-        "found" => found_tests::run_file(rt, file)?,
+        "messages" => message_tests::run_file(rt, part, file)?,
+        "station" => run_station_file(rt, file)?,
+        "found" => found_tests::run_file(rt, part, file)?,
         "lines" => line_tests::run_file(rt, file)?,
         "http" => http_tests::run_file(rt, file)?,
         _ => return Ok(None),
@@ -62,14 +72,14 @@ fn run_word(rt: &HostRuntime, word: &str) -> Result<Option<bool>, io::Error> {
     Ok(Some(match word {
         "by-rule" => desk_days::run_by_rule(rt, Inputs::Mixed)?,
         "orders-by-rule" => desk_days::run_by_rule(rt, Inputs::Orders)?,
-        "station-memory" => station_tests::run_memory(rt)?,
+        "station-memory" => message_tests::run_memory(rt)? & desk_days::run_memory(rt)?,
         "found-memory" => found_tests::run_memory(rt)?,
         "service" => {
             http_tests::run_service(rt)?;
             true
         }
-        "first-steps" => first_steps::run(rt)?,
-        "bench" => station_tests::run_bench(rt)?,
+        "first-steps" => desk_days::run_first_steps(rt)?,
+        "bench" => message_tests::run_bench(rt)?,
         _ => return run_files(rt, word),
     }))
 }

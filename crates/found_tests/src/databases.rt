@@ -3,15 +3,14 @@
 use crate::disks::{FileBytes, found_in};
 use crate::faults::fault_said;
 use crate::listing::{all_rows, columns_of, rows_of};
-use crate::readers::{book, pending, trail};
-use imp_fields::Airport;
-use sqlite::{Connection, MemStore};
-use station_core::{Input, Keeper};
-use station_rows::open_memory;
+use crate::readers::{book, cargo_rows, pending, trail};
+use crate::tables::{Fresh, ask, here};
+use sqlite::{Alter, Connection};
+use station_core::{Input, Keeper, act_all};
 use station_tables::{AttachFault, Station, attach, create, migrate};
 use std::alloc::Global;
 use telegrams::read_telegram;
-use test_kit::{answered, holder, keyed, say, shown, stock, waybill};
+use test_kit::{Job, answered, answers_said, holder, keyed, noon, say, shown, stock, waybill};
 
 /// What is asked of the readers of a station that tells what the day's does.
 const ASKED: [(&str, &str); 9] = [
@@ -29,17 +28,17 @@ const ASKED: [(&str, &str); 9] = [
 /// What the calls of a file are about: the tables of a day, and a station or the connection that
 /// was left of one.
 #[derive(Drop)]
-pub struct FoundAnswers {
+pub struct FoundAnswers<S: Fresh> {
     alloc: Global,
     /// The statements that make the tables and fill them.
     day: String,
-    station: Option<Station<MemStore>>,
-    conn: Option<Connection<MemStore>>,
+    station: Option<Station<S>>,
+    conn: Option<Connection<S>>,
 }
 
-impl FoundAnswers {
+impl<S: Fresh> FoundAnswers<S> {
     /// No table, no station and no connection yet.
-    pub fn new(alloc: Global) -> FoundAnswers {
+    pub fn new(alloc: Global) -> FoundAnswers<S> {
         FoundAnswers {
             alloc,
             day: String::new(alloc),
@@ -53,13 +52,16 @@ impl FoundAnswers {
         let alloc = self.alloc;
         match asked {
             "table" => self.note(shown(text)),
-            "new" => self.start(open_memory(alloc).ok()?),
-            "empty" => self.keep(open_memory(alloc).ok()?),
+            "new" => self.start(S::open(alloc)?),
+            "empty" => self.keep(S::open(alloc)?),
             "day" => {
                 let conn = self.day_tables()?;
                 self.keep(conn)
             }
-            "bare" => found(alloc, database(alloc, statements(alloc, text)?.as_str())?),
+            "bare" => found(
+                alloc,
+                database::<S>(alloc, statements(alloc, text)?.as_str())?,
+            ),
             "file" => found_in_file(alloc, text),
             "sql" => self.execute(shown(text)),
             "declared" => self.declare(shown(text)),
@@ -88,12 +90,9 @@ impl FoundAnswers {
                 self.give(&keyed(key, command)?)
             }
             "take" => self.give(&Input::Wire(read_telegram(self.alloc, text).ok()?)),
-            "waybill" | "holder" | "stock" | "book" | "pending" | "trail" => {
-                said_by(
-                    self.alloc,
-                    self.station.as_mut()?,
-                    Call::Reader(asked, text),
-                )
+            "list" => self.call(Call::List(shown(text))),
+            "waybill" | "holder" | "stock" | "book" | "pending" | "trail" | "cargo-rows" => {
+                self.call(Call::Reader(asked, text))
             }
             "told-as-day" => self.tell_as_day(),
             _ => found(self.alloc, self.damaged(text)?),
@@ -109,19 +108,19 @@ impl FoundAnswers {
     }
 
     /// The day's tables.
-    fn day_tables(&self) -> Option<Connection<MemStore>> {
+    fn day_tables(&self) -> Option<Connection<S>> {
         database(self.alloc, self.day.as_str())
     }
 
     /// The day's tables after further statements.
-    fn damaged(&self, text: &[u8]) -> Option<Connection<MemStore>> {
+    fn damaged(&self, text: &[u8]) -> Option<Connection<S>> {
         let mut conn = self.day_tables()?;
         let text = statements(self.alloc, text)?;
         conn.execute_batch(text.as_str()).ok()?;
         Some(conn)
     }
 
-    fn keep(&mut self, conn: Connection<MemStore>) -> Option<String> {
+    fn keep(&mut self, conn: Connection<S>) -> Option<String> {
         self.station = None;
         self.conn = Some(conn);
         say(self.alloc, "ok")
@@ -159,7 +158,7 @@ impl FoundAnswers {
     }
 
     /// The connection of the station, which ends, or the one that was left.
-    fn connection(&mut self) -> Option<Connection<MemStore>> {
+    fn connection(&mut self) -> Option<Connection<S>> {
         match self.station.take() {
             Some(station) => Some(station.release()),
             None => self.conn.take(),
@@ -167,8 +166,8 @@ impl FoundAnswers {
     }
 
     /// Makes a station over a connection.
-    fn start(&mut self, conn: Connection<MemStore>) -> Option<String> {
-        match create(self.alloc, conn, Airport::read(b"FRA")?) {
+    fn start(&mut self, conn: Connection<S>) -> Option<String> {
+        match create(self.alloc, conn, here()?) {
             Ok(station) => self.put(station),
             Err((conn, fault)) => self.give_back(conn, &fault),
         }
@@ -192,12 +191,12 @@ impl FoundAnswers {
         }
     }
 
-    fn put(&mut self, station: Station<MemStore>) -> Option<String> {
+    fn put(&mut self, station: Station<S>) -> Option<String> {
         self.station = Some(station);
         say(self.alloc, "ok")
     }
 
-    fn give_back(&mut self, conn: Connection<MemStore>, fault: &AttachFault) -> Option<String> {
+    fn give_back(&mut self, conn: Connection<S>, fault: &AttachFault) -> Option<String> {
         let said = refusal_said(self.alloc, &conn, fault);
         self.conn = Some(conn);
         said
@@ -221,7 +220,13 @@ impl FoundAnswers {
 
     /// The answer to an input.
     fn give(&mut self, input: &Input<'_>) -> Option<String> {
-        said_by(self.alloc, self.station.as_mut()?, Call::Act(input))
+        self.call(Call::Act(input))
+    }
+
+    /// What the station says to a call.
+    fn call(&mut self, call: Call<'_>) -> Option<String> {
+        let alloc = self.alloc;
+        ask(self.station.as_mut()?, Calling { alloc, call })
     }
 
     /// Whether the readers of the station tell what they tell over the day's tables.
@@ -229,8 +234,9 @@ impl FoundAnswers {
         let Ok(mut day) = attach(self.alloc, self.day_tables()?) else {
             return None;
         };
-        let wanted = said_by(self.alloc, &mut day, Call::AllReaders)?;
-        let came = said_by(self.alloc, self.station.as_mut()?, Call::AllReaders)?;
+        let (alloc, call) = (self.alloc, Call::AllReaders);
+        let wanted = ask(&mut day, Calling { alloc, call })?;
+        let came = self.call(Call::AllReaders)?;
         if came.as_str() == wanted.as_str() {
             say(self.alloc, "the same")
         } else {
@@ -245,14 +251,18 @@ pub fn statements(alloc: Global, text: &[u8]) -> Option<String> {
 }
 
 /// A database in memory after these statements.
-fn database(alloc: Global, statements: &str) -> Option<Connection<MemStore>> {
-    let mut conn = open_memory(alloc).ok()?;
+fn database<S: Fresh>(alloc: Global, statements: &str) -> Option<Connection<S>> {
+    let mut conn = S::open(alloc)?;
     conn.execute_batch(statements).ok()?;
     Some(conn)
 }
 
 /// Why there is no station, and whether the connection came back inside a transaction.
-fn refusal_said(alloc: Global, conn: &Connection<MemStore>, fault: &AttachFault) -> Option<String> {
+fn refusal_said<S: Alter>(
+    alloc: Global,
+    conn: &Connection<S>,
+    fault: &AttachFault,
+) -> Option<String> {
     let fault = fault_said(alloc, fault)?;
     if conn.is_autocommit() {
         Some(fault)
@@ -262,7 +272,7 @@ fn refusal_said(alloc: Global, conn: &Connection<MemStore>, fault: &AttachFault)
 }
 
 /// Whether a database is a station's, or why it is none.
-fn found(alloc: Global, conn: Connection<MemStore>) -> Option<String> {
+fn found<S: Alter + Drop>(alloc: Global, conn: Connection<S>) -> Option<String> {
     match attach(alloc, conn) {
         Ok(_) => say(alloc, "ok"),
         Err((conn, fault)) => refusal_said(alloc, &conn, &fault),
@@ -276,31 +286,51 @@ fn found_in_file(alloc: Global, bytes: &[u8]) -> Option<String> {
     found_in(alloc, &files, &[])
 }
 
-/// What a station in memory says to a call. Nothing else hands it on: each function that does costs
-/// the check as much as twenty others.
-fn said_by(alloc: Global, station: &mut Station<MemStore>, call: Call<'_>) -> Option<String> {
-    call.said_by(alloc, station)
-}
-
 /// A call of a station.
 #[derive(Drop)]
 enum Call<'a> {
     /// An input.
     Act(&'a Input<'a>),
+    /// Commands under keys, as one list.
+    List(&'a str),
     /// One reader, with the text that says of what.
     Reader(&'a str, &'a [u8]),
     /// Each reader that `ASKED` has.
     AllReaders,
 }
 
-impl Call<'_> {
-    /// What a station says to it.
-    fn said_by<K: Keeper>(self, alloc: Global, station: &mut K) -> Option<String> {
-        match self {
-            Call::Act(input) => answered(alloc, station, input),
-            Call::Reader(asked, text) => told(alloc, station, asked, text),
-            Call::AllReaders => all_told(alloc, station),
+/// A call that a station has.
+#[derive(Drop)]
+struct Calling<'a> {
+    alloc: Global,
+    call: Call<'a>,
+}
+
+impl Job for Calling<'_> {
+    /// What the station says to it.
+    type Out = Option<String>;
+
+    fn run<K: Keeper>(self, station: &mut K) -> Option<String> {
+        match self.call {
+            Call::Act(input) => answered(self.alloc, station, input),
+            Call::List(texts) => list_told(self.alloc, station, texts),
+            Call::Reader(asked, text) => told(self.alloc, station, asked, text),
+            Call::AllReaders => all_told(self.alloc, station),
         }
+    }
+}
+
+/// The answers to commands under keys that come as one list, at noon. A bar parts their texts.
+fn list_told<K: Keeper>(alloc: Global, station: &mut K, texts: &str) -> Option<String> {
+    let mut inputs = Vec::new(alloc);
+    for text in texts.split('|') {
+        let (key, command) = text.split_once(' ')?;
+        inputs.push((keyed(key, command)?, noon()?)).ok()?;
+    }
+    let all = act_all(alloc, station, inputs.as_slice());
+    match all.fault {
+        None => answers_said(alloc, &all.answers),
+        Some(_) => None,
     }
 }
 
@@ -312,6 +342,7 @@ fn told<K: Keeper>(alloc: Global, station: &mut K, asked: &str, text: &[u8]) -> 
         "stock" => stock(alloc, station, shown(text)),
         "book" => book(alloc, station, shown(text).parse::<usize>().ok()?),
         "pending" => pending(alloc, station, shown(text).parse::<usize>().ok()?),
+        "cargo-rows" => cargo_rows(alloc, station),
         _ => trail(alloc, station, shown(text).parse::<usize>().ok()?),
     }
 }

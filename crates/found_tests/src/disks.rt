@@ -6,11 +6,29 @@ use sqlite::{Connection, FileStore, Files, Options};
 use sqlite_disk::{Crash, Disk, Fuse, Memory};
 use std::alloc::Global;
 
-/// A file in memory that serves so many calls.
-type FusedDisk = Fuse<Memory>;
+/// A file in memory that serves so many calls, and whose bytes are seen.
+trait FailingDisk: Crash + Drop {
+    /// A file that keeps these bytes. Nothing where memory is out.
+    fn holding(alloc: Global, bytes: &[u8], calls: u64) -> Option<Self>;
 
-/// The store over two such files. It has a name in this module alone.
-type Disks = FileStore<FusedDisk>;
+    /// The bytes that it has after a crash.
+    fn crashed(self, alloc: Global) -> Option<Vec<u8>>;
+}
+
+impl FailingDisk for Fuse<Memory> {
+    fn holding(alloc: Global, bytes: &[u8], calls: u64) -> Option<Fuse<Memory>> {
+        let mut memory = Memory::new(alloc);
+        memory.write_at(0, bytes).ok()?;
+        memory.sync().ok()?;
+        Some(Fuse::new(memory, calls))
+    }
+
+    fn crashed(self, alloc: Global) -> Option<Vec<u8>> {
+        let mut file = self;
+        file.crash();
+        file.inner().bytes().to_vec(alloc).ok()
+    }
+}
 
 /// The bytes of a log and of a database file.
 #[derive(Drop)]
@@ -81,35 +99,25 @@ pub struct Visited {
     pub bytes: FileBytes,
 }
 
-/// A file that keeps these bytes and serves so many calls.
-fn disk(alloc: Global, bytes: &[u8], calls: u64) -> Option<FusedDisk> {
-    let mut memory = Memory::new(alloc);
-    memory.write_at(0, bytes).ok()?;
-    memory.sync().ok()?;
-    Some(Fuse::new(memory, calls))
-}
-
 /// What files have after a crash.
-fn bytes_of(alloc: Global, files: Files<FusedDisk>) -> Option<FileBytes> {
-    let mut files = files;
-    files.log.crash();
-    files.db.crash();
+fn bytes_of<D: FailingDisk>(alloc: Global, files: Files<D>) -> Option<FileBytes> {
+    let Files { log, db } = files;
     Some(FileBytes {
-        log: files.log.inner().bytes().to_vec(alloc).ok()?,
-        db: files.db.inner().bytes().to_vec(alloc).ok()?,
+        log: log.crashed(alloc)?,
+        db: db.crashed(alloc)?,
     })
 }
 
 /// A connection over files with these bytes, or what a crash leaves where they can't be opened.
 /// Nothing where memory is out.
-fn open_files(
+fn open_files<D: FailingDisk>(
     alloc: Global,
     bytes: &FileBytes,
     calls: Calls,
-) -> Option<Result<Connection<Disks>, FileBytes>> {
-    let files = Files {
-        log: disk(alloc, bytes.log.as_slice(), calls.log)?,
-        db: disk(alloc, bytes.db.as_slice(), calls.db)?,
+) -> Option<Result<Connection<FileStore<D>>, FileBytes>> {
+    let files: Files<D> = Files {
+        log: D::holding(alloc, bytes.log.as_slice(), calls.log)?,
+        db: D::holding(alloc, bytes.db.as_slice(), calls.db)?,
     };
     if !files.may_be_used() {
         return Some(Err(bytes_of(alloc, files)?));
@@ -120,13 +128,12 @@ fn open_files(
     }
 }
 
-/// The files of a connection where a crash ends it.
-fn crashed(conn: Connection<Disks>) -> Files<FusedDisk> {
-    conn.into_store().close()
-}
-
-/// The files of a connection that is closed, and whether its log was copied into the database file.
-fn closed(conn: Connection<Disks>) -> (bool, Files<FusedDisk>) {
+/// The files of a connection that is closed, and whether its log was copied into the database file;
+/// or, where a crash is to end it, its files.
+fn ended<D: FailingDisk>(conn: Connection<FileStore<D>>, is_closed: bool) -> (bool, Files<D>) {
+    if !is_closed {
+        return (false, conn.into_store().close());
+    }
     match conn.close_files() {
         Ok(files) => (true, files),
         Err((_, store)) => (false, store.close()),
@@ -136,14 +143,14 @@ fn closed(conn: Connection<Disks>) -> (bool, Files<FusedDisk>) {
 /// Opens files with these bytes, does the work over them, with the waybills that are asked for, and
 /// closes them or lets a crash end it. What came of it, and what the files hold then. Nothing where
 /// memory is out.
-pub fn visit(
+fn visit_over<D: FailingDisk>(
     alloc: Global,
     bytes: &FileBytes,
     calls: Calls,
     work: &Work<'_>,
     numbers: &[Awb],
 ) -> Option<Visited> {
-    let conn = match open_files(alloc, bytes, calls)? {
+    let conn = match open_files::<D>(alloc, bytes, calls)? {
         Ok(conn) => conn,
         Err(bytes) => {
             return Some(Visited {
@@ -153,17 +160,25 @@ pub fn visit(
             });
         }
     };
-    let (came, conn) = work.run::<Disks>(alloc, conn, numbers)?;
-    let (is_closed, files) = if work.is_closed_after(&came) {
-        closed(conn)
-    } else {
-        (false, crashed(conn))
-    };
+    let (came, conn) = work.run(alloc, conn, numbers);
+    let (is_closed, files) = ended(conn, work.is_closed_after(&came));
+    let bytes = bytes_of(alloc, files)?;
     Some(Visited {
-        came,
+        came: came?,
         is_closed,
-        bytes: bytes_of(alloc, files)?,
+        bytes,
     })
+}
+
+/// The same over files in memory that serve so many calls.
+pub fn visit(
+    alloc: Global,
+    bytes: &FileBytes,
+    calls: Calls,
+    work: &Work<'_>,
+    numbers: &[Awb],
+) -> Option<Visited> {
+    visit_over::<Fuse<Memory>>(alloc, bytes, calls, work, numbers)
 }
 
 /// What work over files says that nothing stops, and what a crash leaves then.

@@ -4,7 +4,7 @@ use awb_number::Awb;
 use station_core::{ActFault, Input, Keeper, answer_one};
 use station_days::Moment;
 use std::alloc::Global;
-use test_kit::{answer_said, is_done, keyed, noon, say};
+use test_kit::{Job, answer_said, is_done, keyed, noon, say};
 
 /// The commands of a day, each with its key: numbers are taken in, and four of ten pieces that
 /// were received depart.
@@ -42,14 +42,24 @@ pub enum Came {
     Done(String),
 }
 
-impl Errand {
+/// An errand that a station is asked for.
+#[derive(Clone, Copy)]
+pub struct Asked {
+    pub alloc: Global,
+    pub errand: Errand,
+}
+
+impl Job for Asked {
     /// What comes of it. Nothing where memory is out, or where what is asked can't be.
-    pub fn run<K: Keeper>(&self, alloc: Global, station: &mut K) -> Option<Came> {
-        match self {
+    type Out = Option<Came>;
+
+    fn run<K: Keeper>(self, station: &mut K) -> Option<Came> {
+        let alloc = self.alloc;
+        match self.errand {
             Errand::Nothing => Some(Came::Done(say(alloc, "ok")?)),
-            Errand::Day(commands) => Some(Came::Played(act_on_day(station, *commands))),
+            Errand::Day(commands) => Some(Came::Played(act_on_day(station, commands))),
             Errand::BuildUp(waybills) => {
-                build_up_all(alloc, station, *waybills)?;
+                build_up_all(alloc, station, waybills)?;
                 Some(Came::Done(say(alloc, "ok")?))
             }
             Errand::Outbox => Some(Came::Done(pending(alloc, station, usize::MAX)?)),
@@ -75,17 +85,24 @@ fn act_on_day<K: Keeper>(station: &mut K, wanted: usize) -> usize {
     wanted.min(DAY.len())
 }
 
-/// The answer to an input at a moment. A failure that isn't the store's gives nothing.
-pub fn give<K: Keeper>(
-    alloc: Global,
-    station: &mut K,
-    input: &Input<'_>,
-    at: Moment,
-) -> Option<Came> {
-    match answer_one(station, input, at) {
-        Ok(answer) => Some(Came::Done(answer_said(alloc, &answer)?)),
-        Err(ActFault::Store) => Some(Came::Stopped),
-        Err(_) => None,
+/// An input that a station is given at a moment.
+#[derive(Clone, Copy)]
+pub struct Giving<'a> {
+    pub alloc: Global,
+    pub input: &'a Input<'a>,
+    pub at: Moment,
+}
+
+impl Job for Giving<'_> {
+    /// Its answer. A failure that isn't the store's gives nothing.
+    type Out = Option<Came>;
+
+    fn run<K: Keeper>(self, station: &mut K) -> Option<Came> {
+        match answer_one(station, self.input, self.at) {
+            Ok(answer) => Some(Came::Done(answer_said(self.alloc, &answer)?)),
+            Err(ActFault::Store) => Some(Came::Stopped),
+            Err(_) => None,
+        }
     }
 }
 

@@ -1,22 +1,34 @@
 //! What an opening finds in a database.
 use crate::faults::fault_said;
 use crate::listing::{all_rows, old_rows, rows_of};
+use crate::tables::ask;
 use awb_number::Awb;
 use sqlite::{Alter, Connection};
 use station_core::Keeper;
 use station_tables::{AttachFault, attach};
 use std::alloc::Global;
-use test_kit::known_said;
+use test_kit::{Job, known_said};
 
-/// What a station says of waybills.
-fn waybills_said<K: Keeper>(alloc: Global, station: &mut K, numbers: &[Awb]) -> Option<String> {
-    let mut said = String::new(alloc);
-    for number in numbers {
-        let known = known_said(alloc, &station.waybill(number).ok()?)?;
-        said.push_str(known.as_str()).ok()?;
-        said.push_str("; ").ok()?;
+/// Waybills of which a station is asked.
+#[derive(Clone, Copy)]
+struct Waybills<'a> {
+    alloc: Global,
+    numbers: &'a [Awb],
+}
+
+impl Job for Waybills<'_> {
+    type Out = Option<String>;
+
+    /// What a station says of them.
+    fn run<K: Keeper>(self, keeper: &mut K) -> Option<String> {
+        let mut said = String::new(self.alloc);
+        for number in self.numbers {
+            let known = known_said(self.alloc, &keeper.waybill(number).ok()?)?;
+            said.push_str(known.as_str()).ok()?;
+            said.push_str("; ").ok()?;
+        }
+        Some(said)
     }
-    Some(said)
 }
 
 /// The rows of a table `notes` that stands beside a station's, if there is one.
@@ -63,32 +75,35 @@ pub fn fault_found<S: Alter>(
     format!(in alloc; "{fault}, {count} tables and indexes{notes}{rows}").ok()
 }
 
-/// All rows of a station's tables, and of a table `notes`.
-fn rows_found<S: Alter>(alloc: Global, conn: &mut Connection<S>) -> Option<String> {
-    let mut said = all_rows(alloc, conn)?;
-    let notes = notes_said(alloc, conn)?;
-    said.push_str(notes.as_str()).ok()?;
+/// What a station says of waybills, followed by all rows of its tables, and of a table `notes`.
+fn rows_found<S: Alter>(
+    alloc: Global,
+    conn: &mut Connection<S>,
+    waybills: Option<String>,
+) -> Option<String> {
+    let mut said = waybills?;
+    said.push_str(all_rows(alloc, conn)?.as_str()).ok()?;
+    said.push_str(notes_said(alloc, conn)?.as_str()).ok()?;
     Some(said)
 }
 
-/// What is found over a connection: what the station says of waybills, and all its rows, or why
-/// there is none.
-pub fn found<S: Alter + Drop>(
+/// What is found over a connection, which comes back: what the station says of waybills, and all
+/// its rows, or why there is none. Nothing where memory is out.
+pub fn found<S: Alter>(
     alloc: Global,
     conn: Connection<S>,
     numbers: &[Awb],
-) -> Option<(String, Connection<S>)> {
+) -> (Option<String>, Connection<S>) {
     match attach(alloc, conn) {
         Ok(mut station) => {
-            let mut said = waybills_said(alloc, &mut station, numbers)?;
+            let waybills = ask(&mut station, Waybills { alloc, numbers });
             let mut conn = station.release();
-            let rows = rows_found(alloc, &mut conn)?;
-            said.push_str(rows.as_str()).ok()?;
-            Some((said, conn))
+            let said = rows_found(alloc, &mut conn, waybills);
+            (said, conn)
         }
         Err((mut conn, fault)) => {
-            let said = fault_found(alloc, &mut conn, &fault)?;
-            Some((said, conn))
+            let said = fault_found(alloc, &mut conn, &fault);
+            (said, conn)
         }
     }
 }

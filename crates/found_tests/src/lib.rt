@@ -1,8 +1,11 @@
 //! Databases that are opened as a station's: found ones, right and damaged, and those of stations
-//! that were stopped.
+//! that were stopped; and the calls of stations over tables, and of the tables themselves.
 //!
 //! `run_memory` goes through inputs for which memory may be refused alone. Run it with each
 //! allocation failing in turn.
+//!
+//! All is written for any store of tables. Only `run_file` and `run_memory` name the one in memory,
+//! and only `disks` names the one over files that fail.
 #![tactic(auto)]
 
 mod databases;
@@ -15,6 +18,7 @@ mod listing;
 mod memory;
 mod readers;
 mod repeats;
+mod rows;
 mod stopping;
 mod stops;
 mod tables;
@@ -23,28 +27,37 @@ mod work;
 use databases::FoundAnswers;
 use memory::{Run, Told, migration_told_at_last, told_at_last};
 use repeats::RepeatAnswers;
+use rows::RowAnswers;
+use sqlite::MemStore;
 use std::alloc::Global;
 use std::io;
+use tables::Fresh;
 use test_kit::{Answers, go_through_file};
 
-/// The files of cases, in the order in which they are gone through.
+/// The files of the folder `found`, in the order in which they are gone through.
 pub const FILES: &[&str] = &["found", "stops", "repeats"];
 
 /// What answers the cases of a file.
 #[derive(Drop)]
-struct FileAnswers<'a> {
+struct FileAnswers<'a, S: Fresh> {
     alloc: Global,
     file: &'a str,
-    found: FoundAnswers,
+    found: FoundAnswers<S>,
     repeats: RepeatAnswers,
+    rows: RowAnswers<S>,
 }
 
-impl Answers for FileAnswers<'_> {
+impl<S: Fresh> Answers for FileAnswers<'_, S> {
     fn answer(&mut self, asked: &str, text: &[u8]) -> Option<String> {
         match self.file {
             "found" => self.found.answer(asked, text),
-            "stops" => stops::answer(self.alloc, asked),
+            "stops" => stops::answer::<S>(self.alloc, asked),
             "repeats" => self.repeats.answer(asked, text),
+            "rows" => self.rows.answer(asked, text),
+            "tables" => match asked {
+                "runs-of-row" => rows::runs_of_row::<S>(self.alloc, text),
+                _ => self.found.answer(asked, text),
+            },
             _ => None,
         }
     }
@@ -52,41 +65,45 @@ impl Answers for FileAnswers<'_> {
 
 /// Gives each input for which memory may be refused, and takes a file to version 2; prints what
 /// came of each. Whether all came out as they must.
+fn run_memory_over<S: Fresh>(rt: &HostRuntime) -> Result<bool, io::Error> {
+    let mut all = true;
+    for run in Run::ALL {
+        let told = told_at_last::<S>(rt.alloc(), run);
+        println!(rt; "{run:?}: {}", told.word())?;
+        all &= told != Told::Otherwise;
+    }
+    let told = migration_told_at_last::<S>(rt.alloc());
+    println!(rt; "Migration: {}", told.word())?;
+    Ok(all && told != Told::Otherwise)
+}
+
+/// The same over tables in memory.
 ///
 /// # Errors
 ///
 /// Where nothing can be printed, or memory is out.
 pub fn run_memory(rt: &HostRuntime) -> Result<bool, io::Error> {
-    let mut all = true;
-    for run in [
-        Run::TakeIn,
-        Run::Manifest,
-        Run::CheckInShort,
-        Run::CheckInOver,
-        Run::Departure,
-        Run::Confirmation,
-    ] {
-        let told = told_at_last(rt.alloc(), run);
-        println!(rt; "{run:?}: {}", told.word())?;
-        all &= told != Told::Otherwise;
-    }
-    let told = migration_told_at_last(rt.alloc());
-    println!(rt; "Migration: {}", told.word())?;
-    Ok(all && told != Told::Otherwise)
+    run_memory_over::<MemStore>(rt)
 }
 
-/// Goes through a file of cases, and prints those that came out otherwise, or how many there were.
-/// Whether all came out as they must.
-///
-/// # Errors
-///
-/// Where nothing can be printed, or memory is out.
-pub fn run_file(rt: &HostRuntime, file: &str) -> Result<bool, io::Error> {
-    let mut answers = FileAnswers {
+/// Goes through a file of cases of a folder, and prints those that came out otherwise, or how many
+/// there were. Whether all came out as they must.
+fn run_file_over<S: Fresh>(rt: &HostRuntime, folder: &str, file: &str) -> Result<bool, io::Error> {
+    let mut answers: FileAnswers<'_, S> = FileAnswers {
         alloc: rt.alloc(),
         file,
         found: FoundAnswers::new(rt.alloc()),
         repeats: RepeatAnswers::new(rt.alloc()),
+        rows: RowAnswers::new(rt.alloc()),
     };
-    go_through_file(rt, "found", file, &mut answers)
+    go_through_file(rt, folder, file, &mut answers)
+}
+
+/// The same over tables in memory.
+///
+/// # Errors
+///
+/// Where nothing can be printed, or memory is out.
+pub fn run_file(rt: &HostRuntime, folder: &str, file: &str) -> Result<bool, io::Error> {
+    run_file_over::<MemStore>(rt, folder, file)
 }

@@ -5,9 +5,9 @@
 use crate::errands::build_up_all;
 use crate::fused::Fused;
 use crate::listing::{all_rows, old_rows};
-use crate::tables::{Job, over_tables};
+use crate::tables::{Fresh, StoreJob, over_tables};
 use awb_number::Awb;
-use sqlite::{Connection, MemStore};
+use sqlite::Connection;
 use state_store::StateStore;
 use station_core::{ActFault, Answer, Input, Keeper, answer_one};
 use station_days::Moment;
@@ -34,6 +34,18 @@ pub enum Run {
     Departure,
     /// Three of its messages are confirmed.
     Confirmation,
+}
+
+impl Run {
+    /// Each of them, in the order in which they are gone through.
+    pub const ALL: [Run; 6] = [
+        Run::TakeIn,
+        Run::Manifest,
+        Run::CheckInShort,
+        Run::CheckInOver,
+        Run::Departure,
+        Run::Confirmation,
+    ];
 }
 
 /// What came of an input.
@@ -162,7 +174,7 @@ struct Preparing {
     run: Run,
 }
 
-impl Job for Preparing {
+impl StoreJob for Preparing {
     type Out = ();
 
     fn run<T: StateStore>(self, alloc: Global, store: T) -> (Option<()>, T) {
@@ -178,7 +190,7 @@ struct Giving<'a> {
     at: Moment,
 }
 
-impl Job for Giving<'_> {
+impl StoreJob for Giving<'_> {
     /// Its answer, and how many calls of the store were made for it.
     type Out = (Result<Answer, ActFault>, u32);
 
@@ -197,34 +209,34 @@ impl Job for Giving<'_> {
 }
 
 /// The tables before an input.
-fn tables(alloc: Global, run: Run) -> Option<Connection<MemStore>> {
+fn tables<S: Fresh>(alloc: Global, run: Run) -> Option<Connection<S>> {
     Some(over_tables(alloc, Preparing { run })?.1)
 }
 
 /// What an input left: its answer, how many calls of the tables were made for it, and their
 /// connection.
 #[derive(Drop)]
-struct Given {
+struct Given<S: Fresh> {
     answer: Result<Answer, ActFault>,
     made: u32,
-    conn: Connection<MemStore>,
+    conn: Connection<S>,
 }
 
 /// Gives an input to a station over the tables that are there before it.
-fn give(alloc: Global, run: Run, input: &Input<'_>) -> Option<Given> {
+fn give<S: Fresh>(alloc: Global, run: Run, input: &Input<'_>) -> Option<Given<S>> {
     let at = noon()?;
     let ((answer, made), conn) = over_tables(alloc, Giving { run, input, at })?;
     Some(Given { answer, made, conn })
 }
 
 /// All rows before an input.
-fn rows_before(alloc: Global, run: Run) -> Option<String> {
-    all_rows(alloc, &mut tables(alloc, run)?)
+fn rows_before<S: Fresh>(alloc: Global, run: Run) -> Option<String> {
+    all_rows(alloc, &mut tables::<S>(alloc, run)?)
 }
 
 /// All rows that an input leaves where nothing is refused.
-fn rows_after(alloc: Global, run: Run, input: &Input<'_>) -> Option<String> {
-    let mut given = give(alloc, run, input)?;
+fn rows_after<S: Fresh>(alloc: Global, run: Run, input: &Input<'_>) -> Option<String> {
+    let mut given = give::<S>(alloc, run, input)?;
     match given.answer {
         Ok(Answer::Done(_)) => all_rows(alloc, &mut given.conn),
         _ => None,
@@ -232,9 +244,9 @@ fn rows_after(alloc: Global, run: Run, input: &Input<'_>) -> Option<String> {
 }
 
 /// Whether the input that is repeated has its reply, and leaves these rows.
-fn is_repeated(
+fn is_repeated<S: Fresh>(
     alloc: Global,
-    conn: Connection<MemStore>,
+    conn: Connection<S>,
     input: &Input<'_>,
     run: Run,
     after: &str,
@@ -248,15 +260,16 @@ fn is_repeated(
 }
 
 /// What came of an input that had no answer, after so many calls of the tables.
-fn after_fault(
+fn after_fault<S: Fresh>(
     alloc: Global,
     run: Run,
     input: &Input<'_>,
     fault: &ActFault,
     made: u32,
-    conn: Connection<MemStore>,
+    conn: Connection<S>,
 ) -> Option<Told> {
-    let (before, after) = (rows_before(alloc, run)?, rows_after(alloc, run, input)?);
+    let before = rows_before::<S>(alloc, run)?;
+    let after = rows_after::<S>(alloc, run, input)?;
     let mut conn = conn;
     let rows = all_rows(alloc, &mut conn)?;
     let is_before = rows.as_str() == before.as_str();
@@ -277,14 +290,14 @@ fn after_fault(
 
 /// What came of an input that had an answer: its one reply, and the rows that it leaves where
 /// nothing is refused.
-fn after_answer(
+fn after_answer<S: Fresh>(
     alloc: Global,
     run: Run,
     input: &Input<'_>,
     answer: &Answer,
-    conn: Connection<MemStore>,
+    conn: Connection<S>,
 ) -> Option<Told> {
-    let after = rows_after(alloc, run, input)?;
+    let after = rows_after::<S>(alloc, run, input)?;
     let mut conn = conn;
     let rows = all_rows(alloc, &mut conn)?;
     let reply = answer_said(alloc, answer)?;
@@ -296,10 +309,10 @@ fn after_answer(
 }
 
 /// What comes of an input. Nothing where memory was refused before it.
-fn try_run(alloc: Global, run: Run) -> Option<Told> {
+fn try_run<S: Fresh>(alloc: Global, run: Run) -> Option<Told> {
     let text = text_of(alloc, run)?;
     let input = input_of(alloc, run, text.as_str())?;
-    let Given { answer, made, conn } = give(alloc, run, &input)?;
+    let Given { answer, made, conn } = give::<S>(alloc, run, &input)?;
     match answer {
         Ok(answer) => after_answer(alloc, run, &input, &answer, conn),
         Err(fault) => after_fault(alloc, run, &input, &fault, made, conn),
@@ -307,10 +320,10 @@ fn try_run(alloc: Global, run: Run) -> Option<Told> {
 }
 
 /// What comes of an input, from the beginning where memory was refused before it.
-pub fn told_at_last(alloc: Global, run: Run) -> Told {
-    match try_run(alloc, run) {
+pub fn told_at_last<S: Fresh>(alloc: Global, run: Run) -> Told {
+    match try_run::<S>(alloc, run) {
         Some(told_first) => told_first,
-        None => try_run(alloc, run).unwrap_or(Told::Otherwise),
+        None => try_run::<S>(alloc, run).unwrap_or(Told::Otherwise),
     }
 }
 
@@ -321,15 +334,15 @@ const BACK: &str = "INSERT INTO waybill
     UPDATE station SET version = 1";
 
 /// The tables of version 1 of a station with twenty waybills on a flight.
-fn old_tables(alloc: Global) -> Option<Connection<MemStore>> {
-    let mut conn = tables(alloc, Run::Departure)?;
+fn old_tables<S: Fresh>(alloc: Global) -> Option<Connection<S>> {
+    let mut conn = tables::<S>(alloc, Run::Departure)?;
     conn.execute_batch(BACK).ok()?;
     Some(conn)
 }
 
 /// All rows of these tables in version 2, where nothing is refused.
-fn rows_migrated(alloc: Global) -> Option<String> {
-    match migrate(alloc, old_tables(alloc)?) {
+fn rows_migrated<S: Fresh>(alloc: Global) -> Option<String> {
+    match migrate(alloc, old_tables::<S>(alloc)?) {
         Ok(conn) => {
             let mut conn = conn;
             all_rows(alloc, &mut conn)
@@ -339,23 +352,23 @@ fn rows_migrated(alloc: Global) -> Option<String> {
 }
 
 /// Whether tables are of version 2, as those that nothing hindered.
-fn is_migrated(alloc: Global, conn: Connection<MemStore>) -> Option<bool> {
-    let after = rows_migrated(alloc)?;
+fn is_migrated<S: Fresh>(alloc: Global, conn: Connection<S>) -> Option<bool> {
+    let after = rows_migrated::<S>(alloc)?;
     let mut conn = conn;
     let rows = all_rows(alloc, &mut conn)?;
     Some(rows.as_str() == after.as_str())
 }
 
 /// Whether tables have the rows of version 1.
-fn is_old(alloc: Global, conn: &mut Connection<MemStore>) -> Option<bool> {
-    let mut old = old_tables(alloc)?;
+fn is_old<S: Fresh>(alloc: Global, conn: &mut Connection<S>) -> Option<bool> {
+    let mut old = old_tables::<S>(alloc)?;
     let before = old_rows(alloc, &mut old)?;
     let rows = old_rows(alloc, conn)?;
     Some(rows.as_str() == before.as_str())
 }
 
 /// Whether tables that are taken to version 2 once more are so then, or are so already.
-fn is_migrated_again(alloc: Global, conn: Connection<MemStore>) -> Option<bool> {
+fn is_migrated_again<S: Fresh>(alloc: Global, conn: Connection<S>) -> Option<bool> {
     match migrate(alloc, conn) {
         Ok(conn) => is_migrated(alloc, conn),
         Err((conn, AttachFault::Version(2))) => is_migrated(alloc, conn),
@@ -364,10 +377,10 @@ fn is_migrated_again(alloc: Global, conn: Connection<MemStore>) -> Option<bool> 
 }
 
 /// What came of tables that weren't taken to version 2.
-fn after_unmigrated(
+fn after_unmigrated<S: Fresh>(
     alloc: Global,
     fault: &AttachFault,
-    conn: Connection<MemStore>,
+    conn: Connection<S>,
 ) -> Option<Told> {
     let mut conn = conn;
     let is_old = is_old(alloc, &mut conn)?;
@@ -384,8 +397,8 @@ fn after_unmigrated(
 }
 
 /// What comes of a file that is taken to version 2. Nothing where memory was refused before it.
-fn try_migration(alloc: Global) -> Option<Told> {
-    match migrate(alloc, old_tables(alloc)?) {
+fn try_migration<S: Fresh>(alloc: Global) -> Option<Told> {
+    match migrate(alloc, old_tables::<S>(alloc)?) {
         Ok(conn) => Some(if is_migrated(alloc, conn)? {
             Told::Accepted
         } else {
@@ -396,9 +409,9 @@ fn try_migration(alloc: Global) -> Option<Told> {
 }
 
 /// The same, from the beginning where memory was refused before it.
-pub fn migration_told_at_last(alloc: Global) -> Told {
-    match try_migration(alloc) {
+pub fn migration_told_at_last<S: Fresh>(alloc: Global) -> Told {
+    match try_migration::<S>(alloc) {
         Some(told_first) => told_first,
-        None => try_migration(alloc).unwrap_or(Told::Otherwise),
+        None => try_migration::<S>(alloc).unwrap_or(Told::Otherwise),
     }
 }

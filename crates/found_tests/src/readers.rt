@@ -1,32 +1,7 @@
 //! What the readers of a station hand out to a sink that may take no more, as texts.
-use station_core::{BookRow, Keeper, Message, Sink, TrailRow};
+use station_core::{BookRow, Keeper, Message, TrailRow};
 use std::alloc::Global;
-use test_kit::shown;
-
-/// A sink that keeps its rows, and takes so many at most.
-#[derive(Drop)]
-struct Taken<Row> {
-    rows: Vec<Row>,
-    most: usize,
-}
-
-impl<Row> Taken<Row> {
-    /// No row yet, and room for so many.
-    fn new(alloc: Global, most: usize) -> Taken<Row> {
-        Taken {
-            rows: Vec::new(alloc),
-            most,
-        }
-    }
-}
-
-impl<Row: Drop> Sink<Row> for Taken<Row> {
-    ghost takes = { λ before row goes_on after. Unit {0} };
-
-    fn take(&mut self, row: Row) -> bool {
-        self.rows.push(row).is_ok() && self.rows.len() < self.most
-    }
-}
+use test_kit::{RowCount, Taken, shown};
 
 /// How many moves of the book a sink of so many rows is handed, and of each its number, its
 /// waybill, its pieces and their weight.
@@ -68,4 +43,14 @@ pub fn trail<K: Keeper>(alloc: Global, station: &mut K, most: usize) -> Option<S
         said.push_str(text.as_str()).ok()?;
     }
     Some(said)
+}
+
+/// How many rows the readers of cargo hand out in all.
+pub fn cargo_rows<K: Keeper>(alloc: Global, station: &mut K) -> Option<String> {
+    let mut seen = RowCount { rows: 0 };
+    station.irregular(&mut seen).ok()?;
+    station.book(&mut seen).ok()?;
+    station.pending(&mut seen).ok()?;
+    station.trail(&mut seen).ok()?;
+    format!(in alloc; "{}", seen.rows).ok()
 }

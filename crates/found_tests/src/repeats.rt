@@ -3,9 +3,9 @@ use crate::databases::statements;
 use crate::disks::{FileBytes, found_in, said_of};
 use crate::errands::Errand;
 use crate::stopping::{Before, stops};
+use crate::tables::here;
 use crate::work::{InputForm, Work};
 use awb_number::Awb;
-use imp_fields::Airport;
 use station_days::Moment;
 use std::alloc::Global;
 use test_kit::{say, shown};
@@ -127,11 +127,6 @@ impl RepeatAnswers {
         }
         self.work_on(&Work::Open(Errand::BuildUp(waybills)))
     }
-}
-
-/// The station's airport.
-fn here() -> Option<Airport> {
-    Airport::read(b"FRA")
 }
 
 fn moment(minute: u16) -> Option<Moment> {

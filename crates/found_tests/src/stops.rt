@@ -1,18 +1,17 @@
 //! A store that fails at its n-th call, for every n: what is found afterwards is the station
 //! before or after the interrupted step.
 use crate::disks::{Calls, FailingFile, FileBytes, Visited, found_in, visit};
-use crate::errands::{Came, Errand};
+use crate::errands::{Asked, Came, Errand};
 use crate::finding::found;
 use crate::fused::Fused;
-use crate::tables::{Job, over_tables};
+use crate::tables::{Fresh, StoreJob, here, over_tables};
 use crate::work::Work;
 use awb_number::Awb;
-use imp_fields::Airport;
 use state_store::StateStore;
 use station_core::{ActFault, Keeper};
 use station_engine::StoredStation;
 use std::alloc::Global;
-use test_kit::say;
+use test_kit::{Job, say};
 
 /// What is found where there is no station: no table, no index.
 const NO_STATION: &str = "602, 0 tables and indexes";
@@ -38,11 +37,6 @@ fn play(alloc: Global, calls: Calls, wanted: usize) -> Option<(usize, FileBytes)
         Came::Played(commands) => Some((commands.saturating_add(1), bytes)),
         Came::Done(_) => None,
     }
-}
-
-/// The station's airport.
-fn here() -> Option<Airport> {
-    Airport::read(b"FRA")
 }
 
 /// The waybill of the day.
@@ -104,7 +98,8 @@ fn stops(alloc: Global, file: FailingFile) -> Option<String> {
 /// How many commands of the day a station accepted. Nothing where it goes on after one that it
 /// didn't accept, and doesn't ask to be opened again.
 fn commands_done<K: Keeper>(alloc: Global, station: &mut K) -> Option<usize> {
-    let commands = match Errand::Day(STEPS - 1).run(alloc, station)? {
+    let errand = Errand::Day(STEPS - 1);
+    let commands = match (Asked { alloc, errand }).run(station)? {
         Came::Played(commands) => commands,
         _ => return None,
     };
@@ -122,7 +117,7 @@ struct FailingDay {
     calls: u32,
 }
 
-impl Job for FailingDay {
+impl StoreJob for FailingDay {
     /// How many steps were done.
     type Out = usize;
 
@@ -136,18 +131,19 @@ impl Job for FailingDay {
 
 /// Plays the day over tables in memory that serve so many calls of the station. How many steps
 /// were done, and what is found then: nothing where the station goes on after a failed call.
-fn play_in_memory(alloc: Global, calls: u32) -> Option<(usize, String)> {
-    let (steps, conn) = over_tables(alloc, FailingDay { calls })?;
-    let (said, _) = found(alloc, conn, &[number()?])?;
-    Some((steps, said))
+fn play_in_memory<S: Fresh>(alloc: Global, calls: u32) -> Option<(usize, String)> {
+    let numbers = [number()?];
+    let (steps, conn) = over_tables::<S, FailingDay>(alloc, FailingDay { calls })?;
+    let (said, _) = found(alloc, conn, &numbers);
+    Some((steps, said?))
 }
 
 /// One failing call after another, up to the first day that has none: what is found is what was
 /// acknowledged.
-fn failing_calls(alloc: Global) -> Option<String> {
+fn failing_calls<S: Fresh>(alloc: Global) -> Option<String> {
     let states = states(alloc)?;
     for calls in 0..5000 {
-        let (steps, found) = play_in_memory(alloc, calls)?;
+        let (steps, found) = play_in_memory::<S>(alloc, calls)?;
         let found = found.as_str();
         if !is_state(&states, steps, found) {
             return format!(in alloc; "{calls} calls, {steps} steps: {found}").ok();
@@ -160,9 +156,9 @@ fn failing_calls(alloc: Global) -> Option<String> {
 }
 
 /// What is found after stops at each call of a file, or of a store of tables.
-pub fn answer(alloc: Global, asked: &str) -> Option<String> {
+pub fn answer<S: Fresh>(alloc: Global, asked: &str) -> Option<String> {
     match asked {
-        "calls" => failing_calls(alloc),
+        "calls" => failing_calls::<S>(alloc),
         "log" => stops(alloc, FailingFile::Log),
         "database" => stops(alloc, FailingFile::Database),
         _ => None,

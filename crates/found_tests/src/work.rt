@@ -1,7 +1,8 @@
 //! What is done over a connection.
-use crate::errands::{Came, Errand, give};
+use crate::errands::{Asked, Came, Errand, Giving};
 use crate::faults::fault_said;
 use crate::finding::{fault_found, found};
+use crate::tables::ask;
 use awb_number::Awb;
 use imp_fields::Airport;
 use sqlite::{Alter, Connection};
@@ -10,7 +11,7 @@ use station_days::Moment;
 use station_tables::{AttachFault, Station, attach, attach_and_repeat, create, migrate};
 use std::alloc::Global;
 use telegrams::read_telegram;
-use test_kit::{answer_said, keyed, say, shown};
+use test_kit::{Job, answer_said, keyed, say, shown};
 
 /// How a case writes an input.
 #[derive(Clone, Copy, Debug, PartialEq, Eq)]
@@ -53,140 +54,155 @@ pub enum Work<'a> {
 }
 
 impl Work<'_> {
-    /// What comes of it, with the waybills that are asked for, and the connection. Nothing where
-    /// memory is out.
-    pub fn run<S: Alter + Drop>(
+    /// What comes of it, with the waybills that are asked for, and the connection. Nothing comes of
+    /// it where memory is out, or where what is asked can't be.
+    pub fn run<S: Alter>(
         &self,
         alloc: Global,
         conn: Connection<S>,
         numbers: &[Awb],
-    ) -> Option<(Came, Connection<S>)> {
+    ) -> (Option<Came>, Connection<S>) {
         match self {
             Work::Execute(statements) => execute(alloc, conn, statements),
             Work::Make(here, errand) => make(alloc, conn, *here, *errand),
-            Work::Open(errand) => open(alloc, conn, *errand),
-            Work::Give(form, text, at) => act(alloc, conn, &form.input(alloc, text)?, *at),
-            Work::Repeat(form, text, at) => repeat(alloc, conn, &form.input(alloc, text)?, *at),
+            Work::Open(errand) => {
+                let errand = *errand;
+                serve_opened(alloc, conn, Asked { alloc, errand })
+            }
+            Work::Give(form, text, at) => give(alloc, conn, *form, text, *at),
+            Work::Repeat(form, text, at) => repeat(alloc, conn, *form, text, *at),
             Work::Migrate => migrate_tables(alloc, conn),
             Work::Find => {
-                let (said, conn) = found(alloc, conn, numbers)?;
-                Some((Came::Done(said), conn))
+                let (said, conn) = found(alloc, conn, numbers);
+                (done(said), conn)
             }
         }
     }
 
     /// Whether the connection is closed after it. Else a crash ends it.
-    pub fn is_closed_after(&self, came: &Came) -> bool {
+    pub fn is_closed_after(&self, came: &Option<Came>) -> bool {
         match self {
             Work::Execute(_) | Work::Make(_, Errand::Nothing) | Work::Migrate => true,
-            Work::Open(_) | Work::Give(_, _, _) => !matches!(came, Came::NotBegun),
+            Work::Open(_) | Work::Give(_, _, _) => !matches!(came, Some(Came::NotBegun)),
             _ => false,
         }
     }
 }
 
+/// What there is to say, where there was memory for it.
+fn done(said: Option<String>) -> Option<Came> {
+    Some(Came::Done(said?))
+}
+
 /// Executes statements.
-fn execute<S: Alter + Drop>(
+fn execute<S: Alter>(
     alloc: Global,
     conn: Connection<S>,
     statements: &str,
-) -> Option<(Came, Connection<S>)> {
+) -> (Option<Came>, Connection<S>) {
     let mut conn = conn;
-    conn.execute_batch(statements).ok()?;
-    Some((Came::Done(say(alloc, "ok")?), conn))
+    match conn.execute_batch(statements) {
+        Ok(_) => (done(say(alloc, "ok")), conn),
+        Err(_) => (None, conn),
+    }
 }
 
-/// Makes a station.
-fn make<S: Alter + Drop>(
+/// Makes a station, and asks it for something.
+fn make<S: Alter>(
     alloc: Global,
     conn: Connection<S>,
     here: Airport,
     errand: Errand,
-) -> Option<(Came, Connection<S>)> {
+) -> (Option<Came>, Connection<S>) {
     match create(alloc, conn, here) {
-        Ok(station) => serve(alloc, station, errand),
-        Err((conn, AttachFault::Store)) => Some((Came::Stopped, conn)),
-        Err(_) => None,
+        Ok(station) => serve(station, Asked { alloc, errand }),
+        Err((conn, AttachFault::Store)) => (Some(Came::Stopped), conn),
+        Err((conn, _)) => (None, conn),
     }
 }
 
 /// Takes a file of version 1 to version 2, or says why it is none.
-fn migrate_tables<S: Alter + Drop>(
-    alloc: Global,
-    conn: Connection<S>,
-) -> Option<(Came, Connection<S>)> {
+fn migrate_tables<S: Alter>(alloc: Global, conn: Connection<S>) -> (Option<Came>, Connection<S>) {
     match migrate(alloc, conn) {
-        Ok(conn) => Some((Came::Done(say(alloc, "ok")?), conn)),
-        Err((conn, AttachFault::Store)) => Some((Came::Stopped, conn)),
-        Err((conn, fault)) => Some((Came::Done(fault_said(alloc, &fault)?), conn)),
+        Ok(conn) => (done(say(alloc, "ok")), conn),
+        Err((conn, AttachFault::Store)) => (Some(Came::Stopped), conn),
+        Err((conn, fault)) => (done(fault_said(alloc, &fault)), conn),
     }
 }
 
-/// Opens the station.
-fn open<S: Alter + Drop>(
+/// Opens the station, and asks it.
+fn serve_opened<S: Alter, J: Job<Out = Option<Came>> + Drop>(
     alloc: Global,
     conn: Connection<S>,
-    errand: Errand,
-) -> Option<(Came, Connection<S>)> {
+    job: J,
+) -> (Option<Came>, Connection<S>) {
     match attach(alloc, conn) {
-        Ok(station) => serve(alloc, station, errand),
-        Err((conn, AttachFault::Store)) => Some((Came::NotBegun, conn)),
-        Err(_) => None,
+        Ok(station) => serve(station, job),
+        Err((conn, AttachFault::Store)) => (Some(Came::NotBegun), conn),
+        Err((conn, _)) => (None, conn),
     }
 }
 
-/// Asks a station for something, and ends it.
-fn serve<S: Alter + Drop>(
-    alloc: Global,
+/// Asks a station, and ends it.
+fn serve<S: Alter, J: Job<Out = Option<Came>>>(
     station: Station<S>,
-    errand: Errand,
-) -> Option<(Came, Connection<S>)> {
+    job: J,
+) -> (Option<Came>, Connection<S>) {
     let mut station = station;
-    let came = errand.run(alloc, &mut station)?;
-    Some((came, station.release()))
+    let came = ask(&mut station, job);
+    (came, station.release())
 }
 
-/// Opens the station and gives it an input.
-fn act<S: Alter + Drop>(
+/// Opens the station, and gives it an input.
+fn act<S: Alter>(
     alloc: Global,
     conn: Connection<S>,
     input: &Input<'_>,
     at: Moment,
-) -> Option<(Came, Connection<S>)> {
-    match attach(alloc, conn) {
-        Ok(station) => answer(alloc, station, input, at),
-        Err((conn, AttachFault::Store)) => Some((Came::NotBegun, conn)),
-        Err(_) => None,
-    }
+) -> (Option<Came>, Connection<S>) {
+    serve_opened(alloc, conn, Giving { alloc, input, at })
 }
 
-/// Gives a station an input, and ends it.
-fn answer<S: Alter + Drop>(
+/// The same with the input of a text.
+fn give<S: Alter>(
     alloc: Global,
-    station: Station<S>,
-    input: &Input<'_>,
+    conn: Connection<S>,
+    form: InputForm,
+    text: &[u8],
     at: Moment,
-) -> Option<(Came, Connection<S>)> {
-    let mut station = station;
-    let came = give(alloc, &mut station, input, at)?;
-    Some((came, station.release()))
+) -> (Option<Came>, Connection<S>) {
+    match form.input(alloc, text) {
+        Some(input) => act(alloc, conn, &input, at),
+        None => (None, conn),
+    }
 }
 
 /// Repeats an input through an opening: the answer, or why there is no station.
-fn repeat<S: Alter + Drop>(
+fn repeat_input<S: Alter>(
     alloc: Global,
     conn: Connection<S>,
     input: &Input<'_>,
     at: Moment,
-) -> Option<(Came, Connection<S>)> {
+) -> (Option<Came>, Connection<S>) {
     match attach_and_repeat(alloc, conn, input, at) {
-        Ok((station, answer)) => {
-            let said = answer_said(alloc, &answer)?;
-            Some((Came::Done(said), station.release()))
-        }
+        Ok((station, answer)) => (done(answer_said(alloc, &answer)), station.release()),
         Err((mut conn, fault)) => {
-            let said = fault_found(alloc, &mut conn, &fault)?;
-            Some((Came::Done(said), conn))
+            let said = fault_found(alloc, &mut conn, &fault);
+            (done(said), conn)
         }
+    }
+}
+
+/// The same with the input of a text.
+fn repeat<S: Alter>(
+    alloc: Global,
+    conn: Connection<S>,
+    form: InputForm,
+    text: &[u8],
+    at: Moment,
+) -> (Option<Came>, Connection<S>) {
+    match form.input(alloc, text) {
+        Some(input) => repeat_input(alloc, conn, &input, at),
+        None => (None, conn),
     }
 }

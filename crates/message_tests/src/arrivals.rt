@@ -1,9 +1,10 @@
 //! Telegrams that arrive.
-use crate::said::{Runs, say, shown, told};
+use crate::said::{Runs, told};
 use shipment_machine::{CargoLine, Refusal};
 use station_core::refusal_text;
 use std::alloc::Global;
 use telegrams::{Content, PartContent, StatusContent, TelegramFault, read_telegram};
+use test_kit::{say, shown};
 
 /// What comes of what is asked.
 pub fn answer(alloc: Global, asked: &str, text: &[u8]) -> Option<String> {

@@ -1,8 +1,8 @@
 //! Bodies of JSON that are read as commands.
-use crate::said::{say, shown};
 use desk_commands::{Verb, command_text, read_command, read_command_text};
 use serde_json::Value;
 use std::alloc::Global;
+use test_kit::{say, shown};
 
 /// What comes of what is asked: the text of the command that a verb has with this body, from which
 /// it is read again, or `none`.

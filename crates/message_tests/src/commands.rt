@@ -1,5 +1,5 @@
 //! Commands that are built from their fields, and their texts.
-use crate::said::{next_number, next_small_number, say, shown};
+use crate::said::{next_number, next_small_number};
 use agent_stock::{AgentCode, Order, Run, RunCount};
 use awb_number::Awb;
 use desk_commands::{Command, Verb, command_text, read_command_text};
@@ -8,6 +8,7 @@ use shipment_machine::{Airline, DeskCommand, FlightDate, PieceCount};
 use station_days::LocalDay;
 use std::alloc::Global;
 use std::str::SplitWhitespace;
+use test_kit::{say, shown};
 
 /// What comes of what is asked: whether a word is a verb, whether a text is a command's, or the
 /// text of the command with these fields. A day is given by its number.

@@ -1,7 +1,8 @@
 //! Consignment lines.
-use crate::said::{readable, say};
+use crate::said::readable;
 use imp_fields::read_consignment;
 use std::alloc::Global;
+use test_kit::say;
 
 /// What comes of what is asked.
 pub fn answer(alloc: Global, asked: &str, text: &[u8]) -> Option<String> {

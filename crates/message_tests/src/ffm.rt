@@ -1,10 +1,11 @@
 //! Flight manifest messages.
-use crate::said::{fault_said, quantity_said, shown, token_said, words};
+use crate::said::{fault_said, quantity_said, token_said, words};
 use awb_number::Awb;
 use ffm_text::{Ffm, FfmLine, Load, read, write_ffm};
 use imp_fields::{Airport, BookTenths, Flight, Goods, Lines, Pieces, TextFault, normal_text};
 use station_days::DayMonth;
 use std::alloc::Global;
+use test_kit::shown;
 
 /// What comes of what is asked.
 pub fn answer(alloc: Global, asked: &str, text: &[u8]) -> Option<String> {

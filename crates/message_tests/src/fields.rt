@@ -1,10 +1,11 @@
 //! The fields of messages: amounts, airports, flights, names, dates and days.
-use crate::said::{next_number, next_small_number, printed_or_none, say, shown, words};
+use crate::said::{next_number, next_small_number, printed_or_none, words};
 use imp_fields::{
     Airport, BookTenths, Flight, Goods, Name, PartNumber, Pieces, Tenths, book_weight, share,
 };
 use station_days::{DayMonth, DayTime, LocalDay, Moment, resolve};
 use std::alloc::Global;
+use test_kit::{say, shown};
 
 /// What comes of what is asked.
 pub fn answer(alloc: Global, asked: &str, text: &[u8]) -> Option<String> {

@@ -1,8 +1,9 @@
 //! Waybill data messages.
-use crate::said::{fault_said, shown, told};
+use crate::said::{fault_said, told};
 use fwb_text::read;
 use imp_fields::{TextFault, normal_text};
 use std::alloc::Global;
+use test_kit::shown;
 
 /// What comes of what is asked.
 pub fn answer(alloc: Global, asked: &str, text: &[u8]) -> Option<String> {

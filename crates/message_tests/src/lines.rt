@@ -1,7 +1,8 @@
 //! The lines of texts.
-use crate::said::{Runs, fault_said, say, shown, token_said, yes_or_no};
+use crate::said::{Runs, fault_said, token_said, yes_or_no};
 use imp_fields::{cut_at_slash, first_field, is_head, normal_text};
 use std::alloc::Global;
+use test_kit::{say, shown};
 
 /// What comes of what is asked.
 pub fn answer(alloc: Global, asked: &str, text: &[u8]) -> Option<String> {

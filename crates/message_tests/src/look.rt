@@ -1,9 +1,10 @@
 //! What is seen of a telegram before it is taken.
-use crate::said::{say, yes_or_no};
+use crate::said::yes_or_no;
 use station_core::refusal_text;
 use std::alloc::Global;
 use telegram_look::{look_at, look_object, look_text};
 use telegrams::TelegramFault;
+use test_kit::say;
 
 /// What comes of what is asked.
 pub fn answer(alloc: Global, asked: &str, text: &[u8]) -> Option<String> {

@@ -31,7 +31,8 @@ pub fn answer(alloc: Global, asked: &str, text: &[u8]) -> Option<String> {
     String::from_utf8(notice_text(alloc, &notice).ok()?).ok()
 }
 
-fn consigned() -> Option<WaybillSummary> {
+/// Ten pieces of 100 kilograms from FRA to JFK.
+pub fn consigned() -> Option<WaybillSummary> {
     Some(WaybillSummary {
         awb: Awb::read(b"020-12345675").ok()?,
         origin: Airport::read(b"FRA")?,
@@ -91,7 +92,12 @@ fn discrepancy(word: &str) -> Option<Discrepancy> {
 }
 
 /// LH400 leaves for JFK with pieces of the waybill.
-fn manifest(alloc: Global, here: Airport, pieces: Pieces, tenths: BookTenths) -> Option<Notice> {
+pub fn manifest(
+    alloc: Global,
+    here: Airport,
+    pieces: Pieces,
+    tenths: BookTenths,
+) -> Option<Notice> {
     let line = ManifestLine {
         consigned: consigned()?,
         pieces,

@@ -1,7 +1,8 @@
 //! Waybill numbers.
-use crate::said::{next_number, next_small_number, say, shown, words};
+use crate::said::{next_number, next_small_number, words};
 use awb_number::Awb;
 use std::alloc::Global;
+use test_kit::{say, shown};
 
 /// What comes of what is asked.
 pub fn answer(alloc: Global, asked: &str, text: &[u8]) -> Option<String> {

@@ -1,5 +1,5 @@
 //! Orders on a stock in memory.
-use crate::said::{next_number, say, shown, yes_or_no};
+use crate::said::{next_number, yes_or_no};
 use agent_stock::{
     AgentCode, Held, Holder, Order, PlainRows, Run, RunCount, StockFault, StockRows, StockRun,
     carry_out, give_back, issue, runs_of, take_in, void_run,
@@ -7,6 +7,7 @@ use agent_stock::{
 use awb_number::Awb;
 use std::alloc::{AllocError, Global};
 use std::str::SplitWhitespace;
+use test_kit::{say, shown};
 
 /// What comes of what is asked of the stock on which a file's orders act.
 pub fn answer(alloc: Global, stock: &mut PlainRows, asked: &str, text: &[u8]) -> Option<String> {

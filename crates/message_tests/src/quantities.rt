@@ -1,8 +1,9 @@
 //! Weights and quantities.
-use crate::said::{next_number, printed_or_none, quantity_said, say, shown, words};
+use crate::said::{next_number, printed_or_none, quantity_said, words};
 use imp_fields::{BookTenths, Pieces, ShipmentCode, put_quantity, read_quantity, weight_of};
 use shipment_machine::Amount;
 use std::alloc::Global;
+use test_kit::{say, shown};
 
 /// What comes of what is asked.
 pub fn answer(alloc: Global, asked: &str, text: &[u8]) -> Option<String> {

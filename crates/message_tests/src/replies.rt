@@ -1,5 +1,5 @@
 //! Answers as texts, keys, and what an order counts.
-use crate::said::{next_number, next_small_number, say, shown, yes_or_no};
+use crate::said::{next_number, next_small_number, yes_or_no};
 use agent_stock::{Order, Run, RunCount};
 use awb_number::Awb;
 use imp_fields::{Airport, Flight, PartNumber, Why};
@@ -10,6 +10,7 @@ use station_core::{
 use station_days::LocalDay;
 use std::alloc::Global;
 use std::str::SplitWhitespace;
+use test_kit::{say, shown};
 
 /// What comes of what is asked.
 pub fn answer(alloc: Global, asked: &str, text: &[u8]) -> Option<String> {

@@ -3,11 +3,7 @@ use imp_fields::{Quantity, TextFault, Token};
 use std::alloc::Global;
 use std::fmt;
 use std::str::SplitWhitespace;
-
-/// A text as an answer.
-pub fn say(alloc: Global, text: &str) -> Option<String> {
-    String::from_str(alloc, text).ok()
-}
+use test_kit::{say, shown};
 
 /// The answer to whether something is so.
 pub fn yes_or_no(alloc: Global, is_so: bool) -> Option<String> {
@@ -20,11 +16,6 @@ pub fn printed_or_none<T: fmt::Display + Drop>(alloc: Global, value: Option<T>) 
         Some(value) => format!(in alloc; "{value}").ok(),
         None => say(alloc, "none"),
     }
-}
-
-/// Bytes as a text, where they are one.
-pub fn shown(bytes: &[u8]) -> &str {
-    std::str::from_utf8(bytes).unwrap_or("?")
 }
 
 /// A number, or `-`.

@@ -1,10 +1,8 @@
 //! Status updates that are sent.
+use crate::notices::consigned;
 use crate::said::words;
-use awb_number::Awb;
 use fsu_text::{Handling, SentCarriage, SentStatus, SentUpdate, read, write_fsu};
-use imp_fields::{
-    Airport, BookTenths, Discrepancy, Flight, Name, Pieces, WaybillSummary, normal_text,
-};
+use imp_fields::{Airport, BookTenths, Discrepancy, Flight, Name, Pieces, normal_text};
 use station_days::{DayMonth, DayTime};
 use std::alloc::Global;
 use std::str::SplitWhitespace;
@@ -44,16 +42,6 @@ fn is_read(alloc: Global, text: &[u8]) -> bool {
         Ok(message) => !message.trail.is_empty(),
         Err(_) => false,
     }
-}
-
-fn consigned() -> Option<WaybillSummary> {
-    Some(WaybillSummary {
-        awb: Awb::read(b"020-12345675").ok()?,
-        origin: Airport::read(b"FRA")?,
-        destination: Airport::read(b"JFK")?,
-        pieces: Pieces::new(10)?,
-        tenths: BookTenths::new(1000)?,
-    })
 }
 
 fn status(asked: &str, words: &mut SplitWhitespace<'_>) -> Option<SentStatus> {

@@ -76,3 +76,14 @@ pub fn go_through_file<A: Answers>(
         }
     }
 }
+
+/// Prints whether something that needs memory came out as it must, and returns that.
+///
+/// # Errors
+///
+/// Where nothing can be printed.
+pub fn print_told(rt: &HostRuntime, what: &str, is_told: bool) -> Result<bool, io::Error> {
+    let word = if is_told { "told" } else { "not told" };
+    println!(rt; "memory: {what}: {word}")?;
+    Ok(is_told)
+}

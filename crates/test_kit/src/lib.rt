@@ -7,12 +7,16 @@ mod case;
 mod failing_ends;
 mod going;
 mod inputs;
+mod job;
 mod said;
+mod sinks;
 mod telling;
 
 pub use case::{Case, read_case};
 pub use failing_ends::{Narrow, Torn};
-pub use going::{Answers, go_through, go_through_file};
+pub use going::{Answers, go_through, go_through_file, print_told};
 pub use inputs::{is_done, keyed};
+pub use job::Job;
 pub use said::{count_said, holder_said, known_said, next_whole, runs_said, say, shown};
-pub use telling::{answer_said, answered, holder, noon, number, stock, waybill};
+pub use sinks::{RowCount, Taken};
+pub use telling::{answer_said, answered, answers_said, holder, noon, number, stock, waybill};

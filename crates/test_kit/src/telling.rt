@@ -1,11 +1,11 @@
 //! A station's replies and rows, as texts.
 use crate::said::{holder_said, known_said, runs_said, say};
+use crate::sinks::Taken;
 use agent_stock::StockRun;
 use awb_number::Awb;
-use station_core::{Answer, Input, Keeper, Sink, answer_one, refusal_text, reply_text};
+use station_core::{Answer, Input, Keeper, answer_one, refusal_text, reply_text};
 use station_days::Moment;
 use std::alloc::Global;
-use std::slice;
 
 /// Noon of 12 January 2026.
 pub fn noon() -> Option<Moment> {
@@ -18,6 +18,17 @@ pub fn answer_said(alloc: Global, answer: &Answer) -> Option<String> {
         Answer::Done(reply) => reply_text(alloc, reply).ok(),
         Answer::Refused(refusal) => refusal_text(alloc, refusal).ok(),
     }
+}
+
+/// Answers, each after a bar.
+pub fn answers_said(alloc: Global, answers: &[Answer]) -> Option<String> {
+    let mut said = String::new(alloc);
+    for answer in answers {
+        said.push_str("| ").ok()?;
+        said.push_str(answer_said(alloc, answer)?.as_str()).ok()?;
+        said.push_str(" ").ok()?;
+    }
+    say(alloc, said.as_str().trim_end())
 }
 
 /// The answer to an input at noon of 12 January 2026.
@@ -43,28 +54,9 @@ pub fn waybill(alloc: Global, keeper: &mut impl Keeper, text: &[u8]) -> Option<S
     known_said(alloc, &keeper.waybill(&number(text)?).ok()?)
 }
 
-/// A sink that wants so many rows at most.
-#[derive(Drop)]
-struct Taken {
-    rows: Vec<StockRun>,
-    most: usize,
-}
-
-impl Sink<StockRun> for Taken {
-    ghost takes = { λ old row go new. Unit {0} };
-
-    fn take(&mut self, row: StockRun) -> bool {
-        let taken = self.rows.extend_from_slice(slice::from_ref(&row));
-        taken.is_ok() && self.rows.len() < self.most
-    }
-}
-
 /// The runs of the stock that a sink of so many rows is handed.
 pub fn stock(alloc: Global, keeper: &mut impl Keeper, most: &str) -> Option<String> {
-    let mut taken = Taken {
-        rows: Vec::new(alloc),
-        most: most.parse::<usize>().ok()?,
-    };
+    let mut taken: Taken<StockRun> = Taken::new(alloc, most.parse::<usize>().ok()?);
     keeper.stock(&mut taken).ok()?;
     runs_said(alloc, &taken.rows)
 }

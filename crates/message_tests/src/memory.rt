@@ -1,15 +1,14 @@
 //! Messages that are written and read where memory may run out: that is reported, and leaves the
 //! buffer as it was.
-use awb_number::Awb;
+use crate::notices::{consigned, manifest};
 use ffm_text::{Load, write_ffm};
 use fsu_text::{Handling, SentStatus, SentUpdate, write_fsu};
 use imp_fields::{
     Airport, BookTenths, Flight, Goods, Name, Pieces, TextFault, WaybillSummary, Why, normal_text,
 };
-use shipment_machine::{Event, FlightDate, ManifestLine, ManifestLines, Notice};
-use station_days::{DayMonth, DayTime, LocalDay, Moment};
+use shipment_machine::{Event, Notice};
+use station_days::{DayMonth, DayTime, Moment};
 use std::alloc::Global;
-use std::slice;
 use telegrams::{TelegramFault, notice_text, read_telegram};
 
 /// A message that is written or read, or both.
@@ -73,19 +72,6 @@ fn fault(line: u32, why: Why) -> TextFault {
     TextFault { line, why }
 }
 
-/// A load of a waybill from FRA to JFK that weighs 40.0 kg.
-fn load(serial: u32, pieces: u32, declared: u32, goods: &[u8]) -> Option<Load> {
-    Some(Load {
-        awb: Awb::new(20, serial)?,
-        origin: Airport::read(b"FRA")?,
-        destination: Airport::read(b"JFK")?,
-        pieces: Pieces::new(pieces)?,
-        tenths: BookTenths::new(400)?,
-        declared: Pieces::new(declared)?,
-        goods: Goods::read(goods)?,
-    })
-}
-
 /// Appends the manifest of a flight from FRA to JFK on 12 January; whether there was memory for it.
 fn is_written(out: &mut Vec<u8>, flight: &[u8], loads: &[Load]) -> Option<bool> {
     let (here, unload) = (Airport::read(b"FRA")?, Airport::read(b"JFK")?);
@@ -96,9 +82,25 @@ fn is_written(out: &mut Vec<u8>, flight: &[u8], loads: &[Load]) -> Option<bool> 
     Some(write_ffm(out, Flight::read(flight)?, date, here, unload, loads).is_ok())
 }
 
-/// A load, three times.
+/// Four of the ten pieces, three times.
 fn three_loads() -> Option<[Load; 3]> {
-    Some([load(1_234_567, 4, 10, b"CARGO")?; 3])
+    let WaybillSummary {
+        awb,
+        origin,
+        destination,
+        pieces,
+        tenths: _,
+    } = consigned()?;
+    let load = Load {
+        awb,
+        origin,
+        destination,
+        pieces: Pieces::new(4)?,
+        tenths: BookTenths::new(400)?,
+        declared: pieces,
+        goods: Goods::read(b"CARGO")?,
+    };
+    Some([load; 3])
 }
 
 /// Whether three loads are written and read, or running out of memory is reported.
@@ -124,17 +126,6 @@ fn is_manifest_read(alloc: Global, text: &[u8]) -> bool {
         Ok(part) => part.cargo.len() == 3,
         Err(told) => told == fault(0, Why::Memory),
     }
-}
-
-/// Ten pieces of 100 kilograms from FRA to JFK.
-fn consigned() -> Option<WaybillSummary> {
-    Some(WaybillSummary {
-        awb: Awb::read(b"020-12345675").ok()?,
-        origin: Airport::read(b"FRA")?,
-        destination: Airport::read(b"JFK")?,
-        pieces: Pieces::new(10)?,
-        tenths: BookTenths::new(1000)?,
-    })
 }
 
 /// A receipt of the ten pieces from a shipper.
@@ -172,30 +163,10 @@ fn is_update_told(alloc: Global) -> bool {
     }
 }
 
-/// LH400 on 2026-01-12.
-fn lh400() -> Option<FlightDate> {
-    Some(FlightDate {
-        flight: Flight::read(b"LH400")?,
-        day: LocalDay::new(20465)?,
-    })
-}
-
 /// The text of a manifest of four of the ten pieces.
-fn manifest(alloc: Global) -> Option<Vec<u8>> {
-    let line = ManifestLine {
-        consigned: consigned()?,
-        pieces: Pieces::new(4)?,
-        tenths: BookTenths::new(400)?,
-        goods: Goods::read(b"CARGO")?,
-    };
-    let mut lines = Vec::new(alloc);
-    lines.extend_from_slice(slice::from_ref(&line)).ok()?;
-    let notice = Notice::Manifest {
-        here: Airport::read(b"FRA")?,
-        flight: lh400()?,
-        unload: Airport::read(b"JFK")?,
-        lines: ManifestLines::new(lines)?,
-    };
+fn manifest_text(alloc: Global) -> Option<Vec<u8>> {
+    let here = Airport::read(b"FRA")?;
+    let notice = manifest(alloc, here, Pieces::new(4)?, BookTenths::new(400)?)?;
     notice_text(alloc, &notice).ok()
 }
 
@@ -242,7 +213,7 @@ fn is_arrival_told(alloc: Global) -> bool {
 
 /// Whether the notice of a manifest has its length, or there was no memory for it.
 fn is_manifest_notice_told(alloc: Global) -> bool {
-    match manifest(alloc) {
+    match manifest_text(alloc) {
         Some(text) => text.len() == 74,
         None => true,
     }

@@ -27,6 +27,10 @@ fn take(alloc: Global, station: &mut PlainStation, text: &[u8], at: Moment) -> &
 
 /// Gives a station a waybill's data, the same telegram once more and a damaged one, and prints what
 /// comes of each. Whether a station could be made.
+///
+/// # Errors
+///
+/// Where nothing can be printed.
 pub fn run(rt: &HostRuntime) -> io::Result<bool> {
     let (Some(here), Some(noon)) = (Airport::read(b"FRA"), Moment::new(20_465, 720)) else {
         return Ok(false);

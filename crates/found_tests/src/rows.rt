@@ -1,20 +1,21 @@
-//! The rows of a station's tables in memory.
-use sqlite::{Connection, MemStore};
-use station_rows::{CreateFault, Rows, StockRow, StoreFault, TableStore, open_memory};
+//! The rows of a station's tables.
+use crate::tables::Fresh;
+use sqlite::{Alter, Connection};
+use station_rows::{CreateFault, Rows, StockRow, StoreFault, TableStore};
 use std::alloc::Global;
 use std::str::SplitWhitespace;
-use test_kit::{count_said, next_whole, say, shown};
+use test_kit::{count_said, next_whole, runs_said, say, shown};
 
 /// The tables on which the calls of a file act.
 #[derive(Drop)]
-pub struct RowAnswers {
+pub struct RowAnswers<S: Fresh> {
     alloc: Global,
-    rows: Option<Rows<MemStore>>,
+    rows: Option<Rows<S>>,
 }
 
-impl RowAnswers {
+impl<S: Fresh> RowAnswers<S> {
     /// No tables yet.
-    pub fn new(alloc: Global) -> RowAnswers {
+    pub fn new(alloc: Global) -> RowAnswers<S> {
         RowAnswers { alloc, rows: None }
     }
 
@@ -23,13 +24,13 @@ impl RowAnswers {
         let alloc = self.alloc;
         match asked {
             "new" => self.start(),
-            "made-over" => made_over(alloc, shown(text)),
+            "made-over" => made_over::<S>(alloc, shown(text)),
             "opened-again" => {
                 let conn = self.rows.take()?.release();
                 self.open(conn)
             }
             "opened-over" => {
-                let mut conn = open_memory(alloc).ok()?;
+                let mut conn = S::open(alloc)?;
                 conn.execute(shown(text), &[]).ok()?;
                 self.open(conn)
             }
@@ -41,7 +42,7 @@ impl RowAnswers {
     }
 
     fn start(&mut self) -> Option<String> {
-        let conn = open_memory(self.alloc).ok()?;
+        let conn = S::open(self.alloc)?;
         match Rows::create(conn, "FRA") {
             Ok(rows) => self.rows = Some(rows),
             Err(_) => return None,
@@ -50,7 +51,7 @@ impl RowAnswers {
     }
 
     /// Goes on with the tables of a connection, as they are.
-    fn open(&mut self, conn: Connection<MemStore>) -> Option<String> {
+    fn open(&mut self, conn: Connection<S>) -> Option<String> {
         match Rows::opened(conn) {
             Ok(rows) => {
                 self.rows = Some(rows);
@@ -69,7 +70,7 @@ impl RowAnswers {
 }
 
 /// Why no tables are made over a connection, and whether it is outside a transaction.
-fn fault_of(alloc: Global, conn: Connection<MemStore>) -> Option<String> {
+fn fault_of<S: Alter + Drop>(alloc: Global, conn: Connection<S>) -> Option<String> {
     match Rows::create(conn, "FRA") {
         Ok(_) => say(alloc, "made"),
         Err((conn, fault)) => {
@@ -88,14 +89,14 @@ fn fault_of(alloc: Global, conn: Connection<MemStore>) -> Option<String> {
 }
 
 /// The same after a statement.
-fn made_over(alloc: Global, statement: &str) -> Option<String> {
-    let mut conn = open_memory(alloc).ok()?;
+fn made_over<S: Fresh>(alloc: Global, statement: &str) -> Option<String> {
+    let mut conn = S::open(alloc)?;
     conn.execute(statement, &[]).ok()?;
     fault_of(alloc, conn)
 }
 
 /// What a new station says of itself: its number, its airport, its version and its mark.
-fn station_row(alloc: Global, mut conn: Connection<MemStore>) -> Option<String> {
+fn station_row<S: Alter + Drop>(alloc: Global, mut conn: Connection<S>) -> Option<String> {
     let row = conn
         .query_row("SELECT id, airport, version, confirmed FROM station", &[])
         .ok()?;
@@ -108,7 +109,7 @@ fn station_row(alloc: Global, mut conn: Connection<MemStore>) -> Option<String> 
 
 /// How many rows of stock there are, the least number and the least holder, where the connection is
 /// outside a transaction.
-fn stock_summed(alloc: Global, mut conn: Connection<MemStore>) -> Option<String> {
+fn stock_summed<S: Alter + Drop>(alloc: Global, mut conn: Connection<S>) -> Option<String> {
     if !conn.is_autocommit() {
         return None;
     }
@@ -214,4 +215,25 @@ fn row_said(alloc: Global, row: &StockRow) -> Option<String> {
     let (prefix, low, high) = (row.prefix, row.low, row.high);
     let (holder, agent) = (row.holder, row.agent.as_str());
     format!(in alloc; "; {prefix} {low}-{high} {holder} [{agent}]").ok()
+}
+
+/// The runs of a stock of one row, which is given by its prefix, its serial, its holder and perhaps
+/// an agent.
+pub fn runs_of_row<S: Fresh>(alloc: Global, text: &[u8]) -> Option<String> {
+    let row = stock_row(alloc, &mut shown(text).split_whitespace())?;
+    match Rows::create(S::open(alloc)?, "FRA") {
+        Ok(mut rows) => runs_with(alloc, &mut rows, &row),
+        Err(_) => None,
+    }
+}
+
+/// The runs of the stock of tables after a row is inserted.
+fn runs_with<R: TableStore>(alloc: Global, rows: &mut R, row: &StockRow) -> Option<String> {
+    rows.begin().ok()?;
+    rows.insert_stock(row).ok()?;
+    rows.commit().ok()?;
+    match stock_tables::runs(alloc, rows) {
+        Ok(runs) => runs_said(alloc, &runs),
+        Err(_) => say(alloc, "fault"),
+    }
 }
