@@ -10,6 +10,7 @@ use Rattle.station_tables.specs.declared.fault.AttachFault.TheVariants as attach
 use Rattle.cli_run.specs.Sent.{SendsLine}
 use Rattle.cli_call.specs.declared.ended.DeskFault.{DeskFault}
 use Rattle.cli_call.specs.declared.ended.DeskFault.TheVariants as fault
+use Rattle.cli_call.specs.Ends.{Reached}
 
 -- the line on standard error, of a run
 abbrev pub run_line : RunFault → List ℕ
@@ -65,9 +66,9 @@ pub record HasToldEnd {E : Type 0} (taken : E → Given) (ended : Result Bool Ru
 
 -- There is no station, and the fault is reported. Nothing was read or printed, and the connection
 -- comes back as it came with the fault.
-pub record HasNoStation {C I W : Type 0} (none : C × AttachFault) (read_old read_new : I) (output_old output_new : W) (told_old told_new : Given) (result : ℕ × C) : Type 0 where
-  pub unread : read_new ≡ read_old
-  pub unprinted : output_new ≡ output_old
-  pub told : HasTold (fault.Attach none.1) told_old told_new
+pub record HasNoStation {C I W E : Type 0} (told : E → Given) (none : C × AttachFault) (old new : Reached I W E) (result : ℕ × C) : Type 0 where
+  pub unread : new.reader ≡ old.reader
+  pub unprinted : new.output ≡ old.output
+  pub reported : HasTold (fault.Attach none.1) (told old.errors) (told new.errors)
   pub status : result.0 ≡ attach_status none.1
   pub conn : result.1 ≡ none.0

@@ -1,4 +1,5 @@
 pub mod Ended
+pub mod Ends
 pub mod Migrated
 pub mod Opened
 pub mod Ran

@@ -10,6 +10,7 @@ use Rattle.stock_list.specs.declared.answer.RunFault.{RunFault}
 use Rattle.stock_list.specs.declared.answer.RunFault.TheVariants as run
 use Rattle.cli_run.specs.Sent.{HasSent}
 use Rattle.cli_call.specs.Ended.{HasNoStation, HasToldEnd}
+use Rattle.cli_call.specs.Ends.{Reached}
 
 -- the line that tells the version of the file
 abbrev pub moved_line : List ℕ
@@ -25,32 +26,23 @@ pub record HasToldVersion (sent_old sent_new : Given) (result : Result Bool RunF
 
 -- The version was told, how that ended was reported, and the connection comes back. Nothing was
 -- read.
-pub record HasToldMoved {C I E : Type 0} (moved : C) (read_old read_new : I)
-    (sent_old sent_new : Given) (taken : E → Given) (errors_old errors_new : E)
-    (result : ℕ × C) : Type 0 where
+pub record HasToldMoved {C I W E : Type 0} (printed : W → Given) (told : E → Given) (moved : C)
+    (old new : Reached I W E) (result : ℕ × C) : Type 0 where
   pub ended : Result Bool RunFault
-  pub unread : read_new ≡ read_old
-  pub line : HasToldVersion sent_old sent_new ended
-  pub reported : HasToldEnd taken ended errors_old errors_new result.0
+  pub unread : new.reader ≡ old.reader
+  pub line : HasToldVersion (printed old.output) (printed new.output) ended
+  pub reported : HasToldEnd told ended old.errors new.errors result.0
   pub conn : result.1 ≡ moved
 
 -- a call over what the migration came to
 abbrev pub HasEndedMigration : {C I W E : Type 0} → (W → Given) → (E → Given)
-    → Result C (C × AttachFault) → I → I → W → W → E → E → ℕ × C → Type 0
-HasEndedMigration printed taken (Ok moved) read_old read_new output_old output_new
-    errors_old errors_new result =
-    HasToldMoved moved read_old read_new (printed output_old) (printed output_new)
-    taken errors_old errors_new result
-HasEndedMigration printed taken (Err none) read_old read_new output_old output_new
-    errors_old errors_new result =
-    HasNoStation none read_old read_new output_old output_new
-    (taken errors_old) (taken errors_new) result
+    → Result C (C × AttachFault) → Reached I W E → Reached I W E → ℕ × C → Type 0
+HasEndedMigration printed told (Ok moved) old new result = HasToldMoved printed told moved old new result
+HasEndedMigration printed told (Err none) old new result = HasNoStation told none old new result
 
 -- A file was migrated, or it wasn't; then that was told. Nothing was read.
 pub record HasMigrated {S I W E : Type 0} (g : Ghosts S) (printed : W → Given)
-    (taken : E → Given) (conn : Held S) (read_old read_new : I) (output_old output_new : W)
-    (errors_old errors_new : E) (result : ℕ × Held S) : Type 0 where
+    (told : E → Given) (conn : Held S) (old new : Reached I W E) (result : ℕ × Held S) : Type 0 where
   pub migrated : Result (Held S) (Held S × AttachFault)
   pub moves : HasMoved g conn migrated
-  pub ended : HasEndedMigration printed taken migrated read_old read_new
-      output_old output_new errors_old errors_new result
+  pub ended : HasEndedMigration printed told migrated old new result

@@ -1,6 +1,7 @@
 //! How a call ends.
 ghost use Rattle.std.specs.Prelude.{◌≡◌, ◌++◌, ◌∷◌, [], IfErr, OnOk};
 ghost use Rattle.cli_call.specs.Ended.{attach_status, run_ended, run_line, status_of, HasNoStation, HasTold, HasToldEnd};
+ghost use Rattle.cli_call.specs.Ends.{reached};
 ghost use Rattle.cli_run.specs.Sent.{SendsLine};
 
 use cli_run::{send_part, send_word};
@@ -142,8 +143,8 @@ pub(crate) fn refuse_line<S: Alter, I, W, E: ByteOut>(
     errors: &mut E,
     none: (Connection<S>, AttachFault),
 ) -> (u8, Connection<S>)
-    ensures { HasNoStation none _reader.old _reader.new _output.old _output.new (E.taken errors.old)
-        (E.taken errors.new) result }
+    ensures { HasNoStation E.taken none (reached _reader.old _output.old errors.old)
+        (reached _reader.new _output.new errors.new) result }
 {
     let (conn, fault) = none;
     (end(errors, Err(DeskFault::Attach(fault))), conn)

@@ -12,5 +12,5 @@ mod version;
 pub use closing::close_file;
 pub use ended::{DeskFault, end};
 pub use opening::open_station;
-pub use run::run_line;
+pub use run::{run_kept, run_line};
 pub use version::version_line;

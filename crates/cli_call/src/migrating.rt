@@ -1,4 +1,5 @@
 //! The migration of a file.
+ghost use Rattle.cli_call.specs.Ends.{reached};
 ghost use Rattle.cli_call.specs.Migrated.{HasEndedMigration, HasMigrated, HasToldMoved, HasToldVersion};
 
 use crate::ended::{end_run, refuse_line};
@@ -26,8 +27,8 @@ fn tell_moved<S: Alter, I, W: ByteOut, E: ByteOut>(
     output: &mut W,
     errors: &mut E,
 ) -> (u8, Connection<S>)
-    ensures { HasToldMoved conn _reader.old _reader.new (W.taken output.old) (W.taken output.new)
-        E.taken errors.old errors.new result }
+    ensures { HasToldMoved W.taken E.taken conn (reached _reader.old output.old errors.old)
+        (reached _reader.new output.new errors.new) result }
 {
     let ended = tell_version(output);
     let status = end_run(errors, ended);
@@ -41,8 +42,8 @@ fn end_migration<S: Alter, I, W: ByteOut, E: ByteOut>(
     output: &mut W,
     errors: &mut E,
 ) -> (u8, Connection<S>)
-    ensures { HasEndedMigration W.taken E.taken migrated reader.old reader.new
-        output.old output.new errors.old errors.new result }
+    ensures { HasEndedMigration W.taken E.taken migrated (reached reader.old output.old errors.old)
+        (reached reader.new output.new errors.new) result }
 {
     match migrated {
         Ok(conn) => tell_moved(conn, reader, output, errors),
@@ -60,8 +61,8 @@ pub(crate) fn run_migrate<S: Alter, I, W: ByteOut, E: ByteOut>(
     output: &mut W,
     errors: &mut E,
 ) -> (u8, Connection<S>)
-    ensures { HasMigrated S.Store W.taken E.taken conn reader.old reader.new
-        output.old output.new errors.old errors.new result }
+    ensures { HasMigrated S.Store W.taken E.taken conn (reached reader.old output.old errors.old)
+        (reached reader.new output.new errors.new) result }
 {
     let migrated = migrate(alloc, conn);
     end_migration(migrated, reader, output, errors)

@@ -1,6 +1,6 @@
-//! A line over a connection.
-ghost use Rattle.cli_run.specs.Place.{is_migration};
-ghost use Rattle.cli_call.specs.Ran.{HasCalled, HasCalledStation, HasEndedCall, HasRunLine};
+//! A line over a connection, or over a keeper that has none.
+ghost use Rattle.cli_call.specs.Ends.{ends, keeping, reached};
+ghost use Rattle.cli_call.specs.Ran.{HasCalled, HasCalledStation, HasEndedCall, HasRunKept, HasRunLine};
 
 use crate::ended::{end_run, refuse_line};
 use crate::migrating::run_migrate;
@@ -15,6 +15,29 @@ use std::alloc::Global;
 use std::io::Read;
 use stock_list::Watched;
 
+/// Runs a line's command over a keeper, at a moment: every command but `migrate` and `serve`. It
+/// returns the exit status.
+///
+/// A fault is reported on `errors`, behind why a row, a telegram or a body can't be read: status 3.
+pub fn run_kept<K: Keeper, I: Inputs + Read, W: ByteOut, E: ByteOut>(
+    alloc: Global,
+    line: &Line<'_>,
+    keeper: &mut K,
+    reader: &mut I,
+    output: &mut W,
+    errors: &mut E,
+    at: Moment,
+) -> u8
+    ensures { HasRunKept line.now
+        (keeping K.keeps K.is_clean K.is_sound K.is_broken K.may_find)
+        (ends I.remaining I.given I.turned W.taken E.taken) at
+        (keeper.old, reached reader.old output.old errors.old)
+        (keeper.new, reached reader.new output.new errors.new) result }
+{
+    let ended = run_over(alloc, keeper, line, reader, output, errors, at);
+    end_run(errors, ended)
+}
+
 /// Runs a line's command over its station, which tells why an input can't be read; reports how it
 /// ended, and gives the connection back.
 fn run_station<S: Alter, I: Inputs + Read, W: ByteOut, E: ByteOut>(
@@ -26,14 +49,15 @@ fn run_station<S: Alter, I: Inputs + Read, W: ByteOut, E: ByteOut>(
     errors: &mut E,
     at: Moment,
 ) -> (u8, Connection<S>)
-    ensures { HasRunLine line.now ⟦<Station<S> as Keeper>⟧.keeps
-        ⟦<Station<S> as Keeper>⟧.is_clean ⟦<Station<S> as Keeper>⟧.is_sound
-        ⟦<Station<S> as Keeper>⟧.is_broken ⟦<Station<S> as Keeper>⟧.may_find at
-        station I.remaining I.given I.turned reader.old reader.new
-        (W.taken output.old) (W.taken output.new) E.taken errors.old errors.new result }
+    ensures { HasRunLine line.now
+        (keeping ⟦<Station<S> as Keeper>⟧.keeps ⟦<Station<S> as Keeper>⟧.is_clean
+        ⟦<Station<S> as Keeper>⟧.is_sound ⟦<Station<S> as Keeper>⟧.is_broken
+        ⟦<Station<S> as Keeper>⟧.may_find)
+        (ends I.remaining I.given I.turned W.taken E.taken) at station
+        (reached reader.old output.old errors.old)
+        (reached reader.new output.new errors.new) result }
 {
-    let ended = run_over(alloc, &mut station, line, reader, output, errors, at);
-    let status = end_run(errors, ended);
+    let status = run_kept(alloc, line, &mut station, reader, output, errors, at);
     (status, station.release())
 }
 
@@ -47,11 +71,13 @@ fn run_opened<S: Alter, I: Inputs + Read, W: ByteOut, E: ByteOut>(
     errors: &mut E,
     at: Moment,
 ) -> (u8, Connection<S>)
-    ensures { HasEndedCall line.now ⟦<Station<S> as Keeper>⟧.keeps
-        ⟦<Station<S> as Keeper>⟧.is_clean ⟦<Station<S> as Keeper>⟧.is_sound
-        ⟦<Station<S> as Keeper>⟧.is_broken ⟦<Station<S> as Keeper>⟧.may_find at
-        I.remaining I.given I.turned W.taken E.taken opened
-        reader.old reader.new output.old output.new errors.old errors.new result }
+    ensures { HasEndedCall line.now
+        (keeping ⟦<Station<S> as Keeper>⟧.keeps ⟦<Station<S> as Keeper>⟧.is_clean
+        ⟦<Station<S> as Keeper>⟧.is_sound ⟦<Station<S> as Keeper>⟧.is_broken
+        ⟦<Station<S> as Keeper>⟧.may_find)
+        (ends I.remaining I.given I.turned W.taken E.taken) at opened
+        (reached reader.old output.old errors.old)
+        (reached reader.new output.new errors.new) result }
 {
     match opened {
         Ok(station) => run_station(alloc, line, station, reader, output, errors, at),
@@ -69,11 +95,13 @@ fn call_station<S: Alter, I: Inputs + Read, W: ByteOut, E: ByteOut>(
     errors: &mut E,
     at: Moment,
 ) -> (u8, Connection<S>)
-    ensures { HasCalledStation S.Store line.now ⟦<Station<S> as Keeper>⟧.keeps
-        ⟦<Station<S> as Keeper>⟧.is_clean ⟦<Station<S> as Keeper>⟧.is_sound
-        ⟦<Station<S> as Keeper>⟧.is_broken ⟦<Station<S> as Keeper>⟧.may_find at
-        I.remaining I.given I.turned W.taken E.taken conn
-        reader.old reader.new output.old output.new errors.old errors.new result }
+    ensures { HasCalledStation line.now
+        (keeping ⟦<Station<S> as Keeper>⟧.keeps ⟦<Station<S> as Keeper>⟧.is_clean
+        ⟦<Station<S> as Keeper>⟧.is_sound ⟦<Station<S> as Keeper>⟧.is_broken
+        ⟦<Station<S> as Keeper>⟧.may_find)
+        (ends I.remaining I.given I.turned W.taken E.taken) at conn
+        (reached reader.old output.old errors.old)
+        (reached reader.new output.new errors.new) result }
 {
     let opened = open_station(alloc, line, conn);
     run_opened(alloc, line, opened, reader, output, errors, at)
@@ -94,11 +122,13 @@ pub fn run_line<S: Alter, I: Inputs + Read, W: ByteOut, E: ByteOut>(
     errors: &mut E,
     at: Moment,
 ) -> (u8, Connection<S>)
-    ensures { HasCalled S.Store (is_migration line.now.command) line.now
-        ⟦<Station<S> as Keeper>⟧.keeps ⟦<Station<S> as Keeper>⟧.is_clean
+    ensures { HasCalled line.now
+        (keeping ⟦<Station<S> as Keeper>⟧.keeps ⟦<Station<S> as Keeper>⟧.is_clean
         ⟦<Station<S> as Keeper>⟧.is_sound ⟦<Station<S> as Keeper>⟧.is_broken
-        ⟦<Station<S> as Keeper>⟧.may_find at I.remaining I.given I.turned W.taken E.taken conn
-        reader.old reader.new output.old output.new errors.old errors.new result }
+        ⟦<Station<S> as Keeper>⟧.may_find)
+        (ends I.remaining I.given I.turned W.taken E.taken) at conn
+        (reached reader.old output.old errors.old)
+        (reached reader.new output.new errors.new) result }
 {
     if is_migration(line) {
         run_migrate(alloc, conn, reader, output, errors)

@@ -1,4 +1,6 @@
 //! One connection after another.
+ghost use Rattle.std.specs.Prelude.{◌≡◌, ℕ, true};
+ghost use Rattle.desk_server.specs.Served.{HasServedOne, HaveServed};
 
 use crate::paced::Paced;
 use crate::timed::{Timed, Waits};
@@ -86,7 +88,10 @@ fn answer<C: Clock, K: Keeper>(
     keeper: &mut K,
     stream: &TcpStream,
     at: Moment,
-) -> Result<Served, ServeFault> {
+) -> Result<Served, ServeFault>
+    ensures { HasServedOne K.keeps K.is_clean K.is_sound K.is_broken K.may_find at keeper.old
+        keeper.new }
+{
     let Ok(reader) = timed(clock, stream) else {
         return Err(ServeFault::Read);
     };
@@ -109,7 +114,10 @@ fn serve_stream<C: Clock, K: Keeper>(
     zone: &Zone,
     keeper: &mut K,
     stream: &TcpStream,
-) -> Result<(), ServerFault> {
+) -> Result<(), ServerFault>
+    ensures { (n : ℕ) × HaveServed K.keeps K.is_clean K.is_sound K.is_broken K.may_find n keeper.old
+        keeper.new }
+{
     let Some(at) = moment_now(clock, zone) else {
         return Err(ServerFault::Clock);
     };
@@ -131,7 +139,11 @@ pub fn serve<C: Clock, K: Keeper>(
     keeper: &mut K,
     listener: &TcpListener,
     count: Option<u32>,
-) -> Result<(), ServerFault> {
+) -> Result<(), ServerFault>
+    // The station changes by what its connections ask, and by nothing else.
+    ensures { (n : ℕ) × HaveServed K.keeps K.is_clean K.is_sound K.is_broken K.may_find n keeper.old
+        keeper.new }
+{
     let most = match count {
         Some(count) => count as usize,
         None => usize::MAX,

@@ -1,0 +1,41 @@
+-- What contracts see of a call: its keeper, and the ends that it reads and writes.
+use Rattle.std.specs.Prelude.{Bool, Option, List, ℕ}
+use Rattle.station_core.specs.Given.{Given}
+use Rattle.station_core.specs.Step.{State}
+
+-- What is said of a keeper: the state that it keeps, whether the disk was true to it, whether what
+-- is kept is sound, whether it has to be opened again, and what a reopening may find.
+pub record Keeping (K : Type 0) : Type 1 where
+  pub keeps : K → State → Type 0
+  pub is_clean : K → Type 0
+  pub is_sound : K → Type 0
+  pub is_broken : K → Bool
+  pub may_find : K → Option State → Type 0
+
+abbrev pub keeping : {K : Type 0} → (K → State → Type 0) → (K → Type 0) → (K → Type 0) → (K → Bool)
+    → (K → Option State → Type 0) → Keeping K
+keeping keeps is_clean is_sound is_broken may_find =
+    record { keeps = keeps; is_clean = is_clean; is_sound = is_sound; is_broken = is_broken; may_find = may_find }
+
+-- What is said of the ends: what is left of the input where that is known, what it gave, how it
+-- goes on to its next input, and what the output and the errors took.
+pub record Ends (I W E : Type 0) : Type 1 where
+  pub remaining : I → Option (List ℕ)
+  pub given : I → Given
+  pub turned : I → I → Type 0
+  pub printed : W → Given
+  pub told : E → Given
+
+abbrev pub ends : {I W E : Type 0} → (I → Option (List ℕ)) → (I → Given) → (I → I → Type 0) → (W → Given)
+    → (E → Given) → Ends I W E
+ends remaining given turned printed told =
+    record { remaining = remaining; given = given; turned = turned; printed = printed; told = told }
+
+-- where the ends have come
+pub record Reached (I W E : Type 0) : Type 0 where
+  pub reader : I
+  pub output : W
+  pub errors : E
+
+abbrev pub reached : {I W E : Type 0} → I → W → E → Reached I W E
+reached reader output errors = record { reader = reader; output = output; errors = errors }
