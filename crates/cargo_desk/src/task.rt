@@ -1,12 +1,13 @@
 //! A line over its station: in memory, or in a file.
 
-use crate::files::{is_undeclared, make_file, open_file, tell_undeclared, tell_unopened};
+use crate::files::{make_file, open_file, tell_undeclared, tell_unopened};
 use crate::service::{Service, serve_keeper, serve_line};
-use cli_call::{DeskFault, close_file, end, run_kept, run_line};
+use cli_call::{DeskFault, close_file, end, run_file, run_kept};
 use cli_run::{Feed, Tied, TiedOutput, Turns, airport_of_line, is_opening, tie};
-use cli_words::{Line, LineCommand};
+use cli_words::Line;
 use map_state::MapState;
-use sqlite::{Alter, Connection};
+use sqlite::{Connection, FileStore};
+use sqlite_disk::Disk;
 use station_core::{Counted, Keeper};
 use station_days::Moment;
 use station_engine::StoredStation;
@@ -46,30 +47,6 @@ fn failed_late(rt: &HostRuntime, status: u8, fault: RunFault) -> u8 {
     }
 }
 
-/// Runs a stock list or the lines of `acts` over a connection to a file. Each answer is written
-/// before the next row or line acts.
-fn run_direct<S: Alter, R: Read + Drop>(
-    rt: &HostRuntime,
-    line: &Line<'_>,
-    conn: Connection<S>,
-    reader: R,
-    turns: &Turns,
-    at: Moment,
-) -> (u8, Connection<S>) {
-    let mut output = Counted::new(rt.stdout());
-    let mut errors = Counted::new(rt.stderr());
-    let mut feed = Feed::new(reader, turns);
-    run_line(
-        rt.alloc(),
-        line,
-        conn,
-        &mut feed,
-        &mut output,
-        &mut errors,
-        at,
-    )
-}
-
 /// Flushes what is gathered of a call's output, and returns the call's status.
 fn let_out<W: Write + Drop>(rt: &HostRuntime, output: Counted<TiedOutput<W>>, status: u8) -> u8 {
     match output.into_inner().flush() {
@@ -78,33 +55,8 @@ fn let_out<W: Write + Drop>(rt: &HostRuntime, output: Counted<TiedOutput<W>>, st
     }
 }
 
-/// Runs a line over a connection. What it writes is gathered, and goes out before its input is read
-/// again, before anything is told on standard error, and before the end.
-fn run_gathered<S: Alter, R: Read + Drop>(
-    rt: &HostRuntime,
-    line: &Line<'_>,
-    conn: Connection<S>,
-    reader: R,
-    turns: &Turns,
-    at: Moment,
-) -> (u8, Connection<S>) {
-    let alloc = rt.alloc();
-    let Ok(tied) = tie(alloc, reader, rt.stdout(), rt.stderr()) else {
-        return (faulted(rt, RunFault::Memory), conn);
-    };
-    let Tied {
-        input,
-        output,
-        errors,
-    } = tied;
-    let mut output = Counted::new(output);
-    let mut errors = Counted::new(errors);
-    let mut feed = Feed::new(input, turns);
-    let (status, conn) = run_line(alloc, line, conn, &mut feed, &mut output, &mut errors, at);
-    (let_out(rt, output, status), conn)
-}
-
-/// Runs a line over a station in memory. What it writes is gathered in the same way.
+/// Runs a line over a station in memory. What it writes is gathered, and goes out before its input
+/// is read again, before anything is told on standard error, and before the end.
 fn run_keeper<K: Keeper, R: Read + Drop>(
     rt: &HostRuntime,
     line: &Line<'_>,
@@ -129,45 +81,6 @@ fn run_keeper<K: Keeper, R: Read + Drop>(
     let_out(rt, output, status)
 }
 
-/// Whether each answer of a line over a file goes out before the next input acts.
-fn is_direct(line: &Line<'_>) -> bool {
-    matches!(&line.command, LineCommand::Stock | LineCommand::Acts)
-}
-
-/// Runs a line's command over a connection: a stock list row by row, `acts` line by line, any other
-/// command gathered.
-fn run_command<S: Alter, R: Read + Drop>(
-    rt: &HostRuntime,
-    line: &Line<'_>,
-    conn: Connection<S>,
-    reader: R,
-    turns: &Turns,
-    at: Moment,
-) -> (u8, Connection<S>) {
-    let (status, conn) = if is_direct(line) {
-        run_direct(rt, line, conn, reader, turns, at)
-    } else {
-        run_gathered(rt, line, conn, reader, turns, at)
-    };
-    if status <= 1 && is_undeclared(line, &conn) {
-        tell_undeclared(rt, line);
-    }
-    (status, conn)
-}
-
-/// Does a line's task over a connection, which comes back.
-fn run_task<S: Alter, R: Read + Drop>(
-    rt: &HostRuntime,
-    line: &Line<'_>,
-    conn: Connection<S>,
-    task: Task<'_, R>,
-) -> (u8, Connection<S>) {
-    match task {
-        Task::Run { reader, turns, at } => run_command(rt, line, conn, reader, turns, at),
-        Task::Serve(service) => serve_line(rt, line, conn, service),
-    }
-}
-
 /// Does a line's task over a new station in memory.
 fn run_in_memory<R: Read + Drop>(rt: &HostRuntime, line: &Line<'_>, task: Task<'_, R>) -> u8 {
     let alloc = rt.alloc();
@@ -179,7 +92,39 @@ fn run_in_memory<R: Read + Drop>(rt: &HostRuntime, line: &Line<'_>, task: Task<'
     }
 }
 
-/// Does a line's task over a file, which is closed behind a run: its log is copied into it.
+/// Runs a line over a connection to a file. Each answer is written before the next input acts.
+fn run_direct<D: Disk + Drop, R: Read + Drop>(
+    rt: &HostRuntime,
+    line: &Line<'_>,
+    conn: Connection<FileStore<D>>,
+    reader: R,
+    turns: &Turns,
+    at: Moment,
+) -> u8 {
+    let alloc = rt.alloc();
+    let mut output = Counted::new(rt.stdout());
+    let mut errors = Counted::new(rt.stderr());
+    let mut feed = Feed::new(reader, turns);
+    let ended = run_file(alloc, line, conn, &mut feed, &mut output, &mut errors, at);
+    if ended.status <= 1 && !ended.is_declared && !is_opening(line) {
+        tell_undeclared(rt, line);
+    }
+    ended.status
+}
+
+/// Serves the station of a line over a connection to a file, which is closed behind it.
+fn serve_file<D: Disk + Drop>(
+    rt: &HostRuntime,
+    line: &Line<'_>,
+    conn: Connection<FileStore<D>>,
+    service: Service<'_>,
+) -> u8 {
+    let (status, conn) = serve_line(rt, line, conn, service);
+    let (status, _files) = close_file(conn, status, &mut Counted::new(rt.stderr()));
+    status
+}
+
+/// Does a line's task over a file.
 fn run_in_file<R: Read + Drop>(
     rt: &HostRuntime,
     line: &Line<'_>,
@@ -191,17 +136,17 @@ fn run_in_file<R: Read + Drop>(
     } else {
         open_file(rt, path)
     };
-    let conn = match opened {
-        Ok(conn) => conn,
+    match opened {
+        Ok(conn) => match task {
+            Task::Run { reader, turns, at } => run_direct(rt, line, conn, reader, turns, at),
+            Task::Serve(service) => serve_file(rt, line, conn, service),
+        },
         Err(fault) => {
             let status = end_call(rt, Err(fault.ended()));
             tell_unopened(rt, path, fault);
-            return status;
+            status
         }
-    };
-    let (status, conn) = run_task(rt, line, conn, task);
-    let (status, _files) = close_file(conn, status, &mut Counted::new(rt.stderr()));
-    status
+    }
 }
 
 /// Does a line's task over its station.

@@ -1,3 +1,4 @@
+pub mod Closed
 pub mod Ended
 pub mod Ends
 pub mod Migrated

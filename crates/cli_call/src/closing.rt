@@ -1,14 +1,32 @@
-//! The end of a call over a file.
-ghost use Rattle.std.specs.Prelude.{◌≡◌, ◌<◌, ◌≤◌, None, IfSome};
-ghost use Rattle.sqlite.specs.Closing.{IsCopied};
-ghost use Rattle.sqlite_wal.specs.Reads.{AreClean};
-ghost use Rattle.cli_call.specs.Ended.{HasTold};
+//! A call over a file, from its command to the end of its file.
+ghost use Rattle.cli_call.specs.Closed.{HasCalledFile, HasClosed};
+ghost use Rattle.cli_call.specs.Ends.{ends, keeping, reached};
 
 use crate::ended::{DeskFault, end};
+use crate::run::run_line;
+use cli_run::Inputs;
+use cli_words::Line;
+use declared_tables::has_station;
 use sqlite::{Connection, FileStore};
 use sqlite_disk::{Disk, Files};
-use station_core::ByteOut;
+use station_core::{ByteOut, Keeper};
+use station_days::Moment;
+use station_tables::Station;
+use std::alloc::Global;
+use std::io::Read;
 use stock_list::RunFault;
+
+/// How a call over a file ended.
+#[derive(Drop)]
+pub struct FileEnd<D> {
+    /// The exit status.
+    pub status: u8,
+    /// Whether the file's tables are declared as `init` declares them.
+    pub is_declared: bool,
+    /// The closed files, with the log copied into the database file; `None` where a fault stopped
+    /// the call, or the log couldn't be copied.
+    pub files: Option<Files<D>>,
+}
 
 /// Ends a call over a file that ended with this status. Behind a run that no fault stopped, the
 /// log is copied into the database file, and the files are given back. Behind any other, the log
@@ -20,15 +38,7 @@ pub fn close_file<D: Disk + Drop, E: ByteOut>(
     status: u8,
     errors: &mut E,
 ) -> (u8, Option<Files<D>>)
-    ensures stopped { 1 < status → (result ≡ (status, None)) × (errors.new ≡ errors.old) }
-    ensures closed { status ≤ 1 → IfSome result.1
-        (λ _. (result.0 ≡ status) × (errors.new ≡ errors.old)) }
-
-    // The last commit is in the database file, as it reads now and after a crash.
-    ensures copied { IfSome result.1
-        (λ files. AreClean D.Disk files.log files.db → IsCopied conn files) }
-    ensures failed { status ≤ 1 → result.1 ≡ None → (result.0 ≡ 3)
-        × HasTold (DeskFault.Run RunFault.Store) (E.taken errors.old) (E.taken errors.new) }
+    ensures { HasClosed D.Disk E.taken conn status errors.old errors.new result.0 result.1 }
 {
     if status > 1 {
         return (status, None);
@@ -39,5 +49,36 @@ pub fn close_file<D: Disk + Drop, E: ByteOut>(
             drop(store.close());
             (end(errors, Err(DeskFault::Run(RunFault::Store))), None)
         }
+    }
+}
+
+/// Runs a line over a connection to a file, at a moment, and closes the file: every command but
+/// `serve`. It is one `run_line` and one `close_file`.
+pub fn run_file<D: Disk + Drop, I: Inputs + Read, W: ByteOut, E: ByteOut>(
+    alloc: Global,
+    line: &Line<'_>,
+    conn: Connection<FileStore<D>>,
+    reader: &mut I,
+    output: &mut W,
+    errors: &mut E,
+    at: Moment,
+) -> FileEnd<D>
+    ensures { HasCalledFile line.now
+        (keeping ⟦<Station<FileStore<D>> as Keeper>⟧.keeps
+        ⟦<Station<FileStore<D>> as Keeper>⟧.is_clean
+        ⟦<Station<FileStore<D>> as Keeper>⟧.is_sound
+        ⟦<Station<FileStore<D>> as Keeper>⟧.is_broken
+        ⟦<Station<FileStore<D>> as Keeper>⟧.may_find)
+        (ends I.remaining I.given I.turned W.taken E.taken) at conn
+        (reached reader.old output.old errors.old)
+        (reached reader.new output.new errors.new) result }
+{
+    let (status, conn) = run_line(alloc, line, conn, reader, output, errors, at);
+    let is_declared = has_station(&conn);
+    let (status, files) = close_file(conn, status, errors);
+    FileEnd {
+        status,
+        is_declared,
+        files,
     }
 }

@@ -9,7 +9,7 @@ mod opening;
 mod run;
 mod version;
 
-pub use closing::close_file;
+pub use closing::{FileEnd, close_file, run_file};
 pub use ended::{DeskFault, end};
 pub use opening::open_station;
 pub use run::{run_kept, run_line};
