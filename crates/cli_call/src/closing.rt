@@ -18,7 +18,7 @@ use stock_list::RunFault;
 
 /// How a call over a file ended.
 #[derive(Drop)]
-pub struct FileEnd<D> {
+pub struct FileEnd<D: Disk> {
     /// The exit status.
     pub status: u8,
     /// Whether the file's tables are declared as `init` declares them.
