@@ -1,6 +1,6 @@
 -- A request that is sent once, twice or three times.
 use Rattle.std.proofs.Common.{◌≡◌, ◌∙◌, refl, subst, inl, inr, ℕ, ◌+◌, true, List, Result, Err}
-use Rattle.desk_client.specs.Again.{is_vain, Talk, HasOpened, HasTriedAgain, HasTriedThrice, IsAnswered, IsSettled}
+use Rattle.desk_client.specs.Again.{is_vain, Talk, IsRefusedOrTalked, HasTriedAgain, HasTriedThrice, IsAnswered, IsSettled}
 use Rattle.desk_client.specs.Asked.{HasAsked}
 use Rattle.desk_client.specs.Count.{one_more}
 use Rattle.desk_client.specs.declared.ask.Answer.{Answer}
@@ -8,11 +8,11 @@ use Rattle.desk_client.specs.declared.ask.AskFault.{AskFault}
 use Rattle.desk_client.specs.declared.ask.AskFault.TheVariants as fault
 
 pub refused : (most : ℕ) (request : List ℕ) (old new : Talk) → new.tried ≡ one_more old.tried → new.opened ≡ old.opened → new.sent ≡ old.sent → new.come ≡ old.come
-    → HasOpened most request old new (Err fault.Refused)
+    → IsRefusedOrTalked most request old new (Err fault.Refused)
 refused most request old new tried none unsent unread = inl (record { why = refl; tried = tried; none = none; unsent = unsent; unread = unread })
 
 pub talked : (most : ℕ) (request : List ℕ) (old new : Talk) (result : Result Answer AskFault) → new.tried ≡ one_more old.tried → new.opened ≡ old.opened + 1
-    → HasAsked most request old.sent new.sent old.come new.come result → HasOpened most request old new result
+    → HasAsked most request old.sent new.sent old.come new.come result → IsRefusedOrTalked most request old new result
 talked most request old new result tried one asked = inr (record { tried = tried; one = one; asked = asked })
 
 pub settled : (Once More : Talk → Talk → Result Answer AskFault → Type 0) (old new : Talk) (result : Result Answer AskFault)

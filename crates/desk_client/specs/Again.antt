@@ -42,13 +42,13 @@ pub record IsRefused (old new : Talk) (result : Result Answer AskFault) : Type 0
   pub unsent : new.sent ≡ old.sent
   pub unread : new.come ≡ old.come
 
--- one of the two
-abbrev pub HasOpened : ℕ → List ℕ → Talk → Talk → Result Answer AskFault → Type 0
-HasOpened most request old new result = IsRefused old new result ⊎ HasTalked most request old new result
+-- the connection was refused, or the request was sent and its answer read
+abbrev pub IsRefusedOrTalked : ℕ → List ℕ → Talk → Talk → Result Answer AskFault → Type 0
+IsRefusedOrTalked most request old new result = IsRefused old new result ⊎ HasTalked most request old new result
 
 -- one try, and how it ended is kept
 abbrev pub HasTried : ℕ → List ℕ → Talk → Talk → Result Answer AskFault → Type 0
-HasTried most request old new result = HasOpened most request old new result × (new.last ≡ last_of result)
+HasTried most request old new result = IsRefusedOrTalked most request old new result × (new.last ≡ last_of result)
 
 -- a question that ended by this fault is asked again: no whole answer has come
 abbrev pub is_vain : AskFault → Bool

@@ -1,7 +1,7 @@
 //! Asking a question, by one try or by up to three.
 ghost use Rattle.std.specs.Prelude.{◌≡◌};
 ghost use Rattle.desk_client.specs.Asked.{by_time, HasAsked, HasSent, HasUnderstood};
-ghost use Rattle.desk_client.specs.Again.{is_vain, last_of, talk, Talk, HasOpened, HasTried, HasTriedTwice, HasTriedThrice, IsAnswered};
+ghost use Rattle.desk_client.specs.Again.{is_vain, last_of, talk, Talk, IsRefusedOrTalked, HasTried, HasTriedTwice, HasTriedThrice, IsAnswered};
 ghost use Rattle.desk_client.specs.Request.{most_of, request_of};
 
 use crate::connect::{Connect, LastTry, Service};
@@ -130,7 +130,7 @@ fn ask_over_new<C: Connect, I: ByteIn, O: ByteOut>(
     request: &[u8],
     most: usize,
 ) -> Result<Answer, AskFault>
-    ensures { HasOpened most request.now (talk C.tried C.opened I.given O.taken service.old)
+    ensures { IsRefusedOrTalked most request.now (talk C.tried C.opened I.given O.taken service.old)
         (talk C.tried C.opened I.given O.taken service.new) result }
 {
     if !service.connections.connect() {
@@ -204,9 +204,9 @@ pub trait Ask {
     /// Asks a question, by up to three tries: each time the same bytes, and again only where the
     /// connection was refused or broke, or what came is no whole answer.
     ///
-    /// `Ok` is an answer that came whole. Returns [`AskFault::Memory`] when out of memory, and else
-    /// the fault of the third try, which the talk has as how the last try ended. A command or a telegram may have been done then: ask again,
-    /// under the same key.
+    /// `Ok` is an answer that came whole. Returns [`AskFault::Memory`] when out of memory. Otherwise
+    /// returns the fault of the third try, and `talk` keeps it as the end of the last try. The desk may
+    /// have done a command or a telegram then: ask again, under the same key.
     fn ask(&mut self, alloc: Global, question: &Question<'_>) -> Result<Answer, AskFault>
         ensures { IsAnswered (most_of question.now) (request_of question.now) (talk self.old)
             (talk self.new) result };
