@@ -1,45 +1,70 @@
 -- Where a question ends without an answer.
-use Rattle.std.proofs.Common.{◌≡◌, refl, ℕ, Bool, true, false, List, ◌++◌, Result, Err}
+use Rattle.std.proofs.Common.{◌≡◌, refl, sym, subst, ℕ, ◌≤◌, Bool, true, false, List, ◌++◌, drop, length, Option, None, Result, Ok, Err}
 use Rattle.station_core.specs.Given.{Given}
-use Rattle.desk_client.specs.Came.{HasFailed, IsReadersFault}
-use Rattle.desk_client.specs.Asked.{by_time, HasSent, HasAsked}
+use Rattle.reports.specs.declared.form.Form.{Form}
+use Rattle.desk_client.specs.Asked.{by_time, HasAsked, HasRead, HasSent, HasTaken, HasUnderstood}
+use Rattle.desk_client.specs.Came.{HasCome}
+use Rattle.desk_client.specs.Request.{most_rows}
+use Rattle.desk_client.specs.Whole.{IsWhole}
+use Rattle.desk_client.specs.declared.ask.Answer.{Answer}
 use Rattle.desk_client.specs.declared.ask.AskFault.{AskFault}
 use Rattle.desk_client.specs.declared.ask.AskFault.TheVariants as fault
+use Rattle.desk_client.specs.declared.ask.Until.{Until}
+use Rattle.desk_client.specs.declared.ask.Until.TheVariants as until
 
--- the request went out, and the reader stopped
-pub read_failed : {T : Type 0} (most : ℕ) (request : List ℕ) (sent_old sent_new read_old read_new : Given) (e : AskFault)
-    → sent_new.bytes ≡ sent_old.bytes ++ request → IsReadersFault {T = T} (Err e) → (◌≡◌ {A = Result T AskFault} (Err e) (Err fault.Read) → HasFailed read_old read_new)
-    → HasAsked most request sent_old sent_new read_old read_new (Err e)
-read_failed most request sent_old sent_new read_old read_new fault.Read sent is failed = (sent, failed refl)
-read_failed most request sent_old sent_new read_old read_new fault.Memory sent is failed = sent
-read_failed most request sent_old sent_new read_old read_new fault.Write sent is failed = absurd is
-read_failed most request sent_old sent_new read_old read_new fault.Cut sent is failed = absurd is
-read_failed most request sent_old sent_new read_old read_new fault.Refused sent is failed = absurd is
-read_failed most request sent_old sent_new read_old read_new fault.Foreign sent is failed = absurd is
-read_failed most request sent_old sent_new read_old read_new fault.Long sent is failed = absurd is
-read_failed most request sent_old sent_new read_old read_new fault.Late sent is failed = absurd is
+-- the request went out, and its answer was read so
+pub request_sent : (until : Until) (request : List ℕ) (sent_old sent_new read_old read_new : Given) (r : Result Answer AskFault)
+    → sent_new.bytes ≡ sent_old.bytes ++ request → HasRead until read_old read_new r → HasAsked until request sent_old sent_new read_old read_new r
+request_sent until request sent_old sent_new read_old read_new (Ok a) sent read = (sent, read)
+request_sent until request sent_old sent_new read_old read_new (Err fault.Write) sent read = absurd read
+request_sent until request sent_old sent_new read_old read_new (Err fault.Read) sent read = (sent, read)
+request_sent until request sent_old sent_new read_old read_new (Err fault.Memory) sent read = (sent, read)
+request_sent until request sent_old sent_new read_old read_new (Err fault.Cut) sent read = (sent, read)
+request_sent until request sent_old sent_new read_old read_new (Err fault.Refused) sent read = (sent, read)
+request_sent until request sent_old sent_new read_old read_new (Err fault.Foreign) sent read = (sent, read)
+request_sent until request sent_old sent_new read_old read_new (Err fault.Long) sent read = (sent, read)
+request_sent until request sent_old sent_new read_old read_new (Err fault.Late) sent read = (sent, read)
 
 -- the request didn't go out whole, and nothing was read
-pub not_sent : (most : ℕ) (request : List ℕ) (sent_old sent_new read_old : Given) (e : AskFault)
-    → HasSent request sent_old sent_new (Err e) → HasAsked most request sent_old sent_new read_old read_old (Err e)
-not_sent most request sent_old sent_new read_old fault.Write sent = (sent.0, sent.1, refl)
-not_sent most request sent_old sent_new read_old fault.Memory sent = absurd sent
-not_sent most request sent_old sent_new read_old fault.Read sent = absurd sent
-not_sent most request sent_old sent_new read_old fault.Cut sent = absurd sent
-not_sent most request sent_old sent_new read_old fault.Refused sent = absurd sent
-not_sent most request sent_old sent_new read_old fault.Foreign sent = absurd sent
-not_sent most request sent_old sent_new read_old fault.Long sent = absurd sent
-not_sent most request sent_old sent_new read_old fault.Late sent = absurd sent
+pub not_sent : (until : Until) (request : List ℕ) (sent_old sent_new read_old : Given) (e : AskFault)
+    → HasSent request sent_old sent_new (Err e) → HasAsked until request sent_old sent_new read_old read_old (Err e)
+not_sent until request sent_old sent_new read_old fault.Write sent = (sent.0, sent.1, refl)
+not_sent until request sent_old sent_new read_old fault.Read sent = absurd sent
+not_sent until request sent_old sent_new read_old fault.Memory sent = absurd sent
+not_sent until request sent_old sent_new read_old fault.Cut sent = absurd sent
+not_sent until request sent_old sent_new read_old fault.Refused sent = absurd sent
+not_sent until request sent_old sent_new read_old fault.Foreign sent = absurd sent
+not_sent until request sent_old sent_new read_old fault.Long sent = absurd sent
+not_sent until request sent_old sent_new read_old fault.Late sent = absurd sent
 
 -- a reader whose time ran out has failed
-pub timed : (most : ℕ) (request : List ℕ) (sent_old sent_new read_old read_new : Given) (late : Bool) (e : AskFault)
-    → HasAsked most request sent_old sent_new read_old read_new (Err e) → HasAsked most request sent_old sent_new read_old read_new (Err (by_time late e))
-timed most request sent_old sent_new read_old read_new true fault.Read asked = asked
-timed most request sent_old sent_new read_old read_new true fault.Refused asked = asked
-timed most request sent_old sent_new read_old read_new true fault.Write asked = asked
-timed most request sent_old sent_new read_old read_new true fault.Late asked = asked
-timed most request sent_old sent_new read_old read_new true fault.Memory asked = asked
-timed most request sent_old sent_new read_old read_new true fault.Cut asked = asked
-timed most request sent_old sent_new read_old read_new true fault.Long asked = asked
-timed most request sent_old sent_new read_old read_new true fault.Foreign asked = asked
-timed most request sent_old sent_new read_old read_new false e asked = asked
+pub timed : (until : Until) (request : List ℕ) (sent_old sent_new read_old read_new : Given) (late : Bool) (e : AskFault)
+    → HasAsked until request sent_old sent_new read_old read_new (Err e) → HasAsked until request sent_old sent_new read_old read_new (Err (by_time late e))
+timed until request sent_old sent_new read_old read_new true fault.Read asked = asked
+timed until request sent_old sent_new read_old read_new true fault.Refused asked = asked
+timed until request sent_old sent_new read_old read_new true fault.Write asked = asked
+timed until request sent_old sent_new read_old read_new true fault.Late asked = asked
+timed until request sent_old sent_new read_old read_new true fault.Memory asked = asked
+timed until request sent_old sent_new read_old read_new true fault.Cut asked = asked
+timed until request sent_old sent_new read_old read_new true fault.Long asked = asked
+timed until request sent_old sent_new read_old read_new true fault.Foreign asked = asked
+timed until request sent_old sent_new read_old read_new false e asked = asked
+
+-- an answer to a question for rows that came whole
+pub rows_read : (f : Form) (old new : Given) (came : List ℕ) (r : Result Answer AskFault) → HasCome most_rows old new came → HasUnderstood most_rows came r
+    → HasRead (until.Rows f) old new r
+rows_read f old new came (Ok a) come (few, is, within, whole, none) =
+    subst (λ (b : Option ℕ). HasTaken (until.Rows f) old new a b) (sym none) (record {
+      come = subst (λ (l : List ℕ). HasCome most_rows old new l) (sym is) come;
+      few = subst (λ (l : List ℕ). length l ≤ most_rows) (sym is) few;
+      within = subst (λ (l : List ℕ). a.start ≤ length l) (sym is) within;
+      whole = subst (λ (l : List ℕ). IsWhole l a.status (drop a.start l)) (sym is) whole;
+    })
+rows_read f old new came (Err fault.Cut) come is = (came, come, is)
+rows_read f old new came (Err fault.Foreign) come is = (came, come, is)
+rows_read f old new came (Err fault.Long) come is = (came, come, is)
+rows_read f old new came (Err fault.Read) come is = absurd is
+rows_read f old new came (Err fault.Late) come is = absurd is
+rows_read f old new came (Err fault.Write) come is = absurd is
+rows_read f old new came (Err fault.Memory) come is = absurd is
+rows_read f old new came (Err fault.Refused) come is = absurd is

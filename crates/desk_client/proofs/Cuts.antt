@@ -1,5 +1,5 @@
 -- A whole answer is one, and no beginning of another.
-use Rattle.std.proofs.Common.{arith, ◌≡◌, ◌∙◌, ap, sym, subst, inl, inr, ℕ, ◌+◌, true, Some, Option, List, [], ◌∷◌, ◌++◌, length, map, codes, length-append}
+use Rattle.std.proofs.Common.{arith, ◌≡◌, ◌∙◌, ap, sym, subst, inl, inr, ℕ, ◌+◌, true, false, Some, Option, List, [], ◌∷◌, ◌++◌, length, map, codes, length-append}
 use Rattle.std.specs.Prelude.{◌⊎◌}
 use Rattle.std.proofs.lemmas.List.{nil_from_length}
 use Rattle.httparse.specs.Grammar.{ResponseHead, status_code}
@@ -7,7 +7,7 @@ use Rattle.httparse.specs.Spans.{name_and_value}
 use Rattle.httparse.proofs.GrammarLemmas.{ReadsResponse-append, response_unique}
 use Rattle.http_desk.specs.Request.{values_of}
 use Rattle.desk_client.specs.Ended.{has_end}
-use Rattle.desk_client.specs.Whole.{IsAsLong, IsWhole}
+use Rattle.desk_client.specs.Whole.{IsAsLong, IsCutShort, IsReport, IsTooShort, IsWhole}
 
 abbrev lengths_of : ResponseHead → List (List ℕ)
 lengths_of h = values_of (codes "content-length") (map name_and_value h.fields)
@@ -35,3 +35,23 @@ cut front more s t b c x y =
     let same = response_unique (front ++ more) x.head y.head (b ++ more) c (ReadsResponse-append front x.head b more x.reads) y.reads in
     let long : IsAsLong (lengths_of y.head) (b ++ more) = subst (λ l. IsAsLong (lengths_of y.head) l) (sym same.1) y.whole.long in
     by_lengths (lengths_of x.head) b more x.whole.long (subst (λ h. IsAsLong (lengths_of h) (b ++ more)) (sym same.0) long)
+
+-- a report whose rest has come
+pub report_whole : (bytes body more : List ℕ) → IsReport bytes body → has_end (body ++ more) ≡ true → IsWhole (bytes ++ more) 200 (body ++ more)
+report_whole bytes body more is end = record {
+  head = is.head;
+  reads = ReadsResponse-append bytes is.head body more is.reads;
+  few = is.few;
+  status_is = sym is.good;
+  whole = record { plain = is.plain; long = subst (λ l. IsAsLong l (body ++ more)) (sym is.untold) end };
+}
+
+-- or not all of it
+pub report_cut : (bytes body more : List ℕ) → IsReport bytes body → has_end (body ++ more) ≡ false → IsCutShort (bytes ++ more)
+report_cut bytes body more is unended = inr (record {
+  head = is.head;
+  body = body ++ more;
+  reads = ReadsResponse-append bytes is.head body more is.reads;
+  few = is.few;
+  short = record { plain = is.plain; short = subst (λ l. IsTooShort l (body ++ more)) (sym is.untold) unended };
+})

@@ -10,8 +10,12 @@ pub mod Replies
 pub mod ListRows
 pub mod OrderTexts
 pub mod Posts
+pub mod AsItComes
 pub mod ReadBack
 pub mod RowPaths
+pub mod Rows
+pub mod RowsAsked
+pub mod Tails
 pub mod Telling
 pub mod Trying
 pub mod Unread

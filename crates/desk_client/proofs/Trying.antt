@@ -1,19 +1,20 @@
 -- A request that is sent once, twice or three times.
 use Rattle.std.proofs.Common.{◌≡◌, ◌∙◌, refl, subst, inl, inr, ℕ, ◌+◌, true, List, Result, Err}
-use Rattle.desk_client.specs.Again.{is_vain, Talk, IsRefusedOrTalked, HasTriedAgain, HasTriedThrice, IsAnswered, IsSettled}
+use Rattle.desk_client.specs.Again.{is_vain, Talk, IsRefusedOrTalked, HasTriedAgain, HasTriedThrice, IsAskedUntil, IsSettled}
 use Rattle.desk_client.specs.Asked.{HasAsked}
 use Rattle.desk_client.specs.Count.{one_more}
 use Rattle.desk_client.specs.declared.ask.Answer.{Answer}
 use Rattle.desk_client.specs.declared.ask.AskFault.{AskFault}
 use Rattle.desk_client.specs.declared.ask.AskFault.TheVariants as fault
+use Rattle.desk_client.specs.declared.ask.Until.{Until}
 
-pub refused : (most : ℕ) (request : List ℕ) (old new : Talk) → new.tried ≡ one_more old.tried → new.opened ≡ old.opened → new.sent ≡ old.sent → new.come ≡ old.come
-    → IsRefusedOrTalked most request old new (Err fault.Refused)
-refused most request old new tried none unsent unread = inl (record { why = refl; tried = tried; none = none; unsent = unsent; unread = unread })
+pub refused : (until : Until) (request : List ℕ) (old new : Talk) → new.tried ≡ one_more old.tried → new.opened ≡ old.opened → new.sent ≡ old.sent → new.come ≡ old.come
+    → IsRefusedOrTalked until request old new (Err fault.Refused)
+refused until request old new tried none unsent unread = inl (record { why = refl; tried = tried; none = none; unsent = unsent; unread = unread })
 
-pub talked : (most : ℕ) (request : List ℕ) (old new : Talk) (result : Result Answer AskFault) → new.tried ≡ one_more old.tried → new.opened ≡ old.opened + 1
-    → HasAsked most request old.sent new.sent old.come new.come result → IsRefusedOrTalked most request old new result
-talked most request old new result tried one asked = inr (record { tried = tried; one = one; asked = asked })
+pub talked : (until : Until) (request : List ℕ) (old new : Talk) (result : Result Answer AskFault) → new.tried ≡ one_more old.tried → new.opened ≡ old.opened + 1
+    → HasAsked until request old.sent new.sent old.come new.come result → IsRefusedOrTalked until request old new result
+talked until request old new result tried one asked = inr (record { tried = tried; one = one; asked = asked })
 
 pub settled : (Once More : Talk → Talk → Result Answer AskFault → Type 0) (old new : Talk) (result : Result Answer AskFault)
     → Once old new result → IsSettled result → HasTriedAgain Once More old new result
@@ -24,8 +25,8 @@ pub again : (Once More : Talk → Talk → Result Answer AskFault → Type 0) (o
 again Once More old mid new e result vain once more = inr (mid, (e, vain, once, more))
 
 -- the tries of a request are those of its question
-pub asked : (most n : ℕ) (request bytes items : List ℕ) (old new : Talk) (result : Result Answer AskFault) → n ≡ most → bytes ≡ items → items ≡ request
-    → HasTriedThrice n bytes old new result → IsAnswered most request old new result
-asked most n request bytes items old new result most_is bytes_are items_are tried =
-    let same : HasTriedThrice n request old new result = subst (λ (b : List ℕ). HasTriedThrice n b old new result) (bytes_are ∙ items_are) tried in
-    inr (subst (λ (m : ℕ). HasTriedThrice m request old new result) most_is same)
+pub asked : (until u : Until) (request bytes items : List ℕ) (old new : Talk) (result : Result Answer AskFault) → u ≡ until → bytes ≡ items → items ≡ request
+    → HasTriedThrice u bytes old new result → IsAskedUntil until request old new result
+asked until u request bytes items old new result until_is bytes_are items_are tried =
+    let same : HasTriedThrice u request old new result = subst (λ (b : List ℕ). HasTriedThrice u b old new result) (bytes_are ∙ items_are) tried in
+    inr (subst (λ (v : Until). HasTriedThrice v request old new result) until_is same)

@@ -6,6 +6,8 @@ use Rattle.desk_client.specs.Count.{one_more}
 use Rattle.desk_client.specs.declared.ask.Answer.{Answer}
 use Rattle.desk_client.specs.declared.ask.AskFault.{AskFault}
 use Rattle.desk_client.specs.declared.ask.AskFault.TheVariants as fault
+use Rattle.desk_client.specs.declared.ask.Until.{Until}
+use Rattle.desk_client.specs.declared.ask.Until.TheVariants as until
 use Rattle.desk_client.specs.declared.connect.LastTry.{LastTry}
 use Rattle.desk_client.specs.declared.connect.LastTry.TheVariants as last
 use Rattle.desk_client.specs.declared.connect.Service.{Service}
@@ -29,10 +31,10 @@ last_of (Ok a) = last.Answered a.status
 last_of (Err e) = last.Failed e
 
 -- The request was sent over a connection more, and its answer read.
-pub record HasTalked (most : ℕ) (request : List ℕ) (old new : Talk) (result : Result Answer AskFault) : Type 0 where
+pub record HasTalked (until : Until) (request : List ℕ) (old new : Talk) (result : Result Answer AskFault) : Type 0 where
   pub tried : new.tried ≡ one_more old.tried
   pub one : new.opened ≡ old.opened + 1
-  pub asked : HasAsked most request old.sent new.sent old.come new.come result
+  pub asked : HasAsked until request old.sent new.sent old.come new.come result
 
 -- A connection was refused, and nothing was sent.
 pub record IsRefused (old new : Talk) (result : Result Answer AskFault) : Type 0 where
@@ -43,12 +45,12 @@ pub record IsRefused (old new : Talk) (result : Result Answer AskFault) : Type 0
   pub unread : new.come ≡ old.come
 
 -- the connection was refused, or the request was sent and its answer read
-abbrev pub IsRefusedOrTalked : ℕ → List ℕ → Talk → Talk → Result Answer AskFault → Type 0
-IsRefusedOrTalked most request old new result = IsRefused old new result ⊎ HasTalked most request old new result
+abbrev pub IsRefusedOrTalked : Until → List ℕ → Talk → Talk → Result Answer AskFault → Type 0
+IsRefusedOrTalked until request old new result = IsRefused old new result ⊎ HasTalked until request old new result
 
 -- one try, and how it ended is kept
-abbrev pub HasTried : ℕ → List ℕ → Talk → Talk → Result Answer AskFault → Type 0
-HasTried most request old new result = IsRefusedOrTalked most request old new result × (new.last ≡ last_of result)
+abbrev pub HasTried : Until → List ℕ → Talk → Talk → Result Answer AskFault → Type 0
+HasTried until request old new result = IsRefusedOrTalked until request old new result × (new.last ≡ last_of result)
 
 -- a question that ended by this fault is asked again: no whole answer has come
 abbrev pub is_vain : AskFault → Bool
@@ -68,16 +70,20 @@ HasTriedAgain Once More old new result =
     ⊎ ((mid : Talk) × ((e : AskFault) × (is_vain e ≡ true) × Once old mid (Err e) × More mid new result))
 
 -- once or twice, the same bytes
-abbrev pub HasTriedTwice : ℕ → List ℕ → Talk → Talk → Result Answer AskFault → Type 0
-HasTriedTwice most request old new result =
-    HasTriedAgain (HasTried most request) (HasTried most request) old new result
+abbrev pub HasTriedTwice : Until → List ℕ → Talk → Talk → Result Answer AskFault → Type 0
+HasTriedTwice until request old new result =
+    HasTriedAgain (HasTried until request) (HasTried until request) old new result
 
 -- and three times at most
-abbrev pub HasTriedThrice : ℕ → List ℕ → Talk → Talk → Result Answer AskFault → Type 0
-HasTriedThrice most request old new result =
-    HasTriedAgain (HasTried most request) (HasTriedTwice most request) old new result
+abbrev pub HasTriedThrice : Until → List ℕ → Talk → Talk → Result Answer AskFault → Type 0
+HasTriedThrice until request old new result =
+    HasTriedAgain (HasTried until request) (HasTriedTwice until request) old new result
 
 -- the question was asked so; or memory ran out before it was, and nothing was done
+abbrev pub IsAskedUntil : Until → List ℕ → Talk → Talk → Result Answer AskFault → Type 0
+IsAskedUntil until request old new result =
+    ((result ≡ Err fault.Memory) × (new ≡ old)) ⊎ HasTriedThrice until request old new result
+
+-- and its answer was read to its end
 abbrev pub IsAnswered : ℕ → List ℕ → Talk → Talk → Result Answer AskFault → Type 0
-IsAnswered most request old new result =
-    ((result ≡ Err fault.Memory) × (new ≡ old)) ⊎ HasTriedThrice most request old new result
+IsAnswered most request old new result = IsAskedUntil (until.End most) request old new result

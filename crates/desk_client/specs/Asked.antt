@@ -1,12 +1,17 @@
 -- What one question leaves, over one connection.
-use Rattle.std.specs.Prelude.{◌≡◌, ◌≤◌, ◌<◌, ℕ, Bool, true, List, ◌++◌, drop, length, take, Result, Ok, Err}
+use Rattle.std.specs.Prelude.{◌≡◌, ◌≤◌, ◌<◌, ℕ, Bool, true, List, [], ◌++◌, drop, length, take, Option, Some, None, Result, Ok, Err, ⊤}
+use Rattle.reports.specs.declared.form.Form.{Form}
 use Rattle.station_core.specs.Given.{Given}
 use Rattle.station_core.specs.Ends.{HasCause}
-use Rattle.desk_client.specs.Came.{HasCome, HasFailed}
+use Rattle.desk_client.specs.Came.{HasCome, HasFailed, HasGrown}
+use Rattle.desk_client.specs.Front.{IsBegun}
+use Rattle.desk_client.specs.Request.{most_rows}
 use Rattle.desk_client.specs.Whole.{IsCutShort, IsNeverWhole, IsNotWhole, IsWhole}
 use Rattle.desk_client.specs.declared.ask.Answer.{Answer}
 use Rattle.desk_client.specs.declared.ask.AskFault.{AskFault}
 use Rattle.desk_client.specs.declared.ask.AskFault.TheVariants as fault
+use Rattle.desk_client.specs.declared.ask.Until.{Until}
+use Rattle.desk_client.specs.declared.ask.Until.TheVariants as until
 
 -- the request went out; or a beginning of it, where the writer failed or took no byte
 abbrev pub HasSent : List ℕ → Given → Given → Result (Unit {0}) AskFault → Type 0
@@ -26,34 +31,51 @@ IsNoAnswer _ most came = ⊥
 abbrev pub HasUnderstood : ℕ → List ℕ → Result Answer AskFault → Type 0
 HasUnderstood most came (Ok a) =
     (length came ≤ most) × (a.bytes.items ≡ came) × (a.start ≤ length came)
-    × IsWhole came a.status (drop a.start came)
+    × IsWhole came a.status (drop a.start came) × (a.begun ≡ None)
 HasUnderstood most came (Err e) = IsNoAnswer e most came
 
--- The request went out, and what came up to the end of the connection is this answer, whole.
-pub record HasAnswer (most : ℕ) (request : List ℕ) (sent_old sent_new read_old read_new : Given) (a : Answer) : Type 0 where
-  pub sent : sent_new.bytes ≡ sent_old.bytes ++ request
-  pub come : HasCome most read_old read_new a.bytes.items
+-- What came up to the end of the connection is this answer, whole.
+pub record HasAnswer (most : ℕ) (old new : Given) (a : Answer) : Type 0 where
+  pub come : HasCome most old new a.bytes.items
   pub few : length a.bytes.items ≤ most
   pub within : a.start ≤ length a.bytes.items
   pub whole : IsWhole a.bytes.items a.status (drop a.start a.bytes.items)
 
--- Or no answer is returned: a beginning of the request went out, and nothing was read; or the
--- request went out, and the reader failed, or memory ran out, or what came is no whole answer. A
--- reader whose time ran out has failed.
-abbrev pub HasAsked : ℕ → List ℕ → Given → Given → Given → Given → Result Answer AskFault → Type 0
-HasAsked most request sent_old sent_new read_old read_new (Ok a) = HasAnswer most request sent_old sent_new read_old read_new a
-HasAsked most request sent_old sent_new read_old read_new (Err fault.Refused) = ⊥
-HasAsked most request sent_old sent_new read_old read_new (Err fault.Write) =
+-- What came is a report as far as a front of its body, and no read failed.
+pub record HasBegun (form : Form) (old new : Given) (a : Answer) (end : ℕ) : Type 0 where
+  pub come : HasGrown old new [] a.bytes.items
+  pub good : a.status ≡ 200
+  pub begun : IsBegun form a.bytes.items a.start end
+
+-- the most bytes of an answer that is read so far
+abbrev pub most_by : Until → ℕ
+most_by (until.End most) = most
+most_by (until.Rows form) = most_rows
+
+-- Only rows are returned before their answer has come whole.
+abbrev pub HasTaken : Until → Given → Given → Answer → Option ℕ → Type 0
+HasTaken (until.End most) old new a begun = HasAnswer most old new a
+HasTaken (until.Rows form) old new a None = HasAnswer most_rows old new a
+HasTaken (until.Rows form) old new a (Some end) = HasBegun form old new a end
+
+-- An answer was read so far. Or none is returned: the reader failed, or memory ran out, or what
+-- came up to the end of the connection is no whole answer. A reader whose time ran out has failed.
+abbrev pub HasRead : Until → Given → Given → Result Answer AskFault → Type 0
+HasRead until old new (Ok a) = HasTaken until old new a a.begun
+HasRead until old new (Err fault.Refused) = ⊥
+HasRead until old new (Err fault.Write) = ⊥
+HasRead until old new (Err fault.Read) = HasFailed old new
+HasRead until old new (Err fault.Late) = HasFailed old new
+HasRead until old new (Err fault.Memory) = ⊤
+HasRead until old new (Err e) = (came : List ℕ) × HasCome (most_by until) old new came × IsNoAnswer e (most_by until) came
+
+-- The request went out, and its answer was read; or a beginning of the request went out, and
+-- nothing was read.
+abbrev pub HasAsked : Until → List ℕ → Given → Given → Given → Given → Result Answer AskFault → Type 0
+HasAsked until request sent_old sent_new read_old read_new (Err fault.Write) =
     ((sent : ℕ) × (sent_new.bytes ≡ sent_old.bytes ++ take sent request)) × HasCause sent_old sent_new × (read_new ≡ read_old)
-HasAsked most request sent_old sent_new read_old read_new (Err fault.Read) =
-    (sent_new.bytes ≡ sent_old.bytes ++ request) × HasFailed read_old read_new
-HasAsked most request sent_old sent_new read_old read_new (Err fault.Late) =
-    (sent_new.bytes ≡ sent_old.bytes ++ request) × HasFailed read_old read_new
-HasAsked most request sent_old sent_new read_old read_new (Err fault.Memory) =
-    sent_new.bytes ≡ sent_old.bytes ++ request
-HasAsked most request sent_old sent_new read_old read_new (Err e) =
-    (sent_new.bytes ≡ sent_old.bytes ++ request)
-    × ((came : List ℕ) × HasCome most read_old read_new came × IsNoAnswer e most came)
+HasAsked until request sent_old sent_new read_old read_new result =
+    (sent_new.bytes ≡ sent_old.bytes ++ request) × HasRead until read_old read_new result
 
 -- a read that failed because its time ran out is told as that
 abbrev pub by_time : Bool → AskFault → AskFault

@@ -12,6 +12,10 @@ pub record HasGrown (old new : Given) (before after : List ℕ) : Type 0 where
   pub failures : new.failures ≡ old.failures
   pub idle : old.idle ≤ new.idle
 
+-- some bytes were read, or none
+abbrev pub HasGiven : Given → Given → Type 0
+HasGiven old new = (part : List ℕ) × (new.bytes ≡ old.bytes ++ part)
+
 -- These bytes have come, and no read failed. The input has ended: a read brought nothing; or they
 -- are more than an answer may have.
 pub record HasCome (most : ℕ) (old new : Given) (bytes : List ℕ) : Type 0 where

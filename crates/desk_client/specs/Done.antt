@@ -40,9 +40,9 @@ HasDone (command.Act verb key) given turned taken left old new r =
 HasDone command.Acts given turned taken left old new r =
     HaveBeenAnswered (HasAnsweredLine taken) left old.0 new.0 r × IsReadToEnd (given new.1) r
 HasDone (command.Outbox f) given turned taken left old new r =
-    HasAskedRows (rows_path (listing.All report.Pending) f) (shown_at old.0) (shown_at new.0) r
+    HasAskedRows (rows_path (listing.All report.Pending) f) f (shown_at old.0) (shown_at new.0) r
 HasDone (command.Report l f) given turned taken left old new r =
-    HasAskedRows (rows_path l f) (shown_at old.0) (shown_at new.0) r
+    HasAskedRows (rows_path l f) f (shown_at old.0) (shown_at new.0) r
 HasDone (command.History w) given turned taken left old new r =
     HasAskedHistory w (shown_at old.0) (shown_at new.0) r
 HasDone (command.Waybill w) given turned taken left old new r =

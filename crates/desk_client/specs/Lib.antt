@@ -2,6 +2,7 @@ pub mod Request
 pub mod Came
 pub mod Ended
 pub mod Whole
+pub mod Front
 pub mod Asked
 pub mod Count
 pub mod Again
@@ -11,6 +12,7 @@ pub mod Ran
 pub mod Posted
 pub mod Orders
 pub mod ListRows
+pub mod Printed
 pub mod Looks
 pub mod Done
 pub mod Status

@@ -1,6 +1,7 @@
 -- Reports and look-ups that are asked of a service.
-use Rattle.std.specs.Prelude.{◌≡◌, ◌⊎◌, ◌==◌, ◌&&◌, ℕ, Bool, true, false, List, [], ◌∷◌, ◌++◌, codes, Result, Ok, Err}
+use Rattle.std.specs.Prelude.{◌≡◌, ◌⊎◌, ◌==◌, ◌&&◌, ℕ, Bool, true, false, List, [], ◌∷◌, ◌++◌, codes, Option, Some, None, Result, Ok, Err, ⊤}
 use Rattle.std.specs.Str.{bytes_eq}
+use Rattle.reports.specs.declared.form.Form.{Form}
 use Rattle.reports.specs.declared.form.Form.TheVariants as form
 use Rattle.reports.specs.declared.listing.Listing.TheVariants as listing
 use Rattle.station_core.specs.Ends.{HasCause}
@@ -8,12 +9,15 @@ use Rattle.station_core.specs.Given.{Given}
 use Rattle.stock_list.specs.declared.answer.RunFault.{RunFault}
 use Rattle.stock_list.specs.declared.answer.RunFault.TheVariants as fault
 use Rattle.cli_run.specs.Sent.{HasSent}
-use Rattle.desk_client.specs.Again.{Talk, IsAnswered}
+use Rattle.desk_client.specs.Again.{Talk, IsAnswered, IsAskedUntil}
 use Rattle.desk_client.specs.Ended.{has_end}
+use Rattle.desk_client.specs.Front.{IsBegun}
 use Rattle.desk_client.specs.Heard.{body_of, service_fault}
-use Rattle.desk_client.specs.Request.{get_request, most_answer, most_rows, rows_path, waybill_path}
+use Rattle.desk_client.specs.Printed.{HasPrinted}
+use Rattle.desk_client.specs.Request.{get_request, most_answer, rows_path, waybill_path}
 use Rattle.desk_client.specs.declared.ask.Answer.{Answer}
 use Rattle.desk_client.specs.declared.ask.AskFault.{AskFault}
+use Rattle.desk_client.specs.declared.ask.Until.TheVariants as until
 
 -- where a call has come: what was done with the service, and what was written
 pub record Shown : Type 0 where
@@ -62,8 +66,24 @@ HasLooked Shows most request old new result =
 abbrev pub rows_request : List ℕ → List ℕ
 rows_request path = get_request path ++ []
 
-abbrev pub HasAskedRows : List ℕ → Shown → Shown → Result Bool RunFault → Type 0
-HasAskedRows path old new result = HasLooked HasShownRows most_rows (rows_request path) old new result
+-- an answer with rows was begun, or is whole
+abbrev pub IsTakenRows : Form → Answer → Option ℕ → Type 0
+IsTakenRows f a None = ⊤
+IsTakenRows f a (Some end) = IsBegun f a.bytes.items a.start end
+
+-- its rows were printed: of a whole answer as they came, and else as they come
+abbrev pub HasShownTaken : Form → Answer → Option ℕ → Talk → Talk → Given → Given → Result Bool RunFault → Type 0
+HasShownTaken f a None talk_old talk_new old new result = (talk_new ≡ talk_old) × HasShownRows a old new result
+HasShownTaken f a (Some end) talk_old talk_new old new result = HasPrinted f a talk_old talk_new old new result
+
+-- The service was asked for rows, and then they were printed, with no further try; or it didn't
+-- answer, and nothing was written.
+abbrev pub HasAskedRows : List ℕ → Form → Shown → Shown → Result Bool RunFault → Type 0
+HasAskedRows path f old new result =
+    ((a : Answer) × ((mid : Talk) × IsAskedUntil (until.Rows f) (rows_request path) old.talk mid (Ok a)
+    × HasShownTaken f a a.begun mid new.talk old.sent new.sent result))
+    ⊎ ((e : AskFault) × IsAskedUntil (until.Rows f) (rows_request path) old.talk new.talk (Err e) × (new.sent ≡ old.sent)
+    × (result ≡ Err (service_fault e)))
 
 -- a step, and after a good one the next
 abbrev pub HasGoneOn : (Shown → Shown → Result Bool RunFault → Type 0) → (Shown → Shown → Result Bool RunFault → Type 0)
@@ -75,8 +95,8 @@ HasGoneOn First Next old new result =
 -- the moves of a waybill, and its trail
 abbrev pub HasAskedMoves : ℕ → Shown → Shown → Result Bool RunFault → Type 0
 HasAskedMoves w old new result =
-    HasGoneOn (HasAskedRows (rows_path (listing.Movements w) form.Text))
-    (HasAskedRows (rows_path (listing.Trail w) form.Text)) old new result
+    HasGoneOn (HasAskedRows (rows_path (listing.Movements w) form.Text) form.Text)
+    (HasAskedRows (rows_path (listing.Trail w) form.Text) form.Text) old new result
 
 -- what is known of a waybill, and its moves and its trail where it is known
 abbrev pub HasAskedHistory : ℕ → Shown → Shown → Result Bool RunFault → Type 0

@@ -62,6 +62,16 @@ pub record IsShortBehind (bytes : List ℕ) : Type 0 where
 abbrev pub IsCutShort : List ℕ → Type 0
 IsCutShort bytes = (HasNoResponse bytes × MayBecomeResponse bytes) ⊎ IsShortBehind bytes
 
+-- The bytes are a head of status 200 that gives no length, as a desk writes it before a report, and
+-- then this beginning of its body.
+pub record IsReport (bytes body : List ℕ) : Type 0 where
+  pub head : ResponseHead
+  pub reads : ReadsResponse bytes head body
+  pub few : length head.fields ≤ most_fields
+  pub good : status_code head ≡ 200
+  pub plain : values_of (codes "transfer-encoding") (map name_and_value head.fields) ≡ []
+  pub untold : values_of (codes "content-length") (map name_and_value head.fields) ≡ []
+
 -- what a body is of the one that its head tells
 abbrev pub IsExtent : List (List ℕ) → List ℕ → Extent → Type 0
 IsExtent lengths body extent.Whole = IsAsLong lengths body

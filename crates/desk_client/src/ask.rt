@@ -1,15 +1,21 @@
 //! Asking a question, by one try or by up to three.
 ghost use Rattle.std.specs.Prelude.{◌≡◌};
-ghost use Rattle.desk_client.specs.Asked.{by_time, HasAsked, HasSent, HasUnderstood};
+ghost use Rattle.desk_client.specs.Asked.{by_time, HasAsked, HasRead, HasSent, HasUnderstood};
 ghost use Rattle.desk_client.specs.Again.{is_vain, last_of, talk, Talk, IsRefusedOrTalked, HasTried, HasTriedTwice, HasTriedThrice, IsAnswered};
-ghost use Rattle.desk_client.specs.Request.{most_of, request_of};
+ghost use Rattle.desk_client.specs.Looks.{shown, HasAskedRows};
+ghost use Rattle.desk_client.specs.Request.{most_of, request_of, rows_path};
 
 use crate::connect::{Connect, LastTry, Service};
+use crate::front::begun_in;
+use crate::line::service_fault;
 use crate::question::{Question, most_of, request_of};
-use crate::reading::read_all;
+use crate::reading::{read_all, read_more};
+use crate::report::show_answer;
 use crate::whole::{Found, found_in};
+use reports::{Form, Listing};
 use station_core::{ByteIn, ByteOut, send};
 use std::alloc::Global;
+use stock_list::RunFault;
 
 /// Why a question wasn't answered.
 #[derive(Clone, Copy, Debug, PartialEq, Eq)]
@@ -40,6 +46,18 @@ pub struct Answer {
     pub bytes: Vec<u8>,
     /// Where its body starts.
     pub start: usize,
+    /// `None`: it came whole. Else it is a report whose rest is still to be read, and this many bytes
+    /// of its body may be printed before.
+    pub begun: Option<usize>,
+}
+
+/// How far an answer is read.
+#[derive(Clone, Copy, Debug, PartialEq, Eq)]
+pub enum Until {
+    /// To the end of its connection, or until more bytes have come than this.
+    End(usize),
+    /// Until rows of a report in this form have come that may be printed, or else to its end.
+    Rows(Form),
 }
 
 /// The answer that the bytes are, where they are not more than an answer may have.
@@ -54,6 +72,7 @@ fn understood(bytes: Vec<u8>, most: usize) -> Result<Answer, AskFault>
             status: place.status,
             bytes,
             start: place.start,
+            begun: None,
         }),
         Found::Cut => Err(AskFault::Cut),
         Found::Foreign => Err(AskFault::Foreign),
@@ -70,27 +89,66 @@ fn send_request<O: ByteOut>(writer: &mut O, request: &[u8]) -> Result<(), AskFau
     }
 }
 
-/// Sends a request, and reads its answer to the end of the connection, or until more bytes have
-/// come than the answer may have.
-#[tactic(auto, using(crate::proofs::Asking::not_sent))]
+/// Reads an answer to the end of its connection, or until more bytes have come than it may have.
+fn read_whole<I: ByteIn>(alloc: Global, reader: &mut I, most: usize) -> Result<Answer, AskFault>
+    ensures { HasRead (Until.End most) (I.given reader.old) (I.given reader.new) result }
+{
+    match read_all(alloc, reader, most) {
+        Ok(bytes) => understood(bytes, most),
+        Err(fault) => Err(fault),
+    }
+}
+
+/// Reads an answer until rows have come that may be printed, or else to the end of its connection.
+#[tactic(auto, using(crate::proofs::Grown::grown_more, crate::proofs::Grown::come_more))]
+fn read_rows<I: ByteIn>(alloc: Global, reader: &mut I, form: Form) -> Result<Answer, AskFault>
+    ensures { HasRead (Until.Rows form) (I.given reader.old) (I.given reader.new) result }
+{
+    let mut bytes = Vec::new(alloc);
+    for _turn in 0..u64::MAX {
+        let from = bytes.len().saturating_sub(2);
+        if read_more(reader, &mut bytes)? {
+            return understood(bytes, usize::MAX);
+        }
+        if let Some((start, end)) = begun_in(bytes.as_slice(), from, form) {
+            return Ok(Answer {
+                status: 200,
+                bytes,
+                start,
+                begun: Some(end),
+            });
+        }
+    }
+    Err(AskFault::Read)
+}
+
+/// Reads an answer so far.
+fn read_until<I: ByteIn>(alloc: Global, reader: &mut I, until: Until) -> Result<Answer, AskFault>
+    ensures { HasRead until (I.given reader.old) (I.given reader.new) result }
+{
+    match until {
+        Until::End(most) => read_whole(alloc, reader, most),
+        Until::Rows(form) => read_rows(alloc, reader, form),
+    }
+}
+
+/// Sends a request, and reads its answer.
+#[tactic(auto, using(crate::proofs::Asking::not_sent, crate::proofs::Asking::request_sent))]
 fn ask_one<I: ByteIn, O: ByteOut>(
     alloc: Global,
     reader: &mut I,
     writer: &mut O,
     request: &[u8],
-    most: usize,
+    until: Until,
 ) -> Result<Answer, AskFault>
-    ensures { HasAsked most request.now (O.taken writer.old) (O.taken writer.new)
+    ensures { HasAsked until request.now (O.taken writer.old) (O.taken writer.new)
         (I.given reader.old) (I.given reader.new) result }
 {
     match send_request(writer, request) {
         Ok(()) => {}
         Err(fault) => return Err(fault),
     }
-    match read_all(alloc, reader, most) {
-        Ok(bytes) => understood(bytes, most),
-        Err(fault) => Err(fault),
-    }
+    read_until(alloc, reader, until)
 }
 
 impl AskFault {
@@ -102,7 +160,7 @@ impl AskFault {
     }
 
     /// A read that failed because its time ran out is told as that.
-    fn by_time(self, is_late: bool) -> AskFault
+    pub(crate) fn by_time(self, is_late: bool) -> AskFault
         ensures { result ≡ by_time is_late self }
     {
         match self {
@@ -128,9 +186,10 @@ fn ask_over_new<C: Connect, I: ByteIn, O: ByteOut>(
     alloc: Global,
     service: &mut Service<C, I, O>,
     request: &[u8],
-    most: usize,
+    until: Until,
 ) -> Result<Answer, AskFault>
-    ensures { IsRefusedOrTalked most request.now (talk C.tried C.opened I.given O.taken service.old)
+    ensures { IsRefusedOrTalked until request.now
+        (talk C.tried C.opened I.given O.taken service.old)
         (talk C.tried C.opened I.given O.taken service.new) result }
 {
     if !service.connections.connect() {
@@ -141,7 +200,7 @@ fn ask_over_new<C: Connect, I: ByteIn, O: ByteOut>(
         &mut service.reader,
         &mut service.writer,
         request,
-        most,
+        until,
     ) {
         Ok(answer) => Ok(answer),
         Err(fault) => Err(fault.by_time(service.connections.is_late())),
@@ -153,12 +212,12 @@ fn try_once<C: Connect, I: ByteIn, O: ByteOut>(
     alloc: Global,
     service: &mut Service<C, I, O>,
     request: &[u8],
-    most: usize,
+    until: Until,
 ) -> Result<Answer, AskFault>
-    ensures { HasTried most request.now (talk C.tried C.opened I.given O.taken service.old)
+    ensures { HasTried until request.now (talk C.tried C.opened I.given O.taken service.old)
         (talk C.tried C.opened I.given O.taken service.new) result }
 {
-    let ended = ask_over_new(alloc, service, request, most);
+    let ended = ask_over_new(alloc, service, request, until);
     service.last = last_of(&ended);
     ended
 }
@@ -168,13 +227,13 @@ fn try_twice<C: Connect, I: ByteIn, O: ByteOut>(
     alloc: Global,
     service: &mut Service<C, I, O>,
     request: &[u8],
-    most: usize,
+    until: Until,
 ) -> Result<Answer, AskFault>
-    ensures { HasTriedTwice most request.now (talk C.tried C.opened I.given O.taken service.old)
+    ensures { HasTriedTwice until request.now (talk C.tried C.opened I.given O.taken service.old)
         (talk C.tried C.opened I.given O.taken service.new) result }
 {
-    match try_once(alloc, service, request, most) {
-        Err(fault) if fault.is_vain() => try_once(alloc, service, request, most),
+    match try_once(alloc, service, request, until) {
+        Err(fault) if fault.is_vain() => try_once(alloc, service, request, until),
         ended => ended,
     }
 }
@@ -184,13 +243,13 @@ fn try_thrice<C: Connect, I: ByteIn, O: ByteOut>(
     alloc: Global,
     service: &mut Service<C, I, O>,
     request: &[u8],
-    most: usize,
+    until: Until,
 ) -> Result<Answer, AskFault>
-    ensures { HasTriedThrice most request.now (talk C.tried C.opened I.given O.taken service.old)
+    ensures { HasTriedThrice until request.now (talk C.tried C.opened I.given O.taken service.old)
         (talk C.tried C.opened I.given O.taken service.new) result }
 {
-    match try_once(alloc, service, request, most) {
-        Err(fault) if fault.is_vain() => try_twice(alloc, service, request, most),
+    match try_once(alloc, service, request, until) {
+        Err(fault) if fault.is_vain() => try_twice(alloc, service, request, until),
         ended => ended,
     }
 }
@@ -205,11 +264,29 @@ pub trait Ask {
     /// connection was refused or broke, or what came is no whole answer.
     ///
     /// `Ok` is an answer that came whole. Returns [`AskFault::Memory`] when out of memory. Otherwise
-    /// returns the fault of the third try, and `talk` keeps it as the end of the last try. The desk may
-    /// have done a command or a telegram then: ask again, under the same key.
+    /// returns the fault of the third try, which `talk` keeps as the end of the last try. The desk
+    /// may have done a command or a telegram then: ask again, under the same key.
     fn ask(&mut self, alloc: Global, question: &Question<'_>) -> Result<Answer, AskFault>
         ensures { IsAnswered (most_of question.now) (request_of question.now) (talk self.old)
             (talk self.new) result };
+
+    /// Asks for rows, a report or a part of one, by up to three tries, and prints them as they come.
+    /// It asks again only while nothing was printed.
+    ///
+    /// `Ok` says that the report came whole, and all of it was printed. Returns [`RunFault::Write`]
+    /// if the output fails or takes no byte: nothing more is read. Returns [`RunFault::Memory`] when
+    /// out of memory. Returns [`RunFault::Store`] if the service doesn't answer, or not as a desk,
+    /// or the report breaks off: then a beginning of it was printed, up to a row, and not its end.
+    fn ask_rows<W: ByteOut>(
+        &mut self,
+        alloc: Global,
+        listing: &Listing,
+        form: Form,
+        output: &mut W,
+    ) -> Result<bool, RunFault>
+        ensures { HasAskedRows (rows_path listing.now form) form
+            (shown (talk self.old) (W.taken output.old))
+            (shown (talk self.new) (W.taken output.new)) result };
 }
 
 impl<C: Connect, I: ByteIn, O: ByteOut> Ask for Service<C, I, O> {
@@ -219,6 +296,24 @@ impl<C: Connect, I: ByteIn, O: ByteOut> Ask for Service<C, I, O> {
         let Ok(request) = request_of(alloc, question) else {
             return Err(AskFault::Memory);
         };
-        try_thrice(alloc, self, request.as_slice(), most_of(question))
+        let until = Until::End(most_of(question));
+        try_thrice(alloc, self, request.as_slice(), until)
+    }
+
+    #[tactic(auto, using(crate::proofs::RowsAsked::taken_rows))]
+    fn ask_rows<W: ByteOut>(
+        &mut self,
+        alloc: Global,
+        listing: &Listing,
+        form: Form,
+        output: &mut W,
+    ) -> Result<bool, RunFault> {
+        let Ok(request) = request_of(alloc, &Question::Rows(*listing, form)) else {
+            return Err(RunFault::Memory);
+        };
+        match try_thrice(alloc, self, request.as_slice(), Until::Rows(form)) {
+            Ok(answer) => show_answer(alloc, self, &answer, form, output),
+            Err(fault) => Err(service_fault(fault)),
+        }
     }
 }

@@ -28,7 +28,7 @@ pub trait Connect {
 pub enum LastTry {
     /// Nothing was tried yet.
     Nothing,
-    /// A whole answer came, of this status.
+    /// An answer of this status came: whole, or a report of which the output took no more.
     Answered(u16),
     /// No whole answer came.
     Failed(AskFault),

@@ -1,11 +1,11 @@
 //! Laws of the lines, and of whole answers.
-ghost use Rattle.std.specs.Prelude.{◌≡◌, ◌⊎◌, ◌++◌, ◌≤◌, [], ℕ, List, Some, None, length, true};
+ghost use Rattle.std.specs.Prelude.{◌≡◌, ◌⊎◌, ◌++◌, ◌≤◌, [], ℕ, List, Some, None, length, true, false};
 ghost use Rattle.station_core.specs.declared.answer.Answer.{Answer};
 ghost use Rattle.stock_list.specs.Lines.{answer_text};
 ghost use Rattle.http_desk.specs.Reply.{answer_reply};
 ghost use Rattle.desk_client.specs.Law.{HasFew, reply_line, IsListed};
 ghost use Rattle.desk_client.specs.Ended.{has_end};
-ghost use Rattle.desk_client.specs.Whole.{IsWhole};
+ghost use Rattle.desk_client.specs.Whole.{IsCutShort, IsReport, IsWhole};
 ghost use Rattle.desk_client.specs.Read.{IsRead};
 ghost use Rattle.desk_client.specs.Request.{command_head, telegram_head, get_request, holder_path, rows_path, waybill_path};
 ghost use Rattle.awb_number.specs.Number.{number_of, number_text, IsNumber};
@@ -27,12 +27,17 @@ pub fn lines_law()
 
 /// The bytes that came are one whole answer at most, so what is returned is a function of them. And
 /// a whole answer is no beginning of another, but where its body ends with a report's last line: so
-/// no answer that tells its length is taken as whole where it was cut.
+/// no answer that tells its length is taken as whole where it was cut. A report that was begun is a
+/// whole answer once the rest of it has come, if what came ends as a report does, and else is cut.
 pub fn whole_law()
     ensures one { (bytes : List ℕ) (s t : ℕ) (b c : List ℕ) → IsWhole bytes s b → IsWhole bytes t c
         → (s ≡ t) × (b ≡ c) }
     ensures cut { (front more : List ℕ) (s t : ℕ) (b c : List ℕ) → IsWhole front s b
         → IsWhole (front ++ more) t c → (more ≡ []) ⊎ (has_end b ≡ true) }
+    ensures begun { (bytes body more : List ℕ) → IsReport bytes body → has_end (body ++ more) ≡ true
+        → IsWhole (bytes ++ more) 200 (body ++ more) }
+    ensures broken { (bytes body more : List ℕ) → IsReport bytes body
+        → has_end (body ++ more) ≡ false → IsCutShort (bytes ++ more) }
 {}
 
 /// A desk reads the request of a command as what it is: a post of the verb, this key, this body. It

@@ -4,21 +4,24 @@
 mod ask;
 mod connect;
 mod ended;
+mod front;
 mod inputs;
 mod law;
 mod line;
 mod lines;
 mod looks;
 mod order;
+mod printing;
 mod question;
 mod reading;
+mod report;
 mod rows;
 mod run;
 mod status;
 mod told;
 mod whole;
 
-pub use ask::{Answer, Ask, AskFault};
+pub use ask::{Answer, Ask, AskFault, Until};
 pub use connect::{Connect, LastTry, Service};
 pub use law::{lines_law, request_law, whole_law};
 pub use question::Question;

@@ -1,14 +1,13 @@
-//! Reports and look-ups.
+//! Look-ups, and what is known of a waybill with its rows.
 ghost use Rattle.std.specs.Prelude.{◌≡◌};
-ghost use Rattle.desk_client.specs.Looks.{is_unknown, shown, HasAskedHistory, HasAskedMoves, HasAskedRows, HasLooked, HasShownFound, HasShownRows};
-ghost use Rattle.desk_client.specs.Request.{most_of, request_of, rows_path};
+ghost use Rattle.desk_client.specs.Looks.{is_unknown, shown, HasAskedHistory, HasAskedMoves, HasLooked, HasShownFound};
+ghost use Rattle.desk_client.specs.Request.{most_of, request_of};
 
 use crate::ask::{Answer, Ask};
-use crate::ended::has_end;
 use crate::line::service_fault;
 use crate::question::Question;
 use awb_number::Awb;
-use cli_run::{send_part, send_word};
+use cli_run::send_word;
 use reports::{Form, Listing};
 use station_core::ByteOut;
 use std::alloc::Global;
@@ -22,37 +21,6 @@ fn is_unknown(answer: &Answer) -> bool
     ensures { result ≡ is_unknown answer.now }
 {
     answer.status == 404 && answer.body() == UNKNOWN_BODY
-}
-
-/// Writes the rows of an answer.
-fn show_rows<W: ByteOut>(answer: &Answer, output: &mut W) -> Result<bool, RunFault>
-    ensures { HasShownRows answer.now (W.taken output.old) (W.taken output.new) result }
-{
-    if answer.status != 200 || !has_end(answer.body()) {
-        return Err(RunFault::Store);
-    }
-    match send_part(output, answer.body()) {
-        Ok(()) => Ok(true),
-        Err(fault) => Err(fault),
-    }
-}
-
-/// Asks for rows, and writes them: a report, or a part of one.
-pub(crate) fn ask_report<S: Ask, W: ByteOut>(
-    alloc: Global,
-    service: &mut S,
-    listing: &Listing,
-    form: Form,
-    output: &mut W,
-) -> Result<bool, RunFault>
-    ensures { HasAskedRows (rows_path listing.now form)
-        (shown (S.talk service.old) (W.taken output.old))
-        (shown (S.talk service.new) (W.taken output.new)) result }
-{
-    match service.ask(alloc, &Question::Rows(*listing, form)) {
-        Ok(answer) => show_rows(&answer, output),
-        Err(fault) => Err(service_fault(fault)),
-    }
 }
 
 /// Writes the object of an answer to a look-up, or that nothing is known.
@@ -101,14 +69,8 @@ fn ask_moves<S: Ask, W: ByteOut>(
     ensures { HasAskedMoves number.now (shown (S.talk service.old) (W.taken output.old))
         (shown (S.talk service.new) (W.taken output.new)) result }
 {
-    match ask_report(
-        alloc,
-        service,
-        &Listing::Movements(*number),
-        Form::Text,
-        output,
-    ) {
-        Ok(true) => ask_report(alloc, service, &Listing::Trail(*number), Form::Text, output),
+    match service.ask_rows(alloc, &Listing::Movements(*number), Form::Text, output) {
+        Ok(true) => service.ask_rows(alloc, &Listing::Trail(*number), Form::Text, output),
         ended => ended,
     }
 }

@@ -1,6 +1,6 @@
 //! Reading an answer to its end.
 ghost use Rattle.std.specs.Prelude.{◌≡◌, ◌<◌, ◌+◌, true, Err, IfOk, OnOk};
-ghost use Rattle.desk_client.specs.Came.{HasGrown, HasCome, HasFailed, IsReadersFault};
+ghost use Rattle.desk_client.specs.Came.{HasCome, HasFailed, HasGiven, HasGrown, IsReadersFault};
 
 use crate::ask::AskFault;
 use station_core::{ByteIn, ReadFault};
@@ -11,10 +11,11 @@ const CHUNK: usize = 16_384;
 
 /// One read behind the bytes that have come. `true`: the input has ended. An interrupted read
 /// brings nothing.
-fn read_more<I: ByteIn>(reader: &mut I, bytes: &mut Vec<u8>) -> Result<bool, AskFault>
+pub(crate) fn read_more<I: ByteIn>(reader: &mut I, bytes: &mut Vec<u8>) -> Result<bool, AskFault>
     ensures come { OnOk result
         (HasGrown (I.given reader.old) (I.given reader.new) bytes.old.items bytes.new.items) }
     ensures calls { OnOk result ((I.given reader.new).calls ≡ (I.given reader.old).calls + 1) }
+    ensures given { HasGiven (I.given reader.old) (I.given reader.new) }
     ensures ended { IfOk result (λ ended. ended ≡ true
         → (I.given reader.old).idle < (I.given reader.new).idle) }
     ensures fault { IsReadersFault result }

@@ -5,7 +5,7 @@ ghost use Rattle.desk_client.specs.Done.{HasDone};
 use crate::ask::Ask;
 use crate::inputs::{ask_act, ask_takes};
 use crate::lines::ask_acts;
-use crate::looks::{ask_history, ask_number, ask_report};
+use crate::looks::{ask_history, ask_number};
 use crate::question::Question;
 use crate::rows::ask_stock;
 use cli_run::Inputs;
@@ -47,15 +47,9 @@ pub fn ask_command<S: Ask, I: Inputs + Read, W: ByteOut, E: ByteOut>(
         }
         LineCommand::Acts => ask_acts(alloc, service, reader, output, errors),
         LineCommand::Outbox(form) => {
-            ask_report(
-                alloc,
-                service,
-                &Listing::All(Report::Pending),
-                *form,
-                output,
-            )
+            service.ask_rows(alloc, &Listing::All(Report::Pending), *form, output)
         }
-        LineCommand::Report(listing, form) => ask_report(alloc, service, listing, *form, output),
+        LineCommand::Report(listing, form) => service.ask_rows(alloc, listing, *form, output),
         LineCommand::History(number) => ask_history(alloc, service, number, output),
         LineCommand::Waybill(number) => {
             ask_number(alloc, service, &Question::Waybill(*number), output)

@@ -1,7 +1,8 @@
 //! Whether an answer has come whole.
-ghost use Rattle.std.specs.Prelude.{◌∷◌, [], length, map, All};
+ghost use Rattle.std.specs.Prelude.{◌≡◌, ◌≤◌, ◌∷◌, [], codes, drop, length, map, true, All, IfSome};
 ghost use Rattle.httparse.specs.Spans.{header_bytes, IsHeaderWithin};
-ghost use Rattle.desk_client.specs.Whole.{IsExtent, IsExtentOf, IsFound};
+ghost use Rattle.http_desk.specs.Request.{values_of};
+ghost use Rattle.desk_client.specs.Whole.{IsExtent, IsExtentOf, IsFound, IsReport};
 
 use crate::ended::has_end;
 use http_desk::{Values, number_told, values_of};
@@ -84,6 +85,41 @@ fn extent_of(buf: &[u8], fields: &[HeaderSpan], body: &[u8]) -> Extent
         Values::Nothing => extent_of_report(body),
         Values::One(value) => extent_by(value, body),
         Values::More => Extent::Never,
+    }
+}
+
+/// Whether a head gives no length, as a desk's before a report.
+fn is_untold(buf: &[u8], fields: &[HeaderSpan]) -> bool
+    requires { All (IsHeaderWithin (length buf.now)) fields.now }
+    ensures plain { result ≡ true → values_of (codes "transfer-encoding")
+        (map (header_bytes buf.now) fields.now) ≡ [] }
+    ensures untold { result ≡ true → values_of (codes "content-length")
+        (map (header_bytes buf.now) fields.now) ≡ [] }
+{
+    let Values::Nothing = values_of(buf, fields, b"transfer-encoding") else {
+        return false;
+    };
+    let Values::Nothing = values_of(buf, fields, b"content-length") else {
+        return false;
+    };
+    true
+}
+
+/// Where the body starts if the bytes begin a report.
+pub(crate) fn report_in(bytes: &[u8]) -> Option<usize>
+    ensures within { IfSome result (λ start. start ≤ length bytes.now) }
+    ensures report { IfSome result (λ start. IsReport bytes.now (drop start bytes.now)) }
+{
+    let mut headers = [EMPTY_HEADER_SPAN; MOST_FIELDS];
+    match parse_response(bytes, &mut headers) {
+        Ok(Status::Complete(spans)) => {
+            if spans.code == 200 && is_untold(bytes, &headers[..spans.headers]) {
+                Some(spans.len)
+            } else {
+                None
+            }
+        }
+        _ => None,
     }
 }
 

@@ -7,8 +7,8 @@ use Rattle.desk_client.proofs.looks.ask_moves.Goals as goal
 
 pub returns-in-Ok-true : goal.returns-in-Ok-true
 returns-in-Ok-true g c =
-    gone_on (HasAskedRows (rows_path (listing.Movements c.args.number.now) form.Text)) (HasAskedRows (rows_path (listing.Trail c.args.number.now) form.Text))
+    gone_on (HasAskedRows (rows_path (listing.Movements c.args.number.now) form.Text) form.Text) (HasAskedRows (rows_path (listing.Trail c.args.number.now) form.Text) form.Text)
     (shown (g.S.Ask.talk c.args.service.now) (g.W.ByteOut.taken c.args.output.now))
-    (shown (g.S.Ask.talk c.ask_report.new.service) (g.W.ByteOut.taken c.ask_report.new.output))
-    (shown (g.S.Ask.talk c.ask_report-in-Ok-true.new.service) (g.W.ByteOut.taken c.ask_report-in-Ok-true.new.output)) c.in-Ok-true.field-0 c.ask_report-in-Ok-true.result
-    c.in-Ok-true.ensures c.in-Ok-true.field-0-test c.ask_report-in-Ok-true.ensures
+    (shown (g.S.Ask.talk c.ask_rows.new.self) (g.W.ByteOut.taken c.ask_rows.new.output))
+    (shown (g.S.Ask.talk c.ask_rows-in-Ok-true.new.self) (g.W.ByteOut.taken c.ask_rows-in-Ok-true.new.output)) c.in-Ok-true.field-0 c.ask_rows-in-Ok-true.result
+    c.in-Ok-true.ensures c.in-Ok-true.field-0-test c.ask_rows-in-Ok-true.ensures

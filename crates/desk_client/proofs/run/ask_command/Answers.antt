@@ -8,5 +8,5 @@ pub returns-in-Report : goal.returns-in-Report
 returns-in-Report g c =
     subst (λ (k : LineCommand). HasDone k g.I.ByteIn.given g.I.Inputs.turned g.E.ByteOut.taken (g.I.Read.remaining c.args.reader.now)
     (come (g.S.Ask.talk c.args.service.now) (g.W.ByteOut.taken c.args.output.now) c.args.errors.now, c.args.reader.now)
-    (come (g.S.Ask.talk c.ask_report-in-Report.new.service) (g.W.ByteOut.taken c.ask_report-in-Report.new.output) c.args.errors.now, c.args.reader.now)
-    c.ask_report-in-Report.result) (sym c.in-Report.is) c.ask_report-in-Report.ensures
+    (come (g.S.Ask.talk c.ask_rows-in-Report.new.self) (g.W.ByteOut.taken c.ask_rows-in-Report.new.output) c.args.errors.now, c.args.reader.now)
+    c.ask_rows-in-Report.result) (sym c.in-Report.is) c.ask_rows-in-Report.ensures

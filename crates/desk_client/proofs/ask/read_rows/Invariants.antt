@@ -1,0 +1,12 @@
+use Rattle.std.proofs.Common.{◌≡◌, ◌+◌, []}
+use Rattle.desk_client.specs.Came.{HasGrown}
+use Rattle.desk_client.proofs.ask.read_rows.Given as goal
+
+abbrev pub invariant-loop-turn : goal.invariant-loop-turn
+invariant-loop-turn g l =
+    let before = g.I.ByteIn.given l.fn.reader in
+    let now = g.I.ByteIn.given l.reader in
+    record {
+      grown : HasGrown before now [] l.bytes.items;
+      calls : now.calls ≡ before.calls + l._turn;
+    }

@@ -1,0 +1,94 @@
+//! Printing a report as it comes.
+ghost use Rattle.std.specs.Prelude.{◌≡◌};
+ghost use Rattle.desk_client.specs.Front.{IsFrontEnd};
+ghost use Rattle.desk_client.specs.Printed.{HasPrintedBody, HasPrintedLast, HasTurned, IsHeld};
+
+use crate::ask::AskFault;
+use crate::ended::has_end;
+use crate::front::front_end;
+use crate::reading::read_more;
+use cli_run::send_part;
+use reports::Form;
+use station_core::{ByteIn, ByteOut};
+use std::alloc::Global;
+
+/// Why a report wasn't printed to its end.
+#[derive(Clone, Copy, Debug, PartialEq, Eq)]
+pub(crate) enum PrintFault {
+    /// The writer failed or took no byte.
+    Write,
+    /// The rest of the report didn't come.
+    Rest(AskFault),
+}
+
+/// Prints what may be printed of what is held, and holds the rest. It looks only for rows that end
+/// behind a place.
+fn print_more<O: ByteOut>(
+    alloc: Global,
+    output: &mut O,
+    held: &mut Vec<u8>,
+    from: usize,
+    form: Form,
+) -> Result<(), PrintFault>
+    requires { IsHeld form held.old.items }
+    ensures { HasTurned form held.old.items held.new.items (O.taken output.old)
+        (O.taken output.new) result }
+{
+    let Some(end) = front_end(held.as_slice(), from, form) else {
+        return Ok(());
+    };
+    let Ok(rest) = Vec::from_slice(alloc, &held.as_slice()[end - 1..]) else {
+        return Err(PrintFault::Rest(AskFault::Memory));
+    };
+    match send_part(output, &held.as_slice()[1..end]) {
+        Ok(()) => {}
+        Err(_) => return Err(PrintFault::Write),
+    }
+    *held = rest;
+    Ok(())
+}
+
+/// Prints what is held when the connection has ended, if it ends as a report does.
+fn print_last<O: ByteOut>(output: &mut O, held: &[u8]) -> Result<(), PrintFault>
+    ensures { HasPrintedLast held.now (O.taken output.old) (O.taken output.new) result }
+{
+    if !has_end(held) {
+        return Err(PrintFault::Rest(AskFault::Cut));
+    }
+    match send_part(output, held.get(1..).unwrap_or(&[])) {
+        Ok(()) => Ok(()),
+        Err(_) => Err(PrintFault::Write),
+    }
+}
+
+/// Prints a report of which a front has come, and then the rest of it as it comes. Its end is
+/// printed when the connection has ended.
+pub(crate) fn print_report<I: ByteIn, O: ByteOut>(
+    alloc: Global,
+    reader: &mut I,
+    output: &mut O,
+    body: &[u8],
+    end: usize,
+    form: Form,
+) -> Result<(), PrintFault>
+    requires { IsFrontEnd form body.now end }
+    ensures { HasPrintedBody form body.now (I.given reader.old) (I.given reader.new)
+        (O.taken output.old) (O.taken output.new) result }
+{
+    match send_part(output, &body[..end]) {
+        Ok(()) => {}
+        Err(_) => return Err(PrintFault::Write),
+    }
+    let Ok(mut held) = Vec::from_slice(alloc, &body[end - 1..]) else {
+        return Err(PrintFault::Rest(AskFault::Memory));
+    };
+    for _turn in 0..u64::MAX {
+        let from = held.len();
+        match read_more(reader, &mut held) {
+            Ok(true) => return print_last(output, held.as_slice()),
+            Ok(false) => print_more(alloc, output, &mut held, from - 2, form)?,
+            Err(fault) => return Err(PrintFault::Rest(fault)),
+        }
+    }
+    Err(PrintFault::Rest(AskFault::Read))
+}

@@ -1,0 +1,76 @@
+//! The answer to a question for rows, which is printed as it comes.
+ghost use Rattle.std.specs.Prelude.{◌≡◌};
+ghost use Rattle.desk_client.specs.Again.{talk};
+ghost use Rattle.desk_client.specs.Front.{IsBegun};
+ghost use Rattle.desk_client.specs.Looks.{HasShownRows, HasShownTaken, IsTakenRows};
+ghost use Rattle.desk_client.specs.Printed.{HasPrinted};
+
+use crate::ask::Answer;
+use crate::connect::{Connect, LastTry, Service};
+use crate::ended::has_end;
+use crate::line::service_fault;
+use crate::printing::{PrintFault, print_report};
+use cli_run::send_part;
+use reports::Form;
+use station_core::{ByteIn, ByteOut};
+use std::alloc::Global;
+use stock_list::RunFault;
+
+/// Writes the rows of an answer.
+fn show_rows<W: ByteOut>(answer: &Answer, output: &mut W) -> Result<bool, RunFault>
+    ensures { HasShownRows answer.now (W.taken output.old) (W.taken output.new) result }
+{
+    if answer.status != 200 || !has_end(answer.body()) {
+        return Err(RunFault::Store);
+    }
+    match send_part(output, answer.body()) {
+        Ok(()) => Ok(true),
+        Err(fault) => Err(fault),
+    }
+}
+
+/// Prints a report that was begun, and the rest of it as it comes.
+#[tactic(auto, using(crate::proofs::Rows::printed, crate::proofs::Rows::broken))]
+fn print_begun<C: Connect, I: ByteIn, O: ByteOut, W: ByteOut>(
+    alloc: Global,
+    service: &mut Service<C, I, O>,
+    answer: &Answer,
+    end: usize,
+    form: Form,
+    output: &mut W,
+) -> Result<bool, RunFault>
+    requires { IsBegun form answer.now.bytes.items answer.now.start end }
+    ensures { HasPrinted form answer.now (talk C.tried C.opened I.given O.taken service.old)
+        (talk C.tried C.opened I.given O.taken service.new) (W.taken output.old)
+        (W.taken output.new) result }
+{
+    match print_report(alloc, &mut service.reader, output, answer.body(), end, form) {
+        Ok(()) => Ok(true),
+        Err(PrintFault::Write) => Err(RunFault::Write),
+        Err(PrintFault::Rest(fault)) => {
+            let fault = fault.by_time(service.connections.is_late());
+            service.last = LastTry::Failed(fault);
+            Err(service_fault(fault))
+        }
+    }
+}
+
+/// Writes the rows of an answer: those of a whole one, or as they come.
+pub(crate) fn show_answer<C: Connect, I: ByteIn, O: ByteOut, W: ByteOut>(
+    alloc: Global,
+    service: &mut Service<C, I, O>,
+    answer: &Answer,
+    form: Form,
+    output: &mut W,
+) -> Result<bool, RunFault>
+    requires { IsTakenRows form answer.now answer.now.begun }
+    ensures { HasShownTaken form answer.now answer.now.begun
+        (talk C.tried C.opened I.given O.taken service.old)
+        (talk C.tried C.opened I.given O.taken service.new) (W.taken output.old)
+        (W.taken output.new) result }
+{
+    match answer.begun {
+        Some(end) => print_begun(alloc, service, answer, end, form, output),
+        None => show_rows(answer, output),
+    }
+}
