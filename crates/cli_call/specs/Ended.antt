@@ -10,7 +10,7 @@ use Rattle.station_tables.specs.declared.fault.AttachFault.TheVariants as attach
 use Rattle.cli_run.specs.Sent.{SendsLine}
 use Rattle.cli_call.specs.declared.ended.DeskFault.{DeskFault}
 use Rattle.cli_call.specs.declared.ended.DeskFault.TheVariants as fault
-use Rattle.cli_call.specs.Ends.{Reached}
+use Rattle.cli_run.specs.Ends.{Reached}
 
 -- the line on standard error, of a run
 abbrev pub run_line : RunFault → List ℕ

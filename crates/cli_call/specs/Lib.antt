@@ -1,6 +1,5 @@
 pub mod Closed
 pub mod Ended
-pub mod Ends
 pub mod Migrated
 pub mod Opened
 pub mod Ran

@@ -8,9 +8,9 @@ use Rattle.station_tables.specs.declared.fault.AttachFault.{AttachFault}
 use Rattle.station_tables.specs.Called.{HasMoved}
 use Rattle.stock_list.specs.declared.answer.RunFault.{RunFault}
 use Rattle.stock_list.specs.declared.answer.RunFault.TheVariants as run
+use Rattle.cli_run.specs.Ends.{Reached}
 use Rattle.cli_run.specs.Sent.{HasSent}
 use Rattle.cli_call.specs.Ended.{HasNoStation, HasToldEnd}
-use Rattle.cli_call.specs.Ends.{Reached}
 
 -- the line that tells the version of the file
 abbrev pub moved_line : List ℕ

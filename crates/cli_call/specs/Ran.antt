@@ -9,11 +9,10 @@ use Rattle.station_tables.specs.Called.{HasReleased}
 use Rattle.stock_list.specs.declared.answer.RunFault.{RunFault}
 use Rattle.cli_words.specs.declared.line.Line.{Line}
 use Rattle.cli_run.specs.Done.{HasDone}
+use Rattle.cli_run.specs.Ends.{reached, Ends, Keeping, Reached}
 use Rattle.cli_run.specs.Place.{here_of, is_migration, is_new}
 use Rattle.cli_run.specs.Reasons.{HasGivenReasons}
-use Rattle.cli_run.specs.InTurn.{come}
 use Rattle.cli_call.specs.Ended.{HasNoStation, HasToldEnd}
-use Rattle.cli_call.specs.Ends.{Ends, Keeping, Reached}
 use Rattle.cli_call.specs.Migrated.{HasMigrated}
 use Rattle.cli_call.specs.Opened.{HasOpened}
 
@@ -27,12 +26,10 @@ pub record HasRunKept {K I W E : Type 0} (line : Line) (k : Keeping K) (e : Ends
   pub still : k.is_sound old.0 → k.is_clean new.0 → k.is_sound new.0
   pub sound : k.is_sound new.0 → k.is_sound old.0
   pub works : k.is_broken old.0 ≡ false → OnOk ended (k.is_broken new.0 ≡ false)
-  pub done : HasDone line.command (here_of line.station) k.keeps k.is_clean k.is_sound k.is_broken k.may_find
-      e.given e.turned e.told at (e.remaining old.1.reader)
-      (come old.0 (e.printed old.1.output) old.1.errors, old.1.reader)
-      (come new.0 (e.printed new.1.output) between, new.1.reader) ended
-  pub explained : HasGivenReasons line.command k.keeps k.is_sound k.is_broken at old.0 new.0
-      (e.remaining old.1.reader) (e.given old.1.reader) (e.given new.1.reader) e.told old.1.errors between ended
+  pub done : HasDone line.command (here_of line.station) k e at old
+      (new.0, reached new.1.reader new.1.output between) ended
+  pub explained : HasGivenReasons line.command k e at old
+      (new.0, reached new.1.reader new.1.output between) ended
   pub told : HasToldEnd e.told ended between new.1.errors status
 
 -- The same over a station, which then gave its connection back.

@@ -1,7 +1,7 @@
 //! How a call ends.
 ghost use Rattle.std.specs.Prelude.{◌≡◌, ◌++◌, ◌∷◌, [], IfErr, OnOk};
 ghost use Rattle.cli_call.specs.Ended.{attach_status, run_ended, run_line, status_of, HasNoStation, HasTold, HasToldEnd};
-ghost use Rattle.cli_call.specs.Ends.{reached};
+ghost use Rattle.cli_run.specs.Ends.{reached};
 ghost use Rattle.cli_run.specs.Sent.{SendsLine};
 
 use cli_run::{send_part, send_word};

@@ -1,5 +1,5 @@
 //! The migration of a file.
-ghost use Rattle.cli_call.specs.Ends.{reached};
+ghost use Rattle.cli_run.specs.Ends.{reached};
 ghost use Rattle.cli_call.specs.Migrated.{HasEndedMigration, HasMigrated, HasToldMoved, HasToldVersion};
 
 use crate::ended::{end_run, refuse_line};

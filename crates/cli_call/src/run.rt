@@ -1,5 +1,5 @@
 //! A line over a connection, or over a keeper that has none.
-ghost use Rattle.cli_call.specs.Ends.{ends, keeping, reached};
+ghost use Rattle.cli_run.specs.Ends.{ends, keeping, reached};
 ghost use Rattle.cli_call.specs.Ran.{HasCalled, HasCalledStation, HasEndedCall, HasRunKept, HasRunLine};
 
 use crate::ended::{end_run, refuse_line};

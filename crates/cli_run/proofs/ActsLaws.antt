@@ -1,5 +1,5 @@
 -- The lines of `acts`, one after another.
-use Rattle.std.proofs.Common.{◌≡◌, ℕ, ◌+◌, Bool, true, false, ◌&&◌, inl, inr, Option, Ok, Result, List, [], ◌∷◌, ◌++◌, refl, sym, ap, ap₂, subst, ◌∙◌}
+use Rattle.std.proofs.Common.{◌≡◌, ℕ, ◌+◌, Bool, true, false, ◌&&◌, inl, inr, Ok, Result, List, [], ◌∷◌, ◌++◌, refl, sym, ap, ap₂, subst, ◌∙◌}
 use Rattle.std.proofs.lemmas.List.{append-nil, append_assoc}
 use Rattle.station_days.specs.Date.{LocalMinute}
 use Rattle.station_core.specs.Given.{Given}
@@ -8,37 +8,38 @@ use Rattle.stock_list.specs.declared.answer.RunFault.{RunFault}
 use Rattle.cli_run.specs.Acts.{HasAnsweredLine}
 use Rattle.cli_run.specs.ActsLaw.{acts_lines, AreAsked, HasRunActs}
 use Rattle.cli_run.specs.Asked.{asked_after}
+use Rattle.cli_run.specs.Ends.{Keeping}
 use Rattle.cli_run.specs.InTurn.{AreAnswered, Come}
 
-module _ {K E : Type 0} (keeps : K → State → Type 0) (is_sound : K → Type 0) (is_broken : K → Bool) (may_find : K → Option State → Type 0) (at : LocalMinute) (taken : E → Given) where
+module _ {K E : Type 0} (k : Keeping K) (at : LocalMinute) (taken : E → Given) where
   abbrev Line : ℕ → List ℕ → Come K E → Come K E → Result Bool RunFault → Type 0
-  Line = HasAnsweredLine keeps is_sound is_broken may_find at taken
+  Line = HasAnsweredLine k at taken
 
-  sound_then : (n : ℕ) (line : List ℕ) (old new : Come K E) (good : Bool) → Line n line old new (Ok good) → is_sound new.keeper → is_sound old.keeper
-  sound_then n line old new good (inl skipped) h = subst (λ (c : Come K E). is_sound c.keeper) skipped.same h
-  sound_then n line old new good (inr (inl unheard)) h = subst (λ (c : Come K E). is_sound c.keeper) unheard.same h
+  sound_then : (n : ℕ) (line : List ℕ) (old new : Come K E) (good : Bool) → Line n line old new (Ok good) → k.is_sound new.keeper → k.is_sound old.keeper
+  sound_then n line old new good (inl skipped) h = subst (λ (c : Come K E). k.is_sound c.keeper) skipped.same h
+  sound_then n line old new good (inr (inl unheard)) h = subst (λ (c : Come K E). k.is_sound c.keeper) unheard.same h
   sound_then n line old new good (inr (inr heard)) h = heard.answer.sound h
 
-  sound_before : (n : ℕ) (lines : List (List ℕ)) (old new : Come K E) (good : Bool) → AreAnswered Line n lines old new good → is_sound new.keeper → is_sound old.keeper
-  sound_before n [] old new good (same, all) h = subst (λ (c : Come K E). is_sound c.keeper) same h
+  sound_before : (n : ℕ) (lines : List (List ℕ)) (old new : Come K E) (good : Bool) → AreAnswered Line n lines old new good → k.is_sound new.keeper → k.is_sound old.keeper
+  sound_before n [] old new good (same, all) h = subst (λ (c : Come K E). k.is_sound c.keeper) same h
   sound_before n (line ∷ lines) old new good (mid, (one, rest, step, more, all)) h = sound_then n line old mid one step (sound_before (n + 1) lines mid new rest more h)
 
   pub run_of_lines : (n : ℕ) (lines : List (List ℕ)) (old new : Come K E) (good : Bool) → AreAnswered Line n lines old new good
-      → (s : State) → keeps old.keeper s → is_broken old.keeper ≡ false → is_sound new.keeper → HasRunActs n s at lines old.sent.bytes new.sent.bytes (keeps new.keeper) good
+      → (s : State) → k.keeps old.keeper s → k.is_broken old.keeper ≡ false → k.is_sound new.keeper → HasRunActs n s at lines old.sent.bytes new.sent.bytes (k.keeps new.keeper) good
   run_of_lines n [] old new good (same, all) s kept works sound = record {
     asked = [];
     are = refl;
     written = ap (λ (c : Come K E). c.sent.bytes) same ∙ sym (append-nil old.sent.bytes);
-    state = subst (λ (c : Come K E). keeps c.keeper s) (sym same) kept;
+    state = subst (λ (c : Come K E). k.keeps c.keeper s) (sym same) kept;
     good_is = all;
   }
   run_of_lines n (line ∷ lines) old new good (mid, (one, rest, step, more, all)) s kept works sound =
       go step (λ t kept' works'. run_of_lines (n + 1) lines mid new rest more t kept' works' sound) (sound_before (n + 1) lines mid new rest more sound)
     where
-      go : Line n line old mid (Ok one) → ((t : State) → keeps mid.keeper t → is_broken mid.keeper ≡ false → HasRunActs (n + 1) t at lines mid.sent.bytes new.sent.bytes (keeps new.keeper) rest) → is_sound mid.keeper
-          → HasRunActs n s at (line ∷ lines) old.sent.bytes new.sent.bytes (keeps new.keeper) good
+      go : Line n line old mid (Ok one) → ((t : State) → k.keeps mid.keeper t → k.is_broken mid.keeper ≡ false → HasRunActs (n + 1) t at lines mid.sent.bytes new.sent.bytes (k.keeps new.keeper) rest) → k.is_sound mid.keeper
+          → HasRunActs n s at (line ∷ lines) old.sent.bytes new.sent.bytes (k.keeps new.keeper) good
       go (inl skipped) later mid_sound =
-          let r = later s (subst (λ (c : Come K E). keeps c.keeper s) (sym skipped.same) kept) (ap (λ (c : Come K E). is_broken c.keeper) skipped.same ∙ works) in
+          let r = later s (subst (λ (c : Come K E). k.keeps c.keeper s) (sym skipped.same) kept) (ap (λ (c : Come K E). k.is_broken c.keeper) skipped.same ∙ works) in
           let is : one ≡ true = let e = skipped.good in cc in
           record {
             asked = r.asked;

@@ -1,6 +1,6 @@
 -- A command over an input that came whole.
 use Rattle.std.specs.Result.{IsErrAnd}
-use Rattle.std.proofs.Common.{◌≡◌, refl, sym, subst, ℕ, Bool, false, List, ◌⊎◌, Option, None, Result, Ok, Err, IfOk, IfErr, inl, inr}
+use Rattle.std.proofs.Common.{◌≡◌, refl, sym, subst, ℕ, Bool, false, List, ◌⊎◌, None, Result, Ok, Err, IfOk, IfErr, inl, inr}
 use Rattle.station_days.specs.Date.{LocalMinute}
 use Rattle.station_core.specs.Given.{Given}
 use Rattle.station_core.specs.Step.{State}
@@ -9,15 +9,17 @@ use Rattle.stock_list.specs.Ended.{IsReadersFault, IsShutAfter}
 use Rattle.cli_run.specs.declared.asked.Asked.{Asked}
 use Rattle.cli_run.specs.Came.{HasCome}
 use Rattle.cli_run.specs.Ended.{IsAnswered, IsStopped, HasRun}
+use Rattle.cli_run.specs.Ends.{kept_by, Keeping}
+use Rattle.cli_run.specs.InTurn.{Come}
 use Rattle.cli_run.specs.Shut.{IsAnsweredShut, HasRunShut}
 use Rattle.cli_run.proofs.Unanswered.{works_unread}
 
-pub has_run : (IsAsked : List ℕ → Asked → Type 0) (s : State) (at : LocalMinute) (read_before read_after : Given) (before after : List ℕ)
-    (keeps : State → Type 0) (may_find : Option State → Type 0) (bytes : List ℕ) (asks : Asked) (r : Result Bool RunFault)
-    → HasCome read_before read_after bytes → IsAsked bytes asks → IfOk r (λ good. IsAnswered None s asks at good before after keeps)
-    → IfErr r (λ e. IsStopped None s asks at e before after keeps may_find) → HasRun IsAsked s at read_before read_after before after keeps may_find r
-has_run IsAsked s at read_before read_after before after keeps may_find bytes asks (Ok good) come is answered stopped = (bytes, come, (asks, is, answered))
-has_run IsAsked s at read_before read_after before after keeps may_find bytes asks (Err e) come is answered stopped = inr (bytes, come, (asks, is, stopped))
+pub has_run : {K E : Type 0} (IsAsked : List ℕ → Asked → Type 0) (k : Keeping K) (s : State) (at : LocalMinute) (old new : Come K E × Given) (bytes : List ℕ) (asks : Asked) (r : Result Bool RunFault)
+    → HasCome old.1 new.1 bytes → IsAsked bytes asks
+    → IfOk r (λ good. IsAnswered None s asks at good old.0.sent.bytes new.0.sent.bytes (k.keeps new.0.keeper))
+    → IfErr r (λ e. IsStopped None s asks at e old.0.sent.bytes new.0.sent.bytes (kept_by k new.0.keeper)) → HasRun IsAsked k s at old new r
+has_run IsAsked k s at old new bytes asks (Ok good) come is answered stopped = (bytes, come, (asks, is, answered))
+has_run IsAsked k s at old new bytes asks (Err e) come is answered stopped = inr (bytes, come, (asks, is, stopped))
 
 -- the same on a station that has to be opened again
 pub has_run_shut : (IsAsked : List ℕ → Asked → Type 0) (read_old read_new old new : Given) (bytes : List ℕ) (asks : Asked) (r : Result Bool RunFault)

@@ -14,7 +14,9 @@ use Rattle.stock_list.specs.declared.answer.RunFault.{RunFault}
 use Rattle.cli_run.specs.declared.asked.Asked.{Asked}
 use Rattle.cli_run.specs.declared.asked.Asked.TheVariants as asked
 use Rattle.cli_run.specs.Came.{HasCome}
+use Rattle.cli_run.specs.Ends.{Keeping}
 use Rattle.cli_run.specs.Explained.{answered_unread, asked_unread, reason_head, HasToldWhy, HasGivenReason, HasExplained, HasExplainedRun}
+use Rattle.cli_run.specs.InTurn.{Come}
 
 pub told_if : {E : Type 0} (taken : E → Given) (unread : Bool) (head : List ℕ) (old new : E) → unread ≡ true
     → HasReason head (taken old).bytes (taken new).bytes → HasToldWhy taken unread head old new
@@ -26,12 +28,11 @@ told_not taken true head e is = cc
 told_not taken false head e is = refl
 
 -- a command that stopped
-pub explained_stop : {K E : Type 0} (number : Option ℕ) (keeps : K → State → Type 0) (is_sound : K → Type 0) (is_broken : K → Bool) (asks : Asked) (at : LocalMinute) (k0 k1 : K)
-    (taken : E → Given) (e : E) (r : Result Bool RunFault) (f : RunFault) → IsErrAnd r (λ x. x ≡ f)
-    → HasExplained number keeps is_sound is_broken asks at k0 k1 taken e e r
-explained_stop number keeps is_sound is_broken asks at k0 k1 taken e (Ok x) f same = absurd same
-explained_stop number keeps is_sound is_broken asks at k0 k1 taken e (Err x) f same =
-    record { unread = false; given = refl; why = λ s kept works sound. tt }
+pub explained_stop : {K E : Type 0} (number : Option ℕ) (k : Keeping K) (asks : Asked) (at : LocalMinute) (taken : E → Given) (old new : Come K E) (r : Result Bool RunFault) (f : RunFault)
+    → new.errors ≡ old.errors → IsErrAnd r (λ x. x ≡ f) → HasExplained number k asks at taken old new r
+explained_stop number k asks at taken old new (Ok x) f silent same = absurd same
+explained_stop number k asks at taken old new (Err x) f silent same =
+    record { unread = false; given = silent; why = λ s kept works sound. tt }
 
 -- what can't be read isn't accepted
 unread_refused : (i : Input) (answer : Answer) → answered_unread i answer ≡ true → is_done answer ≡ false
@@ -40,12 +41,11 @@ unread_refused (Wire telegram) (Done reply) is = cc
 unread_refused (Wire telegram) (Refused refusal) is = refl
 
 -- an input that the station answered
-pub explained_answer : {K E : Type 0} (number : Option ℕ) (keeps : K → State → Type 0) (is_sound : K → Type 0) (is_broken : K → Bool) (i : Input) (at : LocalMinute) (k0 k1 : K)
-    (taken : E → Given) (e0 e1 : E) (answer : Answer) (good : Bool) → good ≡ is_done answer
-    → HasToldWhy taken (answered_unread i answer) (reason_head number (asked.Input i)) e0 e1
-    → ((s : State) → keeps k0 s → is_broken k0 ≡ false → is_sound k1 → (step s i at).answer ≡ answer)
-    → HasExplained number keeps is_sound is_broken (asked.Input i) at k0 k1 taken e0 e1 (Ok good)
-explained_answer number keeps is_sound is_broken i at k0 k1 taken e0 e1 answer good is told same = record {
+pub explained_answer : {K E : Type 0} (number : Option ℕ) (k : Keeping K) (i : Input) (at : LocalMinute) (taken : E → Given) (old new : Come K E) (answer : Answer) (good : Bool)
+    → good ≡ is_done answer → HasToldWhy taken (answered_unread i answer) (reason_head number (asked.Input i)) old.errors new.errors
+    → ((s : State) → k.keeps old.keeper s → k.is_broken old.keeper ≡ false → k.is_sound new.keeper → (step s i at).answer ≡ answer)
+    → HasExplained number k (asked.Input i) at taken old new (Ok good)
+explained_answer number k i at taken old new answer good is told same = record {
   unread = answered_unread i answer;
   given = (told, λ unread. is ∙ unread_refused i answer unread);
   why = λ s kept works sound. ap (answered_unread i) (sym (same s kept works sound));
@@ -56,34 +56,32 @@ each_why : (r : Result Bool RunFault) (P : Type 0) → P → OnOk r P
 each_why (Ok x) P told = told
 each_why (Err e) P told = tt
 
-pub explained_unasked : {K E : Type 0} (number : Option ℕ) (keeps : K → State → Type 0) (is_sound : K → Type 0) (is_broken : K → Bool) (asks : Asked) (at : LocalMinute) (k0 k1 : K)
-    (taken : E → Given) (e0 e1 : E) (r : Result Bool RunFault) (unread : Bool) → HasGivenReason taken unread (reason_head number asks) e0 e1 r
-    → ((s : State) → unread ≡ asked_unread s asks at) → HasExplained number keeps is_sound is_broken asks at k0 k1 taken e0 e1 r
-explained_unasked number keeps is_sound is_broken asks at k0 k1 taken e0 e1 r unread given why =
+pub explained_unasked : {K E : Type 0} (number : Option ℕ) (k : Keeping K) (asks : Asked) (at : LocalMinute) (taken : E → Given) (old new : Come K E) (r : Result Bool RunFault) (unread : Bool)
+    → HasGivenReason taken unread (reason_head number asks) old.errors new.errors r
+    → ((s : State) → unread ≡ asked_unread s asks at) → HasExplained number k asks at taken old new r
+explained_unasked number k asks at taken old new r unread given why =
     record { unread = unread; given = given; why = λ s kept works sound. each_why r _ (why s) }
 
 -- a run over an input that came
-pub explained_run : {K E : Type 0} (IsAsked : List ℕ → Asked → Type 0) (keeps : K → State → Type 0) (is_sound : K → Type 0) (is_broken : K → Bool) (at : LocalMinute) (k0 k1 : K)
-    (read_old read_new : Given) (taken : E → Given) (e0 e1 : E) (bytes : List ℕ) (asks : Asked) (r : Result Bool RunFault)
-    → HasCome read_old read_new bytes → IsAsked bytes asks → HasExplained None keeps is_sound is_broken asks at k0 k1 taken e0 e1 r
-    → HasExplainedRun IsAsked keeps is_sound is_broken at k0 k1 read_old read_new taken e0 e1 r
-explained_run IsAsked keeps is_sound is_broken at k0 k1 read_old read_new taken e0 e1 bytes asks (Ok good) come is explained = (bytes, come, (asks, is, explained))
-explained_run IsAsked keeps is_sound is_broken at k0 k1 read_old read_new taken e0 e1 bytes asks (Err e) come is explained = explained.given
+pub explained_run : {K E : Type 0} (IsAsked : List ℕ → Asked → Type 0) (k : Keeping K) (at : LocalMinute) (taken : E → Given) (old new : Come K E × Given) (bytes : List ℕ) (asks : Asked)
+    (r : Result Bool RunFault) → HasCome old.1 new.1 bytes → IsAsked bytes asks → HasExplained None k asks at taken old.0 new.0 r
+    → HasExplainedRun IsAsked k at taken old new r
+explained_run IsAsked k at taken old new bytes asks (Ok good) come is explained = (bytes, come, (asks, is, explained))
+explained_run IsAsked k at taken old new bytes asks (Err e) come is explained = explained.given
 
 -- over one that didn't
-pub unexplained : {K E : Type 0} (IsAsked : List ℕ → Asked → Type 0) (keeps : K → State → Type 0) (is_sound : K → Type 0) (is_broken : K → Bool) (at : LocalMinute) (k0 k1 : K)
-    (read_old read_new : Given) (taken : E → Given) (e : E) (r : Result Bool RunFault) (f : RunFault) → IsErrAnd r (λ x. x ≡ f)
-    → HasExplainedRun IsAsked keeps is_sound is_broken at k0 k1 read_old read_new taken e e r
-unexplained IsAsked keeps is_sound is_broken at k0 k1 read_old read_new taken e (Ok x) f same = absurd same
-unexplained IsAsked keeps is_sound is_broken at k0 k1 read_old read_new taken e (Err x) f same = refl
+pub unexplained : {K E : Type 0} (IsAsked : List ℕ → Asked → Type 0) (k : Keeping K) (at : LocalMinute) (taken : E → Given) (old new : Come K E × Given) (r : Result Bool RunFault) (f : RunFault)
+    → new.0.errors ≡ old.0.errors → IsErrAnd r (λ x. x ≡ f) → HasExplainedRun IsAsked k at taken old new r
+unexplained IsAsked k at taken old new (Ok x) f silent same = absurd same
+unexplained IsAsked k at taken old new (Err x) f silent same = silent
 
 -- what was accepted has no reason
 quiet_given : {E : Type 0} (taken : E → Given) (unread : Bool) (head : List ℕ) (old new : E) → HasGivenReason taken unread head old new (Ok true) → new ≡ old
 quiet_given taken true head old new given = let never : true ≡ false = given.1 refl in cc
 quiet_given taken false head old new given = given.0
 
-pub quiet_run : {K E : Type 0} (number : Option ℕ) (keeps : K → State → Type 0) (is_sound : K → Type 0) (is_broken : K → Bool) (asks : Asked) (at : LocalMinute) (k0 k1 : K)
-    (taken : E → Given) (e0 e1 : E) (r : Result Bool RunFault) → HasExplained number keeps is_sound is_broken asks at k0 k1 taken e0 e1 r → r ≡ Ok true → e1 ≡ e0
-quiet_run number keeps is_sound is_broken asks at k0 k1 taken e0 e1 (Ok true) explained is = quiet_given taken explained.unread (reason_head number asks) e0 e1 explained.given
-quiet_run number keeps is_sound is_broken asks at k0 k1 taken e0 e1 (Ok false) explained is = cc
-quiet_run number keeps is_sound is_broken asks at k0 k1 taken e0 e1 (Err e) explained is = cc
+pub quiet_run : {K E : Type 0} (number : Option ℕ) (k : Keeping K) (asks : Asked) (at : LocalMinute) (taken : E → Given) (old new : Come K E) (r : Result Bool RunFault)
+    → HasExplained number k asks at taken old new r → r ≡ Ok true → new.errors ≡ old.errors
+quiet_run number k asks at taken old new (Ok true) explained is = quiet_given taken explained.unread (reason_head number asks) old.errors new.errors explained.given
+quiet_run number k asks at taken old new (Ok false) explained is = cc
+quiet_run number k asks at taken old new (Err e) explained is = cc

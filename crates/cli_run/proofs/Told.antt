@@ -3,11 +3,11 @@ use Rattle.std.specs.Result.{IsErrAnd}
 use Rattle.std.proofs.Common.{◌≡◌, ◌∙◌, sym, refl, ap, arith, subst, ℕ, zero, suc, ◌<◌, ◌+◌, Bool, true, false, List, [], ◌∷◌, ◌++◌, length, inl, inr, ⊎_elim, Option, Some, None, IfSome, Result, Ok, Err, OnOk}
 use Rattle.station_days.specs.Date.{LocalMinute}
 use Rattle.station_core.specs.Given.{Given}
-use Rattle.station_core.specs.Step.{State}
 use Rattle.stock_list.specs.declared.answer.RunFault.{RunFault}
 use Rattle.stock_list.specs.declared.answer.RunFault.TheVariants as fault
 use Rattle.stock_list.specs.Ended.{told_by}
 use Rattle.cli_run.specs.Acts.{HasAnsweredLine, HasSkipped, HasNotHeard}
+use Rattle.cli_run.specs.Ends.{Keeping}
 use Rattle.cli_run.specs.InTurn.{Come, AreFirstLines, HasEndedAt, HaveBeenAnswered, lines_of}
 
 append_none : (lines : List (List ℕ)) → lines ≡ lines ++ []
@@ -29,9 +29,9 @@ no_skip line old new skipped = let is : Err fault.Read ≡ Ok true = skipped.goo
 no_memory : {K E : Type 0} (old new : Come K E) → HasNotHeard old new (Err fault.Read) → ⊥
 no_memory old new none = let is : ◌≡◌ {A = Result Bool RunFault} (Err fault.Read) (Err fault.Memory) = none.why in cc
 
-pub never_reads : {K E : Type 0} (keeps : K → State → Type 0) (is_sound : K → Type 0) (is_broken : K → Bool) (may_find : K → Option State → Type 0) (at : LocalMinute) (taken : E → Given)
-    (number : ℕ) (line : List ℕ) (old new : Come K E) → HasAnsweredLine keeps is_sound is_broken may_find at taken number line old new (Err fault.Read) → ⊥
-never_reads keeps is_sound is_broken may_find at taken number line old new answered =
+pub never_reads : {K E : Type 0} (k : Keeping K) (at : LocalMinute) (taken : E → Given) (number : ℕ) (line : List ℕ) (old new : Come K E)
+    → HasAnsweredLine k at taken number line old new (Err fault.Read) → ⊥
+never_reads k at taken number line old new answered =
     ⊎_elim (no_skip line old new) (λ other. ⊎_elim (no_memory old new) (λ heard. heard.answer.unread refl) other) answered
 
 memory_at : {C : Type 0} (Step : ℕ → List ℕ → C → C → Result Bool RunFault → Type 0) (never : (number : ℕ) (line : List ℕ) (old new : C) → Step number line old new (Err fault.Read) → ⊥)

@@ -8,7 +8,7 @@ use Rattle.station_core.specs.Keeping.{Answers, MayLeave, IsBrokenAfter, IsMemor
 use Rattle.station_core.specs.Step.{State}
 use Rattle.stock_list.specs.declared.answer.RunFault.{RunFault}
 use Rattle.stock_list.specs.declared.answer.RunFault.TheVariants as fault
-use Rattle.stock_list.specs.Ended.{run_fault, IsShutAfter, IsReadersFault}
+use Rattle.stock_list.specs.Ended.{run_fault, IsShutAfter, IsReadersFault, Kept}
 use Rattle.cli_run.specs.declared.asked.Asked.TheVariants as asked
 use Rattle.station_core.specs.Given.{Given}
 use Rattle.cli_run.specs.Ended.{HasToldPart, IsStopped}
@@ -26,15 +26,15 @@ still_kept s i at act.Store keeps answers is = cc
 still_kept s i at act.Reopen keeps answers is = cc
 
 -- it stops the command, whatever the fault is reported as
-pub not_acted : (number : Option ℕ) (s : State) (i : Input) (at : LocalMinute) (e : ActFault) (told : RunFault) (before : List ℕ) (keeps : State → Type 0) (may_find : Option State → Type 0)
-    → told ≡ run_fault e → Answers s i at (Err e) keeps → ((found : Option State) → may_find found → MayLeave s i at (Err e) found)
-    → IsStopped number s (asked.Input i) at told before before keeps may_find
-not_acted number s i at e told before keeps may_find is answers leaves =
-    subst (λ (f : RunFault). IsStopped number s (asked.Input i) at f before before keeps may_find) (sym is) (inr (record {
+pub not_acted : (number : Option ℕ) (s : State) (i : Input) (at : LocalMinute) (e : ActFault) (told : RunFault) (before : List ℕ) (left : Kept)
+    → told ≡ run_fault e → Answers s i at (Err e) left.keeps → ((found : Option State) → left.may_find found → MayLeave s i at (Err e) found)
+    → IsStopped number s (asked.Input i) at told before before left
+not_acted number s i at e told before left is answers leaves =
+    subst (λ (f : RunFault). IsStopped number s (asked.Input i) at f before before left) (sym is) (inr (record {
       why = why_stops e;
       nothing = refl;
-      memory = still_kept s i at e keeps answers;
-      states = λ found left. ⊎_elim (λ same. inl same) (λ store. inr (ap run_fault store.0, store.1)) (leaves found left);
+      memory = still_kept s i at e left.keeps answers;
+      states = λ found may. ⊎_elim (λ same. inl same) (λ store. inr (ap run_fault store.0, store.1)) (leaves found may);
     }))
 
 shut_as : (e : ActFault) (broken : Bool) → IsMemoryOrStore e → IsBrokenAfter e broken → IsShutAfter (run_fault e) broken

@@ -11,6 +11,7 @@ use Rattle.stock_list.specs.Ended.{IsShutAfter, IsUntroubled}
 use Rattle.cli_run.specs.declared.asked.Asked.{Asked}
 use Rattle.cli_run.specs.ActLine.{IsActAsked}
 use Rattle.cli_run.specs.Ended.{IsAnswered, IsStopped}
+use Rattle.cli_run.specs.Ends.{Keeping, kept_by}
 use Rattle.cli_run.specs.Explained.{HasExplained}
 use Rattle.cli_run.specs.Shut.{IsAnsweredShut}
 use Rattle.cli_run.specs.InTurn.{Come}
@@ -31,48 +32,41 @@ pub record HasNotHeard {K E : Type 0} (old new : Come K E) (result : Result Bool
   pub same : new ≡ old
   pub why : result ≡ Err fault.Memory
 
--- What is asked was done and answered by a line of this number, or the run stopped there. The writer
--- is named exactly where it failed or took no byte, and the store exactly where the station has to
--- be opened again. A station that has to be opened again is asked nothing. Why it can't be read went
--- to the errors.
-pub record HasAnswered {K E : Type 0} (keeps : K → State → Type 0) (is_sound : K → Type 0)
-    (is_broken : K → Bool) (may_find : K → Option State → Type 0) (at : LocalMinute)
-    (taken : E → Given) (number : Option ℕ) (asks : Asked) (old new : Come K E)
-    (result : Result Bool RunFault) : Type 0 where
-  pub answered : (s : State) → keeps old.keeper s → is_broken old.keeper ≡ false
-      → is_sound new.keeper → IfOk result (λ good. IsAnswered number s asks at good old.sent.bytes
-      new.sent.bytes (keeps new.keeper))
-  pub stopped : (s : State) → keeps old.keeper s → is_broken old.keeper ≡ false
-      → is_sound new.keeper → IfErr result (λ e. IsStopped number s asks at e old.sent.bytes
-      new.sent.bytes (keeps new.keeper) (may_find new.keeper))
-  pub sound : is_sound new.keeper → is_sound old.keeper
-  pub works : is_broken old.keeper ≡ false → OnOk result (is_broken new.keeper ≡ false)
-  pub breaks : is_broken old.keeper ≡ false
-      → IfErr result (λ e. IsShutAfter e (is_broken new.keeper))
+-- What is asked was done and answered by a line of this number, or the run stopped there. The
+-- writer is named exactly where it failed or took no byte, and the store exactly where the station
+-- has to be opened again. A station that has to be opened again is asked nothing. Why it can't be
+-- read went to the errors.
+pub record HasAnswered {K E : Type 0} (k : Keeping K) (at : LocalMinute) (taken : E → Given)
+    (number : Option ℕ) (asks : Asked) (old new : Come K E) (result : Result Bool RunFault) : Type 0 where
+  pub answered : (s : State) → k.keeps old.keeper s → k.is_broken old.keeper ≡ false
+      → k.is_sound new.keeper → IfOk result (λ good. IsAnswered number s asks at good old.sent.bytes
+      new.sent.bytes (k.keeps new.keeper))
+  pub stopped : (s : State) → k.keeps old.keeper s → k.is_broken old.keeper ≡ false
+      → k.is_sound new.keeper → IfErr result (λ e. IsStopped number s asks at e old.sent.bytes
+      new.sent.bytes (kept_by k new.keeper))
+  pub sound : k.is_sound new.keeper → k.is_sound old.keeper
+  pub works : k.is_broken old.keeper ≡ false → OnOk result (k.is_broken new.keeper ≡ false)
+  pub breaks : k.is_broken old.keeper ≡ false
+      → IfErr result (λ e. IsShutAfter e (k.is_broken new.keeper))
   pub unread : result ≡ Err fault.Read → ⊥
   pub write_cause : result ≡ Err fault.Write → HasCause old.sent new.sent
   pub write_told : IfErr result (λ e. (e ≡ fault.Write) ⊎ IsUntroubled old.sent new.sent)
   pub untroubled : OnOk result (IsUntroubled old.sent new.sent)
-  pub same : is_broken old.keeper ≡ true → new.keeper ≡ old.keeper
-  pub reopen : is_broken old.keeper ≡ true → IsAnsweredShut number asks old.sent new.sent result
-  pub explained : HasExplained number keeps is_sound is_broken asks at old.keeper new.keeper
-      taken old.errors new.errors result
+  pub same : k.is_broken old.keeper ≡ true → new.keeper ≡ old.keeper
+  pub reopen : k.is_broken old.keeper ≡ true → IsAnsweredShut number asks old.sent new.sent result
+  pub explained : HasExplained number k asks at taken old new result
 
 -- the line asks this, and it was answered
-pub record HasHeard {K E : Type 0} (keeps : K → State → Type 0) (is_sound : K → Type 0)
-    (is_broken : K → Bool) (may_find : K → Option State → Type 0) (at : LocalMinute)
-    (taken : E → Given) (number : ℕ) (line : List ℕ) (old new : Come K E)
-    (result : Result Bool RunFault) : Type 0 where
+pub record HasHeard {K E : Type 0} (k : Keeping K) (at : LocalMinute) (taken : E → Given) (number : ℕ)
+    (line : List ℕ) (old new : Come K E) (result : Result Bool RunFault) : Type 0 where
   pub asks : Asked
   pub blank : is_blank line ≡ false
   pub asked : IsActAsked line asks
-  pub answer : HasAnswered keeps is_sound is_broken may_find at taken (Some number) asks old new
-      result
+  pub answer : HasAnswered k at taken (Some number) asks old new result
 
 -- A line of this number was answered. An empty line is skipped.
-abbrev pub HasAnsweredLine : {K E : Type 0} → (K → State → Type 0) → (K → Type 0) → (K → Bool)
-    → (K → Option State → Type 0) → LocalMinute → (E → Given) → ℕ → List ℕ → Come K E → Come K E
-    → Result Bool RunFault → Type 0
-HasAnsweredLine keeps is_sound is_broken may_find at taken number line old new result =
+abbrev pub HasAnsweredLine : {K E : Type 0} → Keeping K → LocalMinute → (E → Given) → ℕ → List ℕ
+    → Come K E → Come K E → Result Bool RunFault → Type 0
+HasAnsweredLine k at taken number line old new result =
     HasSkipped line old new result ⊎ (HasNotHeard old new result
-    ⊎ HasHeard keeps is_sound is_broken may_find at taken number line old new result)
+    ⊎ HasHeard k at taken number line old new result)

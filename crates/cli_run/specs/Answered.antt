@@ -1,5 +1,5 @@
 -- What a command leaves that reads one input.
-use Rattle.std.specs.Prelude.{◌≡◌, ◌⊎◌, Bool, true, false, Option, Result, Err, OnOk, IfErr, List, ℕ}
+use Rattle.std.specs.Prelude.{◌≡◌, ◌⊎◌, Bool, true, false, Result, Err, OnOk, IfErr, List, ℕ}
 use Rattle.station_days.specs.Date.{LocalMinute}
 use Rattle.station_core.specs.Ends.{HasCause}
 use Rattle.station_core.specs.Given.{Given}
@@ -10,21 +10,26 @@ use Rattle.stock_list.specs.Ended.{IsShutAfter, IsUntroubled}
 use Rattle.cli_run.specs.declared.asked.Asked.{Asked}
 use Rattle.cli_run.specs.Came.{HasFailed}
 use Rattle.cli_run.specs.Ended.{HasRun}
+use Rattle.cli_run.specs.Ends.{Keeping}
+use Rattle.cli_run.specs.InTurn.{Come}
 use Rattle.cli_run.specs.Shut.{HasRunShut}
 
 -- What the input asks was done and answered, or the run stopped there or before. A reader or a
 -- writer is named exactly where it failed, and the store exactly where the station has to be opened
 -- again. A station that has to be opened again is asked nothing.
-pub record HasAnsweredAsked {K : Type 0} (IsAsked : List ℕ → Asked → Type 0) (keeps : K → State → Type 0) (is_sound : K → Type 0) (is_broken : K → Bool)
-    (may_find : K → Option State → Type 0) (at : LocalMinute) (old new : K) (read_old read_new sent_old sent_new : Given) (result : Result Bool RunFault) : Type 0 where
-  pub ran : (s : State) → keeps old s → is_broken old ≡ false → is_sound new
-      → HasRun IsAsked s at read_old read_new sent_old.bytes sent_new.bytes (keeps new) (may_find new) result
-  pub unread : result ≡ Err fault.Read → (new ≡ old) × (sent_new ≡ sent_old)
-  pub read_cause : result ≡ Err fault.Read → HasFailed read_old read_new
-  pub read_told : IfErr result (λ e. (e ≡ fault.Read) ⊎ (read_new.failures ≡ read_old.failures))
-  pub write_cause : result ≡ Err fault.Write → HasCause sent_old sent_new
-  pub write_told : IfErr result (λ e. (e ≡ fault.Write) ⊎ IsUntroubled sent_old sent_new)
-  pub untroubled : OnOk result (IsUntroubled sent_old sent_new)
-  pub breaks : is_broken old ≡ false → IfErr result (λ e. IsShutAfter e (is_broken new))
-  pub same : is_broken old ≡ true → new ≡ old
-  pub reopen : is_broken old ≡ true → HasRunShut IsAsked read_old read_new sent_old sent_new result
+pub record HasAnsweredAsked {K E : Type 0} (IsAsked : List ℕ → Asked → Type 0) (k : Keeping K)
+    (at : LocalMinute) (old new : Come K E × Given) (result : Result Bool RunFault) : Type 0 where
+  pub ran : (s : State) → k.keeps old.0.keeper s → k.is_broken old.0.keeper ≡ false
+      → k.is_sound new.0.keeper → HasRun IsAsked k s at old new result
+  pub unread : result ≡ Err fault.Read
+      → (new.0.keeper ≡ old.0.keeper) × (new.0.sent ≡ old.0.sent)
+  pub read_cause : result ≡ Err fault.Read → HasFailed old.1 new.1
+  pub read_told : IfErr result (λ e. (e ≡ fault.Read) ⊎ (new.1.failures ≡ old.1.failures))
+  pub write_cause : result ≡ Err fault.Write → HasCause old.0.sent new.0.sent
+  pub write_told : IfErr result (λ e. (e ≡ fault.Write) ⊎ IsUntroubled old.0.sent new.0.sent)
+  pub untroubled : OnOk result (IsUntroubled old.0.sent new.0.sent)
+  pub breaks : k.is_broken old.0.keeper ≡ false
+      → IfErr result (λ e. IsShutAfter e (k.is_broken new.0.keeper))
+  pub same : k.is_broken old.0.keeper ≡ true → new.0.keeper ≡ old.0.keeper
+  pub reopen : k.is_broken old.0.keeper ≡ true
+      → HasRunShut IsAsked old.1 new.1 old.0.sent new.0.sent result

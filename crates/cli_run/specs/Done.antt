@@ -17,8 +17,9 @@ use Rattle.cli_run.specs.Asked.{IsCommandAsked}
 use Rattle.cli_run.specs.Answered.{HasAnsweredAsked}
 use Rattle.cli_run.specs.Acts.{HasAnsweredLine}
 use Rattle.cli_run.specs.Takes.{HasTakenNext}
+use Rattle.cli_run.specs.Ends.{come_to, kept_by, told_to, Ends, Keeping, Reached, Told}
 use Rattle.cli_run.specs.InTurn.{Come, HaveBeenAnswered, HaveBeenMade}
-use Rattle.cli_run.specs.History.{HasToldHistory, told}
+use Rattle.cli_run.specs.History.{HasToldHistory}
 use Rattle.cli_run.specs.Reported.{HasReportedGood}
 use Rattle.cli_words.specs.declared.line.LineCommand.{LineCommand}
 use Rattle.cli_words.specs.declared.line.LineCommand.TheVariants as command
@@ -31,88 +32,79 @@ made_line here = codes "ok " ++ here ++ codes "\n"
 
 -- The line of the new station went out; or a beginning of it, where the writer failed or took no
 -- byte. The station stays as it was made.
-pub record HasToldMade {K : Type 0} (here : List ℕ) (old new : K) (sent_old sent_new : Given) (result : Result Bool RunFault) : Type 0 where
-  pub same : new ≡ old
+pub record HasToldMade {K : Type 0} (here : List ℕ) (old new : Told K) (result : Result Bool RunFault) : Type 0 where
+  pub same : new.0 ≡ old.0
   pub good : IfOk result (λ good. good ≡ true)
-  pub all : OnOk result (sent_new.bytes ≡ sent_old.bytes ++ made_line here)
-  pub sent : HasSent (made_line here) sent_old sent_new
+  pub all : OnOk result (new.1.bytes ≡ old.1.bytes ++ made_line here)
+  pub sent : HasSent (made_line here) old.1 new.1
   pub why : IfErr result (λ e. e ≡ fault.Write)
-  pub cause : OnErr result (HasCause sent_old sent_new)
+  pub cause : OnErr result (HasCause old.1 new.1)
 
 -- The rows of a stock list were answered, all of them or up to a fault. A reader is named only
 -- where it failed, and the end of the list taken only where no read has. A writer is named exactly
 -- where it failed or took no byte, and the store exactly where the station has to be opened again.
 -- A station that has to be opened again is asked nothing. `left` is the list, where it is known.
-pub record HasAnsweredRows {K : Type 0} (keeps : K → State → Type 0) (is_sound : K → Type 0) (is_broken : K → Bool) (may_find : K → Option State → Type 0)
-    (left : Option (List ℕ)) (at : LocalMinute) (old new : K) (read_new sent_old sent_new : Given) (result : Result Bool RunFault) : Type 0 where
-  pub ran : (s : State) → keeps old s → is_broken old ≡ false → is_sound new
-      → IfOk result (λ good. (rows : List Row) × IfSome left (λ bytes. rows ≡ stock_rows bytes) × HasRunRows s rows at good sent_old.bytes sent_new.bytes (keeps new))
-  pub stopped : (s : State) → keeps old s → is_broken old ≡ false → is_sound new
+pub record HasAnsweredRows {K E : Type 0} (k : Keeping K) (at : LocalMinute) (left : Option (List ℕ)) (read_new : Given)
+    (old new : Come K E) (result : Result Bool RunFault) : Type 0 where
+  pub ran : (s : State) → k.keeps old.keeper s → k.is_broken old.keeper ≡ false → k.is_sound new.keeper
+      → IfOk result (λ good. (rows : List Row) × IfSome left (λ bytes. rows ≡ stock_rows bytes)
+      × HasRunRows s rows at good old.sent.bytes new.sent.bytes (k.keeps new.keeper))
+  pub stopped : (s : State) → k.keeps old.keeper s → k.is_broken old.keeper ≡ false → k.is_sound new.keeper
       → IfErr result (λ e. (rows : List Row) × ((next : Option Row) × (IfSome left (AreFirst (rows_read rows next))
-      × HasStopped s rows next at e sent_old.bytes sent_new.bytes (keeps new) (may_find new))))
+      × HasStopped s rows next at e old.sent.bytes new.sent.bytes (kept_by k new.keeper))))
   pub read_cause : result ≡ Err fault.Read → 0 < read_new.failures
   pub no_failure : OnOk result (read_new.failures ≡ 0)
-  pub write_cause : result ≡ Err fault.Write → HasCause sent_old sent_new
-  pub write_told : IfErr result (λ e. (e ≡ fault.Write) ⊎ IsUntroubled sent_old sent_new)
-  pub untroubled : OnOk result (IsUntroubled sent_old sent_new)
-  pub breaks : is_broken old ≡ false → IfErr result (λ e. IsShutAfter e (is_broken new))
-  pub same : is_broken old ≡ true → new ≡ old
-  pub reopen : is_broken old ≡ true → HasRunRowsShut left sent_old.bytes sent_new.bytes result
+  pub write_cause : result ≡ Err fault.Write → HasCause old.sent new.sent
+  pub write_told : IfErr result (λ e. (e ≡ fault.Write) ⊎ IsUntroubled old.sent new.sent)
+  pub untroubled : OnOk result (IsUntroubled old.sent new.sent)
+  pub breaks : k.is_broken old.keeper ≡ false → IfErr result (λ e. IsShutAfter e (k.is_broken new.keeper))
+  pub same : k.is_broken old.keeper ≡ true → new.keeper ≡ old.keeper
+  pub reopen : k.is_broken old.keeper ≡ true
+      → HasRunRowsShut left old.sent.bytes new.sent.bytes result
 
 -- nothing was done or written
-pub record HasIdled {K : Type 0} (old new : K) (sent_old sent_new : Given) (result : Result Bool RunFault) : Type 0 where
-  pub same : new ≡ old
-  pub nothing : sent_new ≡ sent_old
+pub record HasIdled {K : Type 0} (old new : Told K) (result : Result Bool RunFault) : Type 0 where
+  pub same : new.0 ≡ old.0
+  pub nothing : new.1 ≡ old.1
   pub good : result ≡ Ok true
 
 -- The lines of the input were answered, all of them or up to a fault. A reader is named only where
 -- it failed, and the end of the lines taken only where no read has.
-pub record HasAnsweredActs {K E : Type 0} (keeps : K → State → Type 0) (is_sound : K → Type 0)
-    (is_broken : K → Bool) (may_find : K → Option State → Type 0) (at : LocalMinute)
-    (taken : E → Given) (left : Option (List ℕ)) (read_new : Given) (old new : Come K E)
-    (result : Result Bool RunFault) : Type 0 where
-  pub answered : HaveBeenAnswered (HasAnsweredLine keeps is_sound is_broken may_find at taken) left
-      old new result
+pub record HasAnsweredActs {K E : Type 0} (k : Keeping K) (at : LocalMinute) (taken : E → Given)
+    (left : Option (List ℕ)) (read_new : Given) (old new : Come K E) (result : Result Bool RunFault) : Type 0 where
+  pub answered : HaveBeenAnswered (HasAnsweredLine k at taken) left old new result
   pub read_cause : result ≡ Err fault.Read → 0 < read_new.failures
   pub no_failure : OnOk result (read_new.failures ≡ 0)
 
 -- What a run of each command leaves of its keeper, its reader and its writers, and what it returns.
 -- The service, the migration of a file and the look at a telegram don't run here.
-abbrev pub HasDone : {K I E : Type 0} → LineCommand → List ℕ → (K → State → Type 0) → (K → Type 0)
-    → (K → Type 0) → (K → Bool) → (K → Option State → Type 0) → (I → Given) → (I → I → Type 0)
-    → (E → Given) → LocalMinute → Option (List ℕ) → Come K E × I → Come K E × I
-    → Result Bool RunFault → Type 0
-HasDone command.Init here keeps is_clean is_sound is_broken may_find given turned taken at left old new r =
-    HasToldMade here old.0.keeper new.0.keeper old.0.sent new.0.sent r
-HasDone command.Migrate here keeps is_clean is_sound is_broken may_find given turned taken at left old new r =
-    HasIdled old.0.keeper new.0.keeper old.0.sent new.0.sent r
-HasDone command.Stock here keeps is_clean is_sound is_broken may_find given turned taken at left old new r =
-    HasAnsweredRows keeps is_sound is_broken may_find left at old.0.keeper new.0.keeper
-    (given new.1) old.0.sent new.0.sent r
-HasDone (command.Take paths) here keeps is_clean is_sound is_broken may_find given turned taken at left old new r =
-    HaveBeenMade (HasTakenNext keeps is_sound is_broken may_find at given turned taken)
-    (length paths.items) old new r
-HasDone (command.Act verb key) here keeps is_clean is_sound is_broken may_find given turned taken at left old new r =
-    HasAnsweredAsked (IsCommandAsked verb key) keeps is_sound is_broken may_find at
-    old.0.keeper new.0.keeper (given old.1) (given new.1) old.0.sent new.0.sent r
-HasDone command.Acts here keeps is_clean is_sound is_broken may_find given turned taken at left old new r =
-    HasAnsweredActs keeps is_sound is_broken may_find at taken left (given new.1) old.0 new.0 r
-HasDone (command.Outbox f) here keeps is_clean is_sound is_broken may_find given turned taken at left old new r =
-    HasReportedGood (λ s. IsListing f s (listing.All report.Pending)) keeps is_clean is_sound is_broken may_find
-    old.0.keeper new.0.keeper old.0.sent new.0.sent r
-HasDone (command.Report l f) here keeps is_clean is_sound is_broken may_find given turned taken at left old new r =
-    HasReportedGood (λ s. IsListing f s l) keeps is_clean is_sound is_broken may_find
-    old.0.keeper new.0.keeper old.0.sent new.0.sent r
-HasDone (command.Waybill w) here keeps is_clean is_sound is_broken may_find given turned taken at left old new r =
-    HasLookedUp (waybill_found w) keeps is_clean is_sound is_broken may_find
-    old.0.keeper new.0.keeper old.0.sent new.0.sent r
-HasDone (command.Holder w) here keeps is_clean is_sound is_broken may_find given turned taken at left old new r =
-    HasLookedUp (holder_found w) keeps is_clean is_sound is_broken may_find
-    old.0.keeper new.0.keeper old.0.sent new.0.sent r
-HasDone (command.History w) here keeps is_clean is_sound is_broken may_find given turned taken at left old new r =
-    HasToldHistory keeps is_clean is_sound is_broken may_find w (told old.0.keeper old.0.sent)
-    (told new.0.keeper new.0.sent) r
-HasDone (command.Read path) here keeps is_clean is_sound is_broken may_find given turned taken at left old new r =
-    HasIdled old.0.keeper new.0.keeper old.0.sent new.0.sent r
-HasDone (command.Serve port count) here keeps is_clean is_sound is_broken may_find given turned taken at left old new r =
-    HasIdled old.0.keeper new.0.keeper old.0.sent new.0.sent r
+abbrev pub HasDone : {K I W E : Type 0} → LineCommand → List ℕ → Keeping K → Ends I W E → LocalMinute
+    → K × Reached I W E → K × Reached I W E → Result Bool RunFault → Type 0
+HasDone command.Init here k e at old new r =
+    HasToldMade here (told_to e old) (told_to e new) r
+HasDone command.Migrate here k e at old new r =
+    HasIdled (told_to e old) (told_to e new) r
+HasDone command.Stock here k e at old new r =
+    HasAnsweredRows k at (e.remaining old.1.reader) (e.given new.1.reader) (come_to e old) (come_to e new) r
+HasDone (command.Take paths) here k e at old new r =
+    HaveBeenMade (HasTakenNext k at e.given e.turned e.told) (length paths.items)
+    (come_to e old, old.1.reader) (come_to e new, new.1.reader) r
+HasDone (command.Act verb key) here k e at old new r =
+    HasAnsweredAsked (IsCommandAsked verb key) k at (come_to e old, e.given old.1.reader)
+    (come_to e new, e.given new.1.reader) r
+HasDone command.Acts here k e at old new r =
+    HasAnsweredActs k at e.told (e.remaining old.1.reader) (e.given new.1.reader) (come_to e old) (come_to e new) r
+HasDone (command.Outbox f) here k e at old new r =
+    HasReportedGood (λ s. IsListing f s (listing.All report.Pending)) k (told_to e old) (told_to e new) r
+HasDone (command.Report l f) here k e at old new r =
+    HasReportedGood (λ s. IsListing f s l) k (told_to e old) (told_to e new) r
+HasDone (command.Waybill w) here k e at old new r =
+    HasLookedUp (waybill_found w) k (told_to e old) (told_to e new) r
+HasDone (command.Holder w) here k e at old new r =
+    HasLookedUp (holder_found w) k (told_to e old) (told_to e new) r
+HasDone (command.History w) here k e at old new r =
+    HasToldHistory k w (told_to e old) (told_to e new) r
+HasDone (command.Read path) here k e at old new r =
+    HasIdled (told_to e old) (told_to e new) r
+HasDone (command.Serve port count) here k e at old new r =
+    HasIdled (told_to e old) (told_to e new) r

@@ -6,10 +6,12 @@ use Rattle.station_core.specs.Ends.{HasCause}
 use Rattle.station_core.specs.Step.{State}
 use Rattle.stock_list.specs.declared.answer.RunFault.{RunFault}
 use Rattle.stock_list.specs.declared.answer.RunFault.TheVariants as fault
-use Rattle.stock_list.specs.Ended.{IsReadersFault}
+use Rattle.stock_list.specs.Ended.{IsReadersFault, Kept}
 use Rattle.cli_run.specs.declared.asked.Asked.{Asked}
 use Rattle.cli_run.specs.Asked.{asked_line, asked_good, asked_after}
 use Rattle.cli_run.specs.Came.{HasCome}
+use Rattle.cli_run.specs.Ends.{Keeping, kept_by}
+use Rattle.cli_run.specs.InTurn.{Come}
 
 -- A beginning of a line went out: the writer failed or took no byte, or memory for the line ran
 -- out.
@@ -34,16 +36,19 @@ pub record HasActed (number : Option ℕ) (s : State) (asks : Asked) (at : Local
   pub state : keeps (asked_after s asks at)
 
 -- It was not done, or where the store failed nobody knows, and nothing was written.
-pub record HasNotActed (s : State) (asks : Asked) (at : LocalMinute) (e : RunFault) (before after : List ℕ) (keeps : State → Type 0) (may_find : Option State → Type 0) : Type 0 where
+pub record HasNotActed (s : State) (asks : Asked) (at : LocalMinute) (e : RunFault) (before after : List ℕ)
+    (left : Kept) : Type 0 where
   pub why : (e ≡ fault.Memory) ⊎ (e ≡ fault.Store)
   pub nothing : after ≡ before
-  pub memory : e ≡ fault.Memory → keeps s
-  pub states : (found : Option State) → may_find found → (found ≡ Some s)
+  pub memory : e ≡ fault.Memory → left.keeps s
+  pub states : (found : Option State) → left.may_find found → (found ≡ Some s)
       ⊎ ((e ≡ fault.Store) × (found ≡ Some (asked_after s asks at)))
 
-abbrev pub IsStopped : Option ℕ → State → Asked → LocalMinute → RunFault → List ℕ → List ℕ → (State → Type 0)
-    → (Option State → Type 0) → Type 0
-IsStopped number s asks at e before after keeps may_find = HasActed number s asks at e before after keeps ⊎ HasNotActed s asks at e before after keeps may_find
+-- it stopped the command, whether it was done or not
+abbrev pub IsStopped : Option ℕ → State → Asked → LocalMinute → RunFault → List ℕ → List ℕ → Kept
+    → Type 0
+IsStopped number s asks at e before after left =
+    HasActed number s asks at e before after left.keeps ⊎ HasNotActed s asks at e before after left
 
 -- the input didn't come whole, and nothing was asked or written
 pub record HasNotBegun (s : State) (e : RunFault) (before after : List ℕ) (keeps : State → Type 0) : Type 0 where
@@ -51,12 +56,15 @@ pub record HasNotBegun (s : State) (e : RunFault) (before after : List ℕ) (kee
   pub nothing : after ≡ before
   pub state : keeps s
 
--- A command over an input has run. At Ok the line of what its bytes ask was written, and the state
--- is the one after it; at Err the command stopped there, or before.
-abbrev pub HasRun : (List ℕ → Asked → Type 0) → State → LocalMinute → Given → Given → List ℕ
-    → List ℕ → (State → Type 0) → (Option State → Type 0) → Result Bool RunFault → Type 0
-HasRun IsAsked s at read_before read_after before after keeps may_find (Ok good) =
-    (bytes : List ℕ) × HasCome read_before read_after bytes × ((asks : Asked) × IsAsked bytes asks × IsAnswered None s asks at good before after keeps)
-HasRun IsAsked s at read_before read_after before after keeps may_find (Err e) =
-    HasNotBegun s e before after keeps
-    ⊎ ((bytes : List ℕ) × HasCome read_before read_after bytes × ((asks : Asked) × IsAsked bytes asks × IsStopped None s asks at e before after keeps may_find))
+-- A command over an input has run. Each end of it is where the call has come, and what the input has
+-- given by then. At Ok the line of what its bytes ask was written, and the state is the one after
+-- it; at Err the command stopped there, or before.
+abbrev pub HasRun : {K E : Type 0} → (List ℕ → Asked → Type 0) → Keeping K → State → LocalMinute
+    → Come K E × Given → Come K E × Given → Result Bool RunFault → Type 0
+HasRun IsAsked k s at old new (Ok good) =
+    (bytes : List ℕ) × HasCome old.1 new.1 bytes × ((asks : Asked) × IsAsked bytes asks
+    × IsAnswered None s asks at good old.0.sent.bytes new.0.sent.bytes (k.keeps new.0.keeper))
+HasRun IsAsked k s at old new (Err e) =
+    HasNotBegun s e old.0.sent.bytes new.0.sent.bytes (k.keeps new.0.keeper)
+    ⊎ ((bytes : List ℕ) × HasCome old.1 new.1 bytes × ((asks : Asked) × IsAsked bytes asks
+    × IsStopped None s asks at e old.0.sent.bytes new.0.sent.bytes (kept_by k new.0.keeper)))

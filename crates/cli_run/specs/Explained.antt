@@ -12,6 +12,8 @@ use Rattle.stock_list.specs.declared.answer.RunFault.{RunFault}
 use Rattle.cli_run.specs.declared.asked.Asked.{Asked}
 use Rattle.cli_run.specs.declared.asked.Asked.TheVariants as asked
 use Rattle.cli_run.specs.Came.{HasCome}
+use Rattle.cli_run.specs.Ends.{Keeping}
+use Rattle.cli_run.specs.InTurn.{Come}
 
 -- whether an answer says that a telegram can't be read
 abbrev pub is_unread_answer : Answer → Bool
@@ -57,33 +59,25 @@ HasGivenReason taken unread head old new (Ok good) =
 HasGivenReason taken unread head old new (Err e) = new ≡ old
 
 -- what is asked was answered, and its reason given where it can't be read
-pub record HasExplained {K E : Type 0} (number : Option ℕ) (keeps : K → State → Type 0) (is_sound : K → Type 0)
-    (is_broken : K → Bool) (asks : Asked) (at : LocalMinute) (keeper_old keeper_new : K)
-    (taken : E → Given) (old new : E) (result : Result Bool RunFault) : Type 0 where
+pub record HasExplained {K E : Type 0} (number : Option ℕ) (k : Keeping K) (asks : Asked)
+    (at : LocalMinute) (taken : E → Given) (old new : Come K E) (result : Result Bool RunFault) : Type 0 where
   pub unread : Bool
-  pub given : HasGivenReason taken unread (reason_head number asks) old new result
-  pub why : (s : State) → keeps keeper_old s → is_broken keeper_old ≡ false → is_sound keeper_new
-      → OnOk result (unread ≡ asked_unread s asks at)
+  pub given : HasGivenReason taken unread (reason_head number asks) old.errors new.errors result
+  pub why : (s : State) → k.keeps old.keeper s → k.is_broken old.keeper ≡ false
+      → k.is_sound new.keeper → OnOk result (unread ≡ asked_unread s asks at)
 
 -- The input came, and of what its bytes ask the reason was given so; or the command stopped, and
 -- nothing was written.
-abbrev pub HasExplainedRun : {K E : Type 0} → (List ℕ → Asked → Type 0) → (K → State → Type 0)
-    → (K → Type 0) → (K → Bool) → LocalMinute → K → K → Given → Given → (E → Given) → E → E
-    → Result Bool RunFault → Type 0
-HasExplainedRun IsAsked keeps is_sound is_broken at keeper_old keeper_new read_old read_new
-    taken old new (Ok good) =
-    (bytes : List ℕ) × HasCome read_old read_new bytes × ((asks : Asked) × IsAsked bytes asks
-    × HasExplained None keeps is_sound is_broken asks at keeper_old keeper_new taken old new (Ok good))
-HasExplainedRun IsAsked keeps is_sound is_broken at keeper_old keeper_new read_old read_new
-    taken old new (Err e) =
-    new ≡ old
+abbrev pub HasExplainedRun : {K E : Type 0} → (List ℕ → Asked → Type 0) → Keeping K → LocalMinute
+    → (E → Given) → Come K E × Given → Come K E × Given → Result Bool RunFault → Type 0
+HasExplainedRun IsAsked k at taken old new (Ok good) =
+    (bytes : List ℕ) × HasCome old.1 new.1 bytes × ((asks : Asked) × IsAsked bytes asks
+    × HasExplained None k asks at taken old.0 new.0 (Ok good))
+HasExplainedRun IsAsked k at taken old new (Err e) = new.0.errors ≡ old.0.errors
 
 -- Of a telegram or a body the reason why it can't be read, or a beginning of it; nothing is written
 -- where it was accepted.
-pub record HasExplainedAsked {K E : Type 0} (IsAsked : List ℕ → Asked → Type 0)
-    (keeps : K → State → Type 0) (is_sound : K → Type 0) (is_broken : K → Bool) (at : LocalMinute)
-    (keeper_old keeper_new : K) (read_old read_new : Given) (taken : E → Given) (old new : E)
-    (result : Result Bool RunFault) : Type 0 where
-  pub quiet : result ≡ Ok true → new ≡ old
-  pub reasons : HasExplainedRun IsAsked keeps is_sound is_broken at keeper_old keeper_new
-      read_old read_new taken old new result
+pub record HasExplainedAsked {K E : Type 0} (IsAsked : List ℕ → Asked → Type 0) (k : Keeping K)
+    (at : LocalMinute) (taken : E → Given) (old new : Come K E × Given) (result : Result Bool RunFault) : Type 0 where
+  pub quiet : result ≡ Ok true → new.0.errors ≡ old.0.errors
+  pub reasons : HasExplainedRun IsAsked k at taken old new result

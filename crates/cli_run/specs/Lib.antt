@@ -6,6 +6,7 @@ pub mod Asked
 pub mod Came
 pub mod Done
 pub mod Ended
+pub mod Ends
 pub mod Explained
 pub mod Feed
 pub mod Looked

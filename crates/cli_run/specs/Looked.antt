@@ -10,6 +10,7 @@ use Rattle.station_core.specs.Step.{State}
 use Rattle.http_desk.specs.Reply.{holder_data, waybill_data}
 use Rattle.stock_list.specs.declared.answer.RunFault.{RunFault}
 use Rattle.stock_list.specs.declared.answer.RunFault.TheVariants as fault
+use Rattle.cli_run.specs.Ends.{Keeping, Told}
 
 -- the object that GET /v1/waybills/AWB is answered by: nothing of a waybill that isn't declared
 abbrev pub waybill_found : ℕ → State → Option Data
@@ -38,11 +39,10 @@ HasToldFound found old new (Err fault.Store) = new ≡ old
 
 -- The line of what the station has went out, or a beginning of it, and nothing changed. A station
 -- that has to be opened again returns nothing.
-pub record HasLookedUp {K : Type 0} (found : State → Option Data) (keeps : K → State → Type 0)
-    (is_clean is_sound : K → Type 0) (is_broken : K → Bool) (may_find : K → Option State → Type 0)
-    (old new : K) (sent_old sent_new : Given) (result : Result Bool RunFault) : Type 0 where
-  pub reads : OnlyReads keeps is_clean is_sound is_broken may_find old new
+pub record HasLookedUp {K : Type 0} (found : State → Option Data) (k : Keeping K) (old new : Told K)
+    (result : Result Bool RunFault) : Type 0 where
+  pub reads : OnlyReads k.keeps k.is_clean k.is_sound k.is_broken k.may_find old.0 new.0
   pub reopen :
-      is_broken old ≡ true → (result ≡ Err fault.Store) × (new ≡ old) × (sent_new ≡ sent_old)
+      k.is_broken old.0 ≡ true → (result ≡ Err fault.Store) × (new.0 ≡ old.0) × (new.1 ≡ old.1)
   pub told :
-      (s : State) → keeps old s → is_sound new → HasToldFound (found s) sent_old sent_new result
+      (s : State) → k.keeps old.0 s → k.is_sound new.0 → HasToldFound (found s) old.1 new.1 result

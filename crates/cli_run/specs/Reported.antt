@@ -1,10 +1,10 @@
 -- What a report leaves, where the run returns whether all was accepted.
-use Rattle.std.specs.Prelude.{◌≡◌, Bool, true, Option, Result, Ok, Err, OnOk, List, ℕ}
-use Rattle.station_core.specs.Given.{Given}
+use Rattle.std.specs.Prelude.{◌≡◌, Bool, true, Result, Ok, Err, OnOk, List, ℕ}
 use Rattle.station_core.specs.Keeping.{OnlyReads}
 use Rattle.station_core.specs.Step.{State}
 use Rattle.stock_list.specs.declared.answer.RunFault.{RunFault}
 use Rattle.stock_list.specs.declared.answer.RunFault.TheVariants as fault
+use Rattle.cli_run.specs.Ends.{Keeping, Told}
 use Rattle.cli_run.specs.Report.{HasReported, StopsReport}
 
 -- what went out is no refusal
@@ -14,22 +14,22 @@ good_of (Err e) = Err e
 
 -- The report went out, or a beginning of it, and nothing changed. A station that has to be opened
 -- again returns nothing.
-pub record HasToldReport {K : Type 0} (IsText : State → List ℕ → Type 0) (keeps : K → State → Type 0) (is_clean is_sound : K → Type 0) (is_broken : K → Bool)
-    (may_find : K → Option State → Type 0) (old new : K) (sent_old sent_new : Given) (ended : Result (Unit {0}) RunFault) : Type 0 where
-  pub reads : OnlyReads keeps is_clean is_sound is_broken may_find old new
-  pub reopen : is_broken old ≡ true → (ended ≡ Err fault.Store) × (new ≡ old)
-      × (sent_new ≡ sent_old)
-  pub writes : StopsReport sent_old sent_new ended
+pub record HasToldReport {K : Type 0} (IsText : State → List ℕ → Type 0) (k : Keeping K) (old new : Told K)
+    (ended : Result (Unit {0}) RunFault) : Type 0 where
+  pub reads : OnlyReads k.keeps k.is_clean k.is_sound k.is_broken k.may_find old.0 new.0
+  pub reopen : k.is_broken old.0 ≡ true → (ended ≡ Err fault.Store) × (new.0 ≡ old.0)
+      × (new.1 ≡ old.1)
+  pub writes : StopsReport old.1 new.1 ended
   -- one text is the report that went out
-  pub told : (s : State) → keeps old s → is_sound new
-      → OnOk ended ((text : List ℕ) × IsText s text × HasReported text sent_old sent_new ended)
+  pub told : (s : State) → k.keeps old.0 s → k.is_sound new.0
+      → OnOk ended ((text : List ℕ) × IsText s text × HasReported text old.1 new.1 ended)
   -- of each text that is the report, it went out, or a beginning of it
-  pub each : (s : State) → keeps old s → is_sound new → (text : List ℕ) → IsText s text
-      → HasReported text sent_old sent_new ended
+  pub each : (s : State) → k.keeps old.0 s → k.is_sound new.0 → (text : List ℕ) → IsText s text
+      → HasReported text old.1 new.1 ended
 
 -- the same, where the run returns whether all was accepted: a report refuses nothing
-pub record HasReportedGood {K : Type 0} (IsText : State → List ℕ → Type 0) (keeps : K → State → Type 0) (is_clean is_sound : K → Type 0) (is_broken : K → Bool)
-    (may_find : K → Option State → Type 0) (old new : K) (sent_old sent_new : Given) (result : Result Bool RunFault) : Type 0 where
+pub record HasReportedGood {K : Type 0} (IsText : State → List ℕ → Type 0) (k : Keeping K) (old new : Told K)
+    (result : Result Bool RunFault) : Type 0 where
   pub ended : Result (Unit {0}) RunFault
   pub good : result ≡ good_of ended
-  pub told : HasToldReport IsText keeps is_clean is_sound is_broken may_find old new sent_old sent_new ended
+  pub told : HasToldReport IsText k old new ended

@@ -5,7 +5,9 @@ ghost use Rattle.stock_list.specs.Ended.{IsShutAfter, IsUntroubled};
 ghost use Rattle.cli_run.specs.Asked.{IsCommandAsked};
 ghost use Rattle.cli_run.specs.Came.{HasFailed, IsWithin, most_bytes};
 ghost use Rattle.cli_run.specs.Ended.{HasRun};
+ghost use Rattle.cli_run.specs.Ends.{keeping};
 ghost use Rattle.cli_run.specs.Explained.{HasExplainedRun};
+ghost use Rattle.cli_run.specs.InTurn.{come};
 ghost use Rattle.cli_run.specs.Shut.{HasRunShut};
 
 use crate::answer::answer_asked;
@@ -46,9 +48,10 @@ pub fn run_act<K: Keeper, I: ByteIn, O: ByteOut, E: ByteOut>(
         → IfErr result (λ e. IsShutAfter e (K.is_broken keeper.new)) }
     ensures ran { (s : State) → K.keeps keeper.old s → K.is_broken keeper.old ≡ false
         → K.is_sound keeper.new
-        → HasRun (IsCommandAsked verb key) s at (I.given reader.old) (I.given reader.new)
-        (O.taken writer.old).bytes (O.taken writer.new).bytes
-        (K.keeps keeper.new) (K.may_find keeper.new) result }
+        → HasRun (IsCommandAsked verb key)
+        (keeping K.keeps K.is_clean K.is_sound K.is_broken K.may_find) s at
+        (come keeper.old (O.taken writer.old) errors.old, I.given reader.old)
+        (come keeper.new (O.taken writer.new) errors.new, I.given reader.new) result }
     ensures unread { result ≡ Err RunFault.Read → (keeper.new ≡ keeper.old)
         × (O.taken writer.new ≡ O.taken writer.old) }
     ensures read_cause { result ≡ Err RunFault.Read
@@ -70,9 +73,10 @@ pub fn run_act<K: Keeper, I: ByteIn, O: ByteOut, E: ByteOut>(
 
     // Behind its line a bad body has its reason, or a beginning of it, and nothing else goes there.
     ensures quiet { result ≡ Ok true → errors.new ≡ errors.old }
-    ensures reasons { HasExplainedRun (IsCommandAsked verb key) K.keeps K.is_sound K.is_broken at
-        keeper.old keeper.new (I.given reader.old) (I.given reader.new)
-        E.taken errors.old errors.new result }
+    ensures reasons { HasExplainedRun (IsCommandAsked verb key)
+        (keeping K.keeps K.is_clean K.is_sound K.is_broken K.may_find) at E.taken
+        (come keeper.old (O.taken writer.old) errors.old, I.given reader.old)
+        (come keeper.new (O.taken writer.new) errors.new, I.given reader.new) result }
 
     // A station that has to be opened again stays as it is, and nothing is asked of it.
     ensures same { K.is_broken keeper.old ≡ true → keeper.new ≡ keeper.old }

@@ -3,6 +3,7 @@ ghost use Rattle.std.specs.Prelude.{◌≡◌, ◌<◌, false, Err, IfOk, OnOk};
 ghost use Rattle.std.specs.Io.Buffered.{reader_remaining};
 ghost use Rattle.stock_list.specs.Ended.{IsReadersFault};
 ghost use Rattle.cli_run.specs.Acts.{is_blank, HasAnsweredLine};
+ghost use Rattle.cli_run.specs.Ends.{keeping};
 ghost use Rattle.cli_run.specs.InTurn.{come, HaveBeenAnswered};
 
 use crate::act_line::{line_asked, line_value};
@@ -36,8 +37,9 @@ fn answer_line<K: Keeper, W: ByteOut, E: ByteOut>(
     ensures still { K.is_sound keeper.old → K.is_clean keeper.new → K.is_sound keeper.new }
     ensures sound { K.is_sound keeper.new → K.is_sound keeper.old }
     ensures works { K.is_broken keeper.old ≡ false → OnOk result (K.is_broken keeper.new ≡ false) }
-    ensures answered { HasAnsweredLine K.keeps K.is_sound K.is_broken K.may_find at E.taken number
-        line.now (come keeper.old (W.taken writer.old) errors.old)
+    ensures answered { HasAnsweredLine
+        (keeping K.keeps K.is_clean K.is_sound K.is_broken K.may_find) at E.taken number line.now
+        (come keeper.old (W.taken writer.old) errors.old)
         (come keeper.new (W.taken writer.new) errors.new) result }
 {
     if is_blank(line) {
@@ -88,8 +90,8 @@ fn run_lines<K: Keeper, R: BufRead + Drop, W: ByteOut, E: ByteOut>(
     ensures sound { K.is_sound keeper.new → K.is_sound keeper.old }
     ensures works { K.is_broken keeper.old ≡ false → OnOk result (K.is_broken keeper.new ≡ false) }
     ensures answered { HaveBeenAnswered
-        (HasAnsweredLine K.keeps K.is_sound K.is_broken K.may_find at E.taken) (R.remaining reader)
-        (come keeper.old (W.taken writer.old) errors.old)
+        (HasAnsweredLine (keeping K.keeps K.is_clean K.is_sound K.is_broken K.may_find) at E.taken)
+        (R.remaining reader) (come keeper.old (W.taken writer.old) errors.old)
         (come keeper.new (W.taken writer.new) errors.new) result }
 {
     let mut good = true;
@@ -133,7 +135,7 @@ pub fn run_acts<K: Keeper, R: Watched + Read, W: ByteOut, E: ByteOut>(
     // Every line that was read, and of a known reader that is every line of its text, was answered,
     // in their order; at a fault every line before the last that was read.
     ensures answered { HaveBeenAnswered
-        (HasAnsweredLine K.keeps K.is_sound K.is_broken K.may_find at E.taken)
+        (HasAnsweredLine (keeping K.keeps K.is_clean K.is_sound K.is_broken K.may_find) at E.taken)
         (R.remaining reader.old) (come keeper.old (W.taken writer.old) errors.old)
         (come keeper.new (W.taken writer.new) errors.new) result }
 

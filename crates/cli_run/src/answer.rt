@@ -3,12 +3,14 @@ ghost use Rattle.std.specs.Prelude.{◌≡◌, ◌⊎◌, ◌++◌, ◌∷◌, [
 ghost use Rattle.station_core.specs.Ends.{HasCause};
 ghost use Rattle.station_core.specs.Step.{State};
 ghost use Rattle.station_core.specs.Texts.{refusal_text};
-ghost use Rattle.stock_list.specs.Ended.{IsShutAfter, IsUntroubled};
+ghost use Rattle.stock_list.specs.Ended.{kept, IsShutAfter, IsUntroubled};
 ghost use Rattle.stock_list.specs.Lines.{answer_text};
 ghost use Rattle.input_reasons.specs.Reason.{is_unread};
 ghost use Rattle.cli_run.specs.Asked.{keyed, named, numbered};
 ghost use Rattle.cli_run.specs.Ended.{HasToldPart, IsAnswered, IsStopped};
+ghost use Rattle.cli_run.specs.Ends.{keeping};
 ghost use Rattle.cli_run.specs.Explained.{reason_head, HasExplained, HasGivenReason};
+ghost use Rattle.cli_run.specs.InTurn.{come};
 ghost use Rattle.cli_run.specs.Shut.{HasToldLine, IsAnsweredShut};
 
 use crate::asked::Asked;
@@ -143,7 +145,7 @@ fn answer_input<K: Keeper, O: ByteOut, E: ByteOut>(
         → K.is_sound keeper.new
         → IfErr result (λ e. IsStopped number s (Asked.Input input.now) at e
         (O.taken writer.old).bytes (O.taken writer.new).bytes
-        (K.keeps keeper.new) (K.may_find keeper.new)) }
+        (kept (K.keeps keeper.new) (K.may_find keeper.new))) }
     ensures read { result ≡ Err RunFault.Read → ⊥ }
     ensures write { result ≡ Err RunFault.Write
         → HasCause (O.taken writer.old) (O.taken writer.new) }
@@ -156,8 +158,10 @@ fn answer_input<K: Keeper, O: ByteOut, E: ByteOut>(
     ensures reopen { K.is_broken keeper.old ≡ true
         → IsAnsweredShut number (Asked.Input input.now) (O.taken writer.old) (O.taken writer.new)
         result }
-    ensures reasons { HasExplained number K.keeps K.is_sound K.is_broken (Asked.Input input.now) at
-        keeper.old keeper.new E.taken errors.old errors.new result }
+    ensures reasons { HasExplained number
+        (keeping K.keeps K.is_clean K.is_sound K.is_broken K.may_find) (Asked.Input input.now) at
+        E.taken (come keeper.old (O.taken writer.old) errors.old)
+        (come keeper.new (O.taken writer.new) errors.new) result }
 {
     let answer = match answer_one(keeper, input, at) {
         Ok(answer) => answer,
@@ -173,8 +177,8 @@ fn answer_input<K: Keeper, O: ByteOut, E: ByteOut>(
 
 /// Writes the line of a telegram that is refused unread, and why.
 ///
-/// Returns [`RunFault::Write`] where the writer fails, and [`RunFault::Memory`] when out of memory: a
-/// beginning of the line was written, or nothing.
+/// Returns [`RunFault::Write`] where the writer fails, and [`RunFault::Memory`] when out of memory:
+/// a beginning of the line was written, or nothing.
 pub fn answer_refusal<O: ByteOut, E: ByteOut>(
     alloc: Global,
     writer: &mut O,
@@ -236,8 +240,8 @@ pub fn answer_bad<O: ByteOut, E: ByteOut>(
 
 /// Writes the line of a line of `acts` that is neither a command nor a telegram, and why.
 ///
-/// Returns [`RunFault::Write`] where the writer fails, and [`RunFault::Memory`] when out of memory: a
-/// beginning of the line was written, or nothing.
+/// Returns [`RunFault::Write`] where the writer fails, and [`RunFault::Memory`] when out of memory:
+/// a beginning of the line was written, or nothing.
 pub fn answer_bad_line<O: ByteOut, E: ByteOut>(
     alloc: Global,
     writer: &mut O,
@@ -290,7 +294,7 @@ pub(crate) fn answer_asked<K: Keeper, O: ByteOut, E: ByteOut>(
     ensures stopped { (s : State) → K.keeps keeper.old s → K.is_broken keeper.old ≡ false
         → K.is_sound keeper.new
         → IfErr result (λ e. IsStopped number s asked.now at e (O.taken writer.old).bytes
-        (O.taken writer.new).bytes (K.keeps keeper.new) (K.may_find keeper.new)) }
+        (O.taken writer.new).bytes (kept (K.keeps keeper.new) (K.may_find keeper.new))) }
     ensures read { result ≡ Err RunFault.Read → ⊥ }
     ensures write { result ≡ Err RunFault.Write
         → HasCause (O.taken writer.old) (O.taken writer.new) }
@@ -302,8 +306,10 @@ pub(crate) fn answer_asked<K: Keeper, O: ByteOut, E: ByteOut>(
     ensures same { K.is_broken keeper.old ≡ true → keeper.new ≡ keeper.old }
     ensures reopen { K.is_broken keeper.old ≡ true
         → IsAnsweredShut number asked.now (O.taken writer.old) (O.taken writer.new) result }
-    ensures reasons { HasExplained number K.keeps K.is_sound K.is_broken asked.now at
-        keeper.old keeper.new E.taken errors.old errors.new result }
+    ensures reasons { HasExplained number
+        (keeping K.keeps K.is_clean K.is_sound K.is_broken K.may_find) asked.now at
+        E.taken (come keeper.old (O.taken writer.old) errors.old)
+        (come keeper.new (O.taken writer.new) errors.new) result }
 {
     match asked {
         Asked::Input(input) => answer_input(alloc, keeper, writer, errors, number, input, at),

@@ -1,6 +1,7 @@
 //! The history of a waybill.
 ghost use Rattle.std.specs.Prelude.{◌≡◌, false, OnOk};
-ghost use Rattle.cli_run.specs.History.{HasToldHistory, HasToldRows, told, by_listing};
+ghost use Rattle.cli_run.specs.Ends.{keeping};
+ghost use Rattle.cli_run.specs.History.{HasToldHistory, HasToldRows, by_listing};
 
 use crate::look::do_waybill;
 use crate::report::do_report;
@@ -21,9 +22,9 @@ fn tell_rows<K: Keeper, W: ByteOut>(
     ensures still { K.is_sound keeper.old → K.is_clean keeper.new → K.is_sound keeper.new }
     ensures sound { K.is_sound keeper.new → K.is_sound keeper.old }
     ensures works { K.is_broken keeper.old ≡ false → OnOk result (K.is_broken keeper.new ≡ false) }
-    ensures rows { HasToldRows (by_listing K.keeps K.is_clean K.is_sound K.is_broken K.may_find)
-        number.now (told keeper.old (W.taken output.old)) (told keeper.new (W.taken output.new))
-        result }
+    ensures rows { HasToldRows
+        (by_listing (keeping K.keeps K.is_clean K.is_sound K.is_broken K.may_find))
+        number.now (keeper.old, W.taken output.old) (keeper.new, W.taken output.new) result }
 {
     match do_report(
         alloc,
@@ -49,9 +50,9 @@ pub(crate) fn do_history<K: Keeper, W: ByteOut>(
     ensures still { K.is_sound keeper.old → K.is_clean keeper.new → K.is_sound keeper.new }
     ensures sound { K.is_sound keeper.new → K.is_sound keeper.old }
     ensures works { K.is_broken keeper.old ≡ false → OnOk result (K.is_broken keeper.new ≡ false) }
-    ensures history { HasToldHistory K.keeps K.is_clean K.is_sound K.is_broken K.may_find
-        number.now (told keeper.old (W.taken output.old)) (told keeper.new (W.taken output.new))
-        result }
+    ensures history { HasToldHistory
+        (keeping K.keeps K.is_clean K.is_sound K.is_broken K.may_find)
+        number.now (keeper.old, W.taken output.old) (keeper.new, W.taken output.new) result }
 {
     match do_waybill(alloc, keeper, number, output) {
         Ok(true) => tell_rows(alloc, keeper, number, output),

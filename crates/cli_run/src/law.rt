@@ -4,6 +4,7 @@ ghost use Rattle.station_days.specs.Date.{LocalMinute};
 ghost use Rattle.station_core.specs.Step.{State};
 ghost use Rattle.cli_run.specs.Acts.{HasAnsweredLine};
 ghost use Rattle.cli_run.specs.ActsLaw.{HasRunActs};
+ghost use Rattle.cli_run.specs.Ends.{keeping};
 ghost use Rattle.cli_run.specs.InTurn.{AreAnswered, Come};
 
 use station_core::{ByteOut, Keeper};
@@ -13,8 +14,10 @@ use station_core::{ByteOut, Keeper};
 /// each answer is.
 pub fn acts_law<K: Keeper, E: ByteOut>()
     ensures { (lines : List (List ℕ)) (at : LocalMinute) (old new : Come K E) (good : Bool)
-        → AreAnswered (HasAnsweredLine K.keeps K.is_sound K.is_broken K.may_find at E.taken) 1 lines
-        old new good → (s : State) → K.keeps old.keeper s → K.is_broken old.keeper ≡ false
+        → AreAnswered
+        (HasAnsweredLine (keeping K.keeps K.is_clean K.is_sound K.is_broken K.may_find) at E.taken)
+        1 lines old new good
+        → (s : State) → K.keeps old.keeper s → K.is_broken old.keeper ≡ false
         → K.is_sound new.keeper
         → HasRunActs 1 s at lines old.sent.bytes new.sent.bytes (K.keeps new.keeper) good }
 {}

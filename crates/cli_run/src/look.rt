@@ -4,6 +4,7 @@ ghost use Rattle.std.specs.Prelude.{option_map, string_bytes};
 ghost use Rattle.serde_json.specs.Data.{Data};
 ghost use Rattle.serde_json.specs.Written.{compact_text};
 ghost use Rattle.http_desk.specs.Reply.{holder_data, waybill_data};
+ghost use Rattle.cli_run.specs.Ends.{keeping};
 ghost use Rattle.cli_run.specs.Looked.{holder_found, waybill_found, HasLookedUp, HasToldFound};
 
 use agent_stock::Holder;
@@ -93,9 +94,9 @@ pub(crate) fn do_waybill<K: Keeper, W: ByteOut>(
     ensures still { K.is_sound keeper.old → K.is_clean keeper.new → K.is_sound keeper.new }
     ensures sound { K.is_sound keeper.new → K.is_sound keeper.old }
     ensures works { K.is_broken keeper.old ≡ false → OnOk result (K.is_broken keeper.new ≡ false) }
-    ensures looked { HasLookedUp (waybill_found number.now) K.keeps K.is_clean K.is_sound
-        K.is_broken K.may_find keeper.old keeper.new (W.taken output.old) (W.taken output.new)
-        result }
+    ensures looked { HasLookedUp (waybill_found number.now)
+        (keeping K.keeps K.is_clean K.is_sound K.is_broken K.may_find)
+        (keeper.old, W.taken output.old) (keeper.new, W.taken output.new) result }
 {
     match keeper.waybill(number) {
         Ok(known) => tell_waybill(alloc, number, &known, output),
@@ -114,8 +115,9 @@ pub(crate) fn do_holder<K: Keeper, W: ByteOut>(
     ensures still { K.is_sound keeper.old → K.is_clean keeper.new → K.is_sound keeper.new }
     ensures sound { K.is_sound keeper.new → K.is_sound keeper.old }
     ensures works { K.is_broken keeper.old ≡ false → OnOk result (K.is_broken keeper.new ≡ false) }
-    ensures looked { HasLookedUp (holder_found number.now) K.keeps K.is_clean K.is_sound K.is_broken
-        K.may_find keeper.old keeper.new (W.taken output.old) (W.taken output.new) result }
+    ensures looked { HasLookedUp (holder_found number.now)
+        (keeping K.keeps K.is_clean K.is_sound K.is_broken K.may_find)
+        (keeper.old, W.taken output.old) (keeper.new, W.taken output.new) result }
 {
     match keeper.holder(number) {
         Ok(holder) => tell_holder(alloc, number, &holder, output),

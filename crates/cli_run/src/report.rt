@@ -3,6 +3,7 @@ ghost use Rattle.std.specs.Prelude.{◌≡◌, true, false, Err, OnOk, List, ℕ
 ghost use Rattle.station_core.specs.Keeping.{OnlyReads};
 ghost use Rattle.station_core.specs.Step.{State};
 ghost use Rattle.reports.specs.Listings.{IsListing};
+ghost use Rattle.cli_run.specs.Ends.{keeping};
 ghost use Rattle.cli_run.specs.Reported.{good_of, HasReportedGood, HasToldReport};
 ghost use Rattle.cli_run.specs.Report.{cause_fault, run_ended, HasReported, StopsReport};
 
@@ -79,9 +80,9 @@ fn send_report<K: Keeper, W: ByteOut>(
     form: Form,
     output: &mut W,
 ) -> Result<(), RunFault>
-    ensures { HasToldReport (λ s. IsListing form s listing.now) K.keeps K.is_clean K.is_sound
-        K.is_broken K.may_find keeper.old keeper.new (W.taken output.old) (W.taken output.new)
-        result }
+    ensures { HasToldReport (λ s. IsListing form s listing.now)
+        (keeping K.keeps K.is_clean K.is_sound K.is_broken K.may_find)
+        (keeper.old, W.taken output.old) (keeper.new, W.taken output.new) result }
 {
     run_report(alloc, keeper, listing, form, output)
 }
@@ -98,9 +99,9 @@ pub(crate) fn do_report<K: Keeper, W: ByteOut>(
     ensures still { K.is_sound keeper.old → K.is_clean keeper.new → K.is_sound keeper.new }
     ensures sound { K.is_sound keeper.new → K.is_sound keeper.old }
     ensures works { K.is_broken keeper.old ≡ false → OnOk result (K.is_broken keeper.new ≡ false) }
-    ensures reported { HasReportedGood (λ s. IsListing form s listing.now) K.keeps K.is_clean
-        K.is_sound K.is_broken K.may_find keeper.old keeper.new
-        (W.taken output.old) (W.taken output.new) result }
+    ensures reported { HasReportedGood (λ s. IsListing form s listing.now)
+        (keeping K.keeps K.is_clean K.is_sound K.is_broken K.may_find)
+        (keeper.old, W.taken output.old) (keeper.new, W.taken output.new) result }
 {
     good_of(send_report(alloc, keeper, listing, form, output))
 }

@@ -3,6 +3,7 @@ ghost use Rattle.std.specs.Prelude.{◌≡◌, false, length, OnOk};
 ghost use Rattle.cli_run.specs.Answered.{HasAnsweredAsked};
 ghost use Rattle.cli_run.specs.Asked.{IsCommandAsked};
 ghost use Rattle.cli_run.specs.Done.{HasAnsweredActs, HasAnsweredRows, HasDone, HasToldMade};
+ghost use Rattle.cli_run.specs.Ends.{ends, keeping, reached};
 ghost use Rattle.cli_run.specs.Explained.{HasExplainedAsked};
 ghost use Rattle.cli_run.specs.Place.{here_of};
 ghost use Rattle.cli_run.specs.Reasons.{HasExplainedRows, HasGivenReasons};
@@ -32,7 +33,7 @@ fn do_init<K: Keeper, W: ByteOut>(
     here: Airport,
     output: &mut W,
 ) -> Result<bool, RunFault>
-    ensures { HasToldMade here _keeper.old _keeper.new (W.taken output.old) (W.taken output.new)
+    ensures { HasToldMade here (_keeper.old, W.taken output.old) (_keeper.new, W.taken output.new)
         result }
 {
     match send_word(output, "ok ", &here.letters()) {
@@ -54,9 +55,11 @@ fn do_stock<K: Keeper, I: Watched + Read, W: ByteOut, E: ByteOut>(
     ensures still { K.is_sound keeper.old → K.is_clean keeper.new → K.is_sound keeper.new }
     ensures sound { K.is_sound keeper.new → K.is_sound keeper.old }
     ensures works { K.is_broken keeper.old ≡ false → OnOk result (K.is_broken keeper.new ≡ false) }
-    ensures answered { HasAnsweredRows K.keeps K.is_sound K.is_broken K.may_find
-        (I.remaining reader.old) at keeper.old keeper.new
-        (I.given reader.new) (W.taken output.old) (W.taken output.new) result }
+    ensures answered { HasAnsweredRows
+        (keeping K.keeps K.is_clean K.is_sound K.is_broken K.may_find) at
+        (I.remaining reader.old) (I.given reader.new)
+        (come keeper.old (W.taken output.old) errors.old)
+        (come keeper.new (W.taken output.new) errors.new) result }
     ensures explained { HasExplainedRows (I.remaining reader.old) E.taken errors.old errors.new
         result }
 {
@@ -78,8 +81,9 @@ fn do_take<K: Keeper, I: Inputs, W: ByteOut, E: ByteOut>(
     ensures sound { K.is_sound keeper.new → K.is_sound keeper.old }
     ensures works { K.is_broken keeper.old ≡ false → OnOk result (K.is_broken keeper.new ≡ false) }
     ensures taken { HaveBeenMade
-        (HasTakenNext K.keeps K.is_sound K.is_broken K.may_find at I.given I.turned E.taken)
-        (length paths.now) (come keeper.old (W.taken output.old) errors.old, reader.old)
+        (HasTakenNext (keeping K.keeps K.is_clean K.is_sound K.is_broken K.may_find) at
+        I.given I.turned E.taken) (length paths.now)
+        (come keeper.old (W.taken output.old) errors.old, reader.old)
         (come keeper.new (W.taken output.new) errors.new, reader.new) result }
 {
     run_takes(alloc, keeper, paths.len(), reader, output, errors, at)
@@ -98,7 +102,8 @@ fn do_acts<K: Keeper, I: Watched + Read, W: ByteOut, E: ByteOut>(
     ensures still { K.is_sound keeper.old → K.is_clean keeper.new → K.is_sound keeper.new }
     ensures sound { K.is_sound keeper.new → K.is_sound keeper.old }
     ensures works { K.is_broken keeper.old ≡ false → OnOk result (K.is_broken keeper.new ≡ false) }
-    ensures answered { HasAnsweredActs K.keeps K.is_sound K.is_broken K.may_find at E.taken
+    ensures answered { HasAnsweredActs
+        (keeping K.keeps K.is_clean K.is_sound K.is_broken K.may_find) at E.taken
         (I.remaining reader.old) (I.given reader.new)
         (come keeper.old (W.taken output.old) errors.old)
         (come keeper.new (W.taken output.new) errors.new) result }
@@ -121,12 +126,14 @@ fn do_act<K: Keeper, I: ByteIn, W: ByteOut, E: ByteOut>(
     ensures still { K.is_sound keeper.old → K.is_clean keeper.new → K.is_sound keeper.new }
     ensures sound { K.is_sound keeper.new → K.is_sound keeper.old }
     ensures works { K.is_broken keeper.old ≡ false → OnOk result (K.is_broken keeper.new ≡ false) }
-    ensures answered { HasAnsweredAsked (IsCommandAsked verb key) K.keeps K.is_sound K.is_broken
-        K.may_find at keeper.old keeper.new
-        (I.given reader.old) (I.given reader.new) (W.taken output.old) (W.taken output.new) result }
-    ensures explained { HasExplainedAsked (IsCommandAsked verb key) K.keeps K.is_sound K.is_broken
-        at keeper.old keeper.new (I.given reader.old) (I.given reader.new)
-        E.taken errors.old errors.new result }
+    ensures answered { HasAnsweredAsked (IsCommandAsked verb key)
+        (keeping K.keeps K.is_clean K.is_sound K.is_broken K.may_find) at
+        (come keeper.old (W.taken output.old) errors.old, I.given reader.old)
+        (come keeper.new (W.taken output.new) errors.new, I.given reader.new) result }
+    ensures explained { HasExplainedAsked (IsCommandAsked verb key)
+        (keeping K.keeps K.is_clean K.is_sound K.is_broken K.may_find) at E.taken
+        (come keeper.old (W.taken output.old) errors.old, I.given reader.old)
+        (come keeper.new (W.taken output.new) errors.new, I.given reader.new) result }
 {
     run_act(alloc, keeper, verb, key, reader, output, errors, at)
 }
@@ -151,13 +158,16 @@ pub fn run_over<K: Keeper, I: Inputs + Read, W: ByteOut, E: ByteOut>(
     ensures still { K.is_sound keeper.old → K.is_clean keeper.new → K.is_sound keeper.new }
     ensures sound { K.is_sound keeper.new → K.is_sound keeper.old }
     ensures works { K.is_broken keeper.old ≡ false → OnOk result (K.is_broken keeper.new ≡ false) }
-    ensures done { HasDone line.now.command (here_of line.now.station) K.keeps K.is_clean K.is_sound
-        K.is_broken K.may_find I.given I.turned E.taken at (I.remaining reader.old)
-        (come keeper.old (W.taken output.old) errors.old, reader.old)
-        (come keeper.new (W.taken output.new) errors.new, reader.new) result }
-    ensures explained { HasGivenReasons line.now.command K.keeps K.is_sound K.is_broken at
-        keeper.old keeper.new (I.remaining reader.old) (I.given reader.old) (I.given reader.new)
-        E.taken errors.old errors.new result }
+    ensures done { HasDone line.now.command (here_of line.now.station)
+        (keeping K.keeps K.is_clean K.is_sound K.is_broken K.may_find)
+        (ends I.remaining I.given I.turned W.taken E.taken) at
+        (keeper.old, reached reader.old output.old errors.old)
+        (keeper.new, reached reader.new output.new errors.new) result }
+    ensures explained { HasGivenReasons line.now.command
+        (keeping K.keeps K.is_clean K.is_sound K.is_broken K.may_find)
+        (ends I.remaining I.given I.turned W.taken E.taken) at
+        (keeper.old, reached reader.old output.old errors.old)
+        (keeper.new, reached reader.new output.new errors.new) result }
 {
     match &line.command {
         LineCommand::Init => do_init(keeper, airport_of_line(line), output),

@@ -1,5 +1,6 @@
 //! Telegrams that are taken one after another.
 ghost use Rattle.std.specs.Prelude.{◌≡◌, false, OnOk};
+ghost use Rattle.cli_run.specs.Ends.{keeping};
 ghost use Rattle.cli_run.specs.Takes.{HasTakenNext};
 ghost use Rattle.cli_run.specs.InTurn.{come, HaveBeenMade};
 
@@ -23,8 +24,8 @@ fn take_next<K: Keeper, I: Inputs, W: ByteOut, E: ByteOut>(
     ensures still { K.is_sound keeper.old → K.is_clean keeper.new → K.is_sound keeper.new }
     ensures sound { K.is_sound keeper.new → K.is_sound keeper.old }
     ensures works { K.is_broken keeper.old ≡ false → OnOk result (K.is_broken keeper.new ≡ false) }
-    ensures taken { HasTakenNext K.keeps K.is_sound K.is_broken K.may_find at I.given I.turned
-        E.taken (come keeper.old (W.taken writer.old) errors.old, reader.old)
+    ensures taken { HasTakenNext (keeping K.keeps K.is_clean K.is_sound K.is_broken K.may_find)
+        at I.given I.turned E.taken (come keeper.old (W.taken writer.old) errors.old, reader.old)
         (come keeper.new (W.taken writer.new) errors.new, reader.new) result }
 {
     reader.next_input();
@@ -50,7 +51,8 @@ pub fn run_takes<K: Keeper, I: Inputs, W: ByteOut, E: ByteOut>(
     ensures sound { K.is_sound keeper.new → K.is_sound keeper.old }
     ensures works { K.is_broken keeper.old ≡ false → OnOk result (K.is_broken keeper.new ≡ false) }
     ensures taken { HaveBeenMade
-        (HasTakenNext K.keeps K.is_sound K.is_broken K.may_find at I.given I.turned E.taken) count
+        (HasTakenNext (keeping K.keeps K.is_clean K.is_sound K.is_broken K.may_find) at
+        I.given I.turned E.taken) count
         (come keeper.old (W.taken writer.old) errors.old, reader.old)
         (come keeper.new (W.taken writer.new) errors.new, reader.new) result }
 {

@@ -10,7 +10,7 @@ use Rattle.csv.specs.Reading.{Reached, ReadRecord, default_config, source_of, st
 use Rattle.csv.proofs.ReadFacts.{rows-end, rows-more}
 use Rattle.stock_list.specs.declared.answer.RunFault.{RunFault}
 use Rattle.stock_list.specs.Lines.{Row, row_line, row_good, row_after, lines_from, rows_good, rows_after, stock_rows}
-use Rattle.stock_list.specs.Ended.{IsAnswered, IsStopped, HasRun, HasStopped, AreFirst, IsReadersFault, IsShutAfter, reader_fault}
+use Rattle.stock_list.specs.Ended.{IsAnswered, IsStopped, HasRun, HasStopped, AreFirst, IsReadersFault, IsShutAfter, Kept, reader_fault}
 use Rattle.stock_list.proofs.Records.{all_records, first_records}
 
 after_more : (s : State) (rows : List Row) (row : Row) (at : LocalMinute) → rows_after s (rows ++ row ∷ []) at ≡ row_after (rows_after s rows at) row at
@@ -111,8 +111,8 @@ works_still k e broken is works =
     (λ memory. subst (λ (told : RunFault). IsShutAfter told broken) (sym (is ∙ memory)) works) (readers_fault k)
 
 -- the row after those that were answered stops the run
-pub stops_more : (s : State) (rows : List Row) (row : Row) (at : LocalMinute) (number : ℕ) (good : Bool) (e : RunFault) (before between after : List ℕ) (kept keeps : State → Type 0) (may_find : Option State → Type 0)
-    → number ≡ length rows → HasRun s rows at good before between kept → IsStopped (number + 1) (rows_after s rows at) row at e between after keeps may_find
-    → HasStopped s rows (Some row) at e before after keeps may_find
-stops_more s rows row at number good e before between after kept keeps may_find counted run stopped =
+pub stops_more : (s : State) (rows : List Row) (row : Row) (at : LocalMinute) (number : ℕ) (good : Bool) (e : RunFault) (before between after : List ℕ) (keeps : State → Type 0) (left : Kept)
+    → number ≡ length rows → HasRun s rows at good before between keeps → IsStopped (number + 1) (rows_after s rows at) row at e between after left
+    → HasStopped s rows (Some row) at e before after left
+stops_more s rows row at number good e before between after keeps left counted run stopped =
     rw (← counted, ← run.lines) stopped

@@ -6,7 +6,7 @@ use Rattle.agent_stock.specs.declared.stock.Order.{Order}
 use Rattle.station_core.specs.Step.{State}
 use Rattle.stock_list.specs.declared.answer.RunFault.{RunFault}
 use Rattle.stock_list.specs.declared.answer.RunFault.TheVariants as fault
-use Rattle.stock_list.specs.Ended.{told_by, rows_read, AreFirst, HasRun, HasStopped, IsShutAfter}
+use Rattle.stock_list.specs.Ended.{told_by, rows_read, AreFirst, HasRun, HasStopped, IsShutAfter, Kept}
 use Rattle.stock_list.specs.Lines.{Row, stock_rows}
 use Rattle.stock_list.specs.Row.{row_asks}
 use Rattle.stock_list.specs.Shut.{bad_lines, IsStoppedShut, HasStoppedShut, HasRunShut}
@@ -55,25 +55,25 @@ none_first None = tt
 none_first (Some bytes) = (stock_rows bytes, refl)
 
 -- `Read`, told as `Memory`
-out_of_memory : (s : State) (rows : List Row) (next : Option Row) (at : LocalMinute) (before after : List ℕ) (keeps : State → Type 0) (may_find : Option State → Type 0)
-    → HasStopped s rows next at fault.Read before after keeps may_find → HasStopped s rows next at fault.Memory before after keeps may_find
-out_of_memory s rows None at before after keeps may_find stopped = (inr refl, stopped.1, stopped.2)
-out_of_memory s rows (Some row) at before after keeps may_find stopped =
+out_of_memory : (s : State) (rows : List Row) (next : Option Row) (at : LocalMinute) (before after : List ℕ) (kept : Kept)
+    → HasStopped s rows next at fault.Read before after kept → HasStopped s rows next at fault.Memory before after kept
+out_of_memory s rows None at before after kept stopped = (inr refl, stopped.1, stopped.2)
+out_of_memory s rows (Some row) at before after kept stopped =
     ⊎_elim (λ acted. ⊎_elim (no_write _) (no_memory _) acted.why) (λ none. ⊎_elim (no_memory _) (no_store _) none.why) stopped
 
-pub told_stop : (s : State) (at : LocalMinute) (left : Option (List ℕ)) (before after : List ℕ) (keeps : State → Type 0) (may_find : Option State → Type 0)
+pub told_stop : (s : State) (at : LocalMinute) (left : Option (List ℕ)) (before after : List ℕ) (kept : Kept)
     (ended : Result Bool RunFault) (failed : Bool)
-    → IfOk ended (λ good. (rows : List Row) × IfSome left (λ bytes. rows ≡ stock_rows bytes) × HasRun s rows at good before after keeps)
-    → IfErr ended (λ e. (rows : List Row) × ((next : Option Row) × (IfSome left (AreFirst (rows_read rows next)) × HasStopped s rows next at e before after keeps may_find)))
-    → IfErr (told_by ended failed) (λ e. (rows : List Row) × ((next : Option Row) × (IfSome left (AreFirst (rows_read rows next)) × HasStopped s rows next at e before after keeps may_find)))
-told_stop s at left before after keeps may_find (Ok good) true run stopped = (run.0, (None, (all_first run.0 left run.1, (inl refl, run.2.lines, run.2.state))))
-told_stop s at left before after keeps may_find (Ok good) false run stopped = tt
-told_stop s at left before after keeps may_find (Err fault.Read) true run stopped = stopped
-told_stop s at left before after keeps may_find (Err fault.Read) false run stopped =
-    (stopped.0, (stopped.1.0, (stopped.1.1.0, out_of_memory s stopped.0 stopped.1.0 at before after keeps may_find stopped.1.1.1)))
-told_stop s at left before after keeps may_find (Err fault.Write) failed run stopped = stopped
-told_stop s at left before after keeps may_find (Err fault.Memory) failed run stopped = stopped
-told_stop s at left before after keeps may_find (Err fault.Store) failed run stopped = stopped
+    → IfOk ended (λ good. (rows : List Row) × IfSome left (λ bytes. rows ≡ stock_rows bytes) × HasRun s rows at good before after kept.keeps)
+    → IfErr ended (λ e. (rows : List Row) × ((next : Option Row) × (IfSome left (AreFirst (rows_read rows next)) × HasStopped s rows next at e before after kept)))
+    → IfErr (told_by ended failed) (λ e. (rows : List Row) × ((next : Option Row) × (IfSome left (AreFirst (rows_read rows next)) × HasStopped s rows next at e before after kept)))
+told_stop s at left before after kept (Ok good) true run stopped = (run.0, (None, (all_first run.0 left run.1, (inl refl, run.2.lines, run.2.state))))
+told_stop s at left before after kept (Ok good) false run stopped = tt
+told_stop s at left before after kept (Err fault.Read) true run stopped = stopped
+told_stop s at left before after kept (Err fault.Read) false run stopped =
+    (stopped.0, (stopped.1.0, (stopped.1.1.0, out_of_memory s stopped.0 stopped.1.0 at before after kept stopped.1.1.1)))
+told_stop s at left before after kept (Err fault.Write) failed run stopped = stopped
+told_stop s at left before after kept (Err fault.Memory) failed run stopped = stopped
+told_stop s at left before after kept (Err fault.Store) failed run stopped = stopped
 
 -- the same on a station that has to be opened again
 

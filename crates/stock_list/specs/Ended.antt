@@ -26,6 +26,15 @@ abbrev pub IsShutAfter : RunFault → Bool → Type 0
 IsShutAfter fault.Store broken = broken ≡ true
 IsShutAfter _ broken = broken ≡ false
 
+-- what is kept where a run has ended: the state that its station keeps, and what a reopening may
+-- find
+pub record Kept : Type 1 where
+  pub keeps : State → Type 0
+  pub may_find : Option State → Type 0
+
+abbrev pub kept : (State → Type 0) → (Option State → Type 0) → Kept
+kept keeps may_find = record { keeps = keeps; may_find = may_find }
+
 -- its line was written, and the state is the one after it, at this moment
 pub record IsAnswered (number : ℕ) (s : State) (row : Row) (at : LocalMinute) (good : Bool) (before after : List ℕ) (keeps : State → Type 0) : Type 0 where
   pub line : after ≡ before ++ row_line number s row at
@@ -44,16 +53,17 @@ pub record HasActed (number : ℕ) (s : State) (row : Row) (at : LocalMinute) (e
 -- The row hasn't acted, since memory ran out, or where the store failed nobody knows; and nothing
 -- was written.
 pub record HasNotActed (s : State) (row : Row) (at : LocalMinute) (e : RunFault) (before after : List ℕ)
-    (keeps : State → Type 0) (may_find : Option State → Type 0) : Type 0 where
+    (left : Kept) : Type 0 where
   pub why : (e ≡ fault.Memory) ⊎ (e ≡ fault.Store)
   pub nothing : after ≡ before
-  pub memory : e ≡ fault.Memory → keeps s
-  pub states : (found : Option State) → may_find found → (found ≡ Some s)
+  pub memory : e ≡ fault.Memory → left.keeps s
+  pub states : (found : Option State) → left.may_find found → (found ≡ Some s)
       ⊎ ((e ≡ fault.Store) × (found ≡ Some (row_after s row at)))
 
-abbrev pub IsStopped : ℕ → State → Row → LocalMinute → RunFault → List ℕ → List ℕ → (State → Type 0)
-    → (Option State → Type 0) → Type 0
-IsStopped number s row at e before after keeps may_find = HasActed number s row at e before after keeps ⊎ HasNotActed s row at e before after keeps may_find
+-- the row stopped the run, whether it has acted or not
+abbrev pub IsStopped : ℕ → State → Row → LocalMinute → RunFault → List ℕ → List ℕ → Kept → Type 0
+IsStopped number s row at e before after left =
+    HasActed number s row at e before after left.keeps ⊎ HasNotActed s row at e before after left
 
 -- why a run ends where the reader fails, or memory for a row runs out
 abbrev pub reader_fault : ErrorKind → RunFault
@@ -76,10 +86,12 @@ pub record HasRun (s : State) (rows : List Row) (at : LocalMinute) (good : Bool)
   pub state : keeps (rows_after s rows at)
 
 -- The run ended by a fault after these rows: no row came after them, or the next one stopped it.
-abbrev pub HasStopped : State → List Row → Option Row → LocalMinute → RunFault → List ℕ → List ℕ
-    → (State → Type 0) → (Option State → Type 0) → Type 0
-HasStopped s rows None at e before after keeps may_find = IsReadersFault e × (after ≡ before ++ lines_from 1 s rows at) × keeps (rows_after s rows at)
-HasStopped s rows (Some row) at e before after keeps may_find = IsStopped (length rows + 1) (rows_after s rows at) row at e (before ++ lines_from 1 s rows at) after keeps may_find
+abbrev pub HasStopped : State → List Row → Option Row → LocalMinute → RunFault → List ℕ → List ℕ → Kept
+    → Type 0
+HasStopped s rows None at e before after left =
+    IsReadersFault e × (after ≡ before ++ lines_from 1 s rows at) × left.keeps (rows_after s rows at)
+HasStopped s rows (Some row) at e before after left =
+    IsStopped (length rows + 1) (rows_after s rows at) row at e (before ++ lines_from 1 s rows at) after left
 
 -- the rows that were read
 abbrev pub rows_read : List Row → Option Row → List Row

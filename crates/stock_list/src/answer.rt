@@ -2,7 +2,7 @@ ghost use Rattle.std.specs.Prelude.{◌≡◌, ℕ, true, false, Err, None, ◌+
 ghost use Rattle.csv.specs.Records.{fields_of};
 ghost use Rattle.station_core.specs.Ends.{HasCause};
 ghost use Rattle.station_core.specs.Step.{State};
-ghost use Rattle.stock_list.specs.Ended.{run_fault, IsAnswered, IsShutAfter, IsStopped, IsUntroubled};
+ghost use Rattle.stock_list.specs.Ended.{run_fault, IsAnswered, IsShutAfter, IsStopped, IsUntroubled, kept};
 ghost use Rattle.input_reasons.specs.Reason.{HasReason};
 ghost use Rattle.stock_list.specs.Lines.{answer_text, answer_line, bad_line};
 ghost use Rattle.stock_list.specs.Reasons.{row_head, HasToldRow};
@@ -106,8 +106,8 @@ fn tell_row<E: ByteOut>(alloc: Global, errors: &mut E, row: &ByteRecord, line: u
 
 /// Writes the line of a row that asks nothing, and why it asks nothing.
 ///
-/// Returns [`RunFault::Write`] where the writer fails, and [`RunFault::Memory`] when out of memory: a
-/// beginning of the line was written, or nothing.
+/// Returns [`RunFault::Write`] where the writer fails, and [`RunFault::Memory`] when out of memory:
+/// a beginning of the line was written, or nothing.
 pub fn answer_bad_row<W: ByteOut, E: ByteOut>(
     alloc: Global,
     writer: &mut W,
@@ -159,8 +159,8 @@ pub fn answer_row<K: Keeper, W: ByteOut, E: ByteOut>(
     ensures stopped { (s : State) → K.keeps keeper.old s → K.is_broken keeper.old ≡ false
         → K.is_sound keeper.new
         → IfErr result (λ e. IsStopped place.number s (fields_of row.now) at e
-        (W.taken writer.old).bytes (W.taken writer.new).bytes (K.keeps keeper.new)
-        (K.may_find keeper.new)) }
+        (W.taken writer.old).bytes (W.taken writer.new).bytes
+        (kept (K.keeps keeper.new) (K.may_find keeper.new))) }
     ensures untroubled { OnOk result (IsUntroubled (W.taken writer.old) (W.taken writer.new)) }
     ensures write_cause { result ≡ Err RunFault.Write
         → HasCause (W.taken writer.old) (W.taken writer.new) }

@@ -2,7 +2,7 @@ ghost use Rattle.std.specs.Prelude.{◌≡◌, ◌<◌, ◌⊎◌, true, false, 
 ghost use Rattle.csv.specs.Reading.{error_kind};
 ghost use Rattle.station_core.specs.Ends.{HasCause};
 ghost use Rattle.station_core.specs.Step.{State};
-ghost use Rattle.stock_list.specs.Ended.{reader_fault, told_by, HasRun, HasStopped, IsShutAfter, IsUntroubled, rows_read, AreFirst};
+ghost use Rattle.stock_list.specs.Ended.{reader_fault, told_by, HasRun, HasStopped, IsShutAfter, IsUntroubled, kept, rows_read, AreFirst};
 ghost use Rattle.stock_list.specs.Lines.{Row, stock_rows};
 ghost use Rattle.stock_list.specs.Reasons.{HasToldRows};
 ghost use Rattle.stock_list.specs.Shut.{HasRunShut};
@@ -53,7 +53,7 @@ fn run_rows<K: Keeper, R: Read + Drop, W: ByteOut, E: ByteOut>(
         → IfErr result (λ e. (rows : List Row)
         × ((next : Option Row) × (IfSome (R.remaining reader) (AreFirst (rows_read rows next))
         × HasStopped s rows next at e (W.taken writer.old).bytes (W.taken writer.new).bytes
-        (K.keeps keeper.new) (K.may_find keeper.new)))) }
+        (kept (K.keeps keeper.new) (K.may_find keeper.new))))) }
     ensures write_cause { result ≡ Err RunFault.Write
         → HasCause (W.taken writer.old) (W.taken writer.new) }
     ensures write_told { IfErr result (λ e. (e ≡ RunFault.Write)
@@ -150,7 +150,7 @@ pub fn run_stock<K: Keeper, R: Watched + Read, W: ByteOut, E: ByteOut>(
         → IfErr result (λ e. (rows : List Row)
         × ((next : Option Row) × (IfSome (R.remaining reader.old) (AreFirst (rows_read rows next))
         × HasStopped s rows next at e (W.taken writer.old).bytes (W.taken writer.new).bytes
-        (K.keeps keeper.new) (K.may_find keeper.new)))) }
+        (kept (K.keeps keeper.new) (K.may_find keeper.new))))) }
 
     // `Read` comes only where the reader has failed, and a list that was read to its end only where
     // it has not.

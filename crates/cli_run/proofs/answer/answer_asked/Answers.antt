@@ -2,7 +2,9 @@ use Rattle.std.proofs.Common.{refl, sym, subst}
 use Rattle.cli_run.specs.declared.asked.Asked.{Asked}
 use Rattle.cli_run.specs.declared.asked.Asked.TheVariants as asked
 use Rattle.cli_run.specs.Shut.{IsAnsweredShut}
+use Rattle.cli_run.specs.Ends.{keeping}
 use Rattle.cli_run.specs.Explained.{HasExplained}
+use Rattle.cli_run.specs.InTurn.{come}
 use Rattle.cli_run.proofs.Reasons.{explained_unasked}
 use Rattle.cli_run.proofs.Unanswered.{works_unasked}
 use Rattle.cli_run.proofs.answer.answer_asked.Goals as goal
@@ -27,22 +29,27 @@ returns-in-Bad-clause-reopen g c = λ broken.
 
 pub returns-in-Input-clause-reasons : goal.returns-in-Input-clause-reasons
 returns-in-Input-clause-reasons g c =
-    subst (λ (a : Asked). HasExplained c.args.number g.K.Keeper.keeps g.K.Keeper.is_sound g.K.Keeper.is_broken a c.args.at c.args.keeper.now c.answer_input.new.keeper
-    g.E.ByteOut.taken c.args.errors.now c.answer_input.new.errors c.answer_input.result) (sym c.in-Input.is) c.answer_input.ensures.reasons
+    let k = (keeping g.K.Keeper.keeps g.K.Keeper.is_clean g.K.Keeper.is_sound g.K.Keeper.is_broken g.K.Keeper.may_find) in
+    let old = come c.args.keeper.now (g.O.ByteOut.taken c.args.writer.now) c.args.errors.now in
+    let new = come c.answer_input.new.keeper (g.O.ByteOut.taken c.answer_input.new.writer) c.answer_input.new.errors in
+    subst (λ (a : Asked). HasExplained c.args.number k a c.args.at g.E.ByteOut.taken old new c.answer_input.result) (sym c.in-Input.is)
+    c.answer_input.ensures.reasons
 
 pub returns-in-Refused-clause-reasons : goal.returns-in-Refused-clause-reasons
 returns-in-Refused-clause-reasons g c =
-    subst (λ (a : Asked). HasExplained c.args.number g.K.Keeper.keeps g.K.Keeper.is_sound g.K.Keeper.is_broken a c.args.at c.args.keeper.now c.args.keeper.now
-    g.E.ByteOut.taken c.args.errors.now c.answer_refusal.new.errors c.answer_refusal.result) (sym c.in-Refused.is)
-    (explained_unasked c.args.number g.K.Keeper.keeps g.K.Keeper.is_sound g.K.Keeper.is_broken (asked.Refused c.in-Refused.refusal) c.args.at c.args.keeper.now c.args.keeper.now
-    g.E.ByteOut.taken c.args.errors.now c.answer_refusal.new.errors c.answer_refusal.result _ c.answer_refusal.ensures.reasons (λ s. refl))
+    let k = (keeping g.K.Keeper.keeps g.K.Keeper.is_clean g.K.Keeper.is_sound g.K.Keeper.is_broken g.K.Keeper.may_find) in
+    let old = come c.args.keeper.now (g.O.ByteOut.taken c.args.writer.now) c.args.errors.now in
+    let new = come c.args.keeper.now (g.O.ByteOut.taken c.answer_refusal.new.writer) c.answer_refusal.new.errors in
+    subst (λ (a : Asked). HasExplained c.args.number k a c.args.at g.E.ByteOut.taken old new c.answer_refusal.result) (sym c.in-Refused.is)
+    (explained_unasked c.args.number k (asked.Refused c.in-Refused.refusal) c.args.at g.E.ByteOut.taken old new c.answer_refusal.result _ c.answer_refusal.ensures.reasons (λ s. refl))
 
 pub returns-in-Bad-clause-reasons : goal.returns-in-Bad-clause-reasons
 returns-in-Bad-clause-reasons g c =
-    subst (λ (a : Asked). HasExplained c.args.number g.K.Keeper.keeps g.K.Keeper.is_sound g.K.Keeper.is_broken a c.args.at c.args.keeper.now c.args.keeper.now
-    g.E.ByteOut.taken c.args.errors.now c.answer_bad.new.errors c.answer_bad.result) (sym c.in-Bad.is)
-    (explained_unasked c.args.number g.K.Keeper.keeps g.K.Keeper.is_sound g.K.Keeper.is_broken (asked.Bad c.in-Bad.verb c.in-Bad.body) c.args.at c.args.keeper.now c.args.keeper.now
-    g.E.ByteOut.taken c.args.errors.now c.answer_bad.new.errors c.answer_bad.result _ c.answer_bad.ensures.reasons (λ s. refl))
+    let k = (keeping g.K.Keeper.keeps g.K.Keeper.is_clean g.K.Keeper.is_sound g.K.Keeper.is_broken g.K.Keeper.may_find) in
+    let old = come c.args.keeper.now (g.O.ByteOut.taken c.args.writer.now) c.args.errors.now in
+    let new = come c.args.keeper.now (g.O.ByteOut.taken c.answer_bad.new.writer) c.answer_bad.new.errors in
+    subst (λ (a : Asked). HasExplained c.args.number k a c.args.at g.E.ByteOut.taken old new c.answer_bad.result) (sym c.in-Bad.is)
+    (explained_unasked c.args.number k (asked.Bad c.in-Bad.verb c.in-Bad.body) c.args.at g.E.ByteOut.taken old new c.answer_bad.result _ c.answer_bad.ensures.reasons (λ s. refl))
 
 pub returns-in-Refused-clause-breaks : goal.returns-in-Refused-clause-breaks
 returns-in-Refused-clause-breaks g c = λ works.
@@ -60,10 +67,11 @@ returns-in-BadLine-clause-reopen g c = λ broken.
 
 pub returns-in-BadLine-clause-reasons : goal.returns-in-BadLine-clause-reasons
 returns-in-BadLine-clause-reasons g c =
-    subst (λ (a : Asked). HasExplained c.args.number g.K.Keeper.keeps g.K.Keeper.is_sound g.K.Keeper.is_broken a c.args.at c.args.keeper.now c.args.keeper.now
-    g.E.ByteOut.taken c.args.errors.now c.answer_bad_line.new.errors c.answer_bad_line.result) (sym c.in-BadLine.is)
-    (explained_unasked c.args.number g.K.Keeper.keeps g.K.Keeper.is_sound g.K.Keeper.is_broken (asked.BadLine c.in-BadLine.text) c.args.at c.args.keeper.now c.args.keeper.now
-    g.E.ByteOut.taken c.args.errors.now c.answer_bad_line.new.errors c.answer_bad_line.result _ c.answer_bad_line.ensures.reasons (λ s. refl))
+    let k = (keeping g.K.Keeper.keeps g.K.Keeper.is_clean g.K.Keeper.is_sound g.K.Keeper.is_broken g.K.Keeper.may_find) in
+    let old = come c.args.keeper.now (g.O.ByteOut.taken c.args.writer.now) c.args.errors.now in
+    let new = come c.args.keeper.now (g.O.ByteOut.taken c.answer_bad_line.new.writer) c.answer_bad_line.new.errors in
+    subst (λ (a : Asked). HasExplained c.args.number k a c.args.at g.E.ByteOut.taken old new c.answer_bad_line.result) (sym c.in-BadLine.is)
+    (explained_unasked c.args.number k (asked.BadLine c.in-BadLine.text) c.args.at g.E.ByteOut.taken old new c.answer_bad_line.result _ c.answer_bad_line.ensures.reasons (λ s. refl))
 
 pub returns-in-BadLine-clause-breaks : goal.returns-in-BadLine-clause-breaks
 returns-in-BadLine-clause-breaks g c = λ works.

@@ -1,10 +1,9 @@
 use Rattle.std.proofs.Common.{refl}
-use Rattle.cli_run.specs.History.{told}
 use Rattle.cli_run.proofs.history.do_history.Goals as goal
 
 pub returns-in-Ok-true-clause-history : goal.returns-in-Ok-true-clause-history
 returns-in-Ok-true-clause-history g c = record {
-  mid = told c.do_waybill.new.keeper (g.W.ByteOut.taken c.do_waybill.new.output);
+  mid = (c.do_waybill.new.keeper, g.W.ByteOut.taken c.do_waybill.new.output);
   found = c.do_waybill.result;
   known = c.do_waybill.ensures.looked;
   rows = rw (c.in-Ok-true.is, c.in-Ok-true.field-0-test) c.tell_rows.ensures.rows;
@@ -12,7 +11,7 @@ returns-in-Ok-true-clause-history g c = record {
 
 pub returns-in-Ok-false-clause-history : goal.returns-in-Ok-false-clause-history
 returns-in-Ok-false-clause-history g c = record {
-  mid = told c.do_waybill.new.keeper (g.W.ByteOut.taken c.do_waybill.new.output);
+  mid = (c.do_waybill.new.keeper, g.W.ByteOut.taken c.do_waybill.new.output);
   found = c.do_waybill.result;
   known = c.do_waybill.ensures.looked;
   rows = rw (c.in-Ok-false.is, c.in-Ok-false.field-0-test) (refl, refl);
@@ -20,7 +19,7 @@ returns-in-Ok-false-clause-history g c = record {
 
 pub returns-in-Err-clause-history : goal.returns-in-Err-clause-history
 returns-in-Err-clause-history g c = record {
-  mid = told c.do_waybill.new.keeper (g.W.ByteOut.taken c.do_waybill.new.output);
+  mid = (c.do_waybill.new.keeper, g.W.ByteOut.taken c.do_waybill.new.output);
   found = c.do_waybill.result;
   known = c.do_waybill.ensures.looked;
   rows = rw c.in-Err.is (refl, refl);

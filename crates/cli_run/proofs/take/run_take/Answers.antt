@@ -1,13 +1,16 @@
 use Rattle.std.proofs.Common.{refl, inr, None}
 use Rattle.cli_run.specs.Asked.{IsTelegramAsked}
+use Rattle.cli_run.specs.Ends.{keeping}
+use Rattle.cli_run.specs.InTurn.{come}
 use Rattle.cli_run.proofs.Reasons.{explained_run, unexplained, quiet_run}
 use Rattle.cli_run.proofs.Ran.{has_run, has_run_shut, not_come, works_unheard, passed_on, each_heard}
 use Rattle.cli_run.proofs.take.run_take.Goals as goal
 
 pub returns-in-Ok-clause-ran : goal.returns-in-Ok-clause-ran
 returns-in-Ok-clause-ran g c = λ s keeps works sound.
-    has_run IsTelegramAsked s c.args.at (g.I.ByteIn.given c.args.reader.now) (g.I.ByteIn.given c.read_input.new.reader) (g.O.ByteOut.taken c.args.writer.now).bytes
-    (g.O.ByteOut.taken c.answer_asked.new.writer).bytes (g.K.Keeper.keeps c.answer_asked.new.keeper) (g.K.Keeper.may_find c.answer_asked.new.keeper)
+    has_run IsTelegramAsked (keeping g.K.Keeper.keeps g.K.Keeper.is_clean g.K.Keeper.is_sound g.K.Keeper.is_broken g.K.Keeper.may_find) s c.args.at
+    (come c.args.keeper.now (g.O.ByteOut.taken c.args.writer.now) c.args.errors.now, g.I.ByteIn.given c.args.reader.now)
+    (come c.answer_asked.new.keeper (g.O.ByteOut.taken c.answer_asked.new.writer) c.answer_asked.new.errors, g.I.ByteIn.given c.read_input.new.reader)
     c.in_ok-bytes.bytes.items c.in-Ok.asked c.answer_asked.result c.in_ok-bytes.ensures.come (rw c.as_slice.ensures.value at c.in-Ok.ensures)
     (c.answer_asked.ensures.answered s keeps works sound) (c.answer_asked.ensures.stopped s keeps works sound)
 
@@ -41,18 +44,21 @@ returns-in-Ok-clause-read_told g c = each_heard c.answer_asked.result _ _ c.in_o
 
 pub returns-in-Ok-clause-quiet : goal.returns-in-Ok-clause-quiet
 returns-in-Ok-clause-quiet g c =
-    quiet_run None g.K.Keeper.keeps g.K.Keeper.is_sound g.K.Keeper.is_broken c.in-Ok.asked c.args.at c.args.keeper.now c.answer_asked.new.keeper
-    g.E.ByteOut.taken c.args.errors.now c.answer_asked.new.errors c.answer_asked.result c.answer_asked.ensures.reasons
+    quiet_run None (keeping g.K.Keeper.keeps g.K.Keeper.is_clean g.K.Keeper.is_sound g.K.Keeper.is_broken g.K.Keeper.may_find) c.in-Ok.asked c.args.at g.E.ByteOut.taken
+    (come c.args.keeper.now (g.O.ByteOut.taken c.args.writer.now) c.args.errors.now)
+    (come c.answer_asked.new.keeper (g.O.ByteOut.taken c.answer_asked.new.writer) c.answer_asked.new.errors) c.answer_asked.result c.answer_asked.ensures.reasons
 
 pub returns-in-Ok-clause-reasons : goal.returns-in-Ok-clause-reasons
 returns-in-Ok-clause-reasons g c =
-    explained_run IsTelegramAsked g.K.Keeper.keeps g.K.Keeper.is_sound g.K.Keeper.is_broken c.args.at c.args.keeper.now c.answer_asked.new.keeper
-    (g.I.ByteIn.given c.args.reader.now) (g.I.ByteIn.given c.read_input.new.reader) g.E.ByteOut.taken c.args.errors.now c.answer_asked.new.errors
+    explained_run IsTelegramAsked (keeping g.K.Keeper.keeps g.K.Keeper.is_clean g.K.Keeper.is_sound g.K.Keeper.is_broken g.K.Keeper.may_find) c.args.at g.E.ByteOut.taken
+    (come c.args.keeper.now (g.O.ByteOut.taken c.args.writer.now) c.args.errors.now, g.I.ByteIn.given c.args.reader.now)
+    (come c.answer_asked.new.keeper (g.O.ByteOut.taken c.answer_asked.new.writer) c.answer_asked.new.errors, g.I.ByteIn.given c.read_input.new.reader)
     c.in_ok-bytes.bytes.items c.in-Ok.asked c.answer_asked.result c.in_ok-bytes.ensures.come (rw c.as_slice.ensures.value at c.in-Ok.ensures)
     c.answer_asked.ensures.reasons
 
 pub returns-in_err-bytes-clause-reasons : goal.returns-in_err-bytes-clause-reasons
 returns-in_err-bytes-clause-reasons g c =
-    unexplained IsTelegramAsked g.K.Keeper.keeps g.K.Keeper.is_sound g.K.Keeper.is_broken c.args.at c.args.keeper.now c.args.keeper.now
-    (g.I.ByteIn.given c.args.reader.now) (g.I.ByteIn.given c.read_input.new.reader) g.E.ByteOut.taken c.args.errors.now
-    c.from_residual.result c.in_err-bytes.field-0.0 c.from_residual.ensures.1
+    unexplained IsTelegramAsked (keeping g.K.Keeper.keeps g.K.Keeper.is_clean g.K.Keeper.is_sound g.K.Keeper.is_broken g.K.Keeper.may_find) c.args.at g.E.ByteOut.taken
+    (come c.args.keeper.now (g.O.ByteOut.taken c.args.writer.now) c.args.errors.now, g.I.ByteIn.given c.args.reader.now)
+    (come c.args.keeper.now (g.O.ByteOut.taken c.args.writer.now) c.args.errors.now, g.I.ByteIn.given c.read_input.new.reader)
+    c.from_residual.result c.in_err-bytes.field-0.0 refl c.from_residual.ensures.1

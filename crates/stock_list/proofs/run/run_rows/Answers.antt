@@ -1,6 +1,6 @@
 use Rattle.std.proofs.Common.{rules, arith, ◌≡◌, ◌∙◌, true, sym, refl, inl, inr, ap, ◌+◌, ◌<◌, ◌≤◌, List, [], ◌∷◌, ◌++◌, Some, None, Err, subst, Fits, w64}
 use Rattle.station_core.specs.Ends.{HasCause}
-use Rattle.stock_list.specs.Ended.{IsReadersFault}
+use Rattle.stock_list.specs.Ended.{IsReadersFault, kept}
 use Rattle.csv.specs.Records.{fields_of}
 use Rattle.stock_list.specs.Lines.{Row, rows_after}
 use Rattle.stock_list.specs.Row.{row_asks}
@@ -164,7 +164,8 @@ returns-in_err-accepted-in-Ok-clause-stopped g c = λ s keeps works sound.
         Some f,
         (
           known_first g.R.Read.remaining c.next.new.self.rdr (rows ++ f ∷ []) (g.R.Read.remaining c.args.reader) known,
-          stops_more s rows f c.args.at c.loop-row.number c.loop-row.good _ _ _ _ _ _ _ inv.rows.1 run stopped,
+          stops_more s rows f c.args.at c.loop-row.number c.loop-row.good _ _ _ _ _
+              (kept (g.K.Keeper.keeps c.answer_row.new.keeper) (g.K.Keeper.may_find c.answer_row.new.keeper)) inv.rows.1 run stopped,
         ),
       ),
     )

@@ -1,4 +1,5 @@
 use Rattle.std.proofs.Common.{◌∙◌, refl, sym, inr, None, []}
+use Rattle.stock_list.specs.Ended.{kept}
 use Rattle.stock_list.proofs.More.{append_nil}
 use Rattle.stock_list.proofs.Reasons.{told_rows, accepted_so}
 use Rattle.stock_list.proofs.Told.{told_end, told_works, told_stop, told_shut, told_read, told_write, told_whole, told_after, told_quiet, none_first}
@@ -18,7 +19,7 @@ returns-clause-ran g c = λ s keeps works sound.
 pub returns-clause-stopped : goal.returns-clause-stopped
 returns-clause-stopped g c = λ s keeps works sound.
     rw c.told_by.ensures (told_stop s c.args.at (g.R.Read.remaining c.args.reader.now) (g.W.ByteOut.taken c.args.writer.now).bytes
-    (g.W.ByteOut.taken c.run_rows-ended.new.writer).bytes (g.K.Keeper.keeps c.run_rows-ended.new.keeper) (g.K.Keeper.may_find c.run_rows-ended.new.keeper) c.run_rows-ended.result c.has_failed.result
+    (g.W.ByteOut.taken c.run_rows-ended.new.writer).bytes (kept (g.K.Keeper.keeps c.run_rows-ended.new.keeper) (g.K.Keeper.may_find c.run_rows-ended.new.keeper)) c.run_rows-ended.result c.has_failed.result
     (rw c.in-Ok.ensures at (c.run_rows-ended.ensures.ran s keeps works sound)) (rw c.in-Ok.ensures at (c.run_rows-ended.ensures.stopped s keeps works sound)))
 
 pub returns-clause-read_cause : goal.returns-clause-read_cause

@@ -2,6 +2,8 @@
 use Rattle.std.specs.Prelude.{Bool, Option, List, ℕ}
 use Rattle.station_core.specs.Given.{Given}
 use Rattle.station_core.specs.Step.{State}
+use Rattle.stock_list.specs.Ended.{Kept, kept}
+use Rattle.cli_run.specs.InTurn.{Come, come}
 
 -- What is said of a keeper: the state that it keeps, whether the disk was true to it, whether what
 -- is kept is sound, whether it has to be opened again, and what a reopening may find.
@@ -16,6 +18,14 @@ abbrev pub keeping : {K : Type 0} → (K → State → Type 0) → (K → Type 0
     → (K → Option State → Type 0) → Keeping K
 keeping keeps is_clean is_sound is_broken may_find =
     record { keeps = keeps; is_clean = is_clean; is_sound = is_sound; is_broken = is_broken; may_find = may_find }
+
+-- what is kept where the keeper is this one
+abbrev pub kept_by : {K : Type 0} → Keeping K → K → Kept
+kept_by k keeper = kept (k.keeps keeper) (k.may_find keeper)
+
+-- a keeper, and what has gone out
+abbrev pub Told : Type 0 → Type 0
+Told K = K × Given
 
 -- What is said of the ends: what is left of the input where that is known, what it gave, how it
 -- goes on to its next input, and what the output and the errors took.
@@ -39,3 +49,11 @@ pub record Reached (I W E : Type 0) : Type 0 where
 
 abbrev pub reached : {I W E : Type 0} → I → W → E → Reached I W E
 reached reader output errors = record { reader = reader; output = output; errors = errors }
+
+-- where a call has come, by its keeper and its ends
+abbrev pub come_to : {K I W E : Type 0} → Ends I W E → K × Reached I W E → Come K E
+come_to e at = come at.0 (e.printed at.1.output) at.1.errors
+
+-- the same of a command that reads nothing, and has no reasons to give
+abbrev pub told_to : {K I W E : Type 0} → Ends I W E → K × Reached I W E → Told K
+told_to e at = (at.0, e.printed at.1.output)
