@@ -1,4 +1,5 @@
--- The rows of a table of any database, found by the names of the table and of its columns, as SQL finds them.
+-- The rows of a table of any database, found by the names of the table and of its columns, as SQL
+-- finds them.
 use Rattle.std.specs.Prelude.{◌==◌, ℕ, zero, suc, List, [], ◌∷◌, map, take, slice_get, Option, Some, None, option_map, option_and_then, if◌then◌else◌, false}
 use Rattle.std.specs.List.Sorted.{IsSorted}
 use Rattle.std.specs.declared.cmp.Ordering.{Ordering}

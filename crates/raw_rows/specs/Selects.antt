@@ -1,4 +1,5 @@
--- What it is, in the syntax of SQL, that a text selects columns of one table, in the order of the first of them.
+-- What it is, in the syntax of SQL, that a text selects columns of one table, in the order of the
+-- first of them.
 use Rattle.std.specs.Prelude.{◌≡◌, ◌<◌, ℕ, List, [], ◌∷◌, length, false, None, Ok}
 use Rattle.sqlite_ast.specs.declared.Expr.{Expr, out-Expr}
 use Rattle.sqlite_ast.specs.declared.Expr.TheOpen.{Expr-F, Shown-F}

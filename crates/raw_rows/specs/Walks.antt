@@ -23,7 +23,8 @@ abbrev pub TellsFold : {F X E : Type 0} → (F → List X → Type 0) → (X →
 TellsFold {X = X} {E = E} Has meant Holds None = (entries : List E) → ¬ Holds entries
 TellsFold {X = X} {E = E} Has meant Holds (Some fold) = (rows : List X) × Holds (map meant rows) × Has fold rows
 
--- a call that reads a table row by row: the rows are those that the database holds, and nothing is changed
+-- a call that reads a table row by row: the rows are those that the database holds, and nothing is
+-- changed
 abbrev pub FoldsTable : {S F X E : Type 0} → Ghosts S → Held S → Held S → Result (Option F) Error → (F → List X → Type 0) → (X → E) → (Database → List E → Type 0) → Type 0
 FoldsTable g old new result Has meant Holds =
     HasCleanDisk (state g new) → IsTrue (state g old).is_open → Reads (state g old) (state g new) result (TellsFold Has meant (Holds (state g old).now))

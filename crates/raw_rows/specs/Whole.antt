@@ -52,7 +52,8 @@ Agrees {E} n to_row cmp = (a b : E) → key_order n (to_row a) (to_row b) ≡ cm
 
 -- ---- what a call returns
 
--- the rows of the table in the order of their first columns; nothing where the table or a column is missing
+-- the rows of the table in the order of their first columns; nothing where the table or a column is
+-- missing
 abbrev pub ShowsWhole : Found → ℕ → Option (Vec Row Global) → Type 0
 ShowsWhole at_hand n None = (raw : List Row) → at_hand ≢ rows_of raw
 ShowsWhole at_hand n (Some rows) = (raw : List Row) × (at_hand ≡ rows_of raw) × IsPermutation raw rows.items × AreInOrder n rows.items
@@ -62,7 +63,8 @@ abbrev pub TellsTable : {X E : Type 0} → (X → E) → (List E → Type 0) →
 TellsTable {X} {E} meant Holds None = (entries : List E) → ¬ Holds entries
 TellsTable {X} {E} meant Holds (Some rows) = Holds (map meant rows.items)
 
--- a call that reads a table: the entries that it returns are those that the database holds, and nothing is changed
+-- a call that reads a table: the entries that it returns are those that the database holds, and
+-- nothing is changed
 abbrev pub FindsTable : {S X E : Type 0} → Ghosts S → Held S → Held S → Result (Option (Vec X Global)) Error → (X → E) → (Database → List E → Type 0) → Type 0
 FindsTable g old new result meant Holds =
     HasCleanDisk (state g new) → IsTrue (state g old).is_open → Reads (state g old) (state g new) result (TellsTable meant (Holds (state g old).now))

@@ -1,5 +1,6 @@
-//! Tables of any database, whatever its schema: each is found by the names of the table and of its columns, read
-//! by one query, and given as typed rows in the order of their keys, or found to be none.
+//! Tables of any database, whatever its schema: each is found by the names of the table and of its
+//! columns, read by one query, and given as typed rows in the order of their keys, or found to be
+//! none.
 #![tactic(auto)]
 
 mod fold;

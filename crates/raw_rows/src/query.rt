@@ -48,9 +48,9 @@ pub(crate) fn has_table(schema: &Schema, name: &str, columns: &[&str]) -> bool
     }
 }
 
-/// The rows of a table as they are in the database, in the order of so many of their first columns, by the
-/// text that selects these columns. Nothing where the table or a column is missing. The connection is open. On
-/// error nothing was done, or the transaction that was open is undone.
+/// The rows of a table as they are in the database, in the order of so many of their first columns,
+/// by the text that selects these columns. Nothing where the table or a column is missing. The
+/// connection is open. On error nothing was done, or the transaction that was open is undone.
 pub fn table_rows<S: Alter>(
     conn: &mut Connection<S>,
     text: &str,

@@ -49,11 +49,12 @@ pub trait KeyedTable {
     ghost back: { (e : Entry) → from_row (to_row e) ≡ e };
 }
 
-/// What the rows of a table of any database make of a fold, one after another in the order of their keys,
-/// which are so many of its first columns, by the text that selects the columns. `None` where no typed rows
-/// are held: the table or a column is missing, a value is of another type or a text that is no UTF-8, or a
-/// key stands twice. The connection is open. On error memory is out, the fold failed, or the database could
-/// not be read: nothing was done, or the transaction that was open is undone.
+/// What the rows of a table of any database make of a fold, one after another in the order of their
+/// keys, which are so many of its first columns, by the text that selects the columns. `None` where
+/// no typed rows are held: the table or a column is missing, a value is of another type or a text
+/// that is no UTF-8, or a key stands twice. The connection is open. On error memory is out, the
+/// fold failed, or the database could not be read: nothing was done, or the transaction that was
+/// open is undone.
 pub fn fold_rows<S: Alter, T: KeyedTable, F: RowFold<T::Row> + Drop>(
     alloc: Global,
     conn: &mut Connection<S>,
@@ -80,11 +81,11 @@ pub fn fold_rows<S: Alter, T: KeyedTable, F: RowFold<T::Row> + Drop>(
     ended::<T, F>(walk, beside)
 }
 
-/// A table of any database as typed rows in the order of their keys, which are so many of its first columns,
-/// by the text that selects the columns. Nothing where no typed rows are held: the table or a column is
-/// missing, a value is of another type or a text that is no UTF-8, or a key stands twice. The connection is
-/// open. On error memory is out or the database could not be read: nothing was done, or the transaction that
-/// was open is undone.
+/// A table of any database as typed rows in the order of their keys, which are so many of its first
+/// columns, by the text that selects the columns. Nothing where no typed rows are held: the table
+/// or a column is missing, a value is of another type or a text that is no UTF-8, or a key stands
+/// twice. The connection is open. On error memory is out or the database could not be read: nothing
+/// was done, or the transaction that was open is undone.
 pub fn found_rows<S: Alter, T: KeyedTable>(
     alloc: Global,
     conn: &mut Connection<S>,
