@@ -4,13 +4,18 @@ use Rattle.std.specs.Prelude.{◌↔◌, IsTrue, Vec}
 use Rattle.std.specs.declared.alloc.Global.{Global}
 use Rattle.std.specs.FinMap.{entries, from_entries}
 use Rattle.sqlite.specs.Effect.{Database}
+use Rattle.raw_rows.specs.Walks.{TellsFold}
 use Rattle.raw_rows.specs.Whole.{TellsTable}
 use Rattle.row_schema.specs.Tables.{Tables, stock_cmp, flight_cmp, expected_cmp, part_cmp, kept_cmp, kept_text_cmp, count_cmp, build_cmp}
 use Rattle.row_schema.proofs.Keys.{stock_total, flight_total, expected_total, part_total, kept_total, kept_text_total, count_total, build_total}
 use Rattle.cargo_rows.specs.Meant.{waybill_meant, move_meant, count_meant, build_meant}
+use Rattle.cargo_rows.specs.declared.moves.MoveRow.{MoveRow}
 use Rattle.text_rows.specs.Meant.{trail_meant, message_meant}
+use Rattle.text_rows.specs.declared.outbox.MessageRow.{MessageRow}
+use Rattle.text_rows.specs.declared.trail.TrailRow.{TrailRow}
 use Rattle.station_rows.specs.Meant.{stock_meant}
 use Rattle.table_load.specs.Held.{old_waybill_entry, HoldsStock, HoldsFlight, flight_entry, HoldsMoves, HoldsExpected, expected_entry, HoldsPart, part_entry, HoldsTrail, HoldsOutbox, HoldsKeptKey, kept_key_entry, HoldsKeptText, kept_text_entry, HoldsCounts, HoldsBuild}
+use Rattle.table_load.specs.declared.kept_key.KeptKeyEntry.{KeptKeyEntry}
 use Rattle.table_load.specs.Reading.{Reading, HoldsOldWaybills, HoldsWaybills}
 use Rattle.table_audits.specs.declared.name.TableName.TheVariants as table
 use Rattle.table_audits.specs.Lawful.{IsLawfulTable}
@@ -18,7 +23,7 @@ use Rattle.file_audit.specs.Good.{before, AreGood, IsHeld, IsFirstBad}
 use Rattle.file_audit.specs.Judged.{HasBefore, IsJudged}
 use Rattle.file_audit.proofs.Judged.{judged}
 use Rattle.file_audit.proofs.Kept.{under_old_waybills, under_waybills, under_stock, under_flights, under_moves, under_expected, under_parts, under_trail, under_outbox, under_kept, under_kept_texts, under_counts, under_builds, with_old_waybills, with_waybills, with_stock, with_flights, with_moves, with_expected, with_parts, with_trail, with_outbox, with_kept, with_kept_texts, with_counts, with_builds}
-use Rattle.file_audit.proofs.ReadLists.{read_held, read_only, missing, map_held, old_waybills_once, waybills_once, stock_once, flight_once, moves_once, expected_once, part_once, trail_once, outbox_once, kept_key_once, kept_text_once, counts_once, build_once}
+use Rattle.file_audit.proofs.ReadLists.{read_held, read_only, missing, folded, none_folded, map_held, old_waybills_once, waybills_once, stock_once, flight_once, moves_once, expected_once, part_once, trail_once, outbox_once, kept_key_once, kept_text_once, counts_once, build_once}
 
 -- ---- old_waybills
 
@@ -97,20 +102,28 @@ module _ (db : Reading) (now : Database) (at : db.database ≡ now) (so_far : Ha
 
 -- ---- moves
 
-module _ (db : Reading) (now : Database) (at : db.database ≡ now) (so_far : HasBefore table.Moves db) (read : Option (Vec _ Global)) (told : TellsTable move_meant (HoldsMoves now) read) where
+module _ {F : Type 0} (Has : F → List MoveRow → Type 0) (db : Reading) (now : Database) (at : db.database ≡ now) (so_far : HasBefore table.Moves db) (read : Option F) (told : TellsFold Has move_meant (HoldsMoves now) read) where
   pub moves_missing : read ≡ None → IsFirstBad db table.Moves
-  moves_missing none = missing move_meant HoldsMoves db now at read told table.Moves (λ t. t.moves) (λ t h. h) none so_far
+  moves_missing none = none_folded Has move_meant HoldsMoves db now at read told table.Moves (λ t. t.moves) (λ t h. h) none so_far
 
-  module _ (rows : Vec _ Global) (is : read ≡ Some rows) where
-    moves_held : IsHeld table.Moves db (with_moves db so_far.0 (map move_meant rows.items))
-    moves_held = read_held move_meant HoldsMoves db now at read told rows is
+  module _ (fold : F) (is : read ≡ Some fold) where
+    pub moves_rows : (rows : List MoveRow) × HoldsMoves db.database (map move_meant rows) × Has fold rows
+    moves_rows = folded Has move_meant HoldsMoves db now at read told fold is
 
-    module _ (items : List _) (value : items ≡ rows.items) where
-      pub moves_are : (t : Tables) → IsHeld table.Moves db t → t.moves ≡ map move_meant items
-      moves_are t held = read_only move_meant HoldsMoves db now at read told (moves_once db.database) rows items is value (t.moves) held
+    abbrev pub moves_read : List MoveRow
+    moves_read = moves_rows.0
 
-      pub moves_judged : (good : Bool) → ((t : Tables) → AreGood db t (before table.Moves) → t.moves ≡ map move_meant items → IsTrue good ↔ IsLawfulTable table.Moves t) → IsJudged table.Moves db good
-      moves_judged good exact = judged db so_far.0 (with_moves db so_far.0 (map move_meant rows.items)) table.Moves good so_far.1 (λ t g h. exact t g (moves_are t h)) (under_moves db so_far.0 (map move_meant rows.items) so_far.1) moves_held
+    pub moves_taken : Has fold moves_read
+    moves_taken = moves_rows.2
+
+    moves_held : IsHeld table.Moves db (with_moves db so_far.0 (map move_meant moves_read))
+    moves_held = moves_rows.1
+
+    pub moves_are : (t : Tables) → IsHeld table.Moves db t → t.moves ≡ map move_meant moves_read
+    moves_are t held = moves_once db.database (t.moves) (map move_meant moves_read) held moves_rows.1
+
+    pub moves_judged : (good : Bool) → ((t : Tables) → AreGood db t (before table.Moves) → t.moves ≡ map move_meant moves_read → IsTrue good ↔ IsLawfulTable table.Moves t) → IsJudged table.Moves db good
+    moves_judged good exact = judged db so_far.0 (with_moves db so_far.0 (map move_meant moves_read)) table.Moves good so_far.1 (λ t g h. exact t g (moves_are t h)) (under_moves db so_far.0 (map move_meant moves_read) so_far.1) moves_held
 
 -- ---- expected
 
@@ -152,56 +165,78 @@ module _ (db : Reading) (now : Database) (at : db.database ≡ now) (so_far : Ha
 
 -- ---- trail
 
-module _ (db : Reading) (now : Database) (at : db.database ≡ now) (so_far : HasBefore table.Trail db) (read : Option (Vec _ Global)) (told : TellsTable trail_meant (HoldsTrail now) read) where
+module _ {F : Type 0} (Has : F → List TrailRow → Type 0) (db : Reading) (now : Database) (at : db.database ≡ now) (so_far : HasBefore table.Trail db) (read : Option F) (told : TellsFold Has trail_meant (HoldsTrail now) read) where
   pub trail_missing : read ≡ None → IsFirstBad db table.Trail
-  trail_missing none = missing trail_meant HoldsTrail db now at read told table.Trail (λ t. t.trail) (λ t h. h) none so_far
+  trail_missing none = none_folded Has trail_meant HoldsTrail db now at read told table.Trail (λ t. t.trail) (λ t h. h) none so_far
 
-  module _ (rows : Vec _ Global) (is : read ≡ Some rows) where
-    trail_held : IsHeld table.Trail db (with_trail db so_far.0 (map trail_meant rows.items))
-    trail_held = read_held trail_meant HoldsTrail db now at read told rows is
+  module _ (fold : F) (is : read ≡ Some fold) where
+    pub trail_rows : (rows : List TrailRow) × HoldsTrail db.database (map trail_meant rows) × Has fold rows
+    trail_rows = folded Has trail_meant HoldsTrail db now at read told fold is
 
-    module _ (items : List _) (value : items ≡ rows.items) where
-      pub trail_are : (t : Tables) → IsHeld table.Trail db t → t.trail ≡ map trail_meant items
-      trail_are t held = read_only trail_meant HoldsTrail db now at read told (trail_once db.database) rows items is value (t.trail) held
+    abbrev pub trail_read : List TrailRow
+    trail_read = trail_rows.0
 
-      pub trail_judged : (good : Bool) → ((t : Tables) → AreGood db t (before table.Trail) → t.trail ≡ map trail_meant items → IsTrue good ↔ IsLawfulTable table.Trail t) → IsJudged table.Trail db good
-      trail_judged good exact = judged db so_far.0 (with_trail db so_far.0 (map trail_meant rows.items)) table.Trail good so_far.1 (λ t g h. exact t g (trail_are t h)) (under_trail db so_far.0 (map trail_meant rows.items) so_far.1) trail_held
+    pub trail_taken : Has fold trail_read
+    trail_taken = trail_rows.2
+
+    trail_held : IsHeld table.Trail db (with_trail db so_far.0 (map trail_meant trail_read))
+    trail_held = trail_rows.1
+
+    pub trail_are : (t : Tables) → IsHeld table.Trail db t → t.trail ≡ map trail_meant trail_read
+    trail_are t held = trail_once db.database (t.trail) (map trail_meant trail_read) held trail_rows.1
+
+    pub trail_judged : (good : Bool) → ((t : Tables) → AreGood db t (before table.Trail) → t.trail ≡ map trail_meant trail_read → IsTrue good ↔ IsLawfulTable table.Trail t) → IsJudged table.Trail db good
+    trail_judged good exact = judged db so_far.0 (with_trail db so_far.0 (map trail_meant trail_read)) table.Trail good so_far.1 (λ t g h. exact t g (trail_are t h)) (under_trail db so_far.0 (map trail_meant trail_read) so_far.1) trail_held
 
 -- ---- outbox
 
-module _ (db : Reading) (now : Database) (at : db.database ≡ now) (so_far : HasBefore table.Outbox db) (read : Option (Vec _ Global)) (told : TellsTable message_meant (HoldsOutbox now) read) where
+module _ {F : Type 0} (Has : F → List MessageRow → Type 0) (db : Reading) (now : Database) (at : db.database ≡ now) (so_far : HasBefore table.Outbox db) (read : Option F) (told : TellsFold Has message_meant (HoldsOutbox now) read) where
   pub outbox_missing : read ≡ None → IsFirstBad db table.Outbox
-  outbox_missing none = missing message_meant HoldsOutbox db now at read told table.Outbox (λ t. t.outbox) (λ t h. h) none so_far
+  outbox_missing none = none_folded Has message_meant HoldsOutbox db now at read told table.Outbox (λ t. t.outbox) (λ t h. h) none so_far
 
-  module _ (rows : Vec _ Global) (is : read ≡ Some rows) where
-    outbox_held : IsHeld table.Outbox db (with_outbox db so_far.0 (map message_meant rows.items))
-    outbox_held = read_held message_meant HoldsOutbox db now at read told rows is
+  module _ (fold : F) (is : read ≡ Some fold) where
+    pub outbox_rows : (rows : List MessageRow) × HoldsOutbox db.database (map message_meant rows) × Has fold rows
+    outbox_rows = folded Has message_meant HoldsOutbox db now at read told fold is
 
-    module _ (items : List _) (value : items ≡ rows.items) where
-      pub outbox_are : (t : Tables) → IsHeld table.Outbox db t → t.outbox ≡ map message_meant items
-      outbox_are t held = read_only message_meant HoldsOutbox db now at read told (outbox_once db.database) rows items is value (t.outbox) held
+    abbrev pub outbox_read : List MessageRow
+    outbox_read = outbox_rows.0
 
-      pub outbox_judged : (good : Bool) → ((t : Tables) → AreGood db t (before table.Outbox) → t.outbox ≡ map message_meant items → IsTrue good ↔ IsLawfulTable table.Outbox t) → IsJudged table.Outbox db good
-      outbox_judged good exact = judged db so_far.0 (with_outbox db so_far.0 (map message_meant rows.items)) table.Outbox good so_far.1 (λ t g h. exact t g (outbox_are t h)) (under_outbox db so_far.0 (map message_meant rows.items) so_far.1) outbox_held
+    pub outbox_taken : Has fold outbox_read
+    outbox_taken = outbox_rows.2
+
+    outbox_held : IsHeld table.Outbox db (with_outbox db so_far.0 (map message_meant outbox_read))
+    outbox_held = outbox_rows.1
+
+    pub outbox_are : (t : Tables) → IsHeld table.Outbox db t → t.outbox ≡ map message_meant outbox_read
+    outbox_are t held = outbox_once db.database (t.outbox) (map message_meant outbox_read) held outbox_rows.1
+
+    pub outbox_judged : (good : Bool) → ((t : Tables) → AreGood db t (before table.Outbox) → t.outbox ≡ map message_meant outbox_read → IsTrue good ↔ IsLawfulTable table.Outbox t) → IsJudged table.Outbox db good
+    outbox_judged good exact = judged db so_far.0 (with_outbox db so_far.0 (map message_meant outbox_read)) table.Outbox good so_far.1 (λ t g h. exact t g (outbox_are t h)) (under_outbox db so_far.0 (map message_meant outbox_read) so_far.1) outbox_held
 
 -- ---- kept
 
-module _ (db : Reading) (now : Database) (at : db.database ≡ now) (so_far : HasBefore table.KeptKey db) (read : Option (Vec _ Global)) (told : TellsTable kept_key_entry (HoldsKeptKey now) read) where
+module _ {F : Type 0} (Has : F → List KeptKeyEntry → Type 0) (db : Reading) (now : Database) (at : db.database ≡ now) (so_far : HasBefore table.KeptKey db) (read : Option F) (told : TellsFold Has kept_key_entry (HoldsKeptKey now) read) where
   pub kept_missing : read ≡ None → IsFirstBad db table.KeptKey
-  kept_missing none = missing kept_key_entry HoldsKeptKey db now at read told table.KeptKey (λ t. entries t.kept) (λ t h. h) none so_far
+  kept_missing none = none_folded Has kept_key_entry HoldsKeptKey db now at read told table.KeptKey (λ t. entries t.kept) (λ t h. h) none so_far
 
-  module _ (rows : Vec _ Global) (is : read ≡ Some rows) where
-    kept_held : IsHeld table.KeptKey db (with_kept db so_far.0 (from_entries {R = kept_cmp} (map kept_key_entry rows.items)))
-    kept_held =
-        let held = read_held kept_key_entry HoldsKeptKey db now at read told rows is in
-        map_held kept_cmp kept_total kept_key_entry (HoldsKeptKey db.database) rows.items held.are.rising held
+  module _ (fold : F) (is : read ≡ Some fold) where
+    pub kept_rows : (rows : List KeptKeyEntry) × HoldsKeptKey db.database (map kept_key_entry rows) × Has fold rows
+    kept_rows = folded Has kept_key_entry HoldsKeptKey db now at read told fold is
 
-    module _ (items : List _) (value : items ≡ rows.items) where
-      pub kept_are : (t : Tables) → IsHeld table.KeptKey db t → entries t.kept ≡ map kept_key_entry items
-      kept_are t held = read_only kept_key_entry HoldsKeptKey db now at read told (kept_key_once db.database) rows items is value (entries t.kept) held
+    abbrev pub kept_read : List KeptKeyEntry
+    kept_read = kept_rows.0
 
-      pub kept_judged : (good : Bool) → ((t : Tables) → AreGood db t (before table.KeptKey) → entries t.kept ≡ map kept_key_entry items → IsTrue good ↔ IsLawfulTable table.KeptKey t) → IsJudged table.KeptKey db good
-      kept_judged good exact = judged db so_far.0 (with_kept db so_far.0 (from_entries {R = kept_cmp} (map kept_key_entry rows.items))) table.KeptKey good so_far.1 (λ t g h. exact t g (kept_are t h)) (under_kept db so_far.0 (from_entries {R = kept_cmp} (map kept_key_entry rows.items)) so_far.1) kept_held
+    pub kept_taken : Has fold kept_read
+    kept_taken = kept_rows.2
+
+    kept_held : IsHeld table.KeptKey db (with_kept db so_far.0 (from_entries {R = kept_cmp} (map kept_key_entry kept_read)))
+    kept_held = map_held kept_cmp kept_total kept_key_entry (HoldsKeptKey db.database) kept_read kept_rows.1.are.rising kept_rows.1
+
+    pub kept_are : (t : Tables) → IsHeld table.KeptKey db t → entries t.kept ≡ map kept_key_entry kept_read
+    kept_are t held = kept_key_once db.database (entries t.kept) (map kept_key_entry kept_read) held kept_rows.1
+
+    pub kept_judged : (good : Bool) → ((t : Tables) → AreGood db t (before table.KeptKey) → entries t.kept ≡ map kept_key_entry kept_read → IsTrue good ↔ IsLawfulTable table.KeptKey t) → IsJudged table.KeptKey db good
+    kept_judged good exact = judged db so_far.0 (with_kept db so_far.0 (from_entries {R = kept_cmp} (map kept_key_entry kept_read))) table.KeptKey good so_far.1 (λ t g h. exact t g (kept_are t h)) (under_kept db so_far.0 (from_entries {R = kept_cmp} (map kept_key_entry kept_read)) so_far.1) kept_held
 
 -- ---- kept_texts
 

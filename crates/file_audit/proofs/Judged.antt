@@ -1,6 +1,6 @@
 -- One table after another: what a test says of the tables so far.
-use Rattle.std.proofs.Common.{◌≡◌, ◌∙◌, ◌≤◌, ℕ, ℤ, Bool, true, false, List, [], ◌∷◌, refl, sym, ap, ap₂, inl, inr, Result, Ok, Err}
-use Rattle.std.specs.Prelude.{◌↔◌, IsErr, IsTrue}
+use Rattle.std.proofs.Common.{◌≡◌, ◌∙◌, ◌≤◌, ℕ, ℤ, Bool, true, false, List, [], ◌∷◌, refl, sym, ap, ap₂, inl, inr, Option, Some, None, Result, Ok, Err}
+use Rattle.std.specs.Prelude.{◌↔◌, IfSome, IsErr, IsTrue, is_some}
 use Rattle.table_load.specs.Reading.{Reading, station_read}
 use Rattle.sqlite.specs.State.{State, HasCleanDisk, IsUnchanged}
 use Rattle.sqlite.specs.Held.{Held, state}
@@ -20,7 +20,7 @@ use Rattle.table_audits.specs.Lawful.{IsLawfulTable}
 use Rattle.file_audit.specs.declared.unfit.Unfit.{Unfit}
 use Rattle.file_audit.specs.declared.unfit.Unfit.TheVariants as unfit
 use Rattle.file_audit.specs.Good.{HoldsStation, IsHeld, before, AreGood, IsStationOf, IsFirstBad}
-use Rattle.file_audit.specs.Judged.{HasBefore, IsJudged, JudgesOn}
+use Rattle.file_audit.specs.Judged.{HasBefore, IsJudged, IsKept, JudgesOn}
 use Rattle.file_audit.specs.Verdict.{is_ours, IsUnfit}
 
 -- what a test of a table says, whatever the tables are that are good so far
@@ -43,6 +43,19 @@ goes_past db t name good so_far exact passes held = (record { held = held; lawfu
 pub judged : (db : Reading) (t u : Tables) (name : TableName) (good : Bool) → AreGood db t (before name) → IsExact db name good → AreGood db u (before name) → IsHeld name db u → IsJudged name db good
 judged db t u name true so_far exact so held = (u, goes_past db u name true so exact refl held)
 judged db t u name false so_far exact so held = stops_at db t name false so_far exact refl
+
+-- what is kept of a table that is good
+pub kept_as : {X : Type 0} (name : TableName) (Has : X → Reading → Type 0) (db : Reading) (o : Option X) → IsJudged name db (is_some o) → IfSome o (λ x. Has x db) → IsKept name Has db o
+kept_as name Has db None judged has = judged
+kept_as name Has db (Some x) judged has = (judged, has)
+
+pub each_table : {X : Type 0} (o : Option X) (IsSo : Tables → Type 0) (P : Tables → X → Type 0) → ((t : Tables) → IsSo t → IfSome o (P t)) → IfSome o (λ x. (t : Tables) → IsSo t → P t x)
+each_table None IsSo P has = tt
+each_table (Some x) IsSo P has = λ t so. has t so
+
+pub both_kept : {X : Type 0} (o : Option X) (P Q : X → Type 0) → IfSome o P → IfSome o Q → IfSome o (λ x. P x × Q x)
+both_kept None P Q p q = tt
+both_kept (Some x) P Q p q = (p, q)
 
 -- ---- one call after another
 

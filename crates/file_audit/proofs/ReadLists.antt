@@ -1,6 +1,5 @@
 -- A table that was read: the rows that are held are those that were read.
-use Rattle.std.proofs.Common.{◌≡◌, ◌∙◌, ℕ, ℤ, List, map, length, refl, sym, subst, Option, Some, None, ap, Less, Ordering}
-use Rattle.std.proofs.lemmas.List.{length-map}
+use Rattle.std.proofs.Common.{◌≡◌, ◌∙◌, ℕ, ℤ, List, map, refl, sym, subst, Option, Some, None, ap, Less, Ordering}
 use Rattle.std.specs.Cmp.{IsTotalOrder}
 use Rattle.sqlite.specs.Tree.{IsAscending}
 use Rattle.std.specs.Prelude.{Vec}
@@ -8,16 +7,14 @@ use Rattle.std.specs.declared.alloc.Global.{Global}
 use Rattle.std.specs.FinMap.{entries, from_entries}
 use Rattle.sqlite.specs.Effect.{Database}
 use Rattle.sqlite_keyed.proofs.ListLemmas.{ascending-map}
+use Rattle.raw_rows.specs.Walks.{TellsFold}
 use Rattle.raw_rows.specs.Whole.{TellsTable}
 use Rattle.raw_rows.proofs.TableLemmas.{held_once}
 use Rattle.row_schema.specs.Tables.{Tables, OldWaybill, old_waybill_id, undated, Waybill, waybill_id, Stock, StockKey, stock_cmp, stock_row, Flight, FlightKey, flight_cmp, flight_row, Move, move_id, Expected, ExpectedKey, expected_cmp, expected_row, PartKey, part_cmp, part_row, TrailLine, trail_id, Message, message_id, Kept, kept_cmp, kept_row, kept_text_cmp, kept_text_row, Count, CountKey, count_cmp, count_row, Build, BuildKey, build_cmp, build_row}
-use Rattle.row_schema.proofs.Keys.{stock_total, flight_total, expected_total, part_total, kept_total, kept_text_total, count_total, build_total}
-use Rattle.cargo_rows.specs.Meant.{waybill_meant, move_meant, count_meant, build_meant}
 use Rattle.cargo_rows.specs.Shown.{waybill_shown, waybill_read, move_shown, move_read, count_read, build_read}
-use Rattle.text_rows.specs.Meant.{trail_meant, message_meant}
 use Rattle.text_rows.specs.Shown.{trail_shown, trail_read, message_shown, message_read}
-use Rattle.station_rows.specs.Meant.{stock_meant, stock_read}
-use Rattle.table_load.specs.Held.{by_key, by_number, old_waybill_name, old_waybill_columns, old_waybill_shown, old_waybill_entry, old_waybill_back, HasOldWaybillTexts, HoldsOldWaybill, HoldsWaybill, waybill_name, waybill_columns, HasWaybillTexts, HoldsStock, stock_name, stock_columns, HasStockTexts, HoldsFlight, flight_name, flight_columns, HasFlightTexts, flight_entry, flight_back, HoldsMoves, moves_name, moves_columns, HasMovesTexts, HoldsExpected, expected_name, expected_columns, HasExpectedTexts, expected_entry, expected_back, HoldsPart, part_name, part_columns, HasPartTexts, part_entry, part_back, HoldsTrail, trail_name, trail_columns, HasTrailTexts, HoldsOutbox, outbox_name, outbox_columns, HasOutboxTexts, HoldsKeptKey, kept_key_name, kept_key_columns, HasKeptKeyTexts, kept_key_entry, kept_key_back, HoldsKeptText, kept_text_name, kept_text_columns, HasKeptTextTexts, kept_text_entry, kept_text_back, HoldsCounts, counts_name, counts_columns, HasCountsTexts, HoldsBuild, build_name, build_columns, HasBuildTexts}
+use Rattle.station_rows.specs.Meant.{stock_read}
+use Rattle.table_load.specs.Held.{by_key, by_number, old_waybill_name, old_waybill_columns, old_waybill_shown, old_waybill_back, HasOldWaybillTexts, HoldsOldWaybill, HoldsWaybill, waybill_name, waybill_columns, HasWaybillTexts, HoldsStock, stock_name, stock_columns, HasStockTexts, HoldsFlight, flight_name, flight_columns, HasFlightTexts, flight_back, HoldsMoves, moves_name, moves_columns, HasMovesTexts, HoldsExpected, expected_name, expected_columns, HasExpectedTexts, expected_back, HoldsPart, part_name, part_columns, HasPartTexts, part_back, HoldsTrail, trail_name, trail_columns, HasTrailTexts, HoldsOutbox, outbox_name, outbox_columns, HasOutboxTexts, HoldsKeptKey, kept_key_name, kept_key_columns, HasKeptKeyTexts, kept_key_back, HoldsKeptText, kept_text_name, kept_text_columns, HasKeptTextTexts, kept_text_back, HoldsCounts, counts_name, counts_columns, HasCountsTexts, HoldsBuild, build_name, build_columns, HasBuildTexts}
 use Rattle.table_load.proofs.Orders.{old_waybill_agrees, waybill_agrees, stock_agrees, flight_agrees, moves_agrees, expected_agrees, part_agrees, trail_agrees, outbox_agrees, kept_key_agrees, kept_text_agrees, counts_agrees, build_agrees}
 use Rattle.table_load.specs.declared.station.FileVersion.{FileVersion}
 use Rattle.table_load.specs.declared.station.FileVersion.TheVariants.{First, Second}
@@ -60,14 +57,35 @@ module _ {X E : Type 0} (meant : X → E) (Holds : Database → List E → Type 
     no_further = λ t all. not_there read told_here none (of t) (held t all.0.held);
   }
 
+-- what the rows of a table made of a fold, whatever holds of it
+module _ {F X E : Type 0} (Has : F → List X → Type 0) (meant : X → E) (Holds : Database → List E → Type 0) (db : Reading) (now : Database) (at : db.database ≡ now) (read : Option F) (told : TellsFold Has meant (Holds now) read) where
+  fold_told : TellsFold Has meant (Holds db.database) read
+  fold_told = subst (λ d. TellsFold Has meant (Holds d) read) (sym at) told
+
+  nothing_folded : (o : Option F) → TellsFold Has meant (Holds db.database) o → o ≡ None → (es : List E) → Holds db.database es → ⊥
+  nothing_folded None tells none es held = tells es held
+  nothing_folded (Some fold) tells none es held = absurd (cc)
+
+  of_fold : (o : Option F) (fold : F) → TellsFold Has meant (Holds db.database) o → o ≡ Some fold → (rows : List X) × Holds db.database (map meant rows) × Has fold rows
+  of_fold None fold tells is = absurd (cc)
+  of_fold (Some v) fold tells is = let same : v ≡ fold = cc in subst (λ f. (rows : List X) × Holds db.database (map meant rows) × Has f rows) same tells
+
+  -- the rows that are held are those that were folded
+  pub folded : (fold : F) → read ≡ Some fold → (rows : List X) × Holds db.database (map meant rows) × Has fold rows
+  folded fold is = of_fold read fold fold_told is
+
+  -- where nothing is held, the table is the first that isn't good
+  pub none_folded : (name : TableName) (of : Tables → List E) → ((t : Tables) → IsHeld name db t → Holds db.database (of t)) → read ≡ None → HasBefore name db → IsFirstBad db name
+  none_folded name of held none so_far = record {
+    tables = so_far.0;
+    so_far = so_far.1;
+    no_further = λ t all. nothing_folded read fold_told none (of t) (held t all.0.held);
+  }
+
 -- the map that the rows make is held
 pub map_held : {K V X : Type 0} (R : K → K → Ordering) → IsTotalOrder R → (meant : X → K × V) (Holds : List (K × V) → Type 0) (rows : List X) → IsAscending (λ a b. by_key R a b ≡ Less) (map meant rows) → Holds (map meant rows)
     → Holds (entries (from_entries {R = R} (map meant rows)))
 map_held R total meant Holds rows rising held = subst Holds (sym (same_entries R total (map meant rows) rising)) held
-
--- how many are held
-pub counted : {X E : Type 0} (meant : X → E) (count : ℕ) (items : List X) (es : List E) → count ≡ length items → es ≡ map meant items → count ≡ length es
-counted meant count items es counts is = counts ∙ sym (length-map items meant) ∙ ap length (sym is)
 
 -- ---- each table once
 

@@ -1,5 +1,5 @@
 -- In a database with the tables that a station declares, typed tables that are lawful are held.
-use Rattle.std.proofs.Common.{◌≡◌, ℕ, ℤ, pos, Bool, true, List, [], ◌∷◌, ◌∙◌, sym, subst, arith}
+use Rattle.std.proofs.Common.{◌≡◌, ℕ, ℤ, pos, Bool, true, List, [], ◌∷◌, sym, subst, arith}
 use Rattle.std.proofs.lemmas.Int.{ints}
 use Rattle.std.specs.List.{list_all, AllByRecursion}
 use Rattle.std.specs.Ordering.{int_eq}

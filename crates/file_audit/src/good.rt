@@ -1,28 +1,23 @@
-ghost use Rattle.std.specs.Prelude.{◌≡◌, ◌↔◌, map, IsTrue, ⊤};
+ghost use Rattle.std.specs.Prelude.{◌≡◌, map, ⊤};
 ghost use Rattle.sqlite.specs.State.{Survives};
 ghost use Rattle.sqlite.specs.Held.{state};
-ghost use Rattle.row_schema.specs.Tables.{Tables};
-ghost use Rattle.row_codec.specs.Meaning.{confirmed_in};
 ghost use Rattle.cargo_rows.specs.Meant.{waybill_meant};
-ghost use Rattle.text_rows.specs.Meant.{message_meant};
-ghost use Rattle.table_audits.specs.Lawful.{IsLawfulTable};
 ghost use Rattle.table_load.specs.Held.{flight_entry, part_entry};
 ghost use Rattle.table_audits.specs.declared.name.TableName.TheVariants as table;
 ghost use Rattle.file_audit.specs.Judged.{HasAirport, HasMark, HasWaybills, HasFlights, HasParts, HasSums, HasLines, HasMessages, IsJudged, IsKept, JudgesOn};
 
-use crate::counted::count_of;
 use crate::versions::{read_old_waybills, read_waybills};
 use sqlite::{Alter, Connection, Error};
-use station_rows::{MessageRow, WaybillRow};
+use station_rows::WaybillRow;
 use std::alloc::Global;
 use table_audits::{
-    BookSums, are_builds, are_counts, are_expected_lawful, are_flights_lawful,
-    are_kept_keys_lawful, are_kept_texts_lawful, are_old_waybills_lawful, are_parts_lawful,
-    are_stock_lawful, are_waybills_lawful, is_outbox_lawful, is_trail_lawful,
+    BookSums, KeptKeys, NumberedRows, are_builds, are_counts, are_expected_lawful,
+    are_flights_lawful, are_kept_keys_lawful, are_kept_texts_lawful, are_old_waybills_lawful,
+    are_parts_lawful, are_stock_lawful, are_waybills_lawful, lawful_lines, lawful_messages,
 };
 use table_load::{
-    FileVersion, FlightEntry, PartEntry, found_builds, found_counts, found_expected, found_flights,
-    found_kept_keys, found_kept_texts, found_outbox, found_parts, found_stock, found_trail,
+    FileVersion, FlightEntry, PartEntry, fold_kept_keys, fold_outbox, fold_trail, found_builds,
+    found_counts, found_expected, found_flights, found_kept_texts, found_parts, found_stock,
 };
 
 /// Reads `waybill`: whether it is there and lawful.
@@ -132,7 +127,7 @@ pub(crate) fn good_parts<S: Alter>(
     Ok(Some(rows))
 }
 
-/// Reads `trail`, and counts its lines. `None`: it is missing or not lawful.
+/// Reads `trail`, row by row, and counts its lines. `None`: it is missing or not lawful.
 pub(crate) fn good_trail<S: Alter>(
     alloc: Global,
     conn: &mut Connection<S>,
@@ -143,24 +138,14 @@ pub(crate) fn good_trail<S: Alter>(
         (IsKept table.Trail (λ kept db. HasLines kept db)) }
     ensures survives { Survives (state S.Store conn.old) (state S.Store conn.new) (λ _. ⊥) }
 {
-    let Some(rows) = found_trail(alloc, conn)? else {
+    let none = NumberedRows::new();
+    let Some(lines) = fold_trail::<S, NumberedRows>(alloc, conn, &waybills, none)? else {
         return Ok(None);
     };
-    if !is_trail_lawful(&rows, &waybills) {
-        return Ok(None);
-    }
-    Ok(Some(count_of(&rows)?))
+    Ok(lawful_lines(&lines))
 }
 
-/// Whether these rows of `outbox` are lawful where so many messages were confirmed.
-fn has_lawful_outbox(rows: &[MessageRow], confirmed: u32) -> bool
-    ensures exact { (t : Tables) → confirmed_in t.stations ≡ confirmed
-        → t.outbox ≡ map message_meant rows.now → (IsTrue result ↔ IsLawfulTable table.Outbox t) }
-{
-    is_outbox_lawful(rows, i64::from(confirmed))
-}
-
-/// Reads `outbox`, and counts its messages. `None`: it is missing or not lawful.
+/// Reads `outbox`, row by row, and counts its messages. `None`: it is missing or not lawful.
 pub(crate) fn good_outbox<S: Alter>(
     alloc: Global,
     conn: &mut Connection<S>,
@@ -171,16 +156,14 @@ pub(crate) fn good_outbox<S: Alter>(
         (IsKept table.Outbox (λ kept db. HasMessages kept db)) }
     ensures survives { Survives (state S.Store conn.old) (state S.Store conn.new) (λ _. ⊥) }
 {
-    let Some(rows) = found_outbox(alloc, conn)? else {
+    let none = NumberedRows::new();
+    let Some(messages) = fold_outbox::<S, NumberedRows>(alloc, conn, &(), none)? else {
         return Ok(None);
     };
-    if !has_lawful_outbox(&rows, confirmed) {
-        return Ok(None);
-    }
-    Ok(Some(count_of(&rows)?))
+    Ok(lawful_messages(&messages, confirmed))
 }
 
-/// Reads `kept_key`: whether it is there and lawful.
+/// Reads `kept_key`, row by row: whether it is there and lawful.
 pub(crate) fn are_kept_keys_good<S: Alter>(
     alloc: Global,
     conn: &mut Connection<S>,
@@ -189,10 +172,11 @@ pub(crate) fn are_kept_keys_good<S: Alter>(
         (λ _. ⊤) (IsJudged table.KeptKey) }
     ensures survives { Survives (state S.Store conn.old) (state S.Store conn.new) (λ _. ⊥) }
 {
-    let Some(rows) = found_kept_keys(alloc, conn)? else {
+    let none = KeptKeys::new();
+    let Some(keys) = fold_kept_keys::<S, KeptKeys>(alloc, conn, &(), none)? else {
         return Ok(false);
     };
-    Ok(are_kept_keys_lawful(&rows))
+    Ok(are_kept_keys_lawful(&keys))
 }
 
 /// Reads `kept_text`: whether it is there and lawful.

@@ -6,7 +6,7 @@ ghost use Rattle.table_load.specs.Held.{flight_entry, part_entry};
 ghost use Rattle.table_audits.specs.declared.name.TableName.TheVariants as table;
 ghost use Rattle.file_audit.specs.Judged.{HasAirport, HasMark, HasWaybills, HasFlights, HasParts, HasSums, HasMoves, HasLines, HasMessages, AreJudged, JudgesOn};
 
-use crate::book::{Book, good_book};
+use crate::book::good_book;
 use crate::good::{
     are_builds_good, are_counts_good, are_expected_good, are_kept_keys_good, are_kept_texts_good,
     are_old_waybills_good, are_stock_good, good_flights, good_outbox, good_parts, good_trail,
@@ -16,7 +16,7 @@ use sqlite::{Alter, Connection, Error};
 use station_core::Sizes;
 use station_rows::WaybillRow;
 use std::alloc::Global;
-use table_audits::TableName;
+use table_audits::{Book, BookBeside, TableName};
 use table_load::{FileVersion, FlightEntry, PartEntry};
 
 /// Reads and judges `build`.
@@ -199,18 +199,18 @@ fn judged_moves<S: Alter>(
     alloc: Global,
     conn: &mut Connection<S>,
     confirmed: u32,
-    waybills: Vec<WaybillRow>,
-    flights: &[FlightEntry],
+    beside: BookBeside,
 ) -> Result<Result<Sizes, TableName>, Error>
     ensures read { JudgesOn S.Store conn.old conn.new result table.Moves
-        (λ db. HasMark confirmed db × HasWaybills (map waybill_meant waybills.items) db
-        × HasFlights (map flight_entry flights.now) db) AreJudged }
+        (λ db. HasMark confirmed db × HasWaybills (map waybill_meant beside.waybills.items) db
+        × HasFlights (map flight_entry beside.flights.items) db) AreJudged }
     ensures survives { Survives (state S.Store conn.old) (state S.Store conn.new) (λ _. ⊥) }
 {
-    let Some(book) = good_book(alloc, conn, &waybills, flights)? else {
+    let Some(book) = good_book(alloc, conn, &beside)? else {
         return Ok(Err(TableName::Moves));
     };
-    judged_expected(alloc, conn, confirmed, waybills, &book, flights)
+    let BookBeside { waybills, flights } = beside;
+    judged_expected(alloc, conn, confirmed, waybills, &book, &flights)
 }
 
 /// Reads and judges the tables from `flight` on.
@@ -229,7 +229,7 @@ fn judged_flights<S: Alter>(
     let Some(flights) = good_flights(alloc, conn, airport)? else {
         return Ok(Err(TableName::Flight));
     };
-    judged_moves(alloc, conn, confirmed, waybills, &flights)
+    judged_moves(alloc, conn, confirmed, BookBeside { waybills, flights })
 }
 
 /// Reads and judges the tables from `stock` on.

@@ -3,10 +3,10 @@
 #![tactic(auto)]
 
 mod book;
-mod counted;
 mod good;
 mod judge;
 mod law;
+mod own;
 mod state;
 mod unfit;
 mod versions;

@@ -6,8 +6,8 @@ ghost use Rattle.row_laws.specs.Calls.{Reads};
 ghost use Rattle.table_load.specs.Verdict.{one_row};
 ghost use Rattle.file_audit.specs.Verdict.{Judges};
 
-use crate::counted::own_row;
 use crate::judge::judged_tables;
+use crate::own::own_row;
 use crate::unfit::Unfit;
 use imp_fields::Airport;
 use sqlite::{Alter, Connection, Error};

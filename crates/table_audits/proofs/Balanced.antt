@@ -1,4 +1,5 @@
--- The balances of a station are lawful exactly where each sum is, and no flight has more than 500 of them.
+-- The balances of a station are lawful exactly where each sum is, and no flight has more than 500
+-- of them.
 use Rattle.std.proofs.Common.{◌≡◌, ◌≢◌, ◌⊎◌, inl, inr, ℕ, zero, suc, ◌≤◌, arith, ℤ, pos, negsuc, Bool, true, false, ◌&&◌, ◌||◌, cond, nat_lt, List, [], ◌∷◌, map, length, Option, Some, None, option_map, refl, sym, ap, ap₂, subst, ◌∙◌, true≢false, nat_cmp, int_cmp, is_eq, slice_get, Ordering, Less, Equal, Greater}
 use Rattle.std.specs.Prelude.{int_lt, not}
 use Rattle.std.specs.Ordering.{int_eq}

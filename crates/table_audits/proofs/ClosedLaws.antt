@@ -13,8 +13,9 @@ use Rattle.shipment_machine.specs.Effect.{is_closed}
 use Rattle.shipment_machine.specs.declared.flight.FlightDate.{FlightDate}
 use Rattle.shipment_machine.specs.declared.moves.Move.{Move}
 use Rattle.shipment_machine.specs.declared.moves.Outbound.{Outbound}
-use Rattle.shipment_machine.specs.declared.moves.Place.TheVariants.{Built, Departed}
-use Rattle.shipment_machine.specs.Lawful.{departs_with, StaysDeparted}
+use Rattle.shipment_machine.specs.declared.moves.Place.{Place}
+use Rattle.shipment_machine.specs.declared.moves.Place.TheVariants.{Hand, Surplus, Free, Built, Departed, Delivered, Missing, Transferred}
+use Rattle.shipment_machine.specs.Lawful.{departs_with, IsNoted, IsLawfulMove}
 use Rattle.shipment_machine.proofs.FlightKeys.{same-is}
 use Rattle.row_schema.specs.Tables.{Tables, Flight, FlightKey, flight_cmp}
 use Rattle.row_schema.proofs.Keys.{flight_total, flight_same}
@@ -23,16 +24,13 @@ use Rattle.row_codec.specs.Flights.{is_designator, flight_key, flights_in, outbo
 use Rattle.row_codec.specs.Moves.{book_in}
 use Rattle.row_codec.proofs.MapLaws.{at_key, each_entry}
 use Rattle.running_totals.proofs.Tests.{same_bool, is_false}
-use Rattle.table_audits.specs.declared.sums.Spot.{Spot}
-use Rattle.table_audits.specs.declared.sums.Spot.TheVariants.{Plain, OnFlight}
-use Rattle.table_audits.specs.declared.sums.Posting.{Posting}
-use Rattle.table_audits.specs.Sums.{AreDistinct, IsSpot, ArePostings}
+use Rattle.table_audits.specs.Sums.{AreDistinct}
 use Rattle.table_audits.proofs.Made.{distinct}
 use Rattle.table_audits.specs.Audited.{flight_in, AreDepartures}
-use Rattle.table_audits.specs.Departed.{departs_in, IsDeparted, IsWalked}
+use Rattle.table_audits.specs.Departed.{departs_in, IsDeparted}
+use Rattle.table_audits.specs.Lawful.{cargo_in}
 use Rattle.table_audits.specs.Posted.{listed_in}
-use Rattle.table_audits.proofs.Listed.{IsNamed, named, named_by, listed_noted, flights_are}
-use Rattle.table_audits.proofs.DepartedLaws.{plain_off}
+use Rattle.table_audits.proofs.Listed.{IsNamed, named, named_by, flights_are}
 
 -- ---- lists
 
@@ -66,28 +64,30 @@ module _ (t : Tables) (within : list_all is_flight_row (entries t.flights) ≡ t
   abbrev IsSameAt : FlightKey × Flight → Type 0
   IsSameAt row = is_closed_row row ≡ departs_in book (flight_in row)
 
-  -- a flight with which a move departs is noted
-  noted_departing : (f : FlightDate) (ps : List Posting) (moves : List Move) → ArePostings (listed_in t) ps moves → departs_in moves f ≡ true → IsSome (flights_in t.flights f)
-  noted_departing f [] [] are h = absurd (true≢false (sym h))
-  noted_departing f [] (m ∷ moves) are h = absurd are
-  noted_departing f (p ∷ ps) [] are h = absurd are
-  noted_departing f (p ∷ ps) (m ∷ moves) are h = go (departs_with f m) refl h (noted_departing f ps moves are.1)
+  -- a flight with which a lawful move departs is noted
+  noted_departing : (f : FlightDate) (moves : List Move) → AllByRecursion (IsLawfulMove (cargo_in t)) moves → departs_in moves f ≡ true → IsSome (flights_in t.flights f)
+  noted_departing f [] all h = absurd (true≢false (sym h))
+  noted_departing f (m ∷ moves) all h = go (departs_with f m) refl h (noted_departing f moves all.1)
     where
-      at : (spot : Spot) → IsSpot (listed_in t) spot m.from → same_place m.from (Built f) ≡ true → IsSome (flights_in t.flights f)
-      at (Plain code) from e = absurd (true≢false (sym e ∙ plain_off m.from f from.0))
-      at (OnFlight i) from e =
-          let one : from.0 ≡ f = same-is from.0 f (ap (λ q. same_place q (Built f)) (sym from.1) ∙ e) in
-          subst (λ (g : FlightDate). IsSome (flights_in t.flights g)) one (listed_noted t.flights within i from.0 from.2)
+      at : (q : Place) → IsNoted (cargo_in t) q → same_place q (Built f) ≡ true → IsSome (flights_in t.flights f)
+      at (Built g) noted e = subst (λ (d : FlightDate). IsSome (flights_in t.flights d)) (same-is g f e) noted
+      at Hand noted e = absurd (true≢false (sym e))
+      at Surplus noted e = absurd (true≢false (sym e))
+      at Free noted e = absurd (true≢false (sym e))
+      at Departed noted e = absurd (true≢false (sym e))
+      at Delivered noted e = absurd (true≢false (sym e))
+      at Missing noted e = absurd (true≢false (sym e))
+      at Transferred noted e = absurd (true≢false (sym e))
 
       go : (b : Bool) → departs_with f m ≡ b → (b || departs_in moves f) ≡ true → (departs_in moves f ≡ true → IsSome (flights_in t.flights f)) → IsSome (flights_in t.flights f)
-      go true e k more = at p.from are.0.from_is (and_parts (same_place m.from (Built f)) (same_place m.to Departed) e).0
+      go true e k more = at m.from all.0.noted_from (and_parts (same_place m.from (Built f)) (same_place m.to Departed) e).0
       go false e k more = more k
 
-  closed_is : (ps : List Posting) → ArePostings (listed_in t) ps book → AllByRecursion IsSameAt (entries t.flights) → (f : FlightDate) → is_closed (flights_in t.flights f) ≡ departs_in book f
-  closed_is ps are each f = go (is_designator f.flight) refl (get t.flights (flight_key f)) refl
+  closed_is : AllByRecursion (IsLawfulMove (cargo_in t)) book → AllByRecursion IsSameAt (entries t.flights) → (f : FlightDate) → is_closed (flights_in t.flights f) ≡ departs_in book f
+  closed_is lawful each f = go (is_designator f.flight) refl (get t.flights (flight_key f)) refl
     where
       none : flights_in t.flights f ≡ None → departs_in book f ≡ false
-      none e = is_false (departs_in book f) (λ h. sym (sym (noted_departing f ps book are h) ∙ ap (λ (o : Option Outbound). is_some o) e))
+      none e = is_false (departs_in book f) (λ h. sym (sym (noted_departing f book lawful h) ∙ ap (λ (o : Option Outbound). is_some o) e))
 
       at : (b : Bool) (o : Option Flight) → is_designator f.flight ≡ b → get t.flights (flight_key f) ≡ o → flights_in t.flights f ≡ cond b (option_map outbound_by o) None
       at b o x y = ap₂ (λ (c : Bool) (v : Option Flight). cond c (option_map outbound_by v) None) x y
@@ -119,28 +119,13 @@ module _ (t : Tables) (within : list_all is_flight_row (entries t.flights) ≡ t
     right : map (λ (mark : Bool). mark) marks ≡ map (λ row. departs_in book (flight_in row)) (entries t.flights)
     right = map_itself marks ∙ departed.marks_are ∙ map-map (departs_in book) flight_in (entries t.flights)
 
-    marks_closed : (ps : List Posting) → ArePostings (listed_in t) ps book → (b : Bool) → (IsTrue b ↔ IsAlike) → IsTrue b ↔ AreDepartures t
-    marks_closed ps are b says = (
+    pub closed_so : AllByRecursion (IsLawfulMove (cargo_in t)) book → (b : Bool) → (IsTrue b ↔ IsAlike) → IsTrue b ↔ AreDepartures t
+    closed_so lawful b says = (
       λ h.
-          let same : (f : FlightDate) → is_closed (flights_in t.flights f) ≡ departs_in book f = closed_is ps are (each_same is_closed_row (λ row. departs_in book (flight_in row)) (entries t.flights) (sym left ∙ says.0 h ∙ right)) in
+          let same : (f : FlightDate) → is_closed (flights_in t.flights f) ≡ departs_in book f = closed_is lawful (each_same is_closed_row (λ row. departs_in book (flight_in row)) (entries t.flights) (sym left ∙ says.0 h ∙ right)) in
           record { closed = λ f. (λ k. sym (same f) ∙ k, λ k. same f ∙ k); departed = departed.stays },
       λ law. says.1 (left ∙ all_same is_closed_row (λ row. departs_in book (flight_in row)) (entries t.flights) (each_closed law.closed) ∙ sym right),
     )
-
-    pub closed_so : (ps : List Posting) → ArePostings (listed_in t) ps book → (b : Bool) (seen : List Bool) → seen ≡ marks → (IsTrue b ↔ (map (λ row. is_closed_row (flight_entry row)) fs ≡ map (λ mark. mark) seen))
-        → IsTrue b ↔ AreDepartures t
-    closed_so ps are b seen same says = marks_closed ps are b (subst (λ l. IsTrue b ↔ (map (λ row. is_closed_row (flight_entry row)) fs ≡ map (λ mark. mark) l)) same says)
-
--- ---- what a walk found
-
-pub found_marks : {V : Type 0} (items : V → List Bool) (flights : List FlightDate) (moves : List Move) (o : Option V) (v : V) → o ≡ Some v → IsWalked flights moves (option_map items o) → IsDeparted flights moves (items v)
-found_marks items flights moves o v is h = subst (λ x. IsWalked flights moves (option_map items x)) is h
-
-pub found_none : {V : Type 0} (items : V → List Bool) (flights : List FlightDate) (moves : List Move) (o : Option V) → o ≡ None → IsWalked flights moves (option_map items o) → ((f : FlightDate) → StaysDeparted f moves) → ⊥
-found_none items flights moves o is h = subst (λ x. IsWalked flights moves (option_map items x)) is h
-
-pub never_departed : (t : Tables) → (((f : FlightDate) → StaysDeparted f (book_in t.moves)) → ⊥) → IsTrue false ↔ AreDepartures t
-never_departed t never = (λ h. absurd (true≢false (sym h)), λ law. absurd (never law.departed))
 
 -- ---- the flights that are listed
 

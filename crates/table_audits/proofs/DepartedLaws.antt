@@ -1,8 +1,7 @@
 -- Flights that have departed, marked move by move.
-use Rattle.std.proofs.Common.{◌≡◌, ◌≢◌, ℕ, zero, suc, ◌<◌, ◌≤◌, ◌+◌, ℤ, pos, Bool, true, false, cond, ◌&&◌, ◌||◌, Some, unwrap_or, List, [], ◌∷◌, ◌++◌, map, length, drop, get_or, slice_get, replicate, refl, sym, ap, ap₂, subst, ◌∙◌, true≢false, arith, int_eq, append_assoc, append-nil}
+use Rattle.std.proofs.Common.{◌≡◌, ◌≢◌, ℕ, zero, suc, ◌+◌, ℤ, pos, Bool, true, false, cond, ◌&&◌, ◌||◌, Some, unwrap_or, List, [], ◌∷◌, ◌++◌, map, length, slice_get, replicate, refl, sym, ap, ap₂, ◌∙◌, true≢false, arith, int_eq}
 use Rattle.std.specs.Prelude.{slice_set}
 use Rattle.std.specs.List.{list_any}
-use Rattle.std.proofs.lemmas.List.{drop_more, drop_all}
 use Rattle.shipment_machine.specs.Book.{same_place}
 use Rattle.shipment_machine.specs.Flights.{same_flight_date}
 use Rattle.shipment_machine.specs.declared.flight.FlightDate.{FlightDate}
@@ -17,8 +16,8 @@ use Rattle.running_totals.proofs.Tests.{some_is, none_is, is_false}
 use Rattle.table_audits.specs.declared.sums.Spot.{Spot}
 use Rattle.table_audits.specs.declared.sums.Spot.TheVariants.{Plain, OnFlight}
 use Rattle.table_audits.specs.declared.sums.Posting.{Posting}
-use Rattle.table_audits.specs.Sums.{AreDistinct, IsSpot, IsPosting, ArePostings}
-use Rattle.table_audits.specs.Departed.{departs_in, marks_of, is_marked, marked, IsDeparted}
+use Rattle.table_audits.specs.Sums.{AreDistinct, IsSpot, IsPosting}
+use Rattle.table_audits.specs.Departed.{departs_in, marks_of, is_marked, marked}
 use Rattle.table_audits.proofs.Lists.{or_no, or_yes, any_push, any_within, got_map}
 
 -- ---- one move more
@@ -32,6 +31,13 @@ stays_push f [] m stays none = (λ h. refl, tt)
 stays_push f (a ∷ past) m stays none = (
   λ h. any_push (builds_on f) past m ∙ ap₂ (λ x y. x || y) (stays.0 h) (none (ap (λ b. b || list_any (departs_with f) past) h)),
   stays_push f past m stays.1 (λ h. none (ap (λ b. departs_with f a || b) h ∙ or_yes (departs_with f a))),
+)
+
+pub stays_pop : (f : FlightDate) (past : List Move) (m : Move) → StaysDeparted f (past ++ m ∷ []) → StaysDeparted f past
+stays_pop f [] m stays = tt
+stays_pop f (a ∷ past) m stays = (
+  λ h. first_or (list_any (builds_on f) past) (builds_on f m) (sym (any_push (builds_on f) past m) ∙ stays.0 h),
+  stays_pop f past m stays.1,
 )
 
 pub broken : (f : FlightDate) (past : List Move) (m : Move) (next : List Move) → list_any (departs_with f) past ≡ true → builds_on f m ≡ true → StaysDeparted f (past ++ m ∷ next) → ⊥
@@ -143,71 +149,8 @@ module _ (flights : List FlightDate) (distinct : AreDistinct flights) (past : Li
       go (Plain code) went e = absurd (true≢false (sym e))
       go (OnFlight i) went e = (went.0, sym (mark_at i went.0 went.2) ∙ e, ap (λ q. same_place q (Built went.0)) went.1 ∙ same-refl went.0)
 
--- ---- a walk over the book
+-- ---- no moves
 
--- the moves that were walked, and those ahead
-pub record Walked (flights : List FlightDate) (marks : List Bool) (ahead : List Posting) (book : List Move) : Type 0 where
-  pub past : List Move
-  pub next : List Move
-  pub all : book ≡ past ++ next
-  pub departed : IsDeparted flights past marks
-  pub rest : ArePostings flights ahead next
-
-abbrev pub AllWalked : ℕ → List Bool → List Posting → List Posting → Type 0
-AllWalked count marks ahead moves = (flights : List FlightDate) (book : List Move) → AreDistinct flights → length flights ≡ count → ArePostings flights moves book → Walked flights marks ahead book
-
-no_marks : (flights : List FlightDate) → replicate (length flights) false ≡ marks_of flights []
+pub no_marks : (flights : List FlightDate) → replicate (length flights) false ≡ marks_of flights []
 no_marks [] = refl
 no_marks (f ∷ flights) = ap (λ l. false ∷ l) (no_marks flights)
-
-pub begun : (count : ℕ) (marks : List Bool) (moves : List Posting) → marks ≡ replicate count false → AllWalked count marks moves moves
-begun count marks moves none flights book distinct long are = record {
-  past = [];
-  next = book;
-  all = refl;
-  departed = record { marks_are = none ∙ ap (λ n. replicate n false) (sym long) ∙ no_marks flights; stays = λ f. tt };
-  rest = are;
-}
-
-step : (flights : List FlightDate) → AreDistinct flights → (old new : List Bool) (p : Posting) (ahead : List Posting) (past next book : List Move) → is_marked old p.to ≡ false → new ≡ marked old p.from p.to
-    → book ≡ past ++ next → IsDeparted flights past old → ArePostings flights (p ∷ ahead) next → Walked flights new ahead book
-step flights distinct old new p ahead past [] book free then all departed are = absurd are
-step flights distinct old new p ahead past (m ∷ next) book free then all departed are = record {
-  past = past ++ m ∷ [];
-  next = next;
-  all = all ∙ sym (append_assoc past (m ∷ []) next);
-  departed = record {
-    marks_are = then ∙ ap (λ l. marked l p.from p.to) departed.marks_are ∙ marked_then flights distinct past m p are.0;
-    stays = λ f. stays_push f past m (departed.stays f) (may_build flights distinct past m p are.0 (ap (λ l. is_marked l p.to) (sym departed.marks_are) ∙ free) f);
-  };
-  rest = are.1;
-}
-
-pub walked : (count : ℕ) (old seen new : List Bool) (b : Bool) (moves : List Posting) (k : ℕ) (d : Posting) → k < length moves → seen ≡ old → b ≡ is_marked seen (get_or moves k d).to → b ≡ false
-    → new ≡ marked old (get_or moves k d).from (get_or moves k d).to → AllWalked count old (drop k moves) moves → AllWalked count new (drop (k + 1) moves) moves
-walked count old seen new b moves k d inside same says free then was flights book distinct long are =
-    let a = was flights book distinct long are in
-    step flights distinct old new (get_or moves k d) (drop (k + 1) moves) a.past a.next book (ap (λ l. is_marked l (get_or moves k d).to) (sym same) ∙ sym says ∙ free) then a.all a.departed (subst (λ l. ArePostings flights l a.next) (drop_more moves k d inside) a.rest)
-
-stop : (flights : List FlightDate) → AreDistinct flights → (marks : List Bool) (p : Posting) (ahead : List Posting) (past next book : List Move) → is_marked marks p.to ≡ true
-    → book ≡ past ++ next → IsDeparted flights past marks → ArePostings flights (p ∷ ahead) next → ((f : FlightDate) → StaysDeparted f book) → ⊥
-stop flights distinct marks p ahead past [] book gone all departed are stays = absurd are
-stop flights distinct marks p ahead past (m ∷ next) book gone all departed are stays =
-    let f = may_not_build flights distinct past m p are.0 (ap (λ l. is_marked l p.to) (sym departed.marks_are) ∙ gone) in
-    broken f.0 past m next f.1 f.2 (subst (StaysDeparted f.0) all (stays f.0))
-
-pub stopped : (count : ℕ) (marks seen : List Bool) (b : Bool) (moves : List Posting) (k : ℕ) (d : Posting) → k < length moves → seen ≡ marks → b ≡ is_marked seen (get_or moves k d).to → b ≡ true → AllWalked count marks (drop k moves) moves
-    → (flights : List FlightDate) (book : List Move) → AreDistinct flights → length flights ≡ count → ArePostings flights moves book → ((f : FlightDate) → StaysDeparted f book) → ⊥
-stopped count marks seen b moves k d inside same says gone was flights book distinct long are =
-    let a = was flights book distinct long are in
-    stop flights distinct marks (get_or moves k d) (drop (k + 1) moves) a.past a.next book (ap (λ l. is_marked l (get_or moves k d).to) (sym same) ∙ sym says ∙ gone) a.all a.departed (subst (λ l. ArePostings flights l a.next) (drop_more moves k d inside) a.rest)
-
-none_left : (flights : List FlightDate) (marks : List Bool) (past next book : List Move) → book ≡ past ++ next → IsDeparted flights past marks → ArePostings flights [] next → IsDeparted flights book marks
-none_left flights marks past [] book all departed rest = subst (λ b. IsDeparted flights b marks) (sym (all ∙ append-nil past)) departed
-none_left flights marks past (m ∷ next) book all departed rest = absurd rest
-
-pub ended : (count : ℕ) (marks : List Bool) (moves : List Posting) (k : ℕ) → length moves ≤ k → AllWalked count marks (drop k moves) moves
-    → (flights : List FlightDate) (book : List Move) → AreDistinct flights → length flights ≡ count → ArePostings flights moves book → IsDeparted flights book marks
-ended count marks moves k over was flights book distinct long are =
-    let a = was flights book distinct long are in
-    none_left flights marks a.past a.next book a.all a.departed (subst (λ l. ArePostings flights l a.next) (drop_all k moves over) a.rest)

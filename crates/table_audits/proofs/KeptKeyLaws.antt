@@ -1,47 +1,62 @@
--- The texts of commands, row by row.
-use Rattle.std.proofs.Common.{◌≡◌, ℕ, zero, suc, ◌<◌, List, [], ◌∷◌, map, length, slice_index_or, refl, sym, subst, ◌∙◌, arith}
+-- Rows of `kept_key` that are taken one by one.
+use Rattle.std.proofs.Common.{◌≡◌, ◌↔◌, ℕ, Bool, true, false, List, [], ◌∷◌, ◌++◌, map, sym, subst, ◌∙◌, true≢false}
+use Rattle.std.specs.Prelude.{IsTrue}
 use Rattle.std.specs.List.{AllByRecursion}
 use Rattle.std.specs.FinMap.{entries}
+use Rattle.std.proofs.lemmas.List.{map-append}
+use Rattle.sqlite_keyed.proofs.ListLemmas.{all_weaker, all_both, all_from_test, test_from_all}
 use Rattle.station_core.specs.Told.{IsRequest}
 use Rattle.row_schema.specs.Tables.{Kept, kept_cmp, Tables}
 use Rattle.row_schema.proofs.Keys.{kept_total, kept_same}
 use Rattle.table_load.specs.declared.kept_key.KeptKeyEntry.{KeptKeyEntry}
 use Rattle.table_load.specs.Held.{kept_key_entry}
-use Rattle.row_codec.specs.Replies.{AreRequests}
+use Rattle.row_codec.specs.Replies.{AreRequests, is_kept_row}
 use Rattle.row_codec.proofs.MapLaws.{at_key, each_entry}
+use Rattle.table_audits.specs.Lawful.{AreKeptKeys}
+use Rattle.table_audits.specs.Taken.{IsLawfulKept}
+use Rattle.table_audits.proofs.Lists.{all_push, all_pop}
 
 abbrev pub Asks : List ℕ × Kept → Type 0
 Asks row = IsRequest row.1.command
 
-abbrev pub AsksAt : List KeptKeyEntry → ℕ → Type 0
-AsksAt rows k = (d : KeptKeyEntry) → Asks (kept_key_entry (slice_index_or rows k d))
+-- whether all of some rows are lawful
+abbrev AreSo : Bool → List KeptKeyEntry → Type 0
+AreSo b rows = IsTrue b ↔ AllByRecursion IsLawfulKept (map kept_key_entry rows)
 
-pub asks_from : (rows : List KeptKeyEntry) → ((k : ℕ) → k < length rows → AsksAt rows k) → AllByRecursion Asks (map kept_key_entry rows)
-asks_from [] each = tt
-asks_from (row ∷ rows) each = (each 0 (omega arith) row, asks_from rows (λ k low d. each (suc k) (omega arith) d))
+-- ---- one row more
 
-pub asks_back : (rows : List KeptKeyEntry) → AllByRecursion Asks (map kept_key_entry rows) → (k : ℕ) → k < length rows → AsksAt rows k
-asks_back [] all k low d = absurd (omega arith)
-asks_back (row ∷ rows) all zero low d = all.0
-asks_back (row ∷ rows) all (suc k) low d = asks_back rows all.1 k (omega arith) d
+last_key : (rows : List KeptKeyEntry) (row : KeptKeyEntry) → AllByRecursion IsLawfulKept (map kept_key_entry (rows ++ row ∷ [])) → AllByRecursion IsLawfulKept (map kept_key_entry rows) × IsLawfulKept (kept_key_entry row)
+last_key rows row all = all_pop IsLawfulKept (map kept_key_entry rows) (kept_key_entry row) (subst (AllByRecursion IsLawfulKept) (map-append kept_key_entry rows (row ∷ [])) all)
 
-any_default : (rows : List KeptKeyEntry) (k : ℕ) (d e : KeptKeyEntry) → k < length rows → slice_index_or rows k d ≡ slice_index_or rows k e
-any_default [] k d e low = absurd (omega arith)
-any_default (row ∷ rows) zero d e low = refl
-any_default (row ∷ rows) (suc k) d e low = any_default rows k d e (omega arith)
+pub key_taken : (rows : List KeptKeyEntry) (row : KeptKeyEntry) (b : Bool) → AreSo b rows → IsLawfulKept (kept_key_entry row) → AreSo b (rows ++ row ∷ [])
+key_taken rows row b was is = (
+  λ h. subst (AllByRecursion IsLawfulKept) (sym (map-append kept_key_entry rows (row ∷ []))) (all_push IsLawfulKept (map kept_key_entry rows) (kept_key_entry row) (was.0 h) is),
+  λ all. was.1 (last_key rows row all).0,
+)
 
--- the row at a place
-pub asks_here : (rows : List KeptKeyEntry) (k : ℕ) (row : KeptKeyEntry) → k < length rows → row ≡ slice_index_or rows k row → Asks (kept_key_entry row) → AsksAt rows k
-asks_here rows k row low is asks d = subst (λ r. Asks (kept_key_entry r)) (is ∙ any_default rows k row d low) asks
-
-pub asks_at : (rows : List KeptKeyEntry) (k : ℕ) (row : KeptKeyEntry) → k < length rows → row ≡ slice_index_or rows k row → AllByRecursion Asks (map kept_key_entry rows) → Asks (kept_key_entry row)
-asks_at rows k row low is all = subst (λ r. Asks (kept_key_entry r)) (sym is) (asks_back rows all k low row)
+pub key_refused : (rows : List KeptKeyEntry) (row : KeptKeyEntry) (b : Bool) → b ≡ false → (IsLawfulKept (kept_key_entry row) → IsTrue b) → AreSo false (rows ++ row ∷ [])
+key_refused rows row b fails says = (λ h. absurd (true≢false (sym h)), λ all. absurd (true≢false (sym (says (last_key rows row all).1) ∙ fails)))
 
 -- ---- the table
 
 module _ (t : Tables) where
-  pub are_requests : AllByRecursion Asks (entries t.kept) → AreRequests t.kept
+  are_requests : AllByRecursion Asks (entries t.kept) → AreRequests t.kept
   are_requests all key row has = at_key kept_cmp kept_total kept_same Asks t.kept all key row has
 
-  pub requests_back : AreRequests t.kept → AllByRecursion Asks (entries t.kept)
+  requests_back : AreRequests t.kept → AllByRecursion Asks (entries t.kept)
   requests_back are = each_entry kept_cmp kept_total kept_same Asks t.kept are
+
+  lawful_keys : AllByRecursion IsLawfulKept (entries t.kept) → AreKeptKeys t
+  lawful_keys all = record {
+    rows = test_from_all is_kept_row (entries t.kept) (all_weaker IsLawfulKept (λ row. is_kept_row row ≡ true) (λ row is. is.within) (entries t.kept) all);
+    requests = are_requests (all_weaker IsLawfulKept Asks (λ row is. is.request) (entries t.kept) all);
+  }
+
+  keys_lawful : AreKeptKeys t → AllByRecursion IsLawfulKept (entries t.kept)
+  keys_lawful law = all_both (λ row. is_kept_row row ≡ true) Asks IsLawfulKept (λ row a b. record { within = a; request = b }) (entries t.kept) (all_from_test is_kept_row (entries t.kept) law.rows) (requests_back law.requests)
+
+  pub keys_so : (rows : List KeptKeyEntry) → entries t.kept ≡ map kept_key_entry rows → (b : Bool) → AreSo b rows → IsTrue b ↔ AreKeptKeys t
+  keys_so rows is b says = (
+    λ h. lawful_keys (subst (AllByRecursion IsLawfulKept) (sym is) (says.0 h)),
+    λ law. says.1 (subst (AllByRecursion IsLawfulKept) is (keys_lawful law)),
+  )

@@ -27,6 +27,8 @@ pub mod Sorted
 pub mod StockLaws
 pub mod StockRows
 pub mod Stocked
+pub mod Taken
+pub mod TakenMoves
 pub mod Texts
 pub mod TrailLaws
 pub mod Walk

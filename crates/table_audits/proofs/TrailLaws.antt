@@ -1,15 +1,19 @@
 -- The rows of `trail` are lawful exactly where the table is.
-use Rattle.std.proofs.Common.{◌≡◌, ℕ, Bool, true, List, sym, ap, ◌∙◌}
+use Rattle.std.proofs.Common.{◌≡◌, ◌↔◌, ℕ, Bool, true, Option, Some, None, List, map, refl, sym, ap, ap₂, subst, ◌∙◌, true≢false}
 use Rattle.std.specs.Prelude.{IsTrue, IsSome}
 use Rattle.std.specs.List.{list_all}
 use Rattle.std.proofs.lemmas.Bool.{and_parts, and_from}
 use Rattle.sqlite_keyed.proofs.ListLemmas.{all_map, all_unmap, all_weaker, all_both, all_from_test, test_from_all}
 use Rattle.imp_fields.specs.Characters.{is_line}
-use Rattle.row_schema.specs.Tables.{Tables, TrailLine, trail_id}
+use Rattle.text_rows.specs.Meant.{trail_meant}
+use Rattle.text_rows.specs.declared.trail.TrailRow.{TrailRow}
+use Rattle.row_schema.specs.Tables.{Tables, TrailLine, Waybill, trail_id}
 use Rattle.row_codec.specs.Numbers.{natural, is_number, AreNumbered}
 use Rattle.row_codec.specs.Logs.{line_by, is_trail_row}
 use Rattle.table_audits.specs.Lawful.{AreTrailLines, cargo_in}
 use Rattle.table_audits.specs.Rows.{has_waybill, is_lawful_line}
+use Rattle.table_audits.specs.Taken.{AreSoundOr}
+use Rattle.table_audits.proofs.Taken.{sound_rows, rows_sound}
 use Rattle.table_audits.proofs.Each.{both_lists, natural_again}
 use Rattle.table_audits.proofs.DeclaredLaws.{declared_from, declared_back}
 
@@ -40,3 +44,16 @@ module _ (t : Tables) where
 
   pub lawful_lines : AreTrailLines t → list_all passes t.trail ≡ true
   lawful_lines law = test_from_all passes t.trail (all_both (λ row. is_trail_row row ≡ true) (λ row. IsKnown (line_by row)) (λ row. passes row ≡ true) known_back t.trail (all_from_test is_trail_row t.trail law.rows) (all_unmap IsKnown line_by t.trail law.lines))
+
+  module _ (rows : List TrailRow) (ws : List Waybill) (waybills : t.waybills ≡ ws) (is : t.trail ≡ map trail_meant rows) where
+    same_test : list_all passes t.trail ≡ list_all (is_lawful_line ws) (map trail_meant rows)
+    same_test = ap₂ (λ l lines. list_all (is_lawful_line l) lines) waybills is
+
+    pub lines_so : (count : Option ℕ) → AreSoundOr (map (λ row. (trail_id (trail_meant row), is_lawful_line ws (trail_meant row))) rows) count → IsSome count ↔ AreTrailLines t
+    lines_so None never = (
+      λ h. absurd (true≢false (sym h)),
+      λ law. absurd (never (rows_sound trail_meant trail_id (is_lawful_line ws) rows (subst (AreNumbered trail_id) is law.numbers) (sym same_test ∙ lawful_lines law))),
+    )
+    lines_so (Some n) are =
+        let found = sound_rows trail_meant trail_id (is_lawful_line ws) rows are.0 in
+        (λ h. are_lines (same_test ∙ found.1) (subst (AreNumbered trail_id) (sym is) found.0), λ law. refl)

@@ -20,8 +20,8 @@ use Rattle.table_audits.specs.declared.sums.CountPlace.{CountPlace}
 use Rattle.table_audits.specs.declared.sums.BuildPlace.{BuildPlace}
 use Rattle.table_audits.specs.declared.sums.BookSums.{BookSums}
 
--- no place of the station gave more than it got, no more went back than was taken over, what came is within bounds, a closed flight is
--- empty, and at most 500 waybills are built on one
+-- no place of the station gave more than it got, no more went back than was taken over, what came
+-- is within bounds, a closed flight is empty, and at most 500 waybills are built on one
 pub record AreBalances (t : Tables) : Type 0 where
   pub stocked : (w : ℕ) (p : Place) → is_outside p ≡ false → IsStocked (cargo_in t).book w p
   pub covered : (w : ℕ) → IsCovered (cargo_in t).book w
@@ -57,8 +57,8 @@ drawn_at sums awb place = drawn_by (get count_place_cmp sums.counts (record { aw
 abbrev pub is_within : BookSums → ℤ → Bool
 is_within sums awb = fits (plus (drawn_at sums awb (pos 0)) (drawn_at sums awb (pos 1)))
 
--- whether a sum at a place that isn't built is lawful: the codes below 2 are outside, and 0 is where
--- pieces go back to
+-- whether a sum at a place that isn't built is lawful: the codes below 2 are outside, and 0 is
+-- where pieces go back to
 abbrev pub is_lawful_count : BookSums → CountPlace × Tally → Bool
 is_lawful_count sums e =
     if int_lt e.0.place (pos 2)

@@ -1,5 +1,5 @@
 -- Which flights have departed, by their places in a list of flights.
-use Rattle.std.specs.Prelude.{◌≡◌, pos, Bool, true, false, if◌then◌else◌, Option, Some, None, List, map, slice_get, slice_set}
+use Rattle.std.specs.Prelude.{◌≡◌, pos, Bool, true, false, if◌then◌else◌, List, map, slice_get, slice_set}
 use Rattle.std.specs.Option.{unwrap_or}
 use Rattle.std.specs.Ordering.{int_eq}
 use Rattle.std.specs.List.{list_any}
@@ -31,7 +31,3 @@ marked marks from to = marks
 pub record IsDeparted (flights : List FlightDate) (book : List Move) (marks : List Bool) : Type 0 where
   pub marks_are : marks ≡ marks_of flights book
   pub stays : (flight : FlightDate) → StaysDeparted flight book
-
-abbrev pub IsWalked : List FlightDate → List Move → Option (List Bool) → Type 0
-IsWalked flights book None = ((flight : FlightDate) → StaysDeparted flight book) → ⊥
-IsWalked flights book (Some marks) = IsDeparted flights book marks

@@ -7,3 +7,4 @@ pub mod Order
 pub mod Posted
 pub mod Rows
 pub mod Sums
+pub mod Taken

@@ -1,6 +1,6 @@
--- What a row of `moves` is posted as, and what a walk over postings finds.
+-- What a row of `moves` is posted as.
 use Rattle.std.specs.Prelude.{◌≡◌, pos, true, Option, Some, None, List}
-use Rattle.std.specs.List.{list_all, AllByRecursion, AllZip}
+use Rattle.std.specs.List.{list_all}
 use Rattle.std.specs.FinMap.{entries}
 use Rattle.shipment_machine.specs.declared.flight.FlightDate.{FlightDate}
 use Rattle.shipment_machine.specs.declared.moves.Move.{Move}
@@ -53,8 +53,3 @@ pub record IsPosted (t : table.Tables) (row : table.Move) (posting : Posting) : 
 abbrev pub IsPostedOr : table.Tables → table.Move → Option Posting → Type 0
 IsPostedOr t row None = IsGoodRow t row → ⊥
 IsPostedOr t row (Some posting) = IsPosted t row posting
-
--- the rows as they are posted, where each is good
-abbrev pub ArePosted : table.Tables → List table.Move → Option (List Posting) → Type 0
-ArePosted t rows None = AllByRecursion (IsGoodRow t) rows → ⊥
-ArePosted t rows (Some postings) = AllZip (IsPosted t) rows postings

@@ -5,7 +5,7 @@ use Rattle.std.specs.Ordering.{int_cmp, nat_cmp, ordering_then}
 use Rattle.std.specs.declared.cmp.Ordering.{Ordering}
 use Rattle.std.specs.declared.cmp.Ordering.TheVariants.{Less}
 use Rattle.sqlite.specs.Tree.{IsAscending}
-use Rattle.std.specs.List.{AllByRecursion, AllZip}
+use Rattle.std.specs.List.{AllByRecursion}
 use Rattle.std.specs.BTreeMap.{get}
 use Rattle.shipment_machine.specs.declared.flight.FlightDate.{FlightDate}
 use Rattle.shipment_machine.specs.declared.moves.Move.{Move}
@@ -99,9 +99,6 @@ pub record IsPosting (flights : List FlightDate) (posting : Posting) (m : Move) 
   pub to_is : IsSpot flights posting.to m.to
   pub pieces_is : posting.amount.pieces ≡ pos m.pieces
   pub tenths_is : posting.amount.tenths ≡ pos m.tenths
-
-abbrev pub ArePostings : List FlightDate → List Posting → List Move → Type 0
-ArePostings flights = AllZip (IsPosting flights)
 
 -- ---- rows of `build`
 

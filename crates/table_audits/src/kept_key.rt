@@ -1,5 +1,4 @@
-ghost use Rattle.std.specs.Prelude.{◌≡◌, ◌↔◌, ◌&&◌, map, IsTrue, string_bytes};
-ghost use Rattle.std.specs.List.{list_all, AllByRecursion};
+ghost use Rattle.std.specs.Prelude.{◌≡◌, ◌↔◌, ◌&&◌, [], map, List, IsTrue, string_bytes};
 ghost use Rattle.std.specs.FinMap.{entries};
 ghost use Rattle.row_schema.specs.Tables.{Tables};
 ghost use Rattle.table_load.specs.Held.{kept_key_entry};
@@ -9,9 +8,12 @@ ghost use Rattle.station_core.specs.Told.{IsRequest};
 ghost use Rattle.station_core.specs.Key.{is_key};
 ghost use Rattle.row_codec.specs.Numbers.{is_count};
 ghost use Rattle.row_codec.specs.Replies.{is_kept_row};
+ghost use Rattle.table_audits.specs.Taken.{IsLawfulKept, AreKeysTaken};
 
 use desk_commands::read_command_text;
+use raw_rows::RowFold;
 use row_codec::count_of;
+use sqlite::Error;
 use station_core::Key;
 use table_load::KeptKeyEntry;
 
@@ -29,13 +31,6 @@ fn is_in_range(row: &KeptKeyEntry) -> bool
     is_counted(row)
 }
 
-/// Whether each row is.
-fn are_in_range(rows: &[KeptKeyEntry]) -> bool
-    ensures { result ≡ list_all is_kept_row (map kept_key_entry rows.now) }
-{
-    rows.iter().all(|row| is_in_range(row))
-}
-
 /// Whether it is the text of a command.
 fn is_request(text: &str) -> bool
     ensures request { IsTrue result → IsRequest text.now }
@@ -44,25 +39,51 @@ fn is_request(text: &str) -> bool
     read_command_text(text.as_bytes()).is_some()
 }
 
-/// Whether the text of each row is that of a command.
-fn are_requests(rows: &[KeptKeyEntry]) -> bool
-    ensures { IsTrue result ↔ AllByRecursion (λ row. IsRequest row.1.command)
-        (map kept_key_entry rows.now) }
+/// Whether the row is within range, and its text that of a command.
+fn is_lawful(row: &KeptKeyEntry) -> bool
+    ensures { IsTrue result ↔ IsLawfulKept (kept_key_entry row.now) }
 {
-    for row in rows {
-        if !is_request(&row.command) {
-            return false;
-        }
-    }
-    true
+    is_in_range(row) && is_request(&row.command)
 }
 
-/// Whether these rows of `kept_key`, in the order of their keys, are lawful.
-pub fn are_kept_keys_lawful(rows: &[KeptKeyEntry]) -> bool
-    ensures exact { (t : Tables) → entries t.kept ≡ map kept_key_entry rows.now
+/// Rows of `kept_key` that are taken one after another.
+#[derive(Drop)]
+pub struct KeptKeys {
+    /// Whether each of them is lawful.
+    pub(crate) are_lawful: bool,
+}
+
+impl KeptKeys {
+    /// No rows.
+    pub fn new() -> KeptKeys
+        ensures { AreKeysTaken result [] }
+    {
+        KeptKeys { are_lawful: true }
+    }
+}
+
+impl RowFold<KeptKeyEntry> for KeptKeys {
+    ghost use Rattle.table_audits.specs.Taken.{AreKeysTaken};
+
+    type Beside = ();
+
+    ghost has = { λ _ keys rows. AreKeysTaken keys rows };
+
+    fn take(&mut self, beside: &(), row: KeptKeyEntry) -> Result<(), Error> {
+        let _ = beside;
+        if is_lawful(&row) {
+            return Ok(());
+        }
+        self.are_lawful = false;
+        Ok(())
+    }
+}
+
+/// Whether the rows of `kept_key` that were taken are lawful.
+pub fn are_kept_keys_lawful(keys: &KeptKeys) -> bool
+    ensures exact { (t : Tables) (rows : List KeptKeyEntry) → AreKeysTaken keys.now rows
+        → entries t.kept ≡ map kept_key_entry rows
         → (IsTrue result ↔ IsLawfulTable table.KeptKey t) }
 {
-    let in_range = are_in_range(rows);
-    let requests = are_requests(rows);
-    in_range && requests
+    keys.are_lawful
 }

@@ -1,56 +1,64 @@
-//! The numbers of rows that are numbered from 1.
+ghost use Rattle.std.specs.Prelude.{◌≡◌, ◌↔◌, ◌+◌, ◌++◌, ◌∷◌, [], ℤ, Bool, List, length, pos, IsTrue, IfOk, OnOk};
+ghost use Rattle.table_audits.specs.Taken.{AreSound, AreSoundOr, AreCounted};
 
-ghost use Rattle.std.specs.Prelude.{◌≡◌, ◌↔◌, ◌+◌, ◌<◌, ◌^◌, pos, map, IsTrue};
-ghost use Rattle.cargo_rows.specs.Meant.{move_meant};
-ghost use Rattle.text_rows.specs.Meant.{trail_meant, message_meant};
-ghost use Rattle.row_schema.specs.Tables.{move_id, trail_id, message_id};
-ghost use Rattle.row_codec.specs.Numbers.{AreNumbered};
+use sqlite::{Error, ErrorCode};
 
-use station_rows::{MessageRow, MoveRow, TrailRow};
-
-/// Whether the row at this place, counted from 0, has the number of its place, counted from 1.
-fn is_numbered(number: &i64, at: usize) -> bool
-    requires { at + 1 < 2 ^ 64 }
-    ensures { IsTrue result ↔ (number.now ≡ pos (at + 1)) }
+/// Whether a number is that of the row after so many, counted from 1.
+pub(crate) fn is_next(number: i64, count: u32) -> bool
+    ensures { IsTrue result ↔ (number ≡ pos (count + 1)) }
 {
-    match usize::try_from(*number) {
-        Ok(number) => number == at + 1,
-        Err(_) => false,
+    number == i64::from(count) + 1
+}
+
+/// One row more. On error there are more than 4,294,967,295.
+pub(crate) fn one_more(count: u32) -> Result<u32, Error>
+    ensures { IfOk result (λ more. more ≡ count + 1) }
+{
+    match count.checked_add(1) {
+        Some(more) => Ok(more),
+        None => Err(Error::SqliteFailure(ErrorCode::TooBig)),
     }
 }
 
-/// Whether the moves are numbered from 1, in order.
-pub fn are_moves_numbered(rows: &[MoveRow]) -> bool
-    ensures { IsTrue result ↔ AreNumbered move_id (map move_meant rows.now) }
+/// How many rows there are with the next one. `None`: it has another number, or isn't lawful. On
+/// error there are more than 4,294,967,295.
+fn counted(count: u32, number: i64, is_lawful: bool) -> Result<Option<u32>, Error>
+    ensures { (rows : List (ℤ × Bool)) → AreSound rows → count ≡ length rows
+        → IfOk result (AreSoundOr (rows ++ (number, is_lawful) ∷ [])) }
 {
-    for (at, row) in rows.iter().enumerate() {
-        if !is_numbered(&row.number, at) {
-            return false;
-        }
+    if !is_lawful {
+        return Ok(None);
     }
-    true
+    if !is_next(number, count) {
+        return Ok(None);
+    }
+    Ok(Some(one_more(count)?))
 }
 
-/// Whether the lines are numbered from 1, in order.
-pub(crate) fn are_lines_numbered(rows: &[TrailRow]) -> bool
-    ensures { IsTrue result ↔ AreNumbered trail_id (map trail_meant rows.now) }
-{
-    for (at, row) in rows.iter().enumerate() {
-        if !is_numbered(&row.number, at) {
-            return false;
-        }
-    }
-    true
+/// Rows that are taken one after another: whether they are numbered from 1 and lawful, and how many
+/// they are.
+#[derive(Drop)]
+pub struct NumberedRows {
+    /// How many they are. `None`: one of them has another number, or isn't lawful.
+    pub(crate) count: Option<u32>,
 }
 
-/// Whether the messages are numbered from 1, in order.
-pub(crate) fn are_messages_numbered(rows: &[MessageRow]) -> bool
-    ensures { IsTrue result ↔ AreNumbered message_id (map message_meant rows.now) }
-{
-    for (at, row) in rows.iter().enumerate() {
-        if !is_numbered(&row.number, at) {
-            return false;
-        }
+impl NumberedRows {
+    /// No rows.
+    pub fn new() -> NumberedRows
+        ensures { AreCounted result [] }
+    {
+        NumberedRows { count: Some(0) }
     }
-    true
+
+    /// Takes the next row. On error there are more than 4,294,967,295.
+    pub(crate) fn add(&mut self, number: i64, is_lawful: bool) -> Result<(), Error>
+        ensures { (rows : List (ℤ × Bool)) → AreCounted self.old rows
+            → OnOk result (AreCounted self.new (rows ++ (number, is_lawful) ∷ [])) }
+    {
+        if let Some(count) = self.count {
+            self.count = counted(count, number, is_lawful)?;
+        }
+        Ok(())
+    }
 }

@@ -1,43 +1,48 @@
-ghost use Rattle.std.specs.Prelude.{◌≡◌, ◌↔◌, ◌≤◌, length, map, IsTrue};
-ghost use Rattle.std.specs.List.{list_all};
+ghost use Rattle.std.specs.Prelude.{◌≡◌, ◌↔◌, length, map, List, IsSome, IfSome};
 ghost use Rattle.text_rows.specs.Meant.{message_meant};
 ghost use Rattle.row_schema.specs.Tables.{Tables};
+ghost use Rattle.row_codec.specs.Meaning.{confirmed_in};
 ghost use Rattle.table_audits.specs.Lawful.{IsLawfulTable};
 ghost use Rattle.table_audits.specs.declared.name.TableName.TheVariants as table;
-ghost use Rattle.row_codec.specs.Logs.{is_message_row};
-ghost use Rattle.row_codec.specs.Numbers.{natural};
-ghost use Rattle.row_codec.specs.Meaning.{confirmed_in};
+ghost use Rattle.table_audits.specs.Taken.{if_confirmed, AreMessagesTaken};
 
-use crate::numbers::are_messages_numbered;
+use crate::NumberedRows;
+use raw_rows::RowFold;
+use sqlite::Error;
 use station_rows::MessageRow;
 
-/// Whether there are at least as many messages as were confirmed. None was where the number is
-/// negative.
-fn has_confirmed(rows: &[MessageRow], confirmed: i64) -> bool
-    ensures { IsTrue result ↔ (natural confirmed ≤ length rows.now) }
-{
-    match usize::try_from(confirmed) {
-        Ok(confirmed) => confirmed <= rows.len(),
-        Err(_) => confirmed < 0,
+/// Rows of `outbox` are taken in the order of their numbers. Each is a text by its type.
+impl RowFold<MessageRow> for NumberedRows {
+    ghost use Rattle.table_audits.specs.Taken.{AreMessagesTaken};
+
+    type Beside = ();
+
+    ghost has = { λ _ messages rows. AreMessagesTaken messages rows };
+
+    fn take(&mut self, beside: &(), row: MessageRow) -> Result<(), Error> {
+        let _ = beside;
+        self.add(row.number, true)
     }
 }
 
-/// The law that the messages of rows are texts, by their type.
-#[tactic(auto, using(crate::proofs::Texts::messages_are))]
-fn are_texts(rows: &[MessageRow])
-    ensures { IsTrue (list_all is_message_row (map message_meant rows.now)) }
+/// How many messages there are, if so many were confirmed of them.
+fn if_confirmed(count: Option<u32>, confirmed: u32) -> Option<u32>
+    ensures { result ≡ if_confirmed confirmed count }
 {
-    let _ = rows;
+    match count {
+        Some(count) if confirmed <= count => Some(count),
+        _ => None,
+    }
 }
 
-/// Whether these rows of `outbox`, in the order of their numbers, are lawful where so many messages
-/// were confirmed.
-pub fn is_outbox_lawful(rows: &[MessageRow], confirmed: i64) -> bool
-    ensures exact { (t : Tables) → confirmed_in t.stations ≡ natural confirmed
-        → t.outbox ≡ map message_meant rows.now → (IsTrue result ↔ IsLawfulTable table.Outbox t) }
+/// How many messages there are, where the rows of `outbox` that were taken are lawful and so many
+/// messages were confirmed.
+pub fn lawful_messages(messages: &NumberedRows, confirmed: u32) -> Option<u32>
+    ensures exact { (t : Tables) (rows : List MessageRow) → AreMessagesTaken messages.now rows
+        → confirmed_in t.stations ≡ confirmed → t.outbox ≡ map message_meant rows
+        → (IsSome result ↔ IsLawfulTable table.Outbox t) }
+    ensures count { (t : Tables) (rows : List MessageRow) → AreMessagesTaken messages.now rows
+        → t.outbox ≡ map message_meant rows → IfSome result (λ count. count ≡ length t.outbox) }
 {
-    are_texts(rows);
-    let numbered = are_messages_numbered(rows);
-    let confirmed = has_confirmed(rows, confirmed);
-    numbered && confirmed
+    if_confirmed(messages.count, confirmed)
 }

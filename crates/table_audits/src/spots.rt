@@ -9,8 +9,8 @@ ghost use Rattle.row_codec.specs.Moves.{are_flight_columns};
 ghost use Rattle.running_totals.specs.Sums.{is_built};
 ghost use Rattle.table_audits.specs.Posted.{AreBeside, IsSpotFound};
 
-use crate::Spot;
 use crate::lookups::flight_place;
+use crate::sums::Spot;
 use row_codec::place_code;
 use shipment_machine::Place;
 use station_rows::MoveRow;

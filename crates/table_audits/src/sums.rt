@@ -1,4 +1,4 @@
-ghost use Rattle.std.specs.Prelude.{◌≡◌, ◌∷◌, [], ◌++◌, ℕ, pos, neg_ℤ, false, List, Some, OnOk, IfOk, slice_get};
+ghost use Rattle.std.specs.Prelude.{◌≡◌, ◌∷◌, [], ◌++◌, ℕ, pos, neg_ℤ, false, List, Some, OnOk, slice_get};
 ghost use Rattle.shipment_machine.specs.declared.flight.FlightDate.{FlightDate};
 ghost use Rattle.shipment_machine.specs.declared.moves.Move.{Move};
 ghost use Rattle.shipment_machine.specs.declared.moves.Place.{Place};
@@ -6,7 +6,7 @@ ghost use Rattle.shipment_machine.specs.declared.moves.Place.TheVariants.{Built}
 ghost use Rattle.row_codec.specs.Counts.{running};
 ghost use Rattle.row_codec.specs.Moves.{place_code};
 ghost use Rattle.running_totals.specs.Sums.{Sums, posting, is_built};
-ghost use Rattle.table_audits.specs.Sums.{meant, AreDistinct, AreSums, IsSpot, IsPosting, ArePostings};
+ghost use Rattle.table_audits.specs.Sums.{meant, AreDistinct, AreSums, IsSpot, IsPosting};
 
 use crate::posts::post;
 use crate::tally::{NoRoom, Tally};
@@ -29,7 +29,7 @@ pub(crate) struct BuildPlace {
 
 /// Where pieces come from or go to.
 #[derive(Clone, Copy, Debug, PartialEq, Eq)]
-pub enum Spot {
+pub(crate) enum Spot {
     /// A place that isn't built, by its code.
     Plain(i64),
     /// Built for a flight, by the flight's place in a list of flights.
@@ -38,12 +38,12 @@ pub enum Spot {
 
 /// A move as it is posted.
 #[derive(Clone, Copy, Debug, PartialEq, Eq)]
-pub struct Posting {
+pub(crate) struct Posting {
     /// The waybill's number.
-    pub awb: i64,
-    pub from: Spot,
-    pub to: Spot,
-    pub amount: Tally,
+    pub(crate) awb: i64,
+    pub(crate) from: Spot,
+    pub(crate) to: Spot,
+    pub(crate) amount: Tally,
 }
 
 /// What the moves of a book come to, for each waybill at each place.
@@ -56,7 +56,7 @@ pub struct BookSums {
 impl BookSums {
     /// The sums of no moves.
     #[tactic(auto, using(crate::proofs::Posted::no_sums))]
-    fn new(alloc: Global) -> BookSums
+    pub(crate) fn new(alloc: Global) -> BookSums
         ensures { (flights : List FlightDate) → AreSums flights result (running []) }
     {
         BookSums {
@@ -101,7 +101,7 @@ impl BookSums {
     /// Takes what a move moves from the place that it leaves, and brings it to the place that it
     /// comes to.
     #[tactic(auto, using(crate::proofs::Posted::moved))]
-    fn add(&mut self, movement: &Posting) -> Result<(), NoRoom>
+    pub(crate) fn add(&mut self, movement: &Posting) -> Result<(), NoRoom>
         ensures { (flights : List FlightDate) (book : List Move) (m : Move) → AreDistinct flights
             → AreSums flights self.old (running book) → IsPosting flights movement.now m
             → OnOk result (AreSums flights self.new (running (book ++ m ∷ []))) }
@@ -112,18 +112,4 @@ impl BookSums {
         self.post_at(movement.awb, &movement.from, gone)?;
         self.post_at(movement.awb, &movement.to, movement.amount)
     }
-}
-
-/// What the moves of a book come to.
-#[tactic(auto, using(crate::proofs::Walk::begun, crate::proofs::Walk::ended))]
-pub fn sums_of(alloc: Global, moves: &[Posting]) -> Result<BookSums, NoRoom>
-    ensures { (flights : List FlightDate) (book : List Move) → AreDistinct flights
-        → ArePostings flights moves.now book
-        → IfOk result (λ sums. AreSums flights sums (running book)) }
-{
-    let mut sums = BookSums::new(alloc);
-    for movement in moves {
-        sums.add(movement)?;
-    }
-    Ok(sums)
 }

@@ -5,13 +5,13 @@ ghost use Rattle.table_audits.specs.Sums.{meant, plus_tally};
 /// There is no room for a book's sums: out of memory, or a sum doesn't fit 64 bits, which takes
 /// more than 10^12 moves.
 #[derive(Clone, Copy, Debug, PartialEq, Eq)]
-pub struct NoRoom;
+pub(crate) struct NoRoom;
 
 /// Pieces and tenths of a kilogram that came to a place, less those that left it.
 #[derive(Clone, Copy, Debug, PartialEq, Eq)]
-pub struct Tally {
-    pub pieces: i64,
-    pub tenths: i64,
+pub(crate) struct Tally {
+    pub(crate) pieces: i64,
+    pub(crate) tenths: i64,
 }
 
 impl Tally {

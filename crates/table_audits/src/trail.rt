@@ -1,16 +1,18 @@
-ghost use Rattle.std.specs.Prelude.{◌≡◌, ◌↔◌, map, IsTrue};
-ghost use Rattle.std.specs.List.{list_all};
+ghost use Rattle.std.specs.Prelude.{◌≡◌, ◌↔◌, length, map, List, IsSome, IfSome};
 ghost use Rattle.cargo_rows.specs.Meant.{waybill_meant};
 ghost use Rattle.text_rows.specs.Meant.{trail_meant};
-ghost use Rattle.row_schema.specs.Tables.{Tables};
+ghost use Rattle.row_schema.specs.Tables.{Tables, Waybill};
 ghost use Rattle.table_audits.specs.Lawful.{IsLawfulTable};
 ghost use Rattle.table_audits.specs.declared.name.TableName.TheVariants as table;
 ghost use Rattle.table_audits.specs.Order.{RisesByNumber};
 ghost use Rattle.table_audits.specs.Rows.{is_lawful_line};
+ghost use Rattle.table_audits.specs.Taken.{AreLinesTaken};
 
+use crate::NumberedRows;
 use crate::lookups::is_declared;
-use crate::numbers::are_lines_numbered;
+use raw_rows::RowFold;
 use row_codec::{awb_key, waybill_of_line};
+use sqlite::Error;
 use station_rows::{TrailRow, WaybillRow};
 
 /// Whether the row is within range, and its waybill declared.
@@ -24,23 +26,33 @@ fn is_lawful(row: &TrailRow, waybills: &[WaybillRow]) -> bool
     }
 }
 
-/// Whether each row is.
-fn are_lawful(rows: &[TrailRow], waybills: &[WaybillRow]) -> bool
-    ensures { RisesByNumber (map waybill_meant waybills.now)
-        → result ≡ list_all (is_lawful_line (map waybill_meant waybills.now))
-        (map trail_meant rows.now) }
-{
-    rows.iter().all(|row| is_lawful(row, waybills))
+/// Rows of `trail`, in the order of their numbers, are taken beside those of `waybill2`, in the
+/// order of their numbers.
+impl RowFold<TrailRow> for NumberedRows {
+    ghost use Rattle.std.specs.Prelude.{map};
+    ghost use Rattle.cargo_rows.specs.Meant.{waybill_meant};
+    ghost use Rattle.table_audits.specs.Taken.{AreLinesTaken};
+
+    type Beside = Vec<WaybillRow>;
+
+    ghost has = { λ waybills lines rows. AreLinesTaken (map waybill_meant waybills.items) lines rows };
+
+    fn take(&mut self, waybills: &Vec<WaybillRow>, row: TrailRow) -> Result<(), Error> {
+        let is_lawful = is_lawful(&row, waybills);
+        self.add(row.number, is_lawful)
+    }
 }
 
-/// Whether these rows of `trail`, in the order of their numbers, are lawful beside these of
-/// `waybill`, in the order of their numbers.
-pub fn is_trail_lawful(rows: &[TrailRow], waybills: &[WaybillRow]) -> bool
-    ensures exact { (t : Tables) → RisesByNumber (map waybill_meant waybills.now)
-        → t.waybills ≡ map waybill_meant waybills.now → t.trail ≡ map trail_meant rows.now
-        → (IsTrue result ↔ IsLawfulTable table.Trail t) }
+/// How many lines there are, where the rows of `trail` that were taken are lawful beside these of
+/// `waybill2`, in the order of their numbers.
+pub fn lawful_lines(lines: &NumberedRows) -> Option<u32>
+    ensures exact { (t : Tables) (waybills : List Waybill) (rows : List TrailRow)
+        → AreLinesTaken waybills lines.now rows → RisesByNumber waybills
+        → t.waybills ≡ waybills → t.trail ≡ map trail_meant rows
+        → (IsSome result ↔ IsLawfulTable table.Trail t) }
+    ensures count { (t : Tables) (waybills : List Waybill) (rows : List TrailRow)
+        → AreLinesTaken waybills lines.now rows → RisesByNumber waybills
+        → t.trail ≡ map trail_meant rows → IfSome result (λ count. count ≡ length t.trail) }
 {
-    let numbered = are_lines_numbered(rows);
-    let lawful = are_lawful(rows, waybills);
-    numbered && lawful
+    lines.count
 }

@@ -1,4 +1,5 @@
--- In the tables that a station declares, in a file of either version, what is held under the names is what the typed tables are.
+-- In the tables that a station declares, in a file of either version, what is held under the names
+-- is what the typed tables are.
 use Rattle.std.proofs.Common.{◌≡◌, ◌∙◌, ℕ, ℤ, List, [], ◌∷◌, map, refl, sym, ap}
 use Rattle.std.specs.FinMap.{entries}
 use Rattle.sqlite.specs.Order.{column}

@@ -1,9 +1,10 @@
+ghost use Rattle.std.specs.Prelude.{[]};
 ghost use Rattle.sqlite.specs.State.{Survives};
 ghost use Rattle.sqlite.specs.Held.{state};
-ghost use Rattle.raw_rows.specs.Whole.{FindsTable};
+ghost use Rattle.raw_rows.specs.Walks.{FoldsTable};
 ghost use Rattle.table_load.specs.Held.{HoldsKeptKey, kept_key_entry};
 
-use raw_rows::{KeyedTable, found_rows, number, words};
+use raw_rows::{KeyedTable, RowFold, fold_rows, number, words};
 use sqlite::{Alter, Connection, Error, Row};
 use std::alloc::Global;
 
@@ -63,24 +64,30 @@ impl KeyedTable for KeptKeyTable {
     }
 }
 
-/// All rows of `kept_key` in any database, by `id`. Nothing where the table or a column is missing,
-/// a value is of another type or a text that is no UTF-8, or a key stands twice. The connection is
-/// open. On error memory is out or the database could not be read: nothing was done, or the
-/// transaction that was open is undone.
+/// What the rows of `kept_key` in any database make of a fold, by `id`. `None` where the table or a
+/// column is missing, a value is of another type or a text that is no UTF-8, or a key stands twice.
+/// The connection is open. On error memory is out, the fold failed, or the database could not be
+/// read: nothing was done, or the transaction that was open is undone.
 #[tactic(auto, using(crate::proofs::Texts::kept_key_is, crate::proofs::Orders::kept_key_agrees))]
-pub fn found_kept_keys<S: Alter>(
+pub fn fold_kept_keys<S: Alter, F: RowFold<KeptKeyEntry> + Drop>(
     alloc: Global,
     conn: &mut Connection<S>,
-) -> Result<Option<Vec<KeptKeyEntry>>, Error>
-    ensures read { FindsTable S.Store conn.old conn.new result kept_key_entry HoldsKeptKey }
+    beside: &F::Beside,
+    fold: F,
+) -> Result<Option<F>, Error>
+    requires begun { F.has beside.now fold [] }
+    ensures read { FoldsTable S.Store conn.old conn.new result (F.has beside.now) kept_key_entry
+        HoldsKeptKey }
     ensures survives { Survives (state S.Store conn.old) (state S.Store conn.new) (λ _. ⊥) }
 {
-    found_rows::<S, KeptKeyTable>(
+    fold_rows::<S, KeptKeyTable, F>(
         alloc,
         conn,
         "SELECT id, command, count FROM kept_key ORDER BY id",
         "kept_key",
         &["id", "command", "count"],
         1,
+        beside,
+        fold,
     )
 }

@@ -1,16 +1,16 @@
 ghost use Rattle.sqlite.specs.State.{Survives};
 ghost use Rattle.sqlite.specs.Held.{state};
-ghost use Rattle.raw_rows.specs.Whole.{FindsTable};
+ghost use Rattle.raw_rows.specs.Walks.{FoldsTable};
 ghost use Rattle.cargo_rows.specs.Meant.{move_meant};
 ghost use Rattle.table_load.specs.Held.{HoldsMoves};
-ghost use Rattle.std.specs.Prelude.{◌≡◌, ◌≢◌, length, IfSome, None, string_bytes};
+ghost use Rattle.std.specs.Prelude.{◌≡◌, ◌≢◌, [], length, IfSome, None, string_bytes};
 ghost use Rattle.sqlite.specs.declared.types.Value.TheVariants.{Text};
 ghost use Rattle.sqlite.specs.Order.{column};
 ghost use Rattle.row_schema.specs.Tables.{Move};
 ghost use Rattle.cargo_rows.specs.Shown.{move_shown};
 
 use cargo_rows::MoveRow;
-use raw_rows::{KeyedTable, found_rows, number, words};
+use raw_rows::{KeyedTable, RowFold, fold_rows, number, words};
 use sqlite::{Alter, Connection, Error, Row};
 use std::alloc::Global;
 
@@ -77,19 +77,23 @@ fn move_on(row: &Row, flight: String) -> Option<MoveRow>
     })
 }
 
-/// All rows of `moves` in any database, by `number`. Nothing where the table or a column is
-/// missing, a value is of another type or a text that is no UTF-8, or a key stands twice. The
-/// connection is open. On error memory is out or the database could not be read: nothing was done,
-/// or the transaction that was open is undone.
+/// What the rows of `moves` in any database make of a fold, by `number`. `None` where the table or
+/// a column is missing, a value is of another type or a text that is no UTF-8, or a key stands
+/// twice. The connection is open. On error memory is out, the fold failed, or the database could
+/// not be read: nothing was done, or the transaction that was open is undone.
 #[tactic(auto, using(crate::proofs::Texts::moves_is, crate::proofs::Orders::moves_agrees))]
-pub fn found_moves<S: Alter>(
+pub fn fold_moves<S: Alter, F: RowFold<MoveRow> + Drop>(
     alloc: Global,
     conn: &mut Connection<S>,
-) -> Result<Option<Vec<MoveRow>>, Error>
-    ensures read { FindsTable S.Store conn.old conn.new result move_meant HoldsMoves }
+    beside: &F::Beside,
+    fold: F,
+) -> Result<Option<F>, Error>
+    requires begun { F.has beside.now fold [] }
+    ensures read { FoldsTable S.Store conn.old conn.new result (F.has beside.now) move_meant
+        HoldsMoves }
     ensures survives { Survives (state S.Store conn.old) (state S.Store conn.new) (λ _. ⊥) }
 {
-    found_rows::<S, MovesTable>(
+    fold_rows::<S, MovesTable, F>(
         alloc,
         conn,
         "SELECT number, awb, src, dst, pieces, tenths, flight, fday, day, minute FROM moves ORDER BY number",
@@ -98,5 +102,7 @@ pub fn found_moves<S: Alter>(
             "number", "awb", "src", "dst", "pieces", "tenths", "flight", "fday", "day", "minute",
         ],
         1,
+        beside,
+        fold,
     )
 }

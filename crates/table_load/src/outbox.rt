@@ -1,10 +1,11 @@
+ghost use Rattle.std.specs.Prelude.{[]};
 ghost use Rattle.sqlite.specs.State.{Survives};
 ghost use Rattle.sqlite.specs.Held.{state};
-ghost use Rattle.raw_rows.specs.Whole.{FindsTable};
+ghost use Rattle.raw_rows.specs.Walks.{FoldsTable};
 ghost use Rattle.text_rows.specs.Meant.{message_meant};
 ghost use Rattle.table_load.specs.Held.{HoldsOutbox};
 
-use raw_rows::{KeyedTable, found_rows, number, words};
+use raw_rows::{KeyedTable, RowFold, fold_rows, number, words};
 use sqlite::{Alter, Connection, Error, Row};
 use std::alloc::Global;
 use text_rows::MessageRow;
@@ -56,24 +57,30 @@ impl KeyedTable for OutboxTable {
     }
 }
 
-/// All rows of `outbox` in any database, by `number`. Nothing where the table or a column is
-/// missing, a value is of another type or a text that is no UTF-8, or a key stands twice. The
-/// connection is open. On error memory is out or the database could not be read: nothing was done,
-/// or the transaction that was open is undone.
+/// What the rows of `outbox` in any database make of a fold, by `number`. `None` where the table or
+/// a column is missing, a value is of another type or a text that is no UTF-8, or a key stands
+/// twice. The connection is open. On error memory is out, the fold failed, or the database could
+/// not be read: nothing was done, or the transaction that was open is undone.
 #[tactic(auto, using(crate::proofs::Texts::outbox_is, crate::proofs::Orders::outbox_agrees))]
-pub fn found_outbox<S: Alter>(
+pub fn fold_outbox<S: Alter, F: RowFold<MessageRow> + Drop>(
     alloc: Global,
     conn: &mut Connection<S>,
-) -> Result<Option<Vec<MessageRow>>, Error>
-    ensures read { FindsTable S.Store conn.old conn.new result message_meant HoldsOutbox }
+    beside: &F::Beside,
+    fold: F,
+) -> Result<Option<F>, Error>
+    requires begun { F.has beside.now fold [] }
+    ensures read { FoldsTable S.Store conn.old conn.new result (F.has beside.now) message_meant
+        HoldsOutbox }
     ensures survives { Survives (state S.Store conn.old) (state S.Store conn.new) (λ _. ⊥) }
 {
-    found_rows::<S, OutboxTable>(
+    fold_rows::<S, OutboxTable, F>(
         alloc,
         conn,
         "SELECT number, body FROM outbox ORDER BY number",
         "outbox",
         &["number", "body"],
         1,
+        beside,
+        fold,
     )
 }

@@ -1,10 +1,11 @@
+ghost use Rattle.std.specs.Prelude.{[]};
 ghost use Rattle.sqlite.specs.State.{Survives};
 ghost use Rattle.sqlite.specs.Held.{state};
-ghost use Rattle.raw_rows.specs.Whole.{FindsTable};
+ghost use Rattle.raw_rows.specs.Walks.{FoldsTable};
 ghost use Rattle.text_rows.specs.Meant.{trail_meant};
 ghost use Rattle.table_load.specs.Held.{HoldsTrail};
 
-use raw_rows::{KeyedTable, found_rows, number, words};
+use raw_rows::{KeyedTable, RowFold, fold_rows, number, words};
 use sqlite::{Alter, Connection, Error, Row};
 use std::alloc::Global;
 use text_rows::TrailRow;
@@ -60,24 +61,30 @@ impl KeyedTable for TrailTable {
     }
 }
 
-/// All rows of `trail` in any database, by `number`. Nothing where the table or a column is
-/// missing, a value is of another type or a text that is no UTF-8, or a key stands twice. The
-/// connection is open. On error memory is out or the database could not be read: nothing was done,
-/// or the transaction that was open is undone.
+/// What the rows of `trail` in any database make of a fold, by `number`. `None` where the table or
+/// a column is missing, a value is of another type or a text that is no UTF-8, or a key stands
+/// twice. The connection is open. On error memory is out, the fold failed, or the database could
+/// not be read: nothing was done, or the transaction that was open is undone.
 #[tactic(auto, using(crate::proofs::Texts::trail_is, crate::proofs::Orders::trail_agrees))]
-pub fn found_trail<S: Alter>(
+pub fn fold_trail<S: Alter, F: RowFold<TrailRow> + Drop>(
     alloc: Global,
     conn: &mut Connection<S>,
-) -> Result<Option<Vec<TrailRow>>, Error>
-    ensures read { FindsTable S.Store conn.old conn.new result trail_meant HoldsTrail }
+    beside: &F::Beside,
+    fold: F,
+) -> Result<Option<F>, Error>
+    requires begun { F.has beside.now fold [] }
+    ensures read { FoldsTable S.Store conn.old conn.new result (F.has beside.now) trail_meant
+        HoldsTrail }
     ensures survives { Survives (state S.Store conn.old) (state S.Store conn.new) (λ _. ⊥) }
 {
-    found_rows::<S, TrailTable>(
+    fold_rows::<S, TrailTable, F>(
         alloc,
         conn,
         "SELECT number, awb, line FROM trail ORDER BY number",
         "trail",
         &["number", "awb", "line"],
         1,
+        beside,
+        fold,
     )
 }

@@ -1,17 +1,9 @@
-use Rattle.std.proofs.Common.{subst, sym, refl, ◌∙◌}
-use Rattle.std.specs.FinMap.{entries}
+use Rattle.std.proofs.Common.{subst}
 use Rattle.sqlite.specs.Held.{state}
-use Rattle.row_codec.specs.Moves.{book_in}
-use Rattle.cargo_rows.specs.Meant.{waybill_meant}
-use Rattle.table_load.specs.Held.{flight_entry, part_entry}
 use Rattle.table_audits.specs.declared.name.TableName.TheVariants as table
 use Rattle.table_audits.specs.Order.{RisesByNumber}
-use Rattle.table_audits.specs.Audited.{flights_of}
-use Rattle.table_audits.specs.Sums.{AreFlightsOf}
-use Rattle.table_audits.proofs.Listed.{flights_are}
-use Rattle.file_audit.specs.Judged.{IsJudged}
 use Rattle.file_audit.proofs.ReadLists.{waybills_rise}
-use Rattle.file_audit.proofs.EachTable.{expected_missing, expected_judged, expected_are}
+use Rattle.file_audit.proofs.EachTable.{expected_missing, expected_judged}
 use Rattle.file_audit.proofs.good.are_expected_good.Goals as goal
 
 pub returns-in_default-clause-read : goal.returns-in_default-clause-read

@@ -1,25 +1,17 @@
-use Rattle.std.proofs.Common.{subst, sym, refl, ◌∙◌}
-use Rattle.std.specs.FinMap.{entries}
 use Rattle.sqlite.specs.Held.{state}
-use Rattle.row_codec.specs.Moves.{book_in}
-use Rattle.cargo_rows.specs.Meant.{waybill_meant}
-use Rattle.table_load.specs.Held.{flight_entry, part_entry}
-use Rattle.table_audits.specs.declared.name.TableName.TheVariants as table
-use Rattle.table_audits.specs.Order.{RisesByNumber}
-use Rattle.table_audits.specs.Audited.{flights_of}
-use Rattle.table_audits.specs.Sums.{AreFlightsOf}
-use Rattle.table_audits.proofs.Listed.{flights_are}
-use Rattle.file_audit.specs.Judged.{IsJudged}
-use Rattle.file_audit.proofs.ReadLists.{waybills_rise}
-use Rattle.file_audit.proofs.EachTable.{kept_missing, kept_judged, kept_are}
+use Rattle.table_audits.specs.Taken.{AreKeysTaken}
+use Rattle.file_audit.proofs.EachTable.{kept_missing, kept_judged, kept_read, kept_taken}
 use Rattle.file_audit.proofs.good.are_kept_keys_good.Goals as goal
 
 pub returns-in_default-clause-read : goal.returns-in_default-clause-read
 returns-in_default-clause-read g c = λ clean up db at so_far knows.
-    let read = c.in_ok-rows.ensures.read clean up in
-    (kept_missing db (state g.S.Store c.args.conn.now).now at so_far c.in_ok-rows.field-0 read.0 c.in_default.is, read.1)
+    let read = c.in_ok-keys.ensures.read clean up in
+    (kept_missing AreKeysTaken db (state g.S.Store c.args.conn.now).now at so_far c.in_ok-keys.field-0 read.0 c.in_default.is, read.1)
 
 pub returns-clause-read : goal.returns-clause-read
 returns-clause-read g c = λ clean up db at so_far knows.
-    let read = c.in_ok-rows.ensures.read clean up in
-    ((kept_judged db (state g.S.Store c.args.conn.now).now at so_far c.in_ok-rows.field-0 read.0 c.in-Some.rows c.in-Some.is c.deref.result.now c.deref.ensures.value c.are_kept_keys_lawful.result (λ t so is. c.are_kept_keys_lawful.ensures.exact t is)), read.1)
+    let now = (state g.S.Store c.args.conn.now).now in
+    let read = c.in_ok-keys.ensures.read clean up in
+    let rows = kept_read AreKeysTaken db now at so_far c.in_ok-keys.field-0 read.0 c.in-Some.keys c.in-Some.is in
+    let taken = kept_taken AreKeysTaken db now at so_far c.in_ok-keys.field-0 read.0 c.in-Some.keys c.in-Some.is in
+    (kept_judged AreKeysTaken db now at so_far c.in_ok-keys.field-0 read.0 c.in-Some.keys c.in-Some.is c.are_kept_keys_lawful.result (λ t so is. c.are_kept_keys_lawful.ensures.exact t rows taken is), read.1)

@@ -1,31 +1,32 @@
-use Rattle.std.proofs.Common.{subst, sym, refl, ap, map, ◌∙◌}
-use Rattle.std.specs.FinMap.{entries}
+use Rattle.std.proofs.Common.{◌≡◌, length, map, subst}
+use Rattle.std.specs.Prelude.{is_some}
 use Rattle.sqlite.specs.Held.{state}
-use Rattle.row_codec.specs.Moves.{book_in}
 use Rattle.cargo_rows.specs.Meant.{waybill_meant}
-use Rattle.table_load.specs.Held.{flight_entry, part_entry}
 use Rattle.table_audits.specs.declared.name.TableName.TheVariants as table
 use Rattle.table_audits.specs.Order.{RisesByNumber}
-use Rattle.table_audits.specs.Audited.{flights_of}
-use Rattle.table_audits.specs.Sums.{AreFlightsOf}
-use Rattle.table_audits.proofs.Listed.{flights_are}
-use Rattle.file_audit.specs.Judged.{IsJudged}
-use Rattle.text_rows.specs.Meant.{trail_meant, message_meant}
-use Rattle.file_audit.proofs.ReadLists.{counted, waybills_rise}
-use Rattle.file_audit.proofs.EachTable.{trail_missing, trail_judged, trail_are}
+use Rattle.table_audits.specs.Taken.{AreLinesTaken}
+use Rattle.file_audit.specs.Good.{AreGood, before}
+use Rattle.file_audit.specs.Judged.{HasLines}
+use Rattle.file_audit.proofs.Judged.{each_table, kept_as}
+use Rattle.file_audit.proofs.ReadLists.{waybills_rise}
+use Rattle.file_audit.proofs.EachTable.{trail_missing, trail_judged, trail_are, trail_read, trail_taken}
 use Rattle.file_audit.proofs.good.good_trail.Goals as goal
 
 pub returns-in_default-clause-read : goal.returns-in_default-clause-read
 returns-in_default-clause-read g c = λ clean up db at so_far knows.
-    let read = c.in_ok-rows.ensures.read clean up in
-    (trail_missing db (state g.S.Store c.args.conn.now).now at so_far c.in_ok-rows.field-0 read.0 c.in_default.is, read.1)
-
-pub returns-then-not-is_trail_lawful-clause-read : goal.returns-then-not-is_trail_lawful-clause-read
-returns-then-not-is_trail_lawful-clause-read g c = λ clean up db at so_far knows.
-    let read = c.in_ok-rows.ensures.read clean up in
-    (subst (IsJudged table.Trail db) c.if-not-is_trail_lawful.true (trail_judged db (state g.S.Store c.args.conn.now).now at so_far c.in_ok-rows.field-0 read.0 c.in-Some.rows c.in-Some.is c.deref.result.now c.deref.ensures.value c.is_trail_lawful.result (λ t so is. let ws = knows t so.1.1.1.1.1 ∙ ap (map waybill_meant) (sym c.deref-2.ensures.value) in c.is_trail_lawful.ensures.exact t (subst RisesByNumber ws (waybills_rise db.version db.database t.waybills so.1.1.1.1.1.0.held)) ws is)), read.1)
+    let read = c.in_ok-lines.ensures.read clean up in
+    (trail_missing (AreLinesTaken (map waybill_meant c.args.waybills.items)) db (state g.S.Store c.args.conn.now).now at so_far c.in_ok-lines.field-0 read.0 c.in_default.is, read.1)
 
 pub returns-clause-read : goal.returns-clause-read
 returns-clause-read g c = λ clean up db at so_far knows.
-    let read = c.in_ok-rows.ensures.read clean up in
-    ((subst (IsJudged table.Trail db) c.if-not-is_trail_lawful.false (trail_judged db (state g.S.Store c.args.conn.now).now at so_far c.in_ok-rows.field-0 read.0 c.in-Some.rows c.in-Some.is c.deref.result.now c.deref.ensures.value c.is_trail_lawful.result (λ t so is. let ws = knows t so.1.1.1.1.1 ∙ ap (map waybill_meant) (sym c.deref-2.ensures.value) in c.is_trail_lawful.ensures.exact t (subst RisesByNumber ws (waybills_rise db.version db.database t.waybills so.1.1.1.1.1.0.held)) ws is)), λ t so. counted trail_meant c.in_ok-count_of.field-0 c.deref-3.result.now t.trail c.in_ok-count_of.ensures (trail_are db (state g.S.Store c.args.conn.now).now at so_far c.in_ok-rows.field-0 read.0 c.in-Some.rows c.in-Some.is c.deref-3.result.now c.deref-3.ensures.value t so.0.held)), read.1)
+    let now = (state g.S.Store c.args.conn.now).now in
+    let ws = map waybill_meant c.args.waybills.items in
+    let read = c.in_ok-lines.ensures.read clean up in
+    let rows = trail_read (AreLinesTaken ws) db now at so_far c.in_ok-lines.field-0 read.0 c.in-Some.lines c.in-Some.is in
+    let taken = trail_taken (AreLinesTaken ws) db now at so_far c.in_ok-lines.field-0 read.0 c.in-Some.lines c.in-Some.is in
+    let judged = trail_judged (AreLinesTaken ws) db now at so_far c.in_ok-lines.field-0 read.0 c.in-Some.lines c.in-Some.is (is_some c.lawful_lines.result)
+    (λ t so is. let same = knows t so.1.1.1.1.1 in c.lawful_lines.ensures.exact t ws rows taken (subst RisesByNumber same (waybills_rise db.version db.database t.waybills so.1.1.1.1.1.0.held)) same is) in
+    let counted = each_table c.lawful_lines.result (λ t. AreGood db t (before table.Outbox)) (λ t count. count ≡ length t.trail)
+    (λ t so. let same = knows t so.1.1.1.1.1.1 in c.lawful_lines.ensures.count t ws rows taken (subst RisesByNumber same (waybills_rise db.version db.database t.waybills so.1.1.1.1.1.1.0.held))
+    (trail_are (AreLinesTaken ws) db now at so_far c.in_ok-lines.field-0 read.0 c.in-Some.lines c.in-Some.is t so.0.held)) in
+    (kept_as table.Trail (λ kept db. HasLines kept db) db c.lawful_lines.result judged counted, read.1)

@@ -1,10 +1,7 @@
-use Rattle.std.proofs.Common.{arith, map, ap, sym, subst, ◌∙◌}
+use Rattle.std.proofs.Common.{arith}
 use Rattle.sqlite.specs.Held.{state}
 use Rattle.sqlite.specs.State.{HasCleanDisk}
-use Rattle.cargo_rows.specs.Meant.{waybill_meant}
-use Rattle.table_load.specs.Held.{flight_entry}
 use Rattle.table_audits.specs.declared.name.TableName.TheVariants as table
-use Rattle.file_audit.specs.Judged.{IsJudged}
 use Rattle.file_audit.proofs.Judged.{reads_err, then_reads}
 use Rattle.file_audit.proofs.judge.judged_flights.Goals as goal
 
@@ -21,4 +18,4 @@ returns-clause-read g c = λ clean up db at so_far knows.
     let first : HasCleanDisk (state g.S.Store c.good_flights.new.conn) = omega (arith, clean, c.judged_moves.ensures.survives.clean) in
     let told = c.in_ok-flights.ensures.read first up db at so_far knows.0 in
     let got = rw c.in-Some.is at told.0 in
-    then_reads g.S.Store c.args.conn.now c.good_flights.new.conn c.judged_moves.new.conn c.judged_moves.result table.Moves _ _ db at told.1 c.good_flights.ensures.survives.counts clean c.judged_moves.ensures.read got.0 (knows.1, knows.2, (λ t so. got.1 t so ∙ ap (map flight_entry) (sym c.deref.ensures.value)))
+    then_reads g.S.Store c.args.conn.now c.good_flights.new.conn c.judged_moves.new.conn c.judged_moves.result table.Moves _ _ db at told.1 c.good_flights.ensures.survives.counts clean c.judged_moves.ensures.read got.0 (knows.1, knows.2, got.1)

@@ -1,8 +1,0 @@
-use Rattle.std.proofs.Common.{ℕ, ◌<◌}
-use Rattle.row_schema.specs.Tables.{message_id}
-use Rattle.text_rows.specs.Meant.{message_meant}
-use Rattle.table_audits.proofs.NumberLaws.{HasNumber}
-use Rattle.table_audits.proofs.numbers.are_messages_numbered.Given as goal
-
-abbrev pub invariant-loop-at : goal.invariant-loop-at
-invariant-loop-at l = (k : ℕ) → k < l.at → HasNumber message_meant message_id 1 l.rows k

@@ -1,0 +1,149 @@
+ghost use Rattle.std.specs.Prelude.{◌≡◌, ◌↔◌, ◌++◌, ◌∷◌, [], length, map, List, IfOk, IfSome, IsSome, IsTrue, OnOk};
+ghost use Rattle.std.specs.List.{list_all};
+ghost use Rattle.std.specs.FinMap.{entries};
+ghost use Rattle.cargo_rows.specs.Meant.{move_meant};
+ghost use Rattle.row_schema.specs.Tables.{Tables, Move as Row};
+ghost use Rattle.row_codec.specs.Counts.{running};
+ghost use Rattle.row_codec.specs.Flights.{is_flight_row};
+ghost use Rattle.row_codec.specs.Moves.{book_in, move_by};
+ghost use Rattle.table_load.specs.Held.{flight_entry};
+ghost use Rattle.table_audits.specs.Lawful.{AreMoves};
+ghost use Rattle.table_audits.specs.Posted.{listed_in};
+ghost use Rattle.table_audits.specs.Sums.{AreSums, IsPosting};
+ghost use Rattle.table_audits.specs.Taken.{AreGoodMoves, IsBookOf, IsBookAs, IsNextOr, AreRead, AreMovesTaken};
+
+use crate::balances::are_balances_lawful;
+use crate::departures::{are_departures_lawful, is_marked, mark, no_marks};
+use crate::numbers::{is_next, one_more};
+use crate::postings::posting_of;
+use crate::sums::{BookSums, Posting};
+use raw_rows::RowFold;
+use sqlite::{Error, ErrorCode};
+use station_rows::{MoveRow, WaybillRow};
+use std::alloc::{AllocError, Global};
+use table_load::FlightEntry;
+
+/// What the moves are judged beside: all waybills, in the order of their numbers, and all flights,
+/// in the order of their keys.
+#[derive(Drop)]
+pub struct BookBeside {
+    pub waybills: Vec<WaybillRow>,
+    pub flights: Vec<FlightEntry>,
+}
+
+/// The book of a station that was judged.
+#[derive(Drop)]
+pub struct Book {
+    /// What its moves come to.
+    pub sums: BookSums,
+    /// How many moves it has.
+    pub moves: u32,
+}
+
+/// The moves of a book that are taken one after another.
+#[derive(Drop)]
+pub struct BookAudit {
+    /// Whether they are numbered from 1, each is lawful by itself, and none builds on a flight that
+    /// has departed. What follows is that of the moves where it is so.
+    pub(crate) are_good: bool,
+    pub(crate) count: u32,
+    pub(crate) sums: BookSums,
+    /// Of each flight, whether a move departs with it.
+    pub(crate) departed: Vec<bool>,
+}
+
+impl BookAudit {
+    /// No moves, beside so many flights.
+    pub fn new(alloc: Global, flights: usize) -> Result<BookAudit, AllocError>
+        ensures { (beside : BookBeside) → length beside.flights.items ≡ flights
+            → IfOk result (λ audit. AreMovesTaken beside audit []) }
+    {
+        let departed = no_marks(alloc, flights)?;
+        Ok(BookAudit {
+            are_good: true,
+            count: 0,
+            sums: BookSums::new(alloc),
+            departed,
+        })
+    }
+
+    /// The next row as it is posted. `None`: it isn't good after the moves so far.
+    fn next_posting(&self, beside: &BookBeside, row: &MoveRow) -> Option<Posting>
+        ensures { (t : Tables) (moves : List Row) → AreRead t beside.now
+            → IsBookOf t moves self.now → IsNextOr t moves (move_meant row.now) result }
+    {
+        if !is_next(row.number, self.count) {
+            return None;
+        }
+        let posting = posting_of(row, &beside.waybills, &beside.flights)?;
+        if is_marked(&self.departed, &posting.to) {
+            return None;
+        }
+        Some(posting)
+    }
+
+    /// Adds a move that is good after those so far.
+    fn add(&mut self, posting: &Posting) -> Result<(), Error>
+        ensures book { (t : Tables) (beside : BookBeside) (moves : List Row) (row : Row)
+            → AreRead t beside → IsBookOf t moves self.old
+            → AreGoodMoves t (moves ++ row ∷ [])
+            → IsPosting (listed_in t) posting.now (move_by row)
+            → OnOk result (IsBookOf t (moves ++ row ∷ []) self.new) }
+        ensures good { OnOk result (self.new.are_good ≡ self.old.are_good) }
+    {
+        let Ok(()) = self.sums.add(posting) else {
+            return Err(Error::SqliteFailure(ErrorCode::OutOfMemory));
+        };
+        mark(&mut self.departed, posting);
+        self.count = one_more(self.count)?;
+        Ok(())
+    }
+
+    /// The book of the moves that were taken, where they are lawful beside these flights, which are
+    /// within range. `None`: they aren't.
+    pub fn judged(self, flights: &[FlightEntry]) -> Option<Book>
+        ensures exact { (t : Tables) → IsBookAs t t.moves self self.are_good
+            → IsTrue (list_all is_flight_row (entries t.flights))
+            → entries t.flights ≡ map flight_entry flights.now → (IsSome result ↔ AreMoves t) }
+        ensures sums { (t : Tables) → IsBookAs t t.moves self self.are_good
+            → IfSome result (λ book. AreSums (listed_in t) book.sums
+            (running (book_in t.moves))) }
+        ensures moves { (t : Tables) → IsBookAs t t.moves self self.are_good
+            → IfSome result (λ book. book.moves ≡ length t.moves) }
+    {
+        if !self.are_good {
+            return None;
+        }
+        if !are_departures_lawful(&self.departed, flights) {
+            return None;
+        }
+        if !are_balances_lawful(&self.sums, flights) {
+            return None;
+        }
+        Some(Book {
+            sums: self.sums,
+            moves: self.count,
+        })
+    }
+}
+
+impl RowFold<MoveRow> for BookAudit {
+    ghost use Rattle.table_audits.specs.Taken.{AreMovesTaken};
+
+    type Beside = BookBeside;
+
+    ghost has = { AreMovesTaken };
+
+    fn take(&mut self, beside: &BookBeside, row: MoveRow) -> Result<(), Error> {
+        if !self.are_good {
+            return Ok(());
+        }
+        match self.next_posting(beside, &row) {
+            Some(posting) => self.add(&posting),
+            None => {
+                self.are_good = false;
+                Ok(())
+            }
+        }
+    }
+}
