@@ -1,6 +1,6 @@
 //! A call over a file, from its command to the end of its file.
 ghost use Rattle.cli_call.specs.Closed.{HasCalledFile, HasClosed};
-ghost use Rattle.cli_call.specs.Ends.{ends, keeping, reached};
+ghost use Rattle.cli_run.specs.Ends.{ends, keeping, reached};
 
 use crate::ended::{DeskFault, end};
 use crate::run::run_line;
