@@ -3,12 +3,12 @@
 use cli_call::DeskFault;
 use cli_run::is_opening;
 use cli_words::Line;
-use declared_tables::has_station;
 use sqlite::{Alter, Connection, Error, ErrorCode, File, FileStore, Options, Unknown};
 use sqlite_pager::Pager;
 use sqlite_pool::probe_blank;
 use sqlite_store::Unopened;
 use sqlite_wal::PageSize;
+use station_schema::has_station;
 use station_tables::AttachFault;
 use std::hash::{BuildHasher, RandomState};
 use std::io::{ErrorKind, Read};

@@ -8,7 +8,7 @@ use Rattle.sqlite_disk.specs.declared.Files.{Files}
 use Rattle.sqlite_store.specs.declared.store.FileStore.{FileStore}
 use Rattle.sqlite_trees.specs.declared.store.Store as trees
 use Rattle.sqlite_wal.specs.Reads.{AreClean}
-use Rattle.row_schema.specs.Schema.{station_schema}
+use Rattle.station_schema.specs.Schema.{station_schema}
 use Rattle.station_core.specs.Given.{Given}
 use Rattle.station_days.specs.Date.{LocalMinute}
 use Rattle.station_tables.specs.declared.station.Station.{Station}

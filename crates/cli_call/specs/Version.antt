@@ -1,7 +1,7 @@
 -- What `--version` tells.
 use Rattle.std.specs.Prelude.{ℕ, List, [], ◌++◌, codes}
 use Rattle.std.specs.Fmt.{signed_decimal}
-use Rattle.row_schema.specs.Calls.{new_station}
+use Rattle.station_schema.specs.Calls.{new_station}
 use Rattle.cli_words.specs.Version.{program_version}
 
 -- the program, its version, and the version that a new station's file has

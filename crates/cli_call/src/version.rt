@@ -1,6 +1,6 @@
 //! What `--version` tells.
 ghost use Rattle.std.specs.Prelude.{◌≡◌, [], IfOk, pos, string_bytes};
-ghost use Rattle.row_schema.specs.Calls.{new_station};
+ghost use Rattle.station_schema.specs.Calls.{new_station};
 ghost use Rattle.cli_call.specs.Version.{version_line};
 
 use cli_words::program_version;

@@ -10,9 +10,9 @@ use Rattle.sqlite.specs.Table.{Table}
 use Rattle.sqlite.specs.Tree.{Trees}
 use Rattle.sqlite_tied.specs.Compute.{everything}
 use Rattle.sqlite.specs.Effect.{Database}
-use Rattle.row_schema.specs.Schema.{schema_with, waybill2}
-use Rattle.row_schema.specs.Tables.{Tables, Station, station_id, station_row, station_in, typed_stations, IsStation, tables_of, IsOldStation, old_tables_of, undated, raised, upgraded}
-use Rattle.raw_rows.specs.Raw.{found, rows_of}
+use Rattle.station_schema.specs.Schema.{schema_with, waybill2}
+use Rattle.station_schema.specs.Tables.{Tables, Station, station_id, station_row, station_in, typed_stations, IsStation, tables_of, IsOldStation, old_tables_of, undated, raised, upgraded}
+use Rattle.table_load.specs.Raw.{found, rows_of}
 use Rattle.station_rows.specs.Meant.{station_shown}
 use Rattle.table_load.specs.Verdict.{station_name, station_columns, station_found, station_of, found_in_rows, damaged, other_version, one_row, version_number, row_of_version}
 use Rattle.table_load.proofs.Declared.{old_waybill_typed, waybill_typed, stock_typed, flight_typed, moves_typed, expected_typed, part_typed, trail_typed, outbox_typed, kept_key_typed, kept_text_typed, counts_typed, build_typed, old_waybill_old, stock_old, flight_old, moves_old, expected_old, part_old, trail_old, outbox_old, kept_key_old, kept_text_old, counts_old, build_old}

@@ -4,15 +4,14 @@ use Rattle.std.specs.Prelude.{◌↔◌, IsTrue, Vec}
 use Rattle.std.specs.declared.alloc.Global.{Global}
 use Rattle.std.specs.FinMap.{entries, from_entries}
 use Rattle.sqlite.specs.Effect.{Database}
-use Rattle.raw_rows.specs.Walks.{TellsFold}
-use Rattle.raw_rows.specs.Whole.{TellsTable}
-use Rattle.row_schema.specs.Tables.{Tables, stock_cmp, flight_cmp, expected_cmp, part_cmp, kept_cmp, kept_text_cmp, count_cmp, build_cmp}
-use Rattle.row_schema.proofs.Keys.{stock_total, flight_total, expected_total, part_total, kept_total, kept_text_total, count_total, build_total}
-use Rattle.cargo_rows.specs.Meant.{waybill_meant, move_meant, count_meant, build_meant}
-use Rattle.cargo_rows.specs.declared.moves.MoveRow.{MoveRow}
-use Rattle.text_rows.specs.Meant.{trail_meant, message_meant}
-use Rattle.text_rows.specs.declared.outbox.MessageRow.{MessageRow}
-use Rattle.text_rows.specs.declared.trail.TrailRow.{TrailRow}
+use Rattle.table_load.specs.Walks.{TellsFold}
+use Rattle.table_load.specs.Whole.{TellsTable}
+use Rattle.station_schema.specs.Tables.{Tables, stock_cmp, flight_cmp, expected_cmp, part_cmp, kept_cmp, kept_text_cmp, count_cmp, build_cmp}
+use Rattle.station_schema.proofs.Keys.{stock_total, flight_total, expected_total, part_total, kept_total, kept_text_total, count_total, build_total}
+use Rattle.table_rows.specs.Meant.{waybill_meant, move_meant, count_meant, build_meant, trail_meant, message_meant}
+use Rattle.table_rows.specs.declared.moves.MoveRow.{MoveRow}
+use Rattle.table_rows.specs.declared.outbox.MessageRow.{MessageRow}
+use Rattle.table_rows.specs.declared.trail.TrailRow.{TrailRow}
 use Rattle.station_rows.specs.Meant.{stock_meant}
 use Rattle.table_load.specs.Held.{old_waybill_entry, HoldsStock, HoldsFlight, flight_entry, HoldsMoves, HoldsExpected, expected_entry, HoldsPart, part_entry, HoldsTrail, HoldsOutbox, HoldsKeptKey, kept_key_entry, HoldsKeptText, kept_text_entry, HoldsCounts, HoldsBuild}
 use Rattle.table_load.specs.declared.kept_key.KeptKeyEntry.{KeptKeyEntry}

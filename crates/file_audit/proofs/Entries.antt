@@ -8,7 +8,7 @@ use Rattle.sqlite.specs.Tree.{IsAscending}
 use Rattle.sqlite_keyed.proofs.SortLemmas.{sorted_unique}
 use Rattle.sqlite_keyed.proofs.ListLemmas.{ascending_weaker}
 use Rattle.row_laws.proofs.Maps.{entries_of, entries_rise}
-use Rattle.raw_rows.proofs.TableLemmas.{ascending_sorted}
+use Rattle.table_load.proofs.TableLemmas.{ascending_sorted}
 use Rattle.table_load.specs.Held.{by_key}
 
 apart : {K V : Type 0} (R : K → K → Ordering) (a b : K × V) → by_key R a b ≡ Less → eq_by_cmp R a.0 b.0 ≡ false

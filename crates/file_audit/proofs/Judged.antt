@@ -9,8 +9,8 @@ use Rattle.sqlite.proofs.Callers.{unchanged_then}
 use Rattle.sqlite.proofs.StreamLemmas.{rolled_back_since}
 use Rattle.sqlite.specs.declared.error.Error.{Error}
 use Rattle.row_laws.specs.Calls.{Reads, Stops}
-use Rattle.row_schema.specs.Connection.{opening}
-use Rattle.row_schema.specs.Tables.{Tables}
+use Rattle.station_schema.specs.Connection.{opening}
+use Rattle.station_schema.specs.Tables.{Tables}
 use Rattle.row_codec.specs.Meaning.{airport_in, confirmed_in}
 use Rattle.row_codec.specs.Numbers.{natural}
 use Rattle.table_load.specs.Verdict.{no_station, damaged, other_version, one_row, new_row}

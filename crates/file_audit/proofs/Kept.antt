@@ -11,7 +11,7 @@ use Rattle.row_codec.specs.Waybills.{declared_in}
 use Rattle.row_codec.specs.Flights.{flights_in}
 use Rattle.table_audits.specs.Lawful.{cargo_in}
 use Rattle.std.specs.FinMap.{FinMap}
-use Rattle.row_schema.specs.Tables.{Tables, OldWaybill, Waybill, Stock, stock_cmp, Flight, flight_cmp, Move, Expected, expected_cmp, part_cmp, TrailLine, Message, Kept, kept_cmp, kept_text_cmp, Count, count_cmp, Build, build_cmp}
+use Rattle.station_schema.specs.Tables.{Tables, OldWaybill, Waybill, Stock, stock_cmp, Flight, flight_cmp, Move, Expected, expected_cmp, part_cmp, TrailLine, Message, Kept, kept_cmp, kept_text_cmp, Count, count_cmp, Build, build_cmp}
 use Rattle.table_load.specs.Reading.{Reading}
 use Rattle.table_audits.specs.declared.name.TableName.TheVariants as table
 use Rattle.file_audit.specs.Good.{before, AreGood, IsGood}

@@ -7,12 +7,11 @@ use Rattle.std.specs.declared.alloc.Global.{Global}
 use Rattle.std.specs.FinMap.{entries, from_entries}
 use Rattle.sqlite.specs.Effect.{Database}
 use Rattle.sqlite_keyed.proofs.ListLemmas.{ascending-map}
-use Rattle.raw_rows.specs.Walks.{TellsFold}
-use Rattle.raw_rows.specs.Whole.{TellsTable}
-use Rattle.raw_rows.proofs.TableLemmas.{held_once}
-use Rattle.row_schema.specs.Tables.{Tables, OldWaybill, old_waybill_id, undated, Waybill, waybill_id, Stock, StockKey, stock_cmp, stock_row, Flight, FlightKey, flight_cmp, flight_row, Move, move_id, Expected, ExpectedKey, expected_cmp, expected_row, PartKey, part_cmp, part_row, TrailLine, trail_id, Message, message_id, Kept, kept_cmp, kept_row, kept_text_cmp, kept_text_row, Count, CountKey, count_cmp, count_row, Build, BuildKey, build_cmp, build_row}
-use Rattle.cargo_rows.specs.Shown.{waybill_shown, waybill_read, move_shown, move_read, count_read, build_read}
-use Rattle.text_rows.specs.Shown.{trail_shown, trail_read, message_shown, message_read}
+use Rattle.table_load.specs.Walks.{TellsFold}
+use Rattle.table_load.specs.Whole.{TellsTable}
+use Rattle.table_load.proofs.TableLemmas.{held_once}
+use Rattle.station_schema.specs.Tables.{Tables, OldWaybill, old_waybill_id, undated, Waybill, waybill_id, Stock, StockKey, stock_cmp, stock_row, Flight, FlightKey, flight_cmp, flight_row, Move, move_id, Expected, ExpectedKey, expected_cmp, expected_row, PartKey, part_cmp, part_row, TrailLine, trail_id, Message, message_id, Kept, kept_cmp, kept_row, kept_text_cmp, kept_text_row, Count, CountKey, count_cmp, count_row, Build, BuildKey, build_cmp, build_row}
+use Rattle.table_rows.specs.Shown.{waybill_shown, waybill_read, move_shown, move_read, count_read, build_read, trail_shown, trail_read, message_shown, message_read}
 use Rattle.station_rows.specs.Meant.{stock_read}
 use Rattle.table_load.specs.Held.{by_key, by_number, old_waybill_name, old_waybill_columns, old_waybill_shown, old_waybill_back, HasOldWaybillTexts, HoldsOldWaybill, HoldsWaybill, waybill_name, waybill_columns, HasWaybillTexts, HoldsStock, stock_name, stock_columns, HasStockTexts, HoldsFlight, flight_name, flight_columns, HasFlightTexts, flight_back, HoldsMoves, moves_name, moves_columns, HasMovesTexts, HoldsExpected, expected_name, expected_columns, HasExpectedTexts, expected_back, HoldsPart, part_name, part_columns, HasPartTexts, part_back, HoldsTrail, trail_name, trail_columns, HasTrailTexts, HoldsOutbox, outbox_name, outbox_columns, HasOutboxTexts, HoldsKeptKey, kept_key_name, kept_key_columns, HasKeptKeyTexts, kept_key_back, HoldsKeptText, kept_text_name, kept_text_columns, HasKeptTextTexts, kept_text_back, HoldsCounts, counts_name, counts_columns, HasCountsTexts, HoldsBuild, build_name, build_columns, HasBuildTexts}
 use Rattle.table_load.proofs.Orders.{old_waybill_agrees, waybill_agrees, stock_agrees, flight_agrees, moves_agrees, expected_agrees, part_agrees, trail_agrees, outbox_agrees, kept_key_agrees, kept_text_agrees, counts_agrees, build_agrees}

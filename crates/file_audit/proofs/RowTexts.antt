@@ -19,8 +19,8 @@ use Rattle.agent_stock.specs.declared.stock.Holder.TheVariants as holder
 use Rattle.shipment_machine.specs.declared.moves.Move as cargo
 use Rattle.desk_commands.proofs.Ascii.{IsAscii-airport, IsAscii-goods, IsAscii-flight}
 use Rattle.station_core.specs.Key.{is_key_byte}
-use Rattle.row_schema.specs.Tables.{Waybill, Stock, StockKey, Flight, FlightKey, Move, Expected, ExpectedKey, PartKey, TrailLine, Message, Kept, Build, BuildKey, build_cmp}
-use Rattle.row_schema.proofs.Keys.{build_total, build_same}
+use Rattle.station_schema.specs.Tables.{Waybill, Stock, StockKey, Flight, FlightKey, Move, Expected, ExpectedKey, PartKey, TrailLine, Message, Kept, Build, BuildKey, build_cmp}
+use Rattle.station_schema.proofs.Keys.{build_total, build_same}
 use Rattle.table_load.specs.Held.{IsText, HasWaybillTexts, HasStockTexts, HasFlightTexts, HasMovesTexts, HasExpectedTexts, HasPartTexts, HasTrailTexts, HasOutboxTexts, HasKeptKeyTexts, HasKeptTextTexts, HasBuildTexts}
 use Rattle.row_codec.specs.Numbers.{is_day}
 use Rattle.row_codec.specs.Waybills.{is_waybill_row}

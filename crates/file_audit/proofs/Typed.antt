@@ -7,7 +7,7 @@ use Rattle.std.proofs.lemmas.Bool.{and_parts}
 use Rattle.std.proofs.lemmas.Str.{is_utf8-from_IsUtf8, IsUtf8-from_ascii}
 use Rattle.sqlite.specs.Effect.{Database}
 use Rattle.desk_commands.proofs.Ascii.{IsAscii-airport}
-use Rattle.row_schema.specs.Tables.{Station, IsStation, tables_of}
+use Rattle.station_schema.specs.Tables.{Station, IsStation, tables_of}
 use Rattle.row_codec.specs.Meaning.{is_station}
 use Rattle.row_codec.specs.Moves.{book_in}
 use Rattle.table_load.specs.Held.{HasOldWaybillTexts, HasCountsTexts}

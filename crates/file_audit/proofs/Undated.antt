@@ -2,9 +2,9 @@
 use Rattle.std.proofs.Common.{◌≡◌, ◌∙◌, List, map, sym, ap}
 use Rattle.sqlite.specs.Effect.{Database}
 use Rattle.sqlite_keyed.proofs.ListLemmas.{map-map}
-use Rattle.row_schema.specs.Tables.{OldWaybill, Waybill, undated}
-use Rattle.cargo_rows.specs.declared.waybills.WaybillRow.{WaybillRow}
-use Rattle.cargo_rows.specs.Meant.{waybill_meant}
+use Rattle.station_schema.specs.Tables.{OldWaybill, Waybill, undated}
+use Rattle.table_rows.specs.declared.waybills.WaybillRow.{WaybillRow}
+use Rattle.table_rows.specs.Meant.{waybill_meant}
 use Rattle.table_load.specs.declared.old_waybill.OldWaybillEntry.{OldWaybillEntry}
 use Rattle.table_load.specs.declared.station.FileVersion.TheVariants.{First}
 use Rattle.table_load.specs.Held.{old_waybill_entry, HoldsOldWaybill}

@@ -1,8 +1,8 @@
 -- The book that was read, beside the tables before it.
 use Rattle.std.proofs.Common.{◌≡◌, List, map, subst, sym}
-use Rattle.cargo_rows.specs.Meant.{move_meant, waybill_meant}
-use Rattle.cargo_rows.specs.declared.moves.MoveRow.{MoveRow}
-use Rattle.row_schema.specs.Tables.{Tables}
+use Rattle.table_rows.specs.Meant.{move_meant, waybill_meant}
+use Rattle.table_rows.specs.declared.moves.MoveRow.{MoveRow}
+use Rattle.station_schema.specs.Tables.{Tables}
 use Rattle.table_load.specs.Held.{flight_entry}
 use Rattle.table_load.specs.Reading.{Reading}
 use Rattle.table_audits.specs.declared.book.BookAudit.{BookAudit}

@@ -4,7 +4,7 @@ use Rattle.std.specs.Prelude.{◌≡◌, ℕ, ℤ, List, [], ◌∷◌}
 use Rattle.std.specs.List.{AllByRecursion}
 use Rattle.std.specs.FinMap.{entries}
 use Rattle.table_load.specs.Reading.{Reading, station_read, HoldsOldWaybills, HoldsWaybills}
-use Rattle.row_schema.specs.Tables.{Tables}
+use Rattle.station_schema.specs.Tables.{Tables}
 use Rattle.table_load.specs.Held.{HoldsStock, HoldsFlight, HoldsMoves, HoldsExpected, HoldsPart, HoldsTrail, HoldsOutbox, HoldsKeptKey, HoldsKeptText, HoldsCounts, HoldsBuild}
 use Rattle.table_load.specs.Verdict.{one_row, new_row}
 use Rattle.table_audits.specs.declared.name.TableName.{TableName}

@@ -6,7 +6,7 @@ use Rattle.sqlite.specs.State.{HasCleanDisk}
 use Rattle.sqlite.specs.Held.{Held, state}
 use Rattle.sqlite_trees.specs.declared.store.Store.{Ghosts}
 use Rattle.row_laws.specs.Calls.{Reads}
-use Rattle.row_schema.specs.Tables.{Tables, Waybill, FlightKey, Flight, PartKey}
+use Rattle.station_schema.specs.Tables.{Tables, Waybill, FlightKey, Flight, PartKey}
 use Rattle.row_codec.specs.Counts.{running}
 use Rattle.row_codec.specs.Meaning.{airport_in, confirmed_in}
 use Rattle.row_codec.specs.Moves.{book_in}

@@ -1,7 +1,7 @@
 -- What is said of a database that was found.
 use Rattle.std.specs.Prelude.{◌≡◌, Bool, true, false, IsTrue, length, Result, Ok, Err}
 use Rattle.table_load.specs.Reading.{Reading, station_read}
-use Rattle.row_schema.specs.Tables.{Tables}
+use Rattle.station_schema.specs.Tables.{Tables}
 use Rattle.row_codec.specs.Meaning.{airport_in, confirmed_in}
 use Rattle.table_load.specs.Verdict.{Verdict, no_station, damaged, other_version, one_row}
 use Rattle.file_audit.specs.declared.unfit.Unfit.{Unfit}

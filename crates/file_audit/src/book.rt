@@ -1,7 +1,7 @@
 ghost use Rattle.std.specs.Prelude.{map};
 ghost use Rattle.sqlite.specs.State.{Survives};
 ghost use Rattle.sqlite.specs.Held.{state};
-ghost use Rattle.cargo_rows.specs.Meant.{waybill_meant};
+ghost use Rattle.table_rows.specs.Meant.{waybill_meant};
 ghost use Rattle.table_load.specs.Held.{flight_entry};
 ghost use Rattle.table_audits.specs.declared.name.TableName.TheVariants as table;
 ghost use Rattle.file_audit.specs.Judged.{HasWaybills, HasFlights, HasSums, HasMoves, IsKept, JudgesOn};

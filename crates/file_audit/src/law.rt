@@ -1,6 +1,6 @@
 ghost use Rattle.std.specs.Prelude.{◌≡◌};
 ghost use Rattle.sqlite.specs.Effect.{Database};
-ghost use Rattle.row_schema.specs.Tables.{Tables, IsStation, IsOldStation, tables_of, old_tables_of, upgraded};
+ghost use Rattle.station_schema.specs.Tables.{Tables, IsStation, IsOldStation, tables_of, old_tables_of, upgraded};
 ghost use Rattle.table_load.specs.declared.station.FileVersion.TheVariants.{First, Second};
 ghost use Rattle.table_load.specs.Reading.{Reading, read_as};
 ghost use Rattle.table_audits.specs.declared.name.TableName.{TableName};

@@ -1,8 +1,8 @@
 ghost use Rattle.std.specs.Prelude.{◌≡◌, IfOk, map};
 ghost use Rattle.sqlite.specs.State.{Survives};
 ghost use Rattle.sqlite.specs.Held.{state};
-ghost use Rattle.raw_rows.specs.Whole.{FindsTable};
-ghost use Rattle.cargo_rows.specs.Meant.{waybill_meant};
+ghost use Rattle.table_load.specs.Whole.{FindsTable};
+ghost use Rattle.table_rows.specs.Meant.{waybill_meant};
 ghost use Rattle.table_load.specs.Held.{old_waybill_entry};
 ghost use Rattle.table_load.specs.Reading.{undated_row, HoldsOldWaybills, HoldsWaybills};
 

@@ -10,10 +10,9 @@ use Rattle.station_core.specs.declared.rows.BookQuery.{BookQuery}
 use Rattle.station_core.specs.declared.rows.BookQuery.TheVariants as query
 use Rattle.station_core.specs.declared.rows.TrailQuery.{TrailQuery}
 use Rattle.station_core.specs.declared.rows.TrailQuery.TheVariants as trail
-use Rattle.cargo_rows.specs.Meant.{is_after, is_flown, is_of}
-use Rattle.cargo_rows.specs.declared.moves.MoveQuery.TheVariants as asked
-use Rattle.text_rows.specs.Meant.{is_line_after, is_line_of}
-use Rattle.text_rows.specs.declared.trail.LineQuery.TheVariants as lines
+use Rattle.table_rows.specs.Meant.{is_move_after, is_flown, is_of, is_line_after, is_line_of}
+use Rattle.table_rows.specs.declared.moves.MoveQuery.TheVariants as asked
+use Rattle.table_rows.specs.declared.trail.LineQuery.TheVariants as lines
 use Rattle.row_codec.specs.Flights.{is_designator}
 use Rattle.row_codec.specs.Logs.{trail_row_by}
 use Rattle.row_codec.specs.Moves.{book_row_by}
@@ -24,10 +23,10 @@ pub asks_all : (count : ℕ) → AsksMoves query.All count asked.All
 asks_all count t s means is = book_handed t s means
 
 pub asks_after : (n count : ℕ) (z : ℤ) → z ≡ pos n → AsksMoves (query.After n) count (asked.After z)
-asks_after n count z e t s means is = ap (λ z. map book_row_by (filter (is_after z) t.moves)) e ∙ book_after t s means n
+asks_after n count z e t s means is = ap (λ z. map book_row_by (filter (is_move_after z) t.moves)) e ∙ book_after t s means n
 
 pub asks_last : (n count k : ℕ) (z : ℤ) → k ≡ count - n → z ≡ pos k → AsksMoves (query.Last n) count (asked.After z)
-asks_last n count k z left e t s means is = ap (λ z. map book_row_by (filter (is_after z) t.moves)) (e ∙ ap pos left) ∙ book_last t s means count n is
+asks_last n count k z left e t s means is = ap (λ z. map book_row_by (filter (is_move_after z) t.moves)) (e ∙ ap pos left) ∙ book_last t s means count n is
 
 pub asks_of : (q : BookQuery) (w count : ℕ) (z : ℤ) → q ≡ query.Of w → z ≡ pos w → AsksMoves q count (asked.Of z)
 asks_of q w count z one e t s means is =

@@ -7,7 +7,7 @@ use Rattle.shipment_machine.specs.Cargo.{written}
 use Rattle.shipment_machine.specs.declared.plans.Change.TheVariants.{Confirm}
 use Rattle.station_core.specs.Step.{State}
 use Rattle.station_core.specs.Told.{on_cargo}
-use Rattle.row_schema.specs.Tables.{Tables, Station, station_id}
+use Rattle.station_schema.specs.Tables.{Tables, Station, station_id}
 use Rattle.station_rows.specs.Meant.{confirming}
 use Rattle.row_codec.specs.Numbers.{is_count}
 use Rattle.row_codec.specs.Meaning.{meaning_of, airport_in, confirmed_in, is_station, Means}

@@ -11,7 +11,7 @@ use Rattle.imp_fields.specs.Airport.{is_airport}
 use Rattle.station_days.specs.Date.{IsMomentDay}
 use Rattle.station_days.specs.Steps.{where_true}
 use Rattle.station_core.specs.Key.{is_key}
-use Rattle.row_schema.specs.Tables.{Flight, FlightKey, Expected, ExpectedKey, Kept}
+use Rattle.station_schema.specs.Tables.{Flight, FlightKey, Expected, ExpectedKey, Kept}
 use Rattle.row_codec.specs.Numbers.{is_within, is_count, is_day, is_flag, is_number}
 use Rattle.row_codec.specs.Flights.{is_flight_key, is_flight_row}
 use Rattle.row_codec.specs.Manifests.{is_expected_key, is_expected_row}

@@ -5,7 +5,7 @@ use Rattle.shipment_machine.specs.declared.flight.FlightDate.{FlightDate}
 use Rattle.shipment_machine.specs.declared.moves.Move.{Move}
 use Rattle.shipment_machine.specs.declared.moves.Place.{Place}
 use Rattle.shipment_machine.specs.declared.moves.Place.TheVariants.{Hand, Surplus, Free, Built, Departed, Delivered, Missing}
-use Rattle.row_schema.specs.Tables.{Count}
+use Rattle.station_schema.specs.Tables.{Count}
 use Rattle.row_codec.specs.Moves.{move_by, move_row}
 use Rattle.row_codec.specs.Counts.{counted, built_up}
 

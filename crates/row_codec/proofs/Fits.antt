@@ -16,7 +16,7 @@ use Rattle.shipment_machine.specs.declared.moves.Expected.{Expected}
 use Rattle.shipment_machine.specs.declared.moves.Part.{Part}
 use Rattle.row_codec.specs.Numbers.{is_within, is_number, is_count, is_day, flag, is_flag}
 use Rattle.row_codec.specs.Waybills.{since_column, is_since, waybill_row, is_waybill_row}
-use Rattle.row_schema.specs.Tables.{FlightKey, ExpectedKey}
+use Rattle.station_schema.specs.Tables.{FlightKey, ExpectedKey}
 use Rattle.row_codec.specs.Flights.{is_designator, outbound_row, is_flight_key, is_flight_row}
 use Rattle.row_codec.specs.Manifests.{expected_row, is_expected_key, is_expected_row, part_key, is_part_row}
 use Rattle.row_codec.specs.Logs.{line_row, is_trail_row}

@@ -9,10 +9,9 @@ use Rattle.imp_fields.specs.Flight.{flight_text}
 use Rattle.shipment_machine.specs.declared.flight.FlightDate.{FlightDate}
 use Rattle.station_core.specs.Readers.{numbered, book_row, book_rows, last_of, is_of_flight, message, pending_messages, trail_row, trail_rows}
 use Rattle.station_core.specs.Step.{State}
-use Rattle.cargo_rows.specs.Meant.{is_after as is_move_after, is_flown, is_of}
+use Rattle.table_rows.specs.Meant.{is_move_after, is_flown, is_of, is_message_after, is_line_after, is_line_of}
 use Rattle.station_core.specs.declared.rows.Message as reader
-use Rattle.text_rows.specs.Meant.{is_after, is_line_after, is_line_of}
-use Rattle.row_schema.specs.Tables.{Tables, Move, move_id, trail_id, Message, message_id}
+use Rattle.station_schema.specs.Tables.{Tables, Move, move_id, trail_id, Message, message_id}
 use Rattle.row_codec.specs.Numbers.{natural, is_number}
 use Rattle.row_codec.specs.Moves.{book_row_by, is_move_row, move_by}
 use Rattle.row_codec.specs.Logs.{is_trail_row, line_by, trail_row_by}
@@ -169,7 +168,7 @@ module _ (t : Tables) (s : State) (means : Means t (Some s)) where
       ∙ ap (filter (λ row. row.awb == w)) trail_handed
 
   -- the messages behind the mark
-  pub pending_handed : map message_of (filter (is_after (pos s.cargo.confirmed)) t.outbox) ≡ pending_messages s.cargo
+  pub pending_handed : map message_of (filter (is_message_after (pos s.cargo.confirmed)) t.outbox) ≡ pending_messages s.cargo
   pending_handed =
       let mark : ℕ = s.cargo.confirmed in
       let one : mark + 1 - 1 ≡ mark = omega arith in

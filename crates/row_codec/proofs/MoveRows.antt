@@ -9,7 +9,7 @@ use Rattle.shipment_machine.specs.declared.moves.Move.{Move}
 use Rattle.shipment_machine.specs.declared.moves.Place.{Place}
 use Rattle.shipment_machine.specs.declared.moves.Place.TheVariants.{Hand, Built}
 use Rattle.shipment_machine.proofs.FlightKeys.{same-is}
-use Rattle.row_schema.specs.Tables as table
+use Rattle.station_schema.specs.Tables as table
 use Rattle.row_codec.specs.Numbers.{natural, is_within, is_number, is_day}
 use Rattle.row_codec.specs.Flights.{is_designator, flight_date_of}
 use Rattle.row_codec.specs.Moves.{place_code, place_of, move_by, move_row, flight_column, day_column, are_flight_columns, is_move_row}

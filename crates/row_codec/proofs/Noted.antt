@@ -24,7 +24,7 @@ use Rattle.station_core.specs.Readers.{AreExpectations, AreNoted, by_expectation
 use Rattle.station_core.specs.Step.{State}
 use Rattle.station_core.specs.declared.rows.Expectation.{Expectation}
 use Rattle.station_core.specs.declared.rows.NotedFlight.{NotedFlight}
-use Rattle.row_schema.specs.Tables.{Expected, ExpectedKey, Flight, FlightKey, Tables, expected_cmp, flight_cmp}
+use Rattle.station_schema.specs.Tables.{Expected, ExpectedKey, Flight, FlightKey, Tables, expected_cmp, flight_cmp}
 use Rattle.row_codec.specs.Flights.{flight_date_of, flight_key, flights_in, is_designator, is_flight_row, is_flight_text, is_written, noted_by, outbound_by}
 use Rattle.row_codec.specs.Manifests.{expectation_by, expected_by, expected_in, expected_key, is_expected_row}
 use Rattle.row_codec.specs.Meaning.{Means}

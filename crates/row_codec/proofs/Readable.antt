@@ -2,7 +2,7 @@
 use Rattle.std.proofs.Common.{ℕ, ℤ, List, IsTrue}
 use Rattle.std.specs.List.{list_all}
 use Rattle.std.specs.FinMap.{FinMap, entries}
-use Rattle.row_schema.specs.Tables.{Tables, Station, Waybill, Stock, stock_cmp, Flight, flight_cmp, Expected, expected_cmp, part_cmp, TrailLine, trail_id, Message, message_id, Kept, kept_cmp, kept_text_cmp}
+use Rattle.station_schema.specs.Tables.{Tables, Station, Waybill, Stock, stock_cmp, Flight, flight_cmp, Expected, expected_cmp, part_cmp, TrailLine, trail_id, Message, message_id, Kept, kept_cmp, kept_text_cmp}
 use Rattle.row_codec.specs.Numbers.{AreNumbered}
 use Rattle.row_codec.specs.Waybills.{is_waybill_row}
 use Rattle.row_codec.specs.Stock.{AreStockRows}

@@ -7,7 +7,7 @@ use Rattle.sqlite_keyed.specs.Keyed.{get_by}
 use Rattle.shipment_machine.specs.declared.flight.FlightDate.{FlightDate}
 use Rattle.shipment_machine.specs.declared.moves.Part.{Part}
 use Rattle.station_core.specs.Step.{State}
-use Rattle.row_schema.specs.Tables.{Tables, Message, waybill_id}
+use Rattle.station_schema.specs.Tables.{Tables, Message, waybill_id}
 use Rattle.row_codec.specs.Numbers.{natural}
 use Rattle.row_codec.specs.Waybills.{declared_by}
 use Rattle.row_codec.specs.Stock.{holders_in}

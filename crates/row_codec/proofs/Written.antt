@@ -15,9 +15,8 @@ use Rattle.station_core.specs.Key.{is_key}
 use Rattle.station_core.specs.Step.{State}
 use Rattle.station_core.specs.Step as step
 use Rattle.station_core.specs.Told.{IsRequest, on_cargo, with_key, with_text, with_messages}
-use Rattle.row_schema.specs.Tables.{Tables, Waybill, waybill_id, Flight, FlightKey, Expected, ExpectedKey, PartKey, Kept, TrailLine, Message, Move}
-use Rattle.cargo_rows.specs.Meant.{with_waybill, changing_waybill, with_flight, with_expected, with_move}
-use Rattle.text_rows.specs.Meant.{with_part, with_trail_line, with_message, with_kept, with_kept_text}
+use Rattle.station_schema.specs.Tables.{Tables, Waybill, waybill_id, Flight, FlightKey, Expected, ExpectedKey, PartKey, Kept, TrailLine, Message, Move}
+use Rattle.table_rows.specs.Meant.{with_waybill, changing_waybill, with_flight, with_expected, with_move, with_part, with_trail_line, with_message, with_kept, with_kept_text}
 use Rattle.station_rows.specs.Meant.{confirming}
 use Rattle.row_codec.specs.Numbers.{is_count}
 use Rattle.row_codec.specs.Waybills.{waybill_row, is_waybill_row}

@@ -9,7 +9,7 @@ use Rattle.shipment_machine.specs.Book.{balance, pieces_of, tenths_of, same_plac
 use Rattle.shipment_machine.specs.declared.moves.Move.{Move}
 use Rattle.shipment_machine.specs.declared.moves.Place.{Place}
 use Rattle.shipment_machine.specs.declared.moves.Place.TheVariants.{Built}
-use Rattle.row_schema.specs.Tables.{Count, CountKey, count_cmp, Build, BuildKey, build_cmp}
+use Rattle.station_schema.specs.Tables.{Count, CountKey, count_cmp, Build, BuildKey, build_cmp}
 use Rattle.row_codec.specs.Flights.{is_flight_text}
 use Rattle.row_codec.specs.Moves.{plain_place}
 

@@ -9,7 +9,7 @@ use Rattle.imp_fields.specs.Flight.{Designator, is_carrier, flight_of, flight_te
 use Rattle.shipment_machine.specs.declared.flight.FlightDate.{FlightDate}
 use Rattle.shipment_machine.specs.declared.moves.Outbound.{Outbound}
 use Rattle.station_core.specs.declared.rows.NotedFlight.{NotedFlight}
-use Rattle.row_schema.specs.Tables.{Flight, FlightKey, flight_cmp}
+use Rattle.station_schema.specs.Tables.{Flight, FlightKey, flight_cmp}
 use Rattle.row_codec.specs.Numbers.{natural, is_day, flag, is_set, is_flag}
 
 abbrev is_letter_or_none : Option ℕ → Bool

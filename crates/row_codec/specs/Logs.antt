@@ -4,7 +4,7 @@ use Rattle.std.specs.Str.{is_utf8}
 use Rattle.imp_fields.specs.Characters.{is_line}
 use Rattle.station_core.specs.Readers.{trail_row}
 use Rattle.station_core.specs.declared.rows.TrailRow.{TrailRow}
-use Rattle.row_schema.specs.Tables.{TrailLine, Message}
+use Rattle.station_schema.specs.Tables.{TrailLine, Message}
 use Rattle.row_codec.specs.Numbers.{natural, is_number}
 
 -- a waybill and its line

@@ -9,7 +9,7 @@ use Rattle.shipment_machine.specs.declared.flight.FlightDate.{FlightDate}
 use Rattle.shipment_machine.specs.declared.moves.Part.{Part}
 use Rattle.shipment_machine.specs.declared.moves.Expected as cargo
 use Rattle.station_core.specs.declared.rows.Expectation.{Expectation}
-use Rattle.row_schema.specs.Tables.{Expected, ExpectedKey, expected_cmp, PartKey, part_cmp}
+use Rattle.station_schema.specs.Tables.{Expected, ExpectedKey, expected_cmp, PartKey, part_cmp}
 use Rattle.row_codec.specs.Numbers.{natural, is_within, is_number, is_day, flag, is_set, is_flag}
 use Rattle.row_codec.specs.Flights.{flight_date_of, is_designator, is_flight_text}
 

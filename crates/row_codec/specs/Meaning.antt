@@ -5,7 +5,7 @@ use Rattle.std.specs.Ordering.{int_eq}
 use Rattle.std.specs.FinMap.{entries}
 use Rattle.imp_fields.specs.Airport.{is_airport}
 use Rattle.station_core.specs.Step.{State}
-use Rattle.row_schema.specs.Tables.{Tables, Station, move_id, trail_id, message_id}
+use Rattle.station_schema.specs.Tables.{Tables, Station, move_id, trail_id, message_id}
 use Rattle.row_codec.specs.Numbers.{natural, is_count, AreNumbered}
 use Rattle.row_codec.specs.Waybills.{declared_in, is_waybill_row}
 use Rattle.row_codec.specs.Stock.{holders_in, AreStockRows}

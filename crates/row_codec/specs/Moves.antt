@@ -9,7 +9,7 @@ use Rattle.shipment_machine.specs.declared.moves.Place.{Place}
 use Rattle.shipment_machine.specs.declared.moves.Place.TheVariants.{Hand, Surplus, Free, Built, Departed, Delivered, Missing, Transferred}
 use Rattle.station_core.specs.Readers.{book_row}
 use Rattle.station_core.specs.declared.rows.BookRow.{BookRow}
-use Rattle.row_schema.specs.Tables as table
+use Rattle.station_schema.specs.Tables as table
 use Rattle.row_codec.specs.Numbers.{natural, is_within, is_number, is_day}
 use Rattle.row_codec.specs.Flights.{is_flight_text, flight_date_of}
 

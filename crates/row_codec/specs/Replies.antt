@@ -6,7 +6,7 @@ use Rattle.std.specs.FinMap.{FinMap, get}
 use Rattle.station_core.specs.Key.{is_key}
 use Rattle.station_core.specs.Step as step
 use Rattle.station_core.specs.Told.{IsRequest}
-use Rattle.row_schema.specs.Tables.{Kept, kept_cmp, kept_text_cmp}
+use Rattle.station_schema.specs.Tables.{Kept, kept_cmp, kept_text_cmp}
 use Rattle.row_codec.specs.Numbers.{natural, is_count}
 
 -- what is kept under a key

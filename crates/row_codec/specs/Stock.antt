@@ -10,7 +10,7 @@ use Rattle.agent_stock.specs.Stock.{Holders}
 use Rattle.agent_stock.specs.declared.stock.Holder.{Holder}
 use Rattle.agent_stock.specs.declared.stock.Holder.TheVariants as holder
 use Rattle.agent_stock.specs.declared.runs.StockRun.{StockRun}
-use Rattle.row_schema.specs.Tables.{Stock, StockKey, stock_cmp}
+use Rattle.station_schema.specs.Tables.{Stock, StockKey, stock_cmp}
 use Rattle.row_codec.specs.Numbers.{natural, is_within}
 
 -- 0 the desk, 2 used, 3 void

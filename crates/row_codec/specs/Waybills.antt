@@ -6,7 +6,7 @@ use Rattle.sqlite_keyed.specs.Keyed.{get_by}
 use Rattle.imp_fields.specs.Airport.{is_airport}
 use Rattle.imp_fields.specs.Name.{is_goods}
 use Rattle.shipment_machine.specs.declared.moves.Declared.{Declared}
-use Rattle.row_schema.specs.Tables.{Waybill, waybill_id}
+use Rattle.station_schema.specs.Tables.{Waybill, waybill_id}
 use Rattle.row_codec.specs.Numbers.{natural, is_within, is_number, is_day, flag, is_set, is_flag}
 
 -- the day of a declaration, where one is kept

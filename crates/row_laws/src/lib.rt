@@ -1,6 +1,5 @@
-//! What the statements of SQL do to a connection of `sqlite`, under any schema: the lemmas that each typed
-//! call rests on, and the
-//! calls that begin, end and undo a transaction.
+//! What the statements of SQL do to a connection of `sqlite`, under any schema: the lemmas that
+//! each typed call rests on, and the calls that begin, end and undo a transaction.
 #![tactic(auto)]
 
 mod streaming;

@@ -28,9 +28,12 @@ pub trait ReadRow {
 /// Moves on to the next row and reads it. At the end there is none.
 fn next_value<S: Alter, T: ReadRow>(rows: &mut Rows<'_, S>) -> Result<Option<T>, Error>
     ensures same_reference { rows.new.conn.ghost_name ≡ rows.old.conn.ghost_name }
-    ensures moves { HasCleanDisk (state S.Store rows.new.conn.now) → (sql : List ℕ) (params : AnyRow) (given : List AnyRow)
-        → HasGiven S.Store sql params rows.old.conn.now given → Moves S.Store sql params T.reads rows.old.conn.now rows.new.conn.now given result }
-    ensures survives { Survives (state S.Store rows.old.conn.now) (state S.Store rows.new.conn.now) (λ _. ⊥) }
+    ensures moves { HasCleanDisk (state S.Store rows.new.conn.now)
+        → (sql : List ℕ) (params : AnyRow) (given : List AnyRow)
+        → HasGiven S.Store sql params rows.old.conn.now given
+        → Moves S.Store sql params T.reads rows.old.conn.now rows.new.conn.now given result }
+    ensures survives { Survives (state S.Store rows.old.conn.now) (state S.Store rows.new.conn.now)
+        (λ _. ⊥) }
 {
     rows.advance()?;
     match rows.get() {
@@ -45,11 +48,14 @@ fn hand_rows<S: Alter, T: ReadRow + Drop, K: Sink<T>>(
     sink: &mut K,
 ) -> Result<(), Error>
     ensures same_reference { rows.new.conn.ghost_name ≡ rows.old.conn.ghost_name }
-    ensures streams { HasCleanDisk (state S.Store rows.new.conn.now) → (sql : List ℕ) (params : AnyRow) → HasGiven S.Store sql params rows.old.conn.now []
+    ensures streams { HasCleanDisk (state S.Store rows.new.conn.now)
+        → (sql : List ℕ) (params : AnyRow) → HasGiven S.Store sql params rows.old.conn.now []
         → IsTrue (state S.Store rows.old.conn.now).is_open
-        → Streams sql params (state S.Store rows.old.conn.now) (state S.Store rows.new.conn.now) (taking T.reads K.takes) sink.old sink.new result }
+        → Streams sql params (state S.Store rows.old.conn.now) (state S.Store rows.new.conn.now)
+        (taking T.reads K.takes) sink.old sink.new result }
     ensures took { (rows : List T) × HandedOut K.takes rows sink.old sink.new }
-    ensures survives { Survives (state S.Store rows.old.conn.now) (state S.Store rows.new.conn.now) (λ _. ⊥) }
+    ensures survives { Survives (state S.Store rows.old.conn.now) (state S.Store rows.new.conn.now)
+        (λ _. ⊥) }
 {
     for _ in 0..u64::MAX {
         match next_value::<S, T>(rows)? {
@@ -64,18 +70,21 @@ fn hand_rows<S: Alter, T: ReadRow + Drop, K: Sink<T>>(
     Err(Error::SqliteFailure(ErrorCode::TooBig))
 }
 
-/// Hands out the rows of an answer, in order, as the query gives them, until the sink takes no more: then the query ends. An
-/// error ends it too; what was handed out before is a beginning.
+/// Hands out the rows of an answer, in order, as the query gives them, until the sink takes no
+/// more: then the query ends. An error ends it too; what was handed out before is a beginning.
 pub fn stream<S: Alter, T: ReadRow + Drop, K: Sink<T>>(
     conn: &mut Connection<S>,
     sql: &str,
     params: &[ValueRef<'_>],
     sink: &mut K,
 ) -> Result<(), Error>
-    ensures streams { HasCleanDisk (state S.Store conn.new) → IsPlain (understood (state S.Store conn.old).now.schema sql.now)
-        → Streams sql.now (bound params.now) (state S.Store conn.old) (state S.Store conn.new) (taking T.reads K.takes) sink.old sink.new result }
+    ensures streams { HasCleanDisk (state S.Store conn.new)
+        → IsPlain (understood (state S.Store conn.old).now.schema sql.now)
+        → Streams sql.now (bound params.now) (state S.Store conn.old) (state S.Store conn.new)
+        (taking T.reads K.takes) sink.old sink.new result }
     ensures took { (rows : List T) × HandedOut K.takes rows sink.old sink.new }
-    ensures survives { Survives (state S.Store conn.old) (state S.Store conn.new) (CommitsShowing sql.now (bound params.now) (state S.Store conn.old)) }
+    ensures survives { Survives (state S.Store conn.old) (state S.Store conn.new)
+        (CommitsShowing sql.now (bound params.now) (state S.Store conn.old)) }
 {
     let mut rows = conn.query(sql, params)?;
     hand_rows::<S, T, K>(&mut rows, sink)

@@ -9,7 +9,7 @@ use Rattle.shipment_machine.specs.declared.flight.FlightDate.{FlightDate}
 use Rattle.shipment_machine.specs.declared.moves.Move.{Move}
 use Rattle.shipment_machine.specs.declared.moves.Place.{Place}
 use Rattle.shipment_machine.specs.declared.moves.Place.TheVariants.{Built}
-use Rattle.row_schema.specs.Tables.{Count, count_cmp, Build, build_cmp}
+use Rattle.station_schema.specs.Tables.{Count, count_cmp, Build, build_cmp}
 use Rattle.row_codec.specs.Counts.{Running, running, running_in, running_on, count_row, build_row, unless_nothing, count_at, build_at, AreCounts, AreBuilds}
 use Rattle.row_codec.specs.Moves.{place_code}
 use Rattle.running_totals.specs.Sums.{is_built}

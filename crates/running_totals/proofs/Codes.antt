@@ -7,7 +7,7 @@ use Rattle.shipment_machine.specs.declared.moves.Place.{Place}
 use Rattle.shipment_machine.specs.declared.moves.Place.TheVariants.{Hand, Surplus, Free, Built, Departed, Delivered, Missing, Transferred}
 use Rattle.shipment_machine.proofs.FlightKeys.{same-is, same-refl}
 use Rattle.row_laws.proofs.Keys.{pair_eq, int_tied, first_true, second_true}
-use Rattle.row_schema.specs.Tables.{CountKey, count_cmp}
+use Rattle.station_schema.specs.Tables.{CountKey, count_cmp}
 use Rattle.row_codec.specs.Counts.{Running, unless_nothing, count_row}
 use Rattle.row_codec.specs.Moves.{place_code, plain_place}
 use Rattle.running_totals.specs.Sums.{Sums, plus, posting, is_built, count_here, count_in}

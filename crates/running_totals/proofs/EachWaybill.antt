@@ -18,10 +18,10 @@ use Rattle.shipment_machine.specs.declared.moves.Place.TheVariants.{Hand, Surplu
 use Rattle.station_core.specs.Told.{AreAllBalances, nothing}
 use Rattle.station_core.specs.declared.stored.WaybillBalances.{WaybillBalances}
 use Rattle.row_laws.proofs.Maps.{entries_rise}
-use Rattle.row_schema.proofs.Keys.{count_total}
-use Rattle.row_schema.specs.Tables.{Count, CountKey, count_cmp}
-use Rattle.cargo_rows.specs.Meant.{count_meant, counts_for}
-use Rattle.cargo_rows.specs.declared.counts.CountRow.{CountRow}
+use Rattle.station_schema.proofs.Keys.{count_total}
+use Rattle.station_schema.specs.Tables.{Count, CountKey, count_cmp}
+use Rattle.table_rows.specs.Meant.{count_meant, counts_for}
+use Rattle.table_rows.specs.declared.counts.CountRow.{CountRow}
 use Rattle.row_codec.specs.Counts.{AreCounts, Running, running_in}
 use Rattle.row_codec.specs.Moves.{place_code}
 use Rattle.running_totals.proofs.Amounts.{drawn_nothing, held_nothing}

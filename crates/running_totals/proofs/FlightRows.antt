@@ -24,8 +24,8 @@ use Rattle.station_core.specs.Told.{load_on, loads_on}
 use Rattle.station_core.specs.declared.stored.Load.{Load}
 use Rattle.row_laws.proofs.Keys.{texts_total, first_true, second_true}
 use Rattle.row_laws.proofs.Maps.{entries_rise, ascending_where, all_passed}
-use Rattle.row_schema.specs.Tables.{Build, BuildKey, build_cmp}
-use Rattle.cargo_rows.specs.Meant.{is_on, pieces_in}
+use Rattle.station_schema.specs.Tables.{Build, BuildKey, build_cmp}
+use Rattle.table_rows.specs.Meant.{is_on, pieces_in}
 use Rattle.row_codec.specs.Numbers.{natural}
 use Rattle.row_codec.specs.Counts.{Running, running, running_on, build_row, is_nothing, AreBuilds}
 use Rattle.running_totals.specs.Loaded.{load_said, row_said, is_loaded}

@@ -6,7 +6,7 @@ use Rattle.imp_fields.specs.Flight.{Designator}
 use Rattle.shipment_machine.specs.Book.{balance, pieces_of, tenths_of, same_place, brings, takes, moved_in, moved_out}
 use Rattle.shipment_machine.specs.declared.moves.Move.{Move}
 use Rattle.shipment_machine.specs.declared.moves.Place.{Place}
-use Rattle.row_schema.specs.Tables.{CountKey, BuildKey}
+use Rattle.station_schema.specs.Tables.{CountKey, BuildKey}
 use Rattle.row_codec.specs.Counts.{Running, running, count_at, counted, build_at, built_up, written_flight}
 use Rattle.row_codec.specs.Moves.{plain_place}
 use Rattle.running_totals.specs.Sums.{Sums, plus, posting, come, gone, count_here, count_in, build_here, build_in}

@@ -3,9 +3,9 @@ use Rattle.std.proofs.Common.{◌≡◌, Bool, true, false, is_some, Option, Som
 use Rattle.std.specs.Prelude.{if◌then◌else◌}
 use Rattle.std.specs.FinMap.{get, insert, remove}
 use Rattle.row_laws.specs.Columns.{adjust}
-use Rattle.row_schema.specs.Store.{View, Survives, Displays, inside, IsShowing}
-use Rattle.row_schema.specs.Tables.{Tables, Count, CountKey, Build, BuildKey}
-use Rattle.cargo_rows.specs.Meant.{without_count, changing_count, with_count, without_build, changing_build, with_build}
+use Rattle.station_schema.specs.Store.{View, Survives, Displays, inside, IsShowing}
+use Rattle.station_schema.specs.Tables.{Tables, Count, CountKey, Build, BuildKey}
+use Rattle.table_rows.specs.Meant.{without_count, changing_count, with_count, without_build, changing_build, with_build}
 use Rattle.station_rows.specs.Clauses.{ShowsChange}
 use Rattle.row_codec.specs.Counts.{Running, is_nothing, running_in, running_on, count_row, build_row}
 use Rattle.running_totals.specs.declared.tally.Tally.{Tally}

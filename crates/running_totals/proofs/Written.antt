@@ -14,7 +14,7 @@ use Rattle.shipment_machine.specs.declared.flight.FlightDate.{FlightDate}
 use Rattle.shipment_machine.specs.declared.moves.Place.{Place}
 use Rattle.shipment_machine.specs.declared.moves.Place.TheVariants.{Hand, Surplus, Free, Built, Departed, Delivered, Missing, Transferred}
 use Rattle.row_laws.proofs.Keys.{pair_eq, int_tied, texts_total, texts_same, first_true, second_true}
-use Rattle.row_schema.specs.Tables.{BuildKey, build_cmp}
+use Rattle.station_schema.specs.Tables.{BuildKey, build_cmp}
 use Rattle.row_codec.specs.Counts.{Running, unless_nothing, build_row, written_flight}
 use Rattle.row_codec.specs.Flights.{is_written, is_flight_text}
 use Rattle.running_totals.specs.Sums.{Sums, plus, posting, is_built, build_here, build_in}

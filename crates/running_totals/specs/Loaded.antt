@@ -1,6 +1,6 @@
 -- What the rows of a flight say.
 use Rattle.std.specs.Prelude.{ℤ, pos, int_lt, Bool}
-use Rattle.row_schema.specs.Tables.{Build, BuildKey}
+use Rattle.station_schema.specs.Tables.{Build, BuildKey}
 use Rattle.row_codec.specs.Counts.{Running, running_on}
 use Rattle.station_core.specs.declared.stored.Load.{Load}
 

@@ -3,8 +3,8 @@ use Rattle.std.specs.Prelude.{◌≡◌, ℤ, false, List}
 use Rattle.std.specs.FinMap.{FinMap, get}
 use Rattle.shipment_machine.specs.Book.{balance, pieces_of, same_place}
 use Rattle.shipment_machine.specs.declared.moves.Move.{Move}
-use Rattle.row_schema.specs.Store.{View, inside, IsShowing}
-use Rattle.row_schema.specs.Tables.{Tables, Count, CountKey, count_cmp, Build, BuildKey, build_cmp}
+use Rattle.station_schema.specs.Store.{View, inside, IsShowing}
+use Rattle.station_schema.specs.Tables.{Tables, Count, CountKey, count_cmp, Build, BuildKey, build_cmp}
 use Rattle.row_codec.specs.Counts.{AreCounts, AreBuilds}
 use Rattle.running_totals.specs.Sums.{Sums, count_in, build_in}
 

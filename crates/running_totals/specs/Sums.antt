@@ -6,7 +6,7 @@ use Rattle.shipment_machine.specs.Book.{same_place}
 use Rattle.shipment_machine.specs.declared.moves.Move.{Move}
 use Rattle.shipment_machine.specs.declared.moves.Place.{Place}
 use Rattle.shipment_machine.specs.declared.moves.Place.TheVariants.{Built}
-use Rattle.row_schema.specs.Tables.{Count, CountKey, Build, BuildKey}
+use Rattle.station_schema.specs.Tables.{Count, CountKey, Build, BuildKey}
 use Rattle.row_codec.specs.Counts.{Running, unless_nothing, count_row, build_row, written_flight}
 use Rattle.row_codec.specs.Moves.{plain_place}
 

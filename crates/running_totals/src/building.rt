@@ -1,9 +1,9 @@
 ghost use Rattle.std.specs.Prelude.{◌≡◌, ℕ, ℤ, pos, List, Option, map, filter, option_map, IfOk, IfSome, OnErr, OnOk};
 ghost use Rattle.std.specs.FinMap.{get};
 ghost use Rattle.shipment_machine.specs.Book.{built};
-ghost use Rattle.row_schema.specs.Store.{Seen, Rests, Survives, IsShowing, inside};
-ghost use Rattle.row_schema.specs.Tables.{Tables};
-ghost use Rattle.cargo_rows.specs.Meant.{build_meant};
+ghost use Rattle.station_schema.specs.Store.{Seen, Rests, Survives, IsShowing, inside};
+ghost use Rattle.station_schema.specs.Tables.{Tables};
+ghost use Rattle.table_rows.specs.Meant.{build_meant};
 ghost use Rattle.station_rows.specs.Clauses.{ShowsChange, ShowsStill, TellsOf, WasOpen};
 ghost use Rattle.row_codec.specs.Counts.{AreBuilds, build_row, running, running_on};
 ghost use Rattle.running_totals.specs.Known.{AreKnown, IsRowOf};
@@ -134,8 +134,8 @@ pub(crate) fn post_build<S: TableStore>(
     Ok(pieces_found(found))
 }
 
-/// What of a waybill is built on a flight, inside a transaction or outside, and from then on what is
-/// known of it there. A fault: the database call failed, memory ran out, or an amount is out of
+/// What of a waybill is built on a flight, inside a transaction or outside, and from then on what
+/// is known of it there. A fault: the database call failed, memory ran out, or an amount is out of
 /// range. A fault outside changes nothing while the store is open.
 pub fn load<S: TableStore>(
     alloc: Global,

@@ -4,9 +4,9 @@ ghost use Rattle.std.specs.List.{prefix_len};
 ghost use Rattle.std.specs.Ordering.{int_eq};
 ghost use Rattle.shipment_machine.specs.Book.{balances_of};
 ghost use Rattle.station_core.specs.Told.{AreAllBalances};
-ghost use Rattle.row_schema.specs.Store.{Seen, Rests, Survives, IsShowing};
-ghost use Rattle.row_schema.specs.Tables.{Count, count_cmp};
-ghost use Rattle.cargo_rows.specs.Meant.{count_meant, counts_for};
+ghost use Rattle.station_schema.specs.Store.{Seen, Rests, Survives, IsShowing};
+ghost use Rattle.station_schema.specs.Tables.{Count, count_cmp};
+ghost use Rattle.table_rows.specs.Meant.{count_meant, counts_for};
 ghost use Rattle.station_rows.specs.Clauses.{ShowsStill, WasOpen};
 ghost use Rattle.row_codec.specs.Counts.{AreCounts};
 

@@ -1,8 +1,8 @@
 ghost use Rattle.std.specs.Prelude.{◌≡◌, ◌∷◌, ◌++◌, [], pos, int_lt, length, List, map, filter, IfOk, OnOk};
 ghost use Rattle.shipment_machine.specs.Book.{waybills_on};
 ghost use Rattle.station_core.specs.Told.{loads_on};
-ghost use Rattle.row_schema.specs.Store.{Seen, Rests, Survives, IsShowing};
-ghost use Rattle.cargo_rows.specs.Meant.{build_meant};
+ghost use Rattle.station_schema.specs.Store.{Seen, Rests, Survives, IsShowing};
+ghost use Rattle.table_rows.specs.Meant.{build_meant};
 ghost use Rattle.station_rows.specs.Clauses.{ShowsStill, WasOpen};
 ghost use Rattle.row_codec.specs.Counts.{AreBuilds};
 ghost use Rattle.running_totals.specs.Loaded.{load_said, row_said, is_loaded};

@@ -1,6 +1,6 @@
 ghost use Rattle.std.specs.Prelude.{◌≡◌, ◌∷◌, [], ◌++◌, List, IfOk, OnOk};
-ghost use Rattle.row_schema.specs.Store.{Survives, IsShowing, inside};
-ghost use Rattle.row_schema.specs.Tables.{Tables};
+ghost use Rattle.station_schema.specs.Store.{Survives, IsShowing, inside};
+ghost use Rattle.station_schema.specs.Tables.{Tables};
 ghost use Rattle.row_codec.specs.Counts.{AreCounts, AreBuilds, running};
 ghost use Rattle.running_totals.specs.Known.{AreKnown};
 ghost use Rattle.running_totals.specs.Sums.{Sums, come, gone, posting};
@@ -18,8 +18,8 @@ use shipment_machine::{Move, Place};
 use station_rows::{StoreFault, TableStore};
 use std::alloc::Global;
 
-/// Adds an amount to what a waybill has at a place, and returns the pieces that it had there before.
-/// What is known of the sums is known of those after it.
+/// Adds an amount to what a waybill has at a place, and returns the pieces that it had there
+/// before. What is known of the sums is known of those after it.
 fn post<S: TableStore>(
     alloc: Global,
     store: &mut S,

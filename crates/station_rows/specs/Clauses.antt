@@ -1,7 +1,7 @@
 -- The forms of the clauses of `TableStore`: what the store showed before, and what it shows now.
 use Rattle.std.specs.Prelude.{◌≡◌, ◌⊎◌, Bool, true, List, OnOk, IfOk, IsErr, Result}
-use Rattle.row_schema.specs.Tables.{Tables}
-use Rattle.row_schema.specs.Store.{View, Seen, inside, IsShowing}
+use Rattle.station_schema.specs.Tables.{Tables}
+use Rattle.station_schema.specs.Store.{View, Seen, inside, IsShowing}
 use Rattle.row_sinks.specs.Handed.{Hands}
 
 -- a write in a transaction: whatever it showed, it now shows this with one change

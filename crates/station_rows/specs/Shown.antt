@@ -3,9 +3,9 @@ use Rattle.std.specs.Prelude.{◌≡◌, Bool, true}
 use Rattle.sqlite.specs.Held.{Held, state}
 use Rattle.sqlite.specs.State.{HasCleanDisk}
 use Rattle.sqlite_trees.specs.declared.store.Store.{Ghosts}
-use Rattle.row_schema.specs.Connection.{connection_view}
-use Rattle.row_schema.specs.Store.{View}
-use Rattle.row_schema.specs.Own.{LiesInOrder}
+use Rattle.station_schema.specs.Connection.{connection_view}
+use Rattle.station_schema.specs.Store.{View}
+use Rattle.station_schema.specs.Own.{LiesInOrder}
 
 -- They are sound while the disk has returned what was written, the tables are declared as a new
 -- station declares them, and rows lie in order in stores of this type.

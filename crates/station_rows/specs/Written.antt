@@ -2,9 +2,8 @@
 use Rattle.std.specs.Prelude.{ℕ, Result}
 use Rattle.sqlite.specs.declared.error.Error.{Error}
 use Rattle.sqlite.specs.State.{State, Executes}
-use Rattle.row_schema.specs.Tables.{Tables}
-use Rattle.cargo_rows.specs.Meant.{waybill_meant, with_waybill, changing_waybill, flight_meant, with_flight, changing_flight, move_meant, with_move, expected_meant, with_expected, changing_expected, count_meant, with_count, changing_count, without_count, build_meant, with_build, changing_build, without_build}
-use Rattle.text_rows.specs.Meant.{with_part, trail_meant, with_trail_line, message_meant, with_message, with_kept, with_kept_text}
+use Rattle.station_schema.specs.Tables.{Tables}
+use Rattle.table_rows.specs.Meant.{waybill_meant, with_waybill, changing_waybill, flight_meant, with_flight, changing_flight, move_meant, with_move, expected_meant, with_expected, changing_expected, count_meant, with_count, changing_count, without_count, build_meant, with_build, changing_build, without_build, with_part, trail_meant, with_trail_line, message_meant, with_message, with_kept, with_kept_text}
 use Rattle.station_rows.specs.Meant.{stock_meant, with_stock, changing_stock, without_stock, confirming}
 use Rattle.station_rows.specs.Ran.{insert_stock_text, update_stock_text, delete_stock_text, stock_params, stock_key_params, confirm_text, confirm_params}
 use Rattle.station_rows.specs.declared.writes.Write.{Write}

@@ -12,14 +12,13 @@ mod stock;
 mod store;
 mod writes;
 
-pub use cargo_rows::{
-    BuildRow, CountRow, ExpectedRow, FlightRow, ListedWaybillRow, MoveQuery, MoveRow,
-    NotedFlightRow, WaybillRow,
-};
 pub use memory::{files_are_sound, memory_is_sound};
-pub use row_schema::open_memory;
 pub use rows::{CreateFault, Rows, crash_leaves_station};
 pub use station::StationRow;
+pub use station_schema::open_memory;
 pub use stock::StockRow;
 pub use store::{StoreFault, TableStore};
-pub use text_rows::{KeptRow, LineQuery, MessageRow, TrailRow};
+pub use table_rows::{
+    BuildRow, CountRow, ExpectedRow, FlightRow, KeptRow, LineQuery, ListedWaybillRow, MessageRow,
+    MoveQuery, MoveRow, NotedFlightRow, TrailRow, WaybillRow,
+};

@@ -1,21 +1,19 @@
 ghost use Rattle.std.specs.Prelude.{◌≡◌, pos, map, filter, option_map, string_bytes};
 ghost use Rattle.std.specs.FinMap.{get, entries};
 ghost use Rattle.sqlite_keyed.specs.Keyed.{get_by};
-ghost use Rattle.row_schema.specs.Tables.{Tables, station_id, waybill_id};
-ghost use Rattle.row_schema.specs.Calls.{LeavesAll, Tells};
-ghost use Rattle.cargo_rows.specs.Meant.{waybill_meant, flight_meant, noted_flight_meant, move_meant, is_of, expected_meant, listed_waybill_meant, count_meant, counts_for, build_meant, is_on, pieces_in};
-ghost use Rattle.text_rows.specs.Meant.{kept_meant};
+ghost use Rattle.station_schema.specs.Tables.{Tables, station_id, waybill_id};
+ghost use Rattle.station_schema.specs.Calls.{LeavesAll, Tells};
+ghost use Rattle.table_rows.specs.Meant.{waybill_meant, flight_meant, noted_flight_meant, move_meant, is_of, expected_meant, listed_waybill_meant, count_meant, counts_for, build_meant, is_on, pieces_in, kept_meant};
 ghost use Rattle.station_rows.specs.Meant.{stock_meant, is_between, last_up_to, last_rows_up_to, station_meant};
 
 use crate::station::StationRow;
 use crate::stock::StockRow;
 use crate::{station, stock};
-use cargo_rows::{
-    BuildRow, CountRow, ExpectedRow, FlightRow, ListedWaybillRow, MoveRow, NotedFlightRow,
+use sqlite::{Alter, Connection, Error};
+use table_rows::{
+    BuildRow, CountRow, ExpectedRow, FlightRow, KeptRow, ListedWaybillRow, MoveRow, NotedFlightRow,
     WaybillRow,
 };
-use sqlite::{Alter, Connection, Error};
-use text_rows::KeptRow;
 
 /// A statement that reads, with what it asks for.
 pub(crate) trait Read: Drop {
@@ -42,7 +40,8 @@ pub(crate) struct StockBetween {
 impl Read for StockBetween {
     type Found = Vec<StockRow>;
 
-    ghost tells = { λ it tables rows. map stock_meant rows.items ≡ filter (is_between it.prefix it.first it.last) (entries tables.stock) };
+    ghost tells = { λ it tables rows. map stock_meant rows.items
+        ≡ filter (is_between it.prefix it.first it.last) (entries tables.stock) };
 
     fn run<S: Alter>(self, conn: &mut Connection<S>) -> Result<Vec<StockRow>, Error> {
         stock::stock_between(conn, self.prefix, self.first, self.last)
@@ -59,7 +58,8 @@ pub(crate) struct StockUpTo {
 impl Read for StockUpTo {
     type Found = Option<StockRow>;
 
-    ghost tells = { λ it tables found. option_map stock_meant found ≡ last_up_to it.prefix it.low (entries tables.stock) };
+    ghost tells = { λ it tables found. option_map stock_meant found
+        ≡ last_up_to it.prefix it.low (entries tables.stock) };
 
     fn run<S: Alter>(self, conn: &mut Connection<S>) -> Result<Option<StockRow>, Error> {
         stock::stock_up_to(conn, self.prefix, self.low)
@@ -77,7 +77,8 @@ pub(crate) struct LastStockUpTo {
 impl Read for LastStockUpTo {
     type Found = Vec<StockRow>;
 
-    ghost tells = { λ it tables rows. map stock_meant rows.items ≡ last_rows_up_to it.prefix it.low it.count (entries tables.stock) };
+    ghost tells = { λ it tables rows. map stock_meant rows.items
+        ≡ last_rows_up_to it.prefix it.low it.count (entries tables.stock) };
 
     fn run<S: Alter>(self, conn: &mut Connection<S>) -> Result<Vec<StockRow>, Error> {
         stock::last_stock_up_to(conn, self.prefix, self.low, self.count)
@@ -110,7 +111,7 @@ impl Read for KeptUnder<'_> {
     ghost tells = { λ it tables found. option_map kept_meant found ≡ get tables.kept it.id.now };
 
     fn run<S: Alter>(self, conn: &mut Connection<S>) -> Result<Option<KeptRow>, Error> {
-        text_rows::kept_row(conn, self.id)
+        table_rows::kept_row(conn, self.id)
     }
 }
 
@@ -121,7 +122,8 @@ pub(crate) struct TheStation;
 impl Read for TheStation {
     type Found = Option<StationRow>;
 
-    ghost tells = { λ _ tables found. option_map station_meant found ≡ get_by station_id tables.stations (pos 1) };
+    ghost tells = { λ _ tables found. option_map station_meant found
+        ≡ get_by station_id tables.stations (pos 1) };
 
     fn run<S: Alter>(self, conn: &mut Connection<S>) -> Result<Option<StationRow>, Error> {
         station::station_row(conn)
@@ -137,10 +139,11 @@ pub(crate) struct WaybillOf {
 impl Read for WaybillOf {
     type Found = Option<WaybillRow>;
 
-    ghost tells = { λ it tables found. option_map waybill_meant found ≡ get_by waybill_id tables.waybills it.awb };
+    ghost tells = { λ it tables found. option_map waybill_meant found
+        ≡ get_by waybill_id tables.waybills it.awb };
 
     fn run<S: Alter>(self, conn: &mut Connection<S>) -> Result<Option<WaybillRow>, Error> {
-        cargo_rows::waybill_row(conn, self.awb)
+        table_rows::waybill_row(conn, self.awb)
     }
 }
 
@@ -154,10 +157,11 @@ pub(crate) struct FlightOn<'a> {
 impl Read for FlightOn<'_> {
     type Found = Option<FlightRow>;
 
-    ghost tells = { λ it tables found. option_map flight_meant found ≡ get tables.flights (it.flight.now, it.day) };
+    ghost tells = { λ it tables found. option_map flight_meant found
+        ≡ get tables.flights (it.flight.now, it.day) };
 
     fn run<S: Alter>(self, conn: &mut Connection<S>) -> Result<Option<FlightRow>, Error> {
-        cargo_rows::flight_row(conn, self.flight, self.day)
+        table_rows::flight_row(conn, self.flight, self.day)
     }
 }
 
@@ -171,7 +175,7 @@ impl Read for AllFlights {
     ghost tells = { λ _ tables rows. map noted_flight_meant rows.items ≡ entries tables.flights };
 
     fn run<S: Alter>(self, conn: &mut Connection<S>) -> Result<Vec<NotedFlightRow>, Error> {
-        cargo_rows::all_flights(conn)
+        table_rows::all_flights(conn)
     }
 }
 
@@ -184,10 +188,11 @@ pub(crate) struct MovesOf {
 impl Read for MovesOf {
     type Found = Vec<MoveRow>;
 
-    ghost tells = { λ it tables rows. map move_meant rows.items ≡ filter (is_of it.awb) tables.moves };
+    ghost tells = { λ it tables rows. map move_meant rows.items
+        ≡ filter (is_of it.awb) tables.moves };
 
     fn run<S: Alter>(self, conn: &mut Connection<S>) -> Result<Vec<MoveRow>, Error> {
-        cargo_rows::moves_of(conn, self.awb)
+        table_rows::moves_of(conn, self.awb)
     }
 }
 
@@ -202,10 +207,11 @@ pub(crate) struct ExpectedOn<'a> {
 impl Read for ExpectedOn<'_> {
     type Found = Option<ExpectedRow>;
 
-    ghost tells = { λ it tables found. option_map expected_meant found ≡ get tables.expected (it.flight.now, (it.day, it.awb)) };
+    ghost tells = { λ it tables found. option_map expected_meant found
+        ≡ get tables.expected (it.flight.now, (it.day, it.awb)) };
 
     fn run<S: Alter>(self, conn: &mut Connection<S>) -> Result<Option<ExpectedRow>, Error> {
-        cargo_rows::expected_row(conn, self.flight, self.day, self.awb)
+        table_rows::expected_row(conn, self.flight, self.day, self.awb)
     }
 }
 
@@ -216,10 +222,11 @@ pub(crate) struct AllExpected;
 impl Read for AllExpected {
     type Found = Vec<ListedWaybillRow>;
 
-    ghost tells = { λ _ tables rows. map listed_waybill_meant rows.items ≡ entries tables.expected };
+    ghost tells = { λ _ tables rows. map listed_waybill_meant rows.items
+        ≡ entries tables.expected };
 
     fn run<S: Alter>(self, conn: &mut Connection<S>) -> Result<Vec<ListedWaybillRow>, Error> {
-        cargo_rows::all_expected(conn)
+        table_rows::all_expected(conn)
     }
 }
 
@@ -232,10 +239,11 @@ pub(crate) struct CountsOf {
 impl Read for CountsOf {
     type Found = Vec<CountRow>;
 
-    ghost tells = { λ it tables rows. map count_meant rows.items ≡ filter (counts_for it.awb) (entries tables.counts) };
+    ghost tells = { λ it tables rows. map count_meant rows.items
+        ≡ filter (counts_for it.awb) (entries tables.counts) };
 
     fn run<S: Alter>(self, conn: &mut Connection<S>) -> Result<Vec<CountRow>, Error> {
-        cargo_rows::counts_of(conn, self.awb)
+        table_rows::counts_of(conn, self.awb)
     }
 }
 
@@ -249,7 +257,7 @@ impl Read for AllCounts {
     ghost tells = { λ _ tables rows. map count_meant rows.items ≡ entries tables.counts };
 
     fn run<S: Alter>(self, conn: &mut Connection<S>) -> Result<Vec<CountRow>, Error> {
-        cargo_rows::all_counts(conn)
+        table_rows::all_counts(conn)
     }
 }
 
@@ -264,10 +272,12 @@ pub(crate) struct BuildOn<'a> {
 impl Read for BuildOn<'_> {
     type Found = Option<BuildRow>;
 
-    ghost tells = { λ it tables found. option_map build_meant found ≡ option_map (λ v. ((it.flight.now, (it.day, it.awb)), v)) (get tables.builds (it.flight.now, (it.day, it.awb))) };
+    ghost tells = { λ it tables found. option_map build_meant found
+        ≡ option_map (λ v. ((it.flight.now, (it.day, it.awb)), v))
+        (get tables.builds (it.flight.now, (it.day, it.awb))) };
 
     fn run<S: Alter>(self, conn: &mut Connection<S>) -> Result<Option<BuildRow>, Error> {
-        cargo_rows::build_row(conn, self.flight, self.day, self.awb)
+        table_rows::build_row(conn, self.flight, self.day, self.awb)
     }
 }
 
@@ -281,10 +291,11 @@ pub(crate) struct BuildsOn<'a> {
 impl Read for BuildsOn<'_> {
     type Found = Vec<BuildRow>;
 
-    ghost tells = { λ it tables rows. map build_meant rows.items ≡ filter (is_on it.flight.now it.day) (entries tables.builds) };
+    ghost tells = { λ it tables rows. map build_meant rows.items
+        ≡ filter (is_on it.flight.now it.day) (entries tables.builds) };
 
     fn run<S: Alter>(self, conn: &mut Connection<S>) -> Result<Vec<BuildRow>, Error> {
-        cargo_rows::builds_on(conn, self.flight, self.day)
+        table_rows::builds_on(conn, self.flight, self.day)
     }
 }
 
@@ -298,10 +309,11 @@ pub(crate) struct PiecesOn<'a> {
 impl Read for PiecesOn<'_> {
     type Found = Vec<i64>;
 
-    ghost tells = { λ it tables all. all.items ≡ map pieces_in (filter (is_on it.flight.now it.day) (entries tables.builds)) };
+    ghost tells = { λ it tables all. all.items
+        ≡ map pieces_in (filter (is_on it.flight.now it.day) (entries tables.builds)) };
 
     fn run<S: Alter>(self, conn: &mut Connection<S>) -> Result<Vec<i64>, Error> {
-        cargo_rows::pieces_on(conn, self.flight, self.day)
+        table_rows::pieces_on(conn, self.flight, self.day)
     }
 }
 
@@ -317,10 +329,11 @@ pub(crate) struct PartBody<'a> {
 impl Read for PartBody<'_> {
     type Found = Option<String>;
 
-    ghost tells = { λ it tables found. option_map string_bytes found ≡ get tables.parts (it.flight.now, (it.day, (it.airport.now, it.seq))) };
+    ghost tells = { λ it tables found. option_map string_bytes found
+        ≡ get tables.parts (it.flight.now, (it.day, (it.airport.now, it.seq))) };
 
     fn run<S: Alter>(self, conn: &mut Connection<S>) -> Result<Option<String>, Error> {
-        text_rows::part_body(conn, self.flight, self.day, self.airport, self.seq)
+        table_rows::part_body(conn, self.flight, self.day, self.airport, self.seq)
     }
 }
 
@@ -336,6 +349,6 @@ impl Read for KeptTextCount<'_> {
     ghost tells = { λ it tables found. found ≡ get tables.kept_texts it.body.now };
 
     fn run<S: Alter>(self, conn: &mut Connection<S>) -> Result<Option<i64>, Error> {
-        text_rows::kept_text_count(conn, self.body)
+        table_rows::kept_text_count(conn, self.body)
     }
 }

@@ -2,8 +2,8 @@ ghost use Rattle.std.specs.Prelude.{◌≡◌, pos, map, option_map, option_to_l
 ghost use Rattle.sqlite_keyed.specs.Keyed.{get_by};
 ghost use Rattle.sqlite.specs.Held.{state};
 ghost use Rattle.sqlite.specs.State.{Executes, HasCleanDisk};
-ghost use Rattle.row_schema.specs.Calls.{Alters, CommitsNothing, LeavesAll, Tells};
-ghost use Rattle.row_schema.specs.Tables.{station_id};
+ghost use Rattle.station_schema.specs.Calls.{Alters, CommitsNothing, LeavesAll, Tells};
+ghost use Rattle.station_schema.specs.Tables.{station_id};
 ghost use Rattle.station_rows.specs.Meant.{station_meant, station_shown, station_read, confirming};
 ghost use Rattle.station_rows.specs.Ran.{confirm_params, confirm_text};
 

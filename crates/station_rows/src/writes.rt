@@ -1,13 +1,14 @@
 ghost use Rattle.sqlite.specs.State.{HasCleanDisk};
 ghost use Rattle.sqlite.specs.Held.{state};
-ghost use Rattle.row_schema.specs.Calls.{Alters, CommitsNothing};
+ghost use Rattle.station_schema.specs.Calls.{Alters, CommitsNothing};
 ghost use Rattle.station_rows.specs.Written.{RunsAs, change_of};
 
 use crate::stock::StockRow;
 use crate::{station, stock};
-use cargo_rows::{BuildRow, CountRow, ExpectedRow, FlightRow, MoveRow, WaybillRow};
 use sqlite::{Alter, Connection, Error};
-use text_rows::{MessageRow, TrailRow};
+use table_rows::{
+    BuildRow, CountRow, ExpectedRow, FlightRow, MessageRow, MoveRow, TrailRow, WaybillRow,
+};
 
 /// A statement that writes, with what it writes.
 #[derive(Drop)]
@@ -50,30 +51,30 @@ pub(crate) fn run_write<S: Alter>(
         Write::InsertStock(row) => stock::insert_stock(conn, row),
         Write::UpdateStock(row) => stock::update_stock(conn, row),
         Write::DeleteStock(prefix, low) => stock::delete_stock(conn, prefix, low),
-        Write::InsertKept(id, command, count) => text_rows::insert_kept(conn, id, command, count),
+        Write::InsertKept(id, command, count) => table_rows::insert_kept(conn, id, command, count),
         Write::UpdateConfirmed(number) => station::update_confirmed(conn, number),
-        Write::InsertWaybill(row) => cargo_rows::insert_waybill(conn, row),
-        Write::UpdateWaybill(row) => cargo_rows::update_waybill(conn, row),
-        Write::InsertFlight(flight, day, row) => cargo_rows::insert_flight(conn, flight, day, row),
-        Write::UpdateFlight(flight, day, row) => cargo_rows::update_flight(conn, flight, day, row),
-        Write::InsertMove(row) => cargo_rows::insert_move(conn, row),
+        Write::InsertWaybill(row) => table_rows::insert_waybill(conn, row),
+        Write::UpdateWaybill(row) => table_rows::update_waybill(conn, row),
+        Write::InsertFlight(flight, day, row) => table_rows::insert_flight(conn, flight, day, row),
+        Write::UpdateFlight(flight, day, row) => table_rows::update_flight(conn, flight, day, row),
+        Write::InsertMove(row) => table_rows::insert_move(conn, row),
         Write::InsertExpected(flight, day, awb, row) => {
-            cargo_rows::insert_expected(conn, flight, day, awb, row)
+            table_rows::insert_expected(conn, flight, day, awb, row)
         }
         Write::UpdateExpected(flight, day, awb, row) => {
-            cargo_rows::update_expected(conn, flight, day, awb, row)
+            table_rows::update_expected(conn, flight, day, awb, row)
         }
-        Write::InsertCount(row) => cargo_rows::insert_count(conn, row),
-        Write::UpdateCount(row) => cargo_rows::update_count(conn, row),
-        Write::DeleteCount(awb, place) => cargo_rows::delete_count(conn, awb, place),
-        Write::InsertBuild(row) => cargo_rows::insert_build(conn, row),
-        Write::UpdateBuild(row) => cargo_rows::update_build(conn, row),
-        Write::DeleteBuild(flight, day, awb) => cargo_rows::delete_build(conn, flight, day, awb),
+        Write::InsertCount(row) => table_rows::insert_count(conn, row),
+        Write::UpdateCount(row) => table_rows::update_count(conn, row),
+        Write::DeleteCount(awb, place) => table_rows::delete_count(conn, awb, place),
+        Write::InsertBuild(row) => table_rows::insert_build(conn, row),
+        Write::UpdateBuild(row) => table_rows::update_build(conn, row),
+        Write::DeleteBuild(flight, day, awb) => table_rows::delete_build(conn, flight, day, awb),
         Write::InsertPart(flight, day, airport, seq, body) => {
-            text_rows::insert_part(conn, flight, day, airport, seq, body)
+            table_rows::insert_part(conn, flight, day, airport, seq, body)
         }
-        Write::InsertTrailLine(row) => text_rows::insert_trail_line(conn, row),
-        Write::InsertMessage(row) => text_rows::insert_message(conn, row),
-        Write::InsertKeptText(body, count) => text_rows::insert_kept_text(conn, body, count),
+        Write::InsertTrailLine(row) => table_rows::insert_trail_line(conn, row),
+        Write::InsertMessage(row) => table_rows::insert_message(conn, row),
+        Write::InsertKeptText(body, count) => table_rows::insert_kept_text(conn, body, count),
     }
 }

@@ -7,9 +7,9 @@ use Rattle.table_load.specs.Reading.{Reading, read_as}
 use Rattle.table_load.specs.declared.station.FileVersion.TheVariants.{First, Second}
 use Rattle.sqlite.specs.State as sqlite
 use Rattle.station_core.specs.Step.{State, IsLawfulState}
-use Rattle.row_schema.specs.Connection.{view_of}
-use Rattle.row_schema.specs.Store.{View, IsUnchanged}
-use Rattle.row_schema.specs.Tables.{Tables, Message, IsStation, tables_of}
+use Rattle.station_schema.specs.Connection.{view_of}
+use Rattle.station_schema.specs.Store.{View, IsUnchanged}
+use Rattle.station_schema.specs.Tables.{Tables, Message, IsStation, tables_of}
 use Rattle.row_codec.specs.Logs.{line_by}
 use Rattle.row_codec.specs.Meaning.{meaning_of, IsReadable, Means}
 use Rattle.row_codec.specs.Moves.{move_by}

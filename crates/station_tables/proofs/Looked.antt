@@ -13,11 +13,11 @@ use Rattle.sqlite.proofs.StateLemmas.{survives_then}
 use Rattle.sqlite_trees.specs.View.{doubt}
 use Rattle.row_laws.specs.Calls.{Reads}
 use Rattle.station_core.specs.Step.{State, IsLawfulState}
-use Rattle.row_schema.specs.Own.{IsOwn}
-use Rattle.row_schema.specs.Connection.{view_of}
-use Rattle.row_schema.specs.Store as store
-use Rattle.row_schema.specs.Store.{View}
-use Rattle.row_schema.specs.Tables.{Tables, IsStation}
+use Rattle.station_schema.specs.Own.{IsOwn}
+use Rattle.station_schema.specs.Connection.{view_of}
+use Rattle.station_schema.specs.Store as store
+use Rattle.station_schema.specs.Store.{View}
+use Rattle.station_schema.specs.Tables.{Tables, IsStation}
 use Rattle.table_state.specs.Shown as tables
 use Rattle.file_audit.specs.declared.state.FoundState.{FoundState}
 use Rattle.file_audit.specs.declared.unfit.Unfit.{Unfit}

@@ -2,7 +2,7 @@
 use Rattle.std.proofs.Common.{◌≡◌, ◌⊎◌, inl, inr, ⊎_elim, ℕ, List, Option, Some, None, sym, subst, ap}
 use Rattle.shipment_machine.proofs.Opening.{opening_lawful}
 use Rattle.station_core.specs.Step.{State, IsLawfulState, opening}
-use Rattle.row_schema.specs.Store.{View}
+use Rattle.station_schema.specs.Store.{View}
 use Rattle.station_engine.specs.Found as stored
 use Rattle.table_state.specs.Shown as tables
 use Rattle.station_tables.specs.Found.{Finds}

@@ -8,9 +8,9 @@ use Rattle.sqlite.specs.State.{HasCleanDisk}
 use Rattle.row_laws.specs.Calls.{IsSettled, IsUndone, Stops}
 use Rattle.table_load.specs.Reading.{read_as}
 use Rattle.table_load.specs.declared.station.FileVersion.TheVariants.{First}
-use Rattle.row_schema.specs.Own.{IsOwn, IsOldOwn}
-use Rattle.row_schema.specs.Schema.{station_schema}
-use Rattle.row_schema.specs.Tables.{Tables, IsOldStation, tables_of, old_tables_of, upgraded}
+use Rattle.station_schema.specs.Own.{IsOwn, IsOldOwn}
+use Rattle.station_schema.specs.Schema.{station_schema}
+use Rattle.station_schema.specs.Tables.{Tables, IsOldStation, tables_of, old_tables_of, upgraded}
 use Rattle.row_codec.specs.Meaning.{Means}
 use Rattle.station_core.specs.Step.{State}
 use Rattle.file_audit.proofs.Declared.{old_same_tables}

@@ -12,10 +12,10 @@ use Rattle.station_core.specs.declared.answer.ActFault.{ActFault}
 use Rattle.station_core.specs.declared.input.Input.{Input}
 use Rattle.station_core.specs.Keeping.{IsAfterAnswered}
 use Rattle.station_core.specs.Step.{State, IsLawfulState}
-use Rattle.row_schema.specs.Store.{View}
-use Rattle.row_schema.specs.Tables.{tables_of}
+use Rattle.station_schema.specs.Store.{View}
+use Rattle.station_schema.specs.Tables.{tables_of}
 use Rattle.row_codec.specs.Meaning.{meaning_of, IsReadable}
-use Rattle.row_schema.specs.Own.{IsOwn}
+use Rattle.station_schema.specs.Own.{IsOwn}
 use Rattle.station_rows.specs.Own.{are_declared}
 use Rattle.station_rows.specs.Shown.{rows_view}
 use Rattle.table_load.specs.Reading.{read_as}

@@ -4,7 +4,7 @@ use Rattle.sqlite.specs.Effect.{Database}
 use Rattle.sqlite.specs.Held.{Held}
 use Rattle.sqlite_trees.specs.declared.store.Store.{Ghosts}
 use Rattle.station_core.specs.Step.{State}
-use Rattle.row_schema.specs.Tables.{Tables, tables_of}
+use Rattle.station_schema.specs.Tables.{Tables, tables_of}
 use Rattle.row_codec.specs.Meaning.{meaning_of, Means}
 use Rattle.file_audit.specs.declared.state.FoundState.{FoundState}
 use Rattle.file_audit.specs.declared.unfit.Unfit.{Unfit}

@@ -6,11 +6,11 @@ use Rattle.sqlite.specs.State.{HasCleanDisk, Survives}
 use Rattle.sqlite.specs.Tree.{Trees}
 use Rattle.sqlite_trees.specs.declared.store.Store.{Ghosts}
 use Rattle.row_laws.specs.Calls.{IsUndone}
-use Rattle.row_schema.specs.Beside.{IsOneStep}
-use Rattle.row_schema.specs.Connection.{connection_view, IsVacant}
-use Rattle.row_schema.specs.Names.{takes_name}
-use Rattle.row_schema.specs.Own.{IsOldOwn, IsOwn, LiesInOrder}
-use Rattle.row_schema.specs.Store.{IsUnchanged}
+use Rattle.station_schema.specs.Beside.{IsOneStep}
+use Rattle.station_schema.specs.Connection.{connection_view, IsVacant}
+use Rattle.station_schema.specs.Names.{takes_name}
+use Rattle.station_schema.specs.Own.{IsOldOwn, IsOwn, LiesInOrder}
+use Rattle.station_schema.specs.Store.{IsUnchanged}
 use Rattle.table_load.specs.declared.station.FileVersion.TheVariants.{First}
 use Rattle.station_core.specs.Step.{State, IsLawfulState, opening}
 use Rattle.station_rows.specs.Own.{are_declared}

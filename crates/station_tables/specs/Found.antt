@@ -1,7 +1,7 @@
 -- What a reopening of a store of tables may find.
 use Rattle.std.specs.Prelude.{Option}
 use Rattle.station_core.specs.Step.{State}
-use Rattle.row_schema.specs.Store.{View}
+use Rattle.station_schema.specs.Store.{View}
 use Rattle.station_engine.specs.Found as stored
 use Rattle.table_state.specs.Shown as tables
 

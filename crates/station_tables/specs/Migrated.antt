@@ -4,8 +4,8 @@ use Rattle.sqlite.specs.Effect.{Database}
 use Rattle.sqlite.specs.Tree.{Trees}
 use Rattle.sqlite.specs.State as sqlite
 use Rattle.row_laws.specs.Calls.{IsSettled}
-use Rattle.row_schema.specs.Own.{IsOwn}
-use Rattle.row_schema.specs.Tables.{tables_of}
+use Rattle.station_schema.specs.Own.{IsOwn}
+use Rattle.station_schema.specs.Tables.{tables_of}
 use Rattle.row_codec.specs.Meaning.{Means}
 use Rattle.station_core.specs.Step.{State}
 use Rattle.station_tables.specs.Attached.{IsStateIn, IsOldStateIn}

@@ -2,7 +2,7 @@
 use Rattle.std.specs.Prelude.{◌≡◌, ◌⊎◌, Option, Some}
 use Rattle.station_days.specs.Date.{LocalMinute}
 use Rattle.sqlite.specs.Effect.{Database}
-use Rattle.row_schema.specs.Store.{View}
+use Rattle.station_schema.specs.Store.{View}
 use Rattle.station_core.specs.declared.answer.Answer.{Answer}
 use Rattle.station_core.specs.declared.answer.Answer.TheVariants.{Done}
 use Rattle.station_core.specs.declared.answer.Reply.{Reply}

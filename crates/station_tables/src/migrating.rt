@@ -3,9 +3,9 @@ ghost use Rattle.std.specs.Prelude.{◌≡◌, ◌≢◌, ◌⊎◌, true, false
 ghost use Rattle.table_load.specs.Reading.{read_as};
 ghost use Rattle.table_load.specs.declared.station.FileVersion.TheVariants.{First};
 ghost use Rattle.row_laws.specs.Calls.{IsSettled, IsUndone};
-ghost use Rattle.row_schema.specs.Connection.{connection_view};
-ghost use Rattle.row_schema.specs.Own.{IsOldOwn, LiesInOrder};
-ghost use Rattle.row_schema.specs.Tables.{IsOldStation};
+ghost use Rattle.station_schema.specs.Connection.{connection_view};
+ghost use Rattle.station_schema.specs.Own.{IsOldOwn, LiesInOrder};
+ghost use Rattle.station_schema.specs.Tables.{IsOldStation};
 ghost use Rattle.sqlite.specs.Effect.{Database};
 ghost use Rattle.sqlite.specs.Held.{state};
 ghost use Rattle.sqlite.specs.State.{HasCleanDisk, Survives};
@@ -19,10 +19,9 @@ ghost use Rattle.table_upgrade.specs.Upgrade.{MeansUpgraded};
 
 use crate::attaching::{breakdown, judge};
 use crate::fault::AttachFault;
-use declared_tables::shows_old_station;
 use file_audit::{FoundState, Unfit};
-use row_schema::shows_own;
 use sqlite::{Alter, Connection};
+use station_schema::{shows_old_station, shows_own};
 use std::alloc::Global;
 use table_audits::TableName;
 use table_load::FileVersion;

@@ -2,8 +2,8 @@ ghost use Rattle.std.specs.Prelude.{◌≡◌, ◌≢◌, true, false, Err, Opti
 ghost use Rattle.sqlite.specs.State.{HasCleanDisk, Survives};
 ghost use Rattle.row_laws.specs.Calls.{IsUndone};
 ghost use Rattle.sqlite.specs.Held.{state};
-ghost use Rattle.row_schema.specs.Own.{IsOwn, LiesInOrder};
-ghost use Rattle.row_schema.specs.Connection.{connection_view};
+ghost use Rattle.station_schema.specs.Own.{IsOwn, LiesInOrder};
+ghost use Rattle.station_schema.specs.Connection.{connection_view};
 ghost use Rattle.station_core.specs.Keeping.{Answers, MayLeave, IsMemoryOrStore};
 ghost use Rattle.station_core.specs.Step.{State, IsLawfulState};
 ghost use Rattle.station_tables.specs.Attached.{connection_in, IsBreakdown, IsStateIn, IsTypedState, Refuses};

@@ -5,8 +5,8 @@ ghost use Rattle.sqlite.specs.State as connection;
 ghost use Rattle.sqlite.specs.Tree.{Trees};
 ghost use Rattle.station_core.specs.Keeping.{Acts, Breaks, Leaves};
 ghost use Rattle.station_tables.specs.Attached.{connection_in};
-ghost use Rattle.row_schema.specs.Connection.{connection_view};
-ghost use Rattle.row_schema.specs.Own.{IsOwn, LiesInOrder};
+ghost use Rattle.station_schema.specs.Connection.{connection_view};
+ghost use Rattle.station_schema.specs.Own.{IsOwn, LiesInOrder};
 ghost use Rattle.station_core.specs.Step.{State};
 ghost use Rattle.station_rows.specs.Own.{are_declared};
 ghost use Rattle.station_rows.specs.Shown.{rows_view};
@@ -125,9 +125,11 @@ impl<S: Alter> Keeper for Station<S> {
 
     ghost is_broken = { λ k. ⟦<StoredStation<TableState<Rows<S>>> as Keeper>⟧.is_broken k.stored };
 
-    ghost may_find = { λ k found. ⟦<StoredStation<TableState<Rows<S>>> as Keeper>⟧.may_find k.stored found };
+    ghost may_find = { λ k found. ⟦<StoredStation<TableState<Rows<S>>> as Keeper>⟧.may_find k.stored
+        found };
 
-    ghost settled = { λ k s keeps sound found finds. found_is _ s keeps.0 (λ f left. finds_what_it_shows _ s (keeps.1 sound).holds f left) found finds };
+    ghost settled = { λ k s keeps sound found finds. found_is _ s keeps.0
+        (λ f left. finds_what_it_shows _ s (keeps.1 sound).holds f left) found finds };
 
     ghost lawful = { λ k s sound finds. finds.1 };
 

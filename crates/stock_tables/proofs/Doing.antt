@@ -7,8 +7,8 @@ use Rattle.agent_stock.specs.declared.stock.Order.{Order}
 use Rattle.agent_stock.specs.declared.stock.Run.{Run}
 use Rattle.agent_stock.specs.declared.stock.Holder.{Holder}
 use Rattle.agent_stock.specs.declared.stock.Holder.TheVariants.{Used}
-use Rattle.row_schema.specs.Store.{View}
-use Rattle.row_schema.specs.Tables.{Tables}
+use Rattle.station_schema.specs.Store.{View}
+use Rattle.station_schema.specs.Tables.{Tables}
 use Rattle.row_codec.specs.Stock.{holders_in}
 use Rattle.stock_tables.specs.Stocked.{Restocked, using_up}
 

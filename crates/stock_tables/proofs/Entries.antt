@@ -12,7 +12,7 @@ use Rattle.agent_stock.specs.Code.{is_agent_code}
 use Rattle.agent_stock.specs.declared.stock.Holder.{Holder}
 use Rattle.agent_stock.specs.declared.stock.Holder.TheVariants.{Desk, Agent, Used, Void}
 use Rattle.agent_stock.specs.declared.runs.StockRun.{StockRun}
-use Rattle.row_schema.specs.Tables.{Stock, StockKey, stock_cmp}
+use Rattle.station_schema.specs.Tables.{Stock, StockKey, stock_cmp}
 use Rattle.row_codec.specs.Numbers.{natural}
 use Rattle.row_codec.specs.Stock.{holder_by, unnamed_holder, is_stock_row, is_behind, are_apart, run_in, named}
 use Rattle.stock_tables.specs.Rows.{end_of, IsRunRow, StandFrom}

@@ -4,7 +4,7 @@ use Rattle.std.specs.Option.{option_and_then}
 use Rattle.std.specs.FinMap.{FinMap, entries}
 use Rattle.awb_number.specs.Number.{prefix_of, serial_of}
 use Rattle.agent_stock.specs.declared.stock.Run.{Run}
-use Rattle.row_schema.specs.Tables.{Stock, stock_cmp}
+use Rattle.station_schema.specs.Tables.{Stock, stock_cmp}
 use Rattle.row_codec.specs.Stock.{holders_in, AreStockRows, run_in}
 use Rattle.stock_tables.specs.Rows.{rows_near}
 use Rattle.station_rows.specs.declared.stock.StockRow.{StockRow}

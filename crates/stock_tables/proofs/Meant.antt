@@ -10,7 +10,7 @@ use Rattle.std.proofs.lemmas.Bool.Decides.{nat_tests}
 use Rattle.std.proofs.lemmas.Bool.{and_parts}
 use Rattle.agent_stock.specs.Stock.{is_among}
 use Rattle.agent_stock.specs.declared.stock.Holder.{Holder}
-use Rattle.row_schema.specs.Tables.{Stock, StockKey, stock_cmp}
+use Rattle.station_schema.specs.Tables.{Stock, StockKey, stock_cmp}
 use Rattle.row_codec.specs.Numbers.{natural, is_within}
 use Rattle.row_codec.specs.Stock.{holder_by, holders_in, stands_for, is_stock_row, is_behind, are_apart, run_in, named}
 use Rattle.stock_tables.specs.Rows.{holders_by, end_of, IsRunRow, StandFrom, AreRuns}

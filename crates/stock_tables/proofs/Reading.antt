@@ -13,7 +13,7 @@ use Rattle.awb_number.specs.Number.{prefix_of, serial_of}
 use Rattle.agent_stock.specs.Stock.{is_among}
 use Rattle.agent_stock.specs.declared.stock.Run.{Run}
 use Rattle.agent_stock.specs.declared.runs.StockRun.{StockRun}
-use Rattle.row_schema.specs.Tables.{Stock, StockKey}
+use Rattle.station_schema.specs.Tables.{Stock, StockKey}
 use Rattle.row_codec.specs.Numbers.{natural}
 use Rattle.row_codec.specs.Stock.{is_stock_row, run_in}
 use Rattle.stock_tables.specs.Rows.{holders_by, end_of, IsRunRow, StandFrom, touches, rows_near}

@@ -9,8 +9,8 @@ use Rattle.agent_stock.specs.Stock.{is_run, covers, assigned}
 use Rattle.agent_stock.specs.declared.stock.Holder.{Holder}
 use Rattle.agent_stock.specs.declared.stock.Run.{Run}
 use Rattle.agent_stock.specs.declared.runs.StockRun.{StockRun}
-use Rattle.row_schema.specs.Store.{View, Displays, inside}
-use Rattle.row_schema.specs.Tables.{Tables, Stock, stock_cmp}
+use Rattle.station_schema.specs.Store.{View, Displays, inside}
+use Rattle.station_schema.specs.Tables.{Tables, Stock, stock_cmp}
 use Rattle.row_codec.specs.Stock.{holders_in, run_in}
 use Rattle.stock_tables.specs.Rows.{holders_by, StandFrom, AreRuns, AreAround, AreNear, Touches, rows_ahead, rows_near, rows_behind, end_of}
 use Rattle.stock_tables.proofs.Places.{run_parts}

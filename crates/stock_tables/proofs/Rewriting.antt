@@ -11,8 +11,8 @@ use Rattle.std.proofs.lemmas.Bool.Decides.{nat_tests}
 use Rattle.awb_number.specs.Number.{prefix_of, serial_of}
 use Rattle.agent_stock.specs.declared.runs.StockRun.{StockRun}
 use Rattle.row_laws.proofs.Keys.{pair_eq, int_tied}
-use Rattle.row_schema.proofs.Keys.{stock_total, stock_same}
-use Rattle.row_schema.specs.Tables.{Stock, StockKey, stock_cmp}
+use Rattle.station_schema.proofs.Keys.{stock_total, stock_same}
+use Rattle.station_schema.specs.Tables.{Stock, StockKey, stock_cmp}
 use Rattle.row_codec.specs.Stock.{holders_in, is_stock_row, are_apart, AreStockRows, run_in}
 use Rattle.stock_tables.specs.Rows.{holders_by, IsRunRow, AreRuns}
 use Rattle.stock_tables.proofs.Standing.{each_split, each_join}

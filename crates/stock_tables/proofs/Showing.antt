@@ -2,8 +2,8 @@
 use Rattle.std.proofs.Common.{◌≡◌, Some, ap, ◌∙◌}
 use Rattle.std.specs.FinMap.{FinMap, get}
 use Rattle.row_laws.specs.Laws.{adjust_there}
-use Rattle.row_schema.specs.Store.{View, Seen, IsShowing, IsUnchanged, Survives, Writes, inside}
-use Rattle.row_schema.specs.Tables.{Tables, Stock, StockKey, stock_cmp}
+use Rattle.station_schema.specs.Store.{View, Seen, IsShowing, IsUnchanged, Survives, Writes, inside}
+use Rattle.station_schema.specs.Tables.{Tables, Stock, StockKey, stock_cmp}
 use Rattle.station_rows.specs.Meant.{with_stock, changing_stock}
 
 module _ (old new : View) where

@@ -4,7 +4,7 @@ use Rattle.awb_number.specs.Number.{IsNumber, prefix_of, serial_of}
 use Rattle.agent_stock.specs.declared.stock.Holder.{Holder}
 use Rattle.agent_stock.specs.declared.stock.Holder.TheVariants.{Desk, Agent, Used, Void}
 use Rattle.agent_stock.specs.declared.runs.StockRun.{StockRun}
-use Rattle.row_schema.specs.Tables.{Stock, StockKey}
+use Rattle.station_schema.specs.Tables.{Stock, StockKey}
 use Rattle.row_codec.specs.Stock.{holder_by}
 
 -- what stands in a row for a holder: its number, and the agent's code

@@ -6,8 +6,8 @@ use Rattle.agent_stock.specs.Stock.{Holders}
 use Rattle.agent_stock.specs.declared.stock.Holder.TheVariants.{Used}
 use Rattle.agent_stock.specs.declared.stock.Run.{Run}
 use Rattle.agent_stock.specs.declared.runs.StockRun.{StockRun}
-use Rattle.row_schema.specs.Store.{View, Displays, inside}
-use Rattle.row_schema.specs.Tables.{Tables, Stock, stock_cmp}
+use Rattle.station_schema.specs.Store.{View, Displays, inside}
+use Rattle.station_schema.specs.Tables.{Tables, Stock, stock_cmp}
 use Rattle.row_codec.specs.Stock.{holders_in, AreStockRows}
 use Rattle.stock_tables.specs.Rows.{AreAround, end_of}
 use Rattle.stock_tables.specs.Runs.{key_of}

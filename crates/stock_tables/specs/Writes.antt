@@ -3,7 +3,7 @@ use Rattle.std.specs.Prelude.{ℕ, Bool, nat_eq, if◌then◌else◌, List, [], 
 use Rattle.std.specs.List.{list_any}
 use Rattle.std.specs.FinMap.{FinMap, insert, remove}
 use Rattle.agent_stock.specs.declared.runs.StockRun.{StockRun}
-use Rattle.row_schema.specs.Tables.{Stock, stock_cmp}
+use Rattle.station_schema.specs.Tables.{Stock, stock_cmp}
 use Rattle.stock_tables.specs.Runs.{key_of, row_in}
 
 -- whether one of the rows begins with a number

@@ -14,7 +14,8 @@ fn count_of(row: &StockRun) -> u32
     row.count
 }
 
-/// Where the new row begins, and what stays of the row that stands out before the run. `None`: that row doesn't reach the run.
+/// Where the new row begins, and what stays of the row that stands out before the run. `None`: that
+/// row doesn't reach the run.
 pub(crate) fn before(near: &[StockRun], first: u64, to: &Holder) -> Option<(u64, Option<StockRun>)>
     ensures cut { IfSome result (λ r. Before first to.now near.now r.0 r.1) }
     ensures some { AllByRecursion (λ row. first ≤ row.first + row.count) near.now → IsSome result }
@@ -42,10 +43,12 @@ pub(crate) fn before(near: &[StockRun], first: u64, to: &Holder) -> Option<(u64,
     Some((first, Some(left)))
 }
 
-/// Where the new row ends, and what stays of the row that stands out behind the run. `None`: that row isn't one of numbers.
+/// Where the new row ends, and what stays of the row that stands out behind the run. `None`: that
+/// row isn't one of numbers.
 pub(crate) fn behind(near: &[StockRun], end: u64, to: &Holder) -> Option<(u64, Option<StockRun>)>
     ensures cut { IfSome result (λ r. Behind end to.now near.now r.0 r.1) }
-    ensures some { end ≤ 10_000_000_000 → AllByRecursion (λ row. (row.first ≤ end) × IsRunRow row) near.now → IsSome result }
+    ensures some { end ≤ 10_000_000_000
+        → AllByRecursion (λ row. (row.first ≤ end) × IsRunRow row) near.now → IsSome result }
 {
     let Some((row, _others)) = near.split_last() else {
         return Some((end, None));

@@ -15,9 +15,11 @@ fn later(one: u64, other: u64) -> u64
     if one < other { other } else { one }
 }
 
-/// Whether there is a number from `from` on, below `to` and `end`, and its holder, or none, fails the test.
+/// Whether there is a number from `from` on, below `to` and `end`, and its holder, or none, fails
+/// the test.
 fn fails(test: &Test, holder: &Option<Holder>, from: u64, to: u64, end: u64) -> bool
-    ensures { IsTrue result ↔ ((from < to) × ((from < end) × (passes test.now holder.now ≡ false))) }
+    ensures { IsTrue result
+        ↔ ((from < to) × ((from < end) × (passes test.now holder.now ≡ false))) }
 {
     from < to && from < end && !test.passes(holder)
 }
@@ -29,8 +31,8 @@ fn end_key(row: &StockRun) -> u64
     row.first.key() + u64::from(row.count)
 }
 
-/// The lowest number of a run that fails a test, by rows that are in ascending order and have all numbers of the run that
-/// are in stock. A number that is in no row has no holder.
+/// The lowest number of a run that fails a test, by rows that are in ascending order and have all
+/// numbers of the run that are in stock. A number that is in no row has no holder.
 pub fn lowest_of(near: &[StockRun], run: &Run, test: &Test) -> Option<Awb>
     requires { is_run run.now ≡ true }
     ensures { (h : Holders) → StandFrom 0 near.now

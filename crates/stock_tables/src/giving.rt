@@ -2,8 +2,8 @@
 ghost use Rattle.std.specs.Prelude.{◌≡◌, true, map, OnOk};
 ghost use Rattle.std.specs.FinMap.{entries};
 ghost use Rattle.agent_stock.specs.Stock.{is_run, assigned};
-ghost use Rattle.row_schema.specs.Store.{IsShowing, Survives, at_rest, inside};
-ghost use Rattle.row_schema.specs.Tables.{Tables};
+ghost use Rattle.station_schema.specs.Store.{IsShowing, Survives, at_rest, inside};
+ghost use Rattle.station_schema.specs.Tables.{Tables};
 ghost use Rattle.row_codec.specs.Stock.{holders_in, run_in};
 ghost use Rattle.stock_tables.specs.Rows.{rows_near};
 ghost use Rattle.stock_tables.specs.Stocked.{Stocked, Restocked, using_up};

@@ -1,6 +1,6 @@
 //! Who holds a number.
 ghost use Rattle.std.specs.Prelude.{◌≡◌, IfOk};
-ghost use Rattle.row_schema.specs.Store.{Seen, IsShowing, Rests, Survives};
+ghost use Rattle.station_schema.specs.Store.{Seen, IsShowing, Rests, Survives};
 ghost use Rattle.row_codec.specs.Stock.{holders_in, run_in};
 ghost use Rattle.station_rows.specs.Clauses.{ShowsStill, WasOpen};
 ghost use Rattle.station_rows.specs.Meant.{stock_meant};

@@ -22,18 +22,22 @@ pub struct Joined {
     pub right: Option<StockRun>,
 }
 
-/// What stands in place of the rows that a run touches, where the run goes to a holder: the rows that the run cuts are
-/// split, and the run is joined with the rows beside it that its new holder has. A row that only stands beside the run
-/// and has another holder comes back as it was. `None`: the rows aren't in ascending order, or end past their prefix.
+/// What stands in place of the rows that a run touches, where the run goes to a holder: the rows
+/// that the run cuts are split, and the run is joined with the rows beside it that its new holder
+/// has. A row that only stands beside the run and has another holder comes back as it was. `None`:
+/// the rows aren't in ascending order, or end past their prefix.
 pub fn join_rows(near: &[StockRun], run: &Run, to: &Holder) -> Option<Joined>
     requires { is_run run.now ≡ true }
-    ensures some { (ahead after : List Row) → AreRuns (ahead ++ (near.now ++ after)) → AreNear run.now near.now → IsSome result }
+    ensures some { (ahead after : List Row) → AreRuns (ahead ++ (near.now ++ after))
+        → AreNear run.now near.now → IsSome result }
 
     // The numbers of the run have the holder, and every other number has the one that it had.
-    ensures assigned { (ahead after : List Row) → AreRuns (ahead ++ (near.now ++ after)) → AreAround run.now ahead after → AreNear run.now near.now
+    ensures assigned { (ahead after : List Row) → AreRuns (ahead ++ (near.now ++ after))
+        → AreAround run.now ahead after → AreNear run.now near.now
         → IfSome result (λ new. holders_by (ahead ++ (written new ++ after))
         ≡ assigned (holders_by (ahead ++ (near.now ++ after))) run.now to.now) }
-    ensures runs { (ahead after : List Row) → AreRuns (ahead ++ (near.now ++ after)) → AreAround run.now ahead after → AreNear run.now near.now
+    ensures runs { (ahead after : List Row) → AreRuns (ahead ++ (near.now ++ after))
+        → AreAround run.now ahead after → AreNear run.now near.now
         → IfSome result (λ new. AreRuns (ahead ++ (written new ++ after))) }
     ensures beside { IfSome result (λ new. IsJoined to.now new) }
 {

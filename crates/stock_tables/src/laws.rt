@@ -1,7 +1,7 @@
 //! What rows of the stock's table say as runs.
 ghost use Rattle.std.specs.Prelude.{◌≡◌, map};
 ghost use Rattle.std.specs.FinMap.{FinMap, entries};
-ghost use Rattle.row_schema.specs.Tables.{Stock, stock_cmp};
+ghost use Rattle.station_schema.specs.Tables.{Stock, stock_cmp};
 ghost use Rattle.row_codec.specs.Stock.{AreStockRows, holders_in, run_in};
 ghost use Rattle.stock_tables.specs.Rows.{AreRuns, holders_by};
 

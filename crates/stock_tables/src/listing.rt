@@ -1,7 +1,7 @@
 //! The stock as its runs.
 ghost use Rattle.std.specs.Prelude.{◌≡◌, map, IfOk};
 ghost use Rattle.agent_stock.specs.Runs.{AreStockRuns};
-ghost use Rattle.row_schema.specs.Store.{Seen, IsShowing, Rests, Survives};
+ghost use Rattle.station_schema.specs.Store.{Seen, IsShowing, Rests, Survives};
 ghost use Rattle.row_codec.specs.Stock.{holders_in, run_in};
 ghost use Rattle.station_rows.specs.Clauses.{ShowsStill, WasOpen};
 ghost use Rattle.station_rows.specs.Meant.{stock_meant};

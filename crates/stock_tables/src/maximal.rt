@@ -8,9 +8,11 @@ use crate::joining::SERIALS;
 use agent_stock::StockRun;
 use std::alloc::{AllocError, Global};
 
-/// Two rows as one, where the second follows the first. `None` also where they have more numbers than a prefix has.
+/// Two rows as one, where the second follows the first. `None` also where they have more numbers
+/// than a prefix has.
 fn joint(row: &StockRun, next: &StockRun) -> Option<StockRun>
-    ensures { MatchOption result (Follows row.now next.now → 10_000_000 < row.now.count + next.now.count)
+    ensures { MatchOption result (Follows row.now next.now
+        → 10_000_000 < row.now.count + next.now.count)
         (λ both. Follows row.now next.now × (both ≡ both_as_one row.now next.now)) }
 {
     if row.first.prefix() != next.first.prefix() {
@@ -39,7 +41,8 @@ fn runs_from(
     first: &StockRun,
     following: &[StockRun],
 ) -> Result<Vec<StockRun>, AllocError>
-    ensures { AreRuns (first.now ∷ following.now) → IfOk result (λ runs. AreStockRuns (holders_by (first.now ∷ following.now)) runs.items) }
+    ensures { AreRuns (first.now ∷ following.now)
+        → IfOk result (λ runs. AreStockRuns (holders_by (first.now ∷ following.now)) runs.items) }
 {
     let mut runs = Vec::new(alloc);
     let mut run = *first;
@@ -56,10 +59,12 @@ fn runs_from(
     Ok(runs)
 }
 
-/// The maximal runs of rows that are in ascending order, apart and within their prefixes: neighbours of one holder are
-/// given as one run. Nothing is said of the runs of other rows. It fails only where memory runs out.
+/// The maximal runs of rows that are in ascending order, apart and within their prefixes:
+/// neighbours of one holder are given as one run. Nothing is said of the runs of other rows. It
+/// fails only where memory runs out.
 pub fn maximal_runs(alloc: Global, rows: &[StockRun]) -> Result<Vec<StockRun>, AllocError>
-    ensures { AreRuns rows.now → IfOk result (λ runs. AreStockRuns (holders_by rows.now) runs.items) }
+    ensures { AreRuns rows.now
+        → IfOk result (λ runs. AreStockRuns (holders_by rows.now) runs.items) }
 {
     match rows.split_first() {
         None => Ok(Vec::new(alloc)),

@@ -1,7 +1,7 @@
 //! The rows that a run touches.
 ghost use Rattle.std.specs.Prelude.{◌≡◌, ◌++◌, map, filter, option_map, IfSome, IfOk};
 ghost use Rattle.std.specs.FinMap.{entries};
-ghost use Rattle.row_schema.specs.Store.{Survives};
+ghost use Rattle.station_schema.specs.Store.{Survives};
 ghost use Rattle.stock_tables.specs.Rows.{rows_near, end_of};
 ghost use Rattle.station_rows.specs.Clauses.{TellsOf, ShowsStill, WasOpen};
 ghost use Rattle.station_rows.specs.Meant.{stock_meant};

@@ -1,8 +1,8 @@
 //! Orders on the stock.
 ghost use Rattle.std.specs.Prelude.{◌≡◌, true, false, Err, None, OnOk, IfErr};
 ghost use Rattle.agent_stock.specs.Stock.{is_run, lowest_failing, refused_by, run_refusal, order_refusal, run_of, assigned, after_order};
-ghost use Rattle.row_schema.specs.Store.{IsShowing, Survives, at_rest};
-ghost use Rattle.row_schema.specs.Tables.{Tables};
+ghost use Rattle.station_schema.specs.Store.{IsShowing, Survives, at_rest};
+ghost use Rattle.station_schema.specs.Tables.{Tables};
 ghost use Rattle.row_codec.specs.Stock.{holders_in};
 ghost use Rattle.agent_stock.specs.Refusing.{RefusesBy, OnRefused};
 ghost use Rattle.stock_tables.specs.Stocked.{Stocked, Restocked};

@@ -6,13 +6,14 @@ ghost use Rattle.stock_tables.specs.Rows.{AreRuns, AreAround, AreNear, holders_b
 
 use agent_stock::Run;
 
-/// Rows in ascending order are those that lie before a run, those that it touches, and those that lie behind it; and the
-/// rows that it touches say who has its numbers.
+/// Rows in ascending order are those that lie before a run, those that it touches, and those that
+/// lie behind it; and the rows that it touches say who has its numbers.
 pub fn parts_law(run: &Run)
     requires { is_run run.now ≡ true }
     ensures parted { (rows : List Row) → AreRuns rows
         → rows ≡ rows_ahead run.now rows ++ (rows_near run.now rows ++ rows_behind run.now rows) }
-    ensures around { (rows : List Row) → AreRuns rows → AreAround run.now (rows_ahead run.now rows) (rows_behind run.now rows) }
+    ensures around { (rows : List Row) → AreRuns rows
+        → AreAround run.now (rows_ahead run.now rows) (rows_behind run.now rows) }
     ensures near { (rows : List Row) → AreNear run.now (rows_near run.now rows) }
     ensures holders { (rows : List Row) → AreRuns rows → (q : ℕ) → IsTrue (covers run.now q)
         → holders_by (rows_near run.now rows) q ≡ holders_by rows q }

@@ -2,8 +2,8 @@
 ghost use Rattle.std.specs.Prelude.{◌≡◌, ◌∷◌, [], true, Some, OnOk};
 ghost use Rattle.std.specs.FinMap.{get};
 ghost use Rattle.std.specs.List.{AllByRecursion};
-ghost use Rattle.row_schema.specs.Store.{IsShowing, Survives, inside};
-ghost use Rattle.row_schema.specs.Tables.{Tables, Stock};
+ghost use Rattle.station_schema.specs.Store.{IsShowing, Survives, inside};
+ghost use Rattle.station_schema.specs.Tables.{Tables, Stock};
 ghost use Rattle.stock_tables.specs.Rows.{listed, written};
 ghost use Rattle.station_rows.specs.Clauses.{ShowsChange};
 ghost use Rattle.station_rows.specs.Meant.{stock_meant, with_stock};

@@ -16,7 +16,7 @@ use Rattle.shipment_machine.specs.Numbers.{IsAscending as Rising, is_in}
 use Rattle.shipment_machine.proofs.Rising.{same_rising}
 use Rattle.shipment_machine.proofs.FlightMoves.{Rising-waybills_on}
 use Rattle.shipment_machine.proofs.OnFlight.{is_in-waybills_on}
-use Rattle.row_schema.specs.Tables.{Build}
+use Rattle.station_schema.specs.Tables.{Build}
 use Rattle.row_codec.specs.Counts.{running, unless_nothing}
 use Rattle.row_codec.specs.Numbers.{natural}
 use Rattle.running_totals.proofs.Tests.{none_is, int_pos}

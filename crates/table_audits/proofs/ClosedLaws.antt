@@ -17,8 +17,8 @@ use Rattle.shipment_machine.specs.declared.moves.Place.{Place}
 use Rattle.shipment_machine.specs.declared.moves.Place.TheVariants.{Hand, Surplus, Free, Built, Departed, Delivered, Missing, Transferred}
 use Rattle.shipment_machine.specs.Lawful.{departs_with, IsNoted, IsLawfulMove}
 use Rattle.shipment_machine.proofs.FlightKeys.{same-is}
-use Rattle.row_schema.specs.Tables.{Tables, Flight, FlightKey, flight_cmp}
-use Rattle.row_schema.proofs.Keys.{flight_total, flight_same}
+use Rattle.station_schema.specs.Tables.{Tables, Flight, FlightKey, flight_cmp}
+use Rattle.station_schema.proofs.Keys.{flight_total, flight_same}
 use Rattle.row_codec.specs.Numbers.{is_set}
 use Rattle.row_codec.specs.Flights.{is_designator, flight_key, flights_in, outbound_by, is_flight_row}
 use Rattle.row_codec.specs.Moves.{book_in}

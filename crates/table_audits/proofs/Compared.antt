@@ -9,7 +9,7 @@ use Rattle.std.specs.Map.{lookup, keys_of}
 use Rattle.shipment_machine.specs.declared.flight.FlightDate.{FlightDate}
 use Rattle.shipment_machine.specs.declared.moves.Move.{Move}
 use Rattle.row_laws.proofs.Keys.{pair_same}
-use Rattle.row_schema.specs.Tables.{Tables, Count, CountKey, count_cmp}
+use Rattle.station_schema.specs.Tables.{Tables, Count, CountKey, count_cmp}
 use Rattle.row_codec.specs.Counts.{running, counted, AreCounts}
 use Rattle.running_totals.proofs.Keeping.{counts_total}
 use Rattle.running_totals.proofs.Moved.{counted_is}

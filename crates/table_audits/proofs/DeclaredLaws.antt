@@ -2,7 +2,7 @@
 use Rattle.std.proofs.Common.{◌≡◌, ℕ, pos, true, Option, Some, None, option_map, is_some, List, refl}
 use Rattle.std.specs.Prelude.{IsSome}
 use Rattle.sqlite_keyed.specs.Keyed.{get_by}
-use Rattle.row_schema.specs.Tables.{Waybill, waybill_id}
+use Rattle.station_schema.specs.Tables.{Waybill, waybill_id}
 use Rattle.row_codec.specs.Waybills.{declared_by, declared_in}
 use Rattle.table_audits.specs.Rows.{has_waybill}
 

@@ -8,8 +8,8 @@ use Rattle.sqlite_keyed.proofs.ListLemmas.{all_from_test, test_from_all}
 use Rattle.shipment_machine.specs.Lawful.{IsLawfulAmount}
 use Rattle.shipment_machine.specs.declared.flight.FlightDate.{FlightDate}
 use Rattle.shipment_machine.specs.declared.moves.Expected as cargo
-use Rattle.row_schema.specs.Tables.{Tables, Expected, ExpectedKey, expected_cmp}
-use Rattle.row_schema.proofs.Keys.{expected_total, expected_same}
+use Rattle.station_schema.specs.Tables.{Tables, Expected, ExpectedKey, expected_cmp}
+use Rattle.station_schema.proofs.Keys.{expected_total, expected_same}
 use Rattle.row_codec.specs.Numbers.{natural, is_within, is_number, is_day}
 use Rattle.row_codec.specs.Flights.{is_designator, is_flight_text}
 use Rattle.row_codec.specs.Manifests.{expected_key, expected_by, expected_in, is_expected_row}

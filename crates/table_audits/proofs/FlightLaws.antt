@@ -8,8 +8,8 @@ use Rattle.std.proofs.lemmas.Bool.{and_parts, and_from, cond-true}
 use Rattle.sqlite_keyed.proofs.ListLemmas.{all_from_test, test_from_all}
 use Rattle.shipment_machine.specs.declared.flight.FlightDate.{FlightDate}
 use Rattle.shipment_machine.specs.declared.moves.Outbound.{Outbound}
-use Rattle.row_schema.specs.Tables.{Tables, Flight, FlightKey, flight_cmp}
-use Rattle.row_schema.proofs.Keys.{flight_total, flight_same}
+use Rattle.station_schema.specs.Tables.{Tables, Flight, FlightKey, flight_cmp}
+use Rattle.station_schema.proofs.Keys.{flight_total, flight_same}
 use Rattle.row_codec.specs.Flights.{is_designator, flight_key, outbound_by, flights_in, is_flight_row}
 use Rattle.row_codec.specs.Meaning.{airport_in}
 use Rattle.row_codec.proofs.MapLaws.{at_key, each_entry}

@@ -6,7 +6,7 @@ use Rattle.shipment_machine.specs.declared.flight.FlightDate.{FlightDate}
 use Rattle.shipment_machine.specs.declared.moves.Expected as cargo
 use Rattle.station_core.specs.declared.rows.Expectation.{Expectation}
 use Rattle.station_core.specs.declared.rows.NotedFlight.{NotedFlight}
-use Rattle.row_schema.specs.Tables.{Expected, ExpectedKey, Flight, FlightKey}
+use Rattle.station_schema.specs.Tables.{Expected, ExpectedKey, Flight, FlightKey}
 use Rattle.row_codec.specs.Numbers.{natural, is_within}
 use Rattle.row_codec.specs.Flights.{flight_date_of, noted_by, outbound_by}
 use Rattle.row_codec.specs.Manifests.{expectation_by, expected_by, is_expected_row}

@@ -6,8 +6,8 @@ use Rattle.std.specs.FinMap.{entries}
 use Rattle.std.proofs.lemmas.List.{map-append}
 use Rattle.sqlite_keyed.proofs.ListLemmas.{all_weaker, all_both, all_from_test, test_from_all}
 use Rattle.station_core.specs.Told.{IsRequest}
-use Rattle.row_schema.specs.Tables.{Kept, kept_cmp, Tables}
-use Rattle.row_schema.proofs.Keys.{kept_total, kept_same}
+use Rattle.station_schema.specs.Tables.{Kept, kept_cmp, Tables}
+use Rattle.station_schema.proofs.Keys.{kept_total, kept_same}
 use Rattle.table_load.specs.declared.kept_key.KeptKeyEntry.{KeptKeyEntry}
 use Rattle.table_load.specs.Held.{kept_key_entry}
 use Rattle.row_codec.specs.Replies.{AreRequests, is_kept_row}

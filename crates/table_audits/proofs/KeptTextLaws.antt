@@ -6,8 +6,8 @@ use Rattle.std.specs.FinMap.{entries, get}
 use Rattle.std.proofs.lemmas.Bool.{and_parts, cond-true}
 use Rattle.sqlite_keyed.proofs.ListLemmas.{all_from_test, test_from_all}
 use Rattle.shipment_machine.specs.declared.moves.Part.{Part}
-use Rattle.row_schema.specs.Tables.{Tables, PartKey, part_cmp}
-use Rattle.row_schema.proofs.Keys.{part_total, part_same}
+use Rattle.station_schema.specs.Tables.{Tables, PartKey, part_cmp}
+use Rattle.station_schema.proofs.Keys.{part_total, part_same}
 use Rattle.row_codec.specs.Numbers.{natural}
 use Rattle.row_codec.specs.Flights.{is_designator}
 use Rattle.row_codec.specs.Manifests.{part_key, parts_in, is_part_row}

@@ -2,7 +2,7 @@
 use Rattle.std.specs.Prelude.{◌↔◌}
 use Rattle.station_core.specs.Step.{IsLawfulState}
 use Rattle.shipment_machine.specs.Lawful.{IsLawful}
-use Rattle.row_schema.specs.Tables.{Tables}
+use Rattle.station_schema.specs.Tables.{Tables}
 use Rattle.row_codec.specs.Meaning.{meaning_of, IsReadable}
 use Rattle.table_audits.specs.declared.name.TableName.{TableName}
 use Rattle.table_audits.specs.declared.name.TableName.TheVariants as table

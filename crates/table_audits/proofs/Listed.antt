@@ -10,8 +10,8 @@ use Rattle.sqlite_keyed.proofs.ListLemmas.{ascending-map, ascending_from_map}
 use Rattle.row_laws.proofs.Maps.{entries_rise}
 use Rattle.shipment_machine.specs.declared.flight.FlightDate.{FlightDate}
 use Rattle.shipment_machine.specs.declared.moves.Outbound.{Outbound}
-use Rattle.row_schema.specs.Tables.{Flight, FlightKey, flight_cmp}
-use Rattle.row_schema.proofs.Keys.{flight_total, flight_same}
+use Rattle.station_schema.specs.Tables.{Flight, FlightKey, flight_cmp}
+use Rattle.station_schema.proofs.Keys.{flight_total, flight_same}
 use Rattle.row_codec.specs.Flights.{is_designator, flight_key, flight_date_of, flights_in, outbound_by, is_flight_row}
 use Rattle.row_codec.proofs.MoveRows.{columns_again}
 use Rattle.row_codec.proofs.MapLaws.{each_entry}

@@ -13,7 +13,7 @@ use Rattle.shipment_machine.specs.declared.flight.FlightDate.{FlightDate}
 use Rattle.shipment_machine.specs.declared.moves.Move.{Move}
 use Rattle.shipment_machine.proofs.FlightKeys.{same-is, same-refl}
 use Rattle.row_laws.proofs.Keys.{first_true, second_true}
-use Rattle.row_schema.specs.Tables.{Build, BuildKey, build_cmp, Flight, FlightKey}
+use Rattle.station_schema.specs.Tables.{Build, BuildKey, build_cmp, Flight, FlightKey}
 use Rattle.row_codec.specs.Counts.{running, build_row, build_at, built_up, written_flight}
 use Rattle.row_codec.specs.Flights.{is_designator, flight_key}
 use Rattle.row_codec.proofs.FlightKeys.{is_one}

@@ -12,7 +12,7 @@ use Rattle.shipment_machine.specs.declared.moves.Place.{Place}
 use Rattle.shipment_machine.specs.declared.moves.Place.TheVariants.{Hand, Surplus, Free, Built, Departed, Delivered, Missing, Transferred}
 use Rattle.shipment_machine.proofs.FlightKeys.{same-is, same-refl}
 use Rattle.row_laws.proofs.Keys.{pair_eq, int_tied, first_true, second_true}
-use Rattle.row_schema.specs.Tables.{Count, CountKey, count_cmp, Build}
+use Rattle.station_schema.specs.Tables.{Count, CountKey, count_cmp, Build}
 use Rattle.row_codec.specs.Counts.{Running, running, is_nothing, unless_nothing, running_in, running_on, count_row, build_row}
 use Rattle.row_codec.specs.Moves.{place_code, plain_place}
 use Rattle.running_totals.specs.Sums.{Sums, plus, posting, come, gone, is_built, count_in, count_here}

@@ -14,9 +14,9 @@ use Rattle.shipment_machine.specs.declared.moves.Outbound.{Outbound}
 use Rattle.shipment_machine.specs.declared.moves.Place.{Place}
 use Rattle.shipment_machine.specs.declared.moves.Place.TheVariants.{Hand, Surplus, Free, Built, Departed, Delivered, Missing, Transferred}
 use Rattle.shipment_machine.specs.Lawful.{is_pair, IsNoted, NamesFlight, IsLawfulMove}
-use Rattle.row_schema.specs.Tables as table
-use Rattle.row_schema.specs.Tables.{Flight, FlightKey, Waybill, flight_cmp}
-use Rattle.row_schema.proofs.Keys.{flight_same}
+use Rattle.station_schema.specs.Tables as table
+use Rattle.station_schema.specs.Tables.{Flight, FlightKey, Waybill, flight_cmp}
+use Rattle.station_schema.proofs.Keys.{flight_same}
 use Rattle.row_codec.specs.Numbers.{natural, is_within, is_day}
 use Rattle.row_codec.specs.Flights.{is_flight_text, is_designator, flight_key, flight_date_of, outbound_by}
 use Rattle.row_codec.specs.Moves.{place_code, move_by, is_move_row, are_flight_columns}

@@ -3,8 +3,8 @@ use Rattle.std.proofs.Common.{◌≡◌, true}
 use Rattle.std.specs.List.{AllByRecursion}
 use Rattle.sqlite_keyed.proofs.ListLemmas.{all_from_test, test_from_all, all_map, all_unmap, all_both, all_weaker}
 use Rattle.shipment_machine.specs.Lawful.{IsLawfulMove}
-use Rattle.row_schema.specs.Tables as table
-use Rattle.row_schema.specs.Tables.{move_id}
+use Rattle.station_schema.specs.Tables as table
+use Rattle.station_schema.specs.Tables.{move_id}
 use Rattle.row_codec.specs.Numbers.{AreNumbered}
 use Rattle.row_codec.specs.Moves.{move_by, is_move_row}
 use Rattle.table_audits.specs.Lawful.{cargo_in}

@@ -17,11 +17,11 @@ use Rattle.row_laws.proofs.Maps.{entries_rise}
 use Rattle.row_codec.proofs.MapLaws.{each_entry}
 use Rattle.sqlite.specs.Tree.{IsAscending}
 use Rattle.sqlite_keyed.specs.Keyed.{has_key}
-use Rattle.raw_rows.proofs.TableLemmas.{ascending_sorted}
+use Rattle.table_load.proofs.TableLemmas.{ascending_sorted}
 use Rattle.row_laws.proofs.Keys.{int_tied}
-use Rattle.row_schema.specs.Tables.{waybill_id}
-use Rattle.cargo_rows.specs.declared.waybills.WaybillRow.{WaybillRow}
-use Rattle.cargo_rows.specs.Meant.{waybill_meant}
+use Rattle.station_schema.specs.Tables.{waybill_id}
+use Rattle.table_rows.specs.declared.waybills.WaybillRow.{WaybillRow}
+use Rattle.table_rows.specs.Meant.{waybill_meant}
 use Rattle.table_audits.specs.Order.{RisesByNumber}
 
 -- ---- lists

@@ -9,7 +9,7 @@ use Rattle.sqlite_keyed.proofs.ListLemmas.{all_weaker, all_both, all_from_test, 
 use Rattle.agent_stock.specs.Code.{is_agent_code}
 use Rattle.agent_stock.specs.declared.stock.Holder.{Holder}
 use Rattle.agent_stock.specs.declared.stock.Holder.TheVariants as holder
-use Rattle.row_schema.specs.Tables.{Tables, Stock, StockKey}
+use Rattle.station_schema.specs.Tables.{Tables, Stock, StockKey}
 use Rattle.row_codec.specs.Stock.{holder_by, stands_for, holders_in, is_stock_row, are_apart}
 use Rattle.table_audits.specs.Lawful.{AreStocks, cargo_in}
 use Rattle.table_audits.specs.Rows.{has_waybill, IsLawfulStock}

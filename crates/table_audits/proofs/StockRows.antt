@@ -7,7 +7,7 @@ use Rattle.std.proofs.lemmas.Bool.Decides.{Decides-int_eq}
 use Rattle.std.proofs.lemmas.Int.{ints}
 use Rattle.sqlite_keyed.proofs.ListLemmas.{all_weaker, all_both}
 use Rattle.awb_number.specs.Number.{prefix_of, serial_of}
-use Rattle.row_schema.specs.Tables.{Stock, StockKey}
+use Rattle.station_schema.specs.Tables.{Stock, StockKey}
 use Rattle.row_codec.specs.Numbers.{is_within}
 use Rattle.row_codec.specs.Stock.{holder_by, stands_for, is_stock_row, is_behind, are_apart}
 use Rattle.table_audits.specs.Rows.{number_at}

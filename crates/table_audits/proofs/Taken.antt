@@ -8,10 +8,10 @@ use Rattle.std.proofs.lemmas.List.{length-map, map-append}
 use Rattle.std.proofs.lemmas.List.Folds.{list_all-append, list_all-map}
 use Rattle.sqlite.specs.declared.error.Error.{Error}
 use Rattle.sqlite_keyed.proofs.ListLemmas.{map-map, list_all_push}
-use Rattle.text_rows.specs.Meant.{trail_meant, message_meant}
-use Rattle.text_rows.specs.declared.outbox.MessageRow.{MessageRow}
-use Rattle.text_rows.specs.declared.trail.TrailRow.{TrailRow}
-use Rattle.row_schema.specs.Tables.{Tables, Message, Waybill, message_id, trail_id}
+use Rattle.table_rows.specs.Meant.{trail_meant, message_meant}
+use Rattle.table_rows.specs.declared.outbox.MessageRow.{MessageRow}
+use Rattle.table_rows.specs.declared.trail.TrailRow.{TrailRow}
+use Rattle.station_schema.specs.Tables.{Tables, Message, Waybill, message_id, trail_id}
 use Rattle.row_codec.specs.Logs.{is_message_row}
 use Rattle.row_codec.specs.Meaning.{confirmed_in}
 use Rattle.row_codec.specs.Numbers.{AreNumbered}

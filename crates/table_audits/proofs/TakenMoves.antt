@@ -4,12 +4,12 @@ use Rattle.std.specs.Prelude.{OnOk}
 use Rattle.std.specs.List.{AllByRecursion}
 use Rattle.std.proofs.lemmas.List.{map-append}
 use Rattle.sqlite.specs.declared.error.Error.{Error}
-use Rattle.cargo_rows.specs.Meant.{move_meant, waybill_meant}
-use Rattle.cargo_rows.specs.declared.moves.MoveRow.{MoveRow}
-use Rattle.cargo_rows.specs.declared.waybills.WaybillRow.{WaybillRow}
+use Rattle.table_rows.specs.Meant.{move_meant, waybill_meant}
+use Rattle.table_rows.specs.declared.moves.MoveRow.{MoveRow}
+use Rattle.table_rows.specs.declared.waybills.WaybillRow.{WaybillRow}
 use Rattle.shipment_machine.specs.Lawful.{IsLawfulMove, StaysDeparted}
 use Rattle.shipment_machine.specs.declared.moves.Move as cargo
-use Rattle.row_schema.specs.Tables.{Tables, Move, move_id}
+use Rattle.station_schema.specs.Tables.{Tables, Move, move_id}
 use Rattle.row_codec.specs.Counts.{running}
 use Rattle.row_codec.specs.Moves.{book_in, move_by}
 use Rattle.table_load.specs.Held.{flight_entry}

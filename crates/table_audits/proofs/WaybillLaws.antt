@@ -6,7 +6,7 @@ use Rattle.std.proofs.lemmas.Bool.{and_parts, and_from}
 use Rattle.sqlite_keyed.specs.Keyed.{get_by}
 use Rattle.sqlite_keyed.proofs.ListLemmas.{all_both, all_from_test, test_from_all}
 use Rattle.shipment_machine.specs.Lawful.{IsLawfulAmount}
-use Rattle.row_schema.specs.Tables.{Tables, Waybill, waybill_id}
+use Rattle.station_schema.specs.Tables.{Tables, Waybill, waybill_id}
 use Rattle.row_codec.specs.Numbers.{natural, is_within, is_number}
 use Rattle.row_codec.specs.Waybills.{declared_by, is_waybill_row}
 use Rattle.table_audits.specs.Lawful.{AreWaybills, cargo_in}

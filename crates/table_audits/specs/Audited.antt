@@ -6,7 +6,7 @@ use Rattle.shipment_machine.specs.declared.flight.FlightDate.{FlightDate}
 use Rattle.shipment_machine.specs.declared.moves.Move as cargo
 use Rattle.shipment_machine.specs.Effect.{is_closed}
 use Rattle.shipment_machine.specs.Lawful.{is_pair, IsLawfulMove, departs_with, StaysDeparted}
-use Rattle.row_schema.specs.Tables.{Tables, Flight, FlightKey, Waybill, move_id}
+use Rattle.station_schema.specs.Tables.{Tables, Flight, FlightKey, Waybill, move_id}
 use Rattle.row_codec.specs.Numbers.{AreNumbered}
 use Rattle.row_codec.specs.Flights.{flight_date_of}
 use Rattle.row_codec.specs.Moves.{is_move_row}

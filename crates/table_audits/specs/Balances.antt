@@ -10,7 +10,7 @@ use Rattle.shipment_machine.specs.Amount.{amount, plus, fits}
 use Rattle.shipment_machine.specs.Book.{built, taken_and_found, waybills_on}
 use Rattle.shipment_machine.specs.Effect.{is_closed}
 use Rattle.shipment_machine.specs.Lawful.{is_outside, IsStocked, IsCovered}
-use Rattle.row_schema.specs.Tables.{Tables, Flight, FlightKey}
+use Rattle.station_schema.specs.Tables.{Tables, Flight, FlightKey}
 use Rattle.row_codec.specs.Counts.{Running}
 use Rattle.row_codec.specs.Numbers.{natural, is_set}
 use Rattle.table_audits.specs.Lawful.{cargo_in}

@@ -14,7 +14,7 @@ use Rattle.shipment_machine.specs.Book.{built, taken_and_found, waybills_on}
 use Rattle.shipment_machine.specs.Cargo.{Cargo}
 use Rattle.shipment_machine.specs.Effect.{is_closed}
 use Rattle.shipment_machine.specs.Lawful.{is_outside, IsStocked, IsCovered, IsLawfulMove, IsLawfulAmount, departs_with, StaysDeparted}
-use Rattle.row_schema.specs.Tables.{Tables, move_id, trail_id, message_id}
+use Rattle.station_schema.specs.Tables.{Tables, move_id, trail_id, message_id}
 use Rattle.row_codec.specs.Numbers.{AreNumbered}
 use Rattle.row_codec.specs.Waybills.{is_waybill_row}
 use Rattle.row_codec.specs.Stock.{AreStockRows}

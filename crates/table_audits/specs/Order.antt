@@ -2,7 +2,7 @@
 use Rattle.std.specs.Prelude.{◌≡◌, List}
 use Rattle.std.specs.declared.cmp.Ordering.TheVariants.{Less}
 use Rattle.sqlite.specs.Tree.{IsAscending}
-use Rattle.row_schema.specs.Tables.{Waybill, waybill_id}
+use Rattle.station_schema.specs.Tables.{Waybill, waybill_id}
 use Rattle.table_load.specs.Held.{by_number}
 
 -- the waybills are in the order of their numbers

@@ -6,7 +6,7 @@ use Rattle.shipment_machine.specs.declared.flight.FlightDate.{FlightDate}
 use Rattle.shipment_machine.specs.declared.moves.Move.{Move}
 use Rattle.shipment_machine.specs.declared.moves.Place.{Place}
 use Rattle.shipment_machine.specs.Lawful.{IsNoted, IsLawfulMove}
-use Rattle.row_schema.specs.Tables as table
+use Rattle.station_schema.specs.Tables as table
 use Rattle.row_codec.specs.Flights.{is_flight_row}
 use Rattle.row_codec.specs.Moves.{move_by, is_move_row}
 use Rattle.table_audits.specs.Lawful.{cargo_in}

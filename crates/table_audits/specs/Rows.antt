@@ -4,7 +4,7 @@ use Rattle.std.specs.Ordering.{int_eq}
 use Rattle.std.specs.Str.{bytes_eq}
 use Rattle.std.specs.FinMap.{FinMap, contains_key}
 use Rattle.sqlite_keyed.specs.Keyed.{has_key}
-use Rattle.row_schema.specs.Tables.{Waybill, waybill_id, Stock, StockKey, Flight, FlightKey, Expected, ExpectedKey, PartKey, TrailLine, kept_text_cmp}
+use Rattle.station_schema.specs.Tables.{Waybill, waybill_id, Stock, StockKey, Flight, FlightKey, Expected, ExpectedKey, PartKey, TrailLine, kept_text_cmp}
 use Rattle.row_codec.specs.Waybills.{is_waybill_row}
 use Rattle.row_codec.specs.Stock.{is_stock_row}
 use Rattle.row_codec.specs.Flights.{is_flight_row}

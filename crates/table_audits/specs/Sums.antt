@@ -11,7 +11,7 @@ use Rattle.shipment_machine.specs.declared.flight.FlightDate.{FlightDate}
 use Rattle.shipment_machine.specs.declared.moves.Move.{Move}
 use Rattle.shipment_machine.specs.declared.moves.Place.{Place}
 use Rattle.shipment_machine.specs.declared.moves.Place.TheVariants.{Built}
-use Rattle.row_schema.specs.Tables.{Count, CountKey, Build, BuildKey, Flight, FlightKey, flight_cmp}
+use Rattle.station_schema.specs.Tables.{Count, CountKey, Build, BuildKey, Flight, FlightKey, flight_cmp}
 use Rattle.row_codec.specs.Counts.{Running, is_nothing, unless_nothing, build_row}
 use Rattle.row_codec.specs.Flights.{is_designator, flight_key}
 use Rattle.row_codec.specs.Moves.{place_code}

@@ -1,8 +1,8 @@
 ghost use Rattle.std.specs.Prelude.{◌≡◌, ◌↔◌, ◌++◌, ◌∷◌, [], length, map, List, IfOk, IfSome, IsSome, IsTrue, OnOk};
 ghost use Rattle.std.specs.List.{list_all};
 ghost use Rattle.std.specs.FinMap.{entries};
-ghost use Rattle.cargo_rows.specs.Meant.{move_meant};
-ghost use Rattle.row_schema.specs.Tables.{Tables, Move as Row};
+ghost use Rattle.table_rows.specs.Meant.{move_meant};
+ghost use Rattle.station_schema.specs.Tables.{Tables, Move as Row};
 ghost use Rattle.row_codec.specs.Counts.{running};
 ghost use Rattle.row_codec.specs.Flights.{is_flight_row};
 ghost use Rattle.row_codec.specs.Moves.{book_in, move_by};
@@ -17,11 +17,10 @@ use crate::departures::{are_departures_lawful, is_marked, mark, no_marks};
 use crate::numbers::{is_next, one_more};
 use crate::postings::posting_of;
 use crate::sums::{BookSums, Posting};
-use raw_rows::RowFold;
 use sqlite::{Error, ErrorCode};
 use station_rows::{MoveRow, WaybillRow};
 use std::alloc::{AllocError, Global};
-use table_load::FlightEntry;
+use table_load::{FlightEntry, RowFold};
 
 /// What the moves are judged beside: all waybills, in the order of their numbers, and all flights,
 /// in the order of their keys.

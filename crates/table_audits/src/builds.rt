@@ -3,9 +3,9 @@ ghost use Rattle.std.specs.FinMap.{entries};
 ghost use Rattle.std.specs.BTreeMap.{IsOrdered};
 ghost use Rattle.shipment_machine.specs.declared.flight.FlightDate.{FlightDate};
 ghost use Rattle.shipment_machine.specs.declared.moves.Move.{Move};
-ghost use Rattle.cargo_rows.specs.Meant.{build_meant};
+ghost use Rattle.table_rows.specs.Meant.{build_meant};
 ghost use Rattle.table_load.specs.Held.{flight_entry};
-ghost use Rattle.row_schema.specs.Tables.{Tables};
+ghost use Rattle.station_schema.specs.Tables.{Tables};
 ghost use Rattle.row_codec.specs.Counts.{running, AreBuilds};
 ghost use Rattle.table_audits.specs.Sums.{AreSums, AreFlightsOf, build_at, build_entry, build_place_cmp};
 

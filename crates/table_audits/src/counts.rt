@@ -3,8 +3,8 @@ ghost use Rattle.std.specs.FinMap.{entries};
 ghost use Rattle.std.specs.BTreeMap.{IsOrdered};
 ghost use Rattle.shipment_machine.specs.declared.flight.FlightDate.{FlightDate};
 ghost use Rattle.shipment_machine.specs.declared.moves.Move.{Move};
-ghost use Rattle.cargo_rows.specs.Meant.{count_meant};
-ghost use Rattle.row_schema.specs.Tables.{Tables};
+ghost use Rattle.table_rows.specs.Meant.{count_meant};
+ghost use Rattle.station_schema.specs.Tables.{Tables};
 ghost use Rattle.row_codec.specs.Counts.{running, AreCounts};
 ghost use Rattle.table_audits.specs.Sums.{AreSums, count_entry, count_place_cmp};
 

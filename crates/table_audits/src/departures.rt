@@ -3,7 +3,7 @@ ghost use Rattle.std.specs.List.{list_all, AllByRecursion};
 ghost use Rattle.std.specs.FinMap.{entries};
 ghost use Rattle.shipment_machine.specs.Lawful.{IsLawfulMove};
 ghost use Rattle.table_load.specs.Held.{flight_entry};
-ghost use Rattle.row_schema.specs.Tables.{Tables};
+ghost use Rattle.station_schema.specs.Tables.{Tables};
 ghost use Rattle.row_codec.specs.Numbers.{is_set};
 ghost use Rattle.row_codec.specs.Flights.{is_flight_row};
 ghost use Rattle.row_codec.specs.Moves.{book_in};

@@ -1,10 +1,10 @@
 ghost use Rattle.std.specs.Prelude.{◌≡◌, ◌↔◌, map, nat_le, is_some, IsTrue, IfSome, Some};
 ghost use Rattle.std.specs.FinMap.{entries};
 ghost use Rattle.std.specs.List.{list_all};
-ghost use Rattle.cargo_rows.specs.Meant.{waybill_meant};
+ghost use Rattle.table_rows.specs.Meant.{waybill_meant};
 ghost use Rattle.table_load.specs.Held.{expected_entry};
 ghost use Rattle.table_audits.specs.Order.{RisesByNumber};
-ghost use Rattle.row_schema.specs.Tables.{Tables};
+ghost use Rattle.station_schema.specs.Tables.{Tables};
 ghost use Rattle.table_audits.specs.Lawful.{IsLawfulTable};
 ghost use Rattle.table_audits.specs.declared.name.TableName.TheVariants as table;
 ghost use Rattle.row_codec.specs.Manifests.{is_expected_row, expectation_by};

@@ -2,7 +2,7 @@ ghost use Rattle.std.specs.Prelude.{IsTrue, List};
 ghost use Rattle.std.specs.List.{list_all};
 ghost use Rattle.std.specs.FinMap.{FinMap, entries};
 ghost use Rattle.shipment_machine.specs.declared.flight.FlightDate.{FlightDate};
-ghost use Rattle.row_schema.specs.Tables.{Flight, FlightKey, flight_cmp};
+ghost use Rattle.station_schema.specs.Tables.{Flight, FlightKey, flight_cmp};
 ghost use Rattle.row_codec.specs.Flights.{is_flight_row};
 ghost use Rattle.table_audits.specs.Sums.{AreDistinct, AreFlightsOf};
 ghost use Rattle.table_audits.specs.Audited.{flights_of};

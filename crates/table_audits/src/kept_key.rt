@@ -1,6 +1,6 @@
 ghost use Rattle.std.specs.Prelude.{◌≡◌, ◌↔◌, ◌&&◌, [], map, List, IsTrue, string_bytes};
 ghost use Rattle.std.specs.FinMap.{entries};
-ghost use Rattle.row_schema.specs.Tables.{Tables};
+ghost use Rattle.station_schema.specs.Tables.{Tables};
 ghost use Rattle.table_load.specs.Held.{kept_key_entry};
 ghost use Rattle.table_audits.specs.Lawful.{IsLawfulTable};
 ghost use Rattle.table_audits.specs.declared.name.TableName.TheVariants as table;
@@ -11,11 +11,10 @@ ghost use Rattle.row_codec.specs.Replies.{is_kept_row};
 ghost use Rattle.table_audits.specs.Taken.{IsLawfulKept, AreKeysTaken};
 
 use desk_commands::read_command_text;
-use raw_rows::RowFold;
 use row_codec::count_of;
 use sqlite::Error;
 use station_core::Key;
-use table_load::KeptKeyEntry;
+use table_load::{KeptKeyEntry, RowFold};
 
 /// Whether the row's key and count are within range.
 fn is_counted(row: &KeptKeyEntry) -> bool

@@ -1,7 +1,7 @@
 ghost use Rattle.std.specs.Prelude.{◌≡◌, ◌↔◌, map, IsTrue, ℤ};
 ghost use Rattle.std.specs.List.{list_all};
 ghost use Rattle.std.specs.FinMap.{FinMap, entries, contains_key};
-ghost use Rattle.row_schema.specs.Tables.{Tables, kept_text_cmp};
+ghost use Rattle.station_schema.specs.Tables.{Tables, kept_text_cmp};
 ghost use Rattle.table_load.specs.Held.{kept_text_entry, part_entry};
 ghost use Rattle.table_audits.specs.Lawful.{IsLawfulTable};
 ghost use Rattle.table_audits.specs.declared.name.TableName.TheVariants as table;

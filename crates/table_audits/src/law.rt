@@ -1,6 +1,6 @@
 ghost use Rattle.std.specs.Prelude.{◌↔◌};
 ghost use Rattle.station_core.specs.Step.{IsLawfulState};
-ghost use Rattle.row_schema.specs.Tables.{Tables};
+ghost use Rattle.station_schema.specs.Tables.{Tables};
 ghost use Rattle.row_codec.specs.Meaning.{meaning_of, IsReadable};
 ghost use Rattle.table_audits.specs.declared.name.TableName.{TableName};
 ghost use Rattle.table_audits.specs.Lawful.{IsLawfulTable};

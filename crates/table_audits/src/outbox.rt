@@ -1,15 +1,15 @@
 ghost use Rattle.std.specs.Prelude.{◌≡◌, ◌↔◌, length, map, List, IsSome, IfSome};
-ghost use Rattle.text_rows.specs.Meant.{message_meant};
-ghost use Rattle.row_schema.specs.Tables.{Tables};
+ghost use Rattle.table_rows.specs.Meant.{message_meant};
+ghost use Rattle.station_schema.specs.Tables.{Tables};
 ghost use Rattle.row_codec.specs.Meaning.{confirmed_in};
 ghost use Rattle.table_audits.specs.Lawful.{IsLawfulTable};
 ghost use Rattle.table_audits.specs.declared.name.TableName.TheVariants as table;
 ghost use Rattle.table_audits.specs.Taken.{if_confirmed, AreMessagesTaken};
 
 use crate::NumberedRows;
-use raw_rows::RowFold;
 use sqlite::Error;
 use station_rows::MessageRow;
+use table_load::RowFold;
 
 /// Rows of `outbox` are taken in the order of their numbers. Each is a text by its type.
 impl RowFold<MessageRow> for NumberedRows {

@@ -1,9 +1,9 @@
 ghost use Rattle.std.specs.Prelude.{◌≡◌, map, true, List};
-ghost use Rattle.cargo_rows.specs.Meant.{move_meant};
+ghost use Rattle.table_rows.specs.Meant.{move_meant};
 ghost use Rattle.shipment_machine.specs.Lawful.{NamesFlight};
 ghost use Rattle.shipment_machine.specs.declared.moves.Place.{Place};
 ghost use Rattle.table_load.specs.Held.{flight_entry};
-ghost use Rattle.row_schema.specs.Tables.{Tables, Waybill};
+ghost use Rattle.station_schema.specs.Tables.{Tables, Waybill};
 ghost use Rattle.row_codec.specs.Flights.{flight_date_of};
 ghost use Rattle.row_codec.specs.Moves.{are_flight_columns};
 ghost use Rattle.running_totals.specs.Sums.{is_built};

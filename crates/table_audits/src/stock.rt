@@ -2,10 +2,10 @@ ghost use Rattle.std.specs.Prelude.{◌≡◌, ◌↔◌, ◌≤◌, ◌+◌, �
 ghost use Rattle.std.specs.List.{AllByRecursion};
 ghost use Rattle.std.specs.FinMap.{entries};
 ghost use Rattle.agent_stock.specs.declared.stock.Holder.TheVariants.{Used};
-ghost use Rattle.row_schema.specs.Tables.{Tables};
+ghost use Rattle.station_schema.specs.Tables.{Tables};
 ghost use Rattle.table_audits.specs.Lawful.{IsLawfulTable};
 ghost use Rattle.table_audits.specs.declared.name.TableName.TheVariants as table;
-ghost use Rattle.cargo_rows.specs.Meant.{waybill_meant};
+ghost use Rattle.table_rows.specs.Meant.{waybill_meant};
 ghost use Rattle.station_rows.specs.Meant.{stock_meant};
 ghost use Rattle.table_audits.specs.Order.{RisesByNumber};
 ghost use Rattle.row_codec.specs.Stock.{is_behind, are_apart};

@@ -1,7 +1,6 @@
 ghost use Rattle.std.specs.Prelude.{◌≡◌, ◌↔◌, length, map, List, IsSome, IfSome};
-ghost use Rattle.cargo_rows.specs.Meant.{waybill_meant};
-ghost use Rattle.text_rows.specs.Meant.{trail_meant};
-ghost use Rattle.row_schema.specs.Tables.{Tables, Waybill};
+ghost use Rattle.table_rows.specs.Meant.{waybill_meant, trail_meant};
+ghost use Rattle.station_schema.specs.Tables.{Tables, Waybill};
 ghost use Rattle.table_audits.specs.Lawful.{IsLawfulTable};
 ghost use Rattle.table_audits.specs.declared.name.TableName.TheVariants as table;
 ghost use Rattle.table_audits.specs.Order.{RisesByNumber};
@@ -10,10 +9,10 @@ ghost use Rattle.table_audits.specs.Taken.{AreLinesTaken};
 
 use crate::NumberedRows;
 use crate::lookups::is_declared;
-use raw_rows::RowFold;
 use row_codec::{awb_key, waybill_of_line};
 use sqlite::Error;
 use station_rows::{TrailRow, WaybillRow};
+use table_load::RowFold;
 
 /// Whether the row is within range, and its waybill declared.
 fn is_lawful(row: &TrailRow, waybills: &[WaybillRow]) -> bool
@@ -30,7 +29,7 @@ fn is_lawful(row: &TrailRow, waybills: &[WaybillRow]) -> bool
 /// order of their numbers.
 impl RowFold<TrailRow> for NumberedRows {
     ghost use Rattle.std.specs.Prelude.{map};
-    ghost use Rattle.cargo_rows.specs.Meant.{waybill_meant};
+    ghost use Rattle.table_rows.specs.Meant.{waybill_meant};
     ghost use Rattle.table_audits.specs.Taken.{AreLinesTaken};
 
     type Beside = Vec<WaybillRow>;

@@ -1,6 +1,12 @@
+pub mod AnySchema
 pub mod Declared
 pub mod Orders
+pub mod RawLemmas
 pub mod StationLemmas
+pub mod TableLemmas
 pub mod Texts
 pub mod TypedLemmas
-pub mod Values
+pub mod ValueLemmas
+pub mod WalkLemmas
+pub mod WalkLoops
+pub mod WholeLemmas

@@ -13,9 +13,9 @@ use Rattle.sqlite.specs.Effect.{Database}
 use Rattle.sqlite.specs.State.{State, IsUnchanged}
 use Rattle.sqlite.proofs.Callers.{one_permutation}
 use Rattle.row_laws.specs.Calls.{Reads}
-use Rattle.raw_rows.specs.Raw.{found}
-use Rattle.raw_rows.specs.Whole.{ShowsWhole}
-use Rattle.raw_rows.proofs.TableLemmas.{all_columns}
+use Rattle.table_load.specs.Raw.{found}
+use Rattle.table_load.specs.Whole.{ShowsWhole}
+use Rattle.table_load.proofs.TableLemmas.{all_columns}
 use Rattle.table_load.specs.declared.station.StationFound.{StationFound}
 use Rattle.table_load.specs.declared.station.FileVersion.{FileVersion}
 use Rattle.table_load.specs.declared.station.FileVersion.TheVariants.{First, Second}

@@ -1,7 +1,7 @@
 -- What the texts are that read a table whole, under any schema.
 use Rattle.std.proofs.Common.{[], ◌∷◌, codes, refl, arith}
 use Rattle.sqlite_tied.specs.Compute.{everything}
-use Rattle.raw_rows.specs.Selects.{IsSelect}
+use Rattle.table_load.specs.Selects.{IsSelect}
 use Rattle.table_load.specs.Held.{old_waybill_name, old_waybill_columns, waybill_name, waybill_columns, stock_name, stock_columns, flight_name, flight_columns, moves_name, moves_columns, expected_name, expected_columns, part_name, part_columns, trail_name, trail_columns, outbox_name, outbox_columns, kept_key_name, kept_key_columns, kept_text_name, kept_text_columns, counts_name, counts_columns, build_name, build_columns}
 use Rattle.table_load.specs.Verdict.{station_name, station_columns}
 

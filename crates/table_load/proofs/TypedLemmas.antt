@@ -13,8 +13,8 @@ use Rattle.sqlite_keyed.proofs.SortLemmas.{sorted_unique}
 use Rattle.sqlite_keyed.proofs.ListLemmas.{map-map, map_back, map_same, ascending-map, ascending_weaker}
 use Rattle.row_laws.specs.Columns.{AreEntries, AreListed, numbered, numbered_in}
 use Rattle.row_laws.proofs.Maps.{entries_of, entries_rise}
-use Rattle.raw_rows.specs.Raw.{rows_of}
-use Rattle.raw_rows.proofs.TableLemmas.{ascending_sorted}
+use Rattle.table_load.specs.Raw.{rows_of}
+use Rattle.table_load.proofs.TableLemmas.{ascending_sorted}
 use Rattle.table_load.specs.Held.{by_key, by_number}
 
 pub rows_same : {a b : List Row} → rows_of a ≡ rows_of b → a ≡ b

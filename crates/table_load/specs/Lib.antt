@@ -1,4 +1,8 @@
 pub mod Held
+pub mod Raw
 pub mod Reading
+pub mod Selects
 pub mod Typed
 pub mod Verdict
+pub mod Walks
+pub mod Whole

@@ -1,8 +1,8 @@
 -- A database, and the version as which it is read: what it says of the tables of a station.
 use Rattle.std.specs.Prelude.{◌≡◌, pos, List, [], map}
 use Rattle.sqlite.specs.Effect.{Database}
-use Rattle.row_schema.specs.Tables.{OldWaybill, Waybill, undated}
-use Rattle.cargo_rows.specs.declared.waybills.WaybillRow.{WaybillRow}
+use Rattle.station_schema.specs.Tables.{OldWaybill, Waybill, undated}
+use Rattle.table_rows.specs.declared.waybills.WaybillRow.{WaybillRow}
 use Rattle.table_load.specs.declared.old_waybill.OldWaybillEntry.{OldWaybillEntry}
 use Rattle.table_load.specs.declared.station.FileVersion.{FileVersion}
 use Rattle.table_load.specs.declared.station.FileVersion.TheVariants.{First, Second}

@@ -2,7 +2,7 @@
 use Rattle.std.specs.Prelude.{◌≡◌, List}
 use Rattle.std.specs.List.{AllByRecursion}
 use Rattle.sqlite.specs.Effect.{Database}
-use Rattle.row_schema.specs.Tables.{Tables, IsStation, IsOldStation, tables_of, old_tables_of}
+use Rattle.station_schema.specs.Tables.{Tables, IsStation, IsOldStation, tables_of, old_tables_of}
 
 -- nothing is held but this list, and it is held where its texts are texts
 abbrev pub IsHeldBy : {E : Type 0} → (Database → List E → Type 0) → (E → Type 0) → Database → List E

@@ -7,8 +7,8 @@ use Rattle.sqlite.specs.declared.types.Value.TheVariants.{Int, Text}
 use Rattle.sqlite.specs.Order.{Row}
 use Rattle.sqlite.specs.Effect.{Database}
 use Rattle.sqlite.specs.Schema.{Schema}
-use Rattle.row_schema.specs.Tables.{Station}
-use Rattle.raw_rows.specs.Raw.{Found, found, no_table, no_column, rows_of, table_by_name}
+use Rattle.station_schema.specs.Tables.{Station}
+use Rattle.table_load.specs.Raw.{Found, found, no_table, no_column, rows_of, table_by_name}
 use Rattle.table_load.specs.declared.station.FileVersion.{FileVersion}
 use Rattle.table_load.specs.declared.station.FileVersion.TheVariants.{First, Second}
 use Rattle.table_load.specs.declared.station.StationFound.{StationFound}

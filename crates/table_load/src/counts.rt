@@ -1,21 +1,21 @@
 ghost use Rattle.sqlite.specs.State.{Survives};
 ghost use Rattle.sqlite.specs.Held.{state};
-ghost use Rattle.raw_rows.specs.Whole.{FindsTable};
-ghost use Rattle.cargo_rows.specs.Meant.{count_meant};
+ghost use Rattle.table_load.specs.Whole.{FindsTable};
+ghost use Rattle.table_rows.specs.Meant.{count_meant};
 ghost use Rattle.table_load.specs.Held.{HoldsCounts};
 
-use cargo_rows::CountRow;
-use raw_rows::{KeyedTable, found_rows, number};
+use crate::{KeyedTable, found_rows, number};
 use sqlite::{Alter, Connection, Error, Row};
 use std::alloc::Global;
+use table_rows::CountRow;
 
 /// The table `counts`. Its key is `awb` and `place`.
 struct CountsTable;
 
 impl KeyedTable for CountsTable {
     ghost use Rattle.std.specs.Prelude.{ℕ, ℤ, List, refl};
-    ghost use Rattle.row_schema.specs.Tables.{Count, CountKey, count_cmp, count_row};
-    ghost use Rattle.cargo_rows.specs.Shown.{count_read};
+    ghost use Rattle.station_schema.specs.Tables.{Count, CountKey, count_cmp, count_row};
+    ghost use Rattle.table_rows.specs.Shown.{count_read};
     ghost use Rattle.table_load.specs.Held.{by_key, HasCountsTexts};
 
     type Row = CountRow;

@@ -1,9 +1,9 @@
 ghost use Rattle.sqlite.specs.State.{Survives};
 ghost use Rattle.sqlite.specs.Held.{state};
-ghost use Rattle.raw_rows.specs.Whole.{FindsTable};
+ghost use Rattle.table_load.specs.Whole.{FindsTable};
 ghost use Rattle.table_load.specs.Held.{HoldsExpected, expected_entry};
 
-use raw_rows::{KeyedTable, found_rows, number, words};
+use crate::{KeyedTable, found_rows, number, words};
 use sqlite::{Alter, Connection, Error, Row};
 use std::alloc::Global;
 use std::cmp::Ordering;
@@ -30,7 +30,7 @@ struct ExpectedTable;
 
 impl KeyedTable for ExpectedTable {
     ghost use Rattle.std.specs.Prelude.{ℕ, ℤ, List, refl};
-    ghost use Rattle.row_schema.specs.Tables.{Expected, ExpectedKey, expected_cmp, expected_row};
+    ghost use Rattle.station_schema.specs.Tables.{Expected, ExpectedKey, expected_cmp, expected_row};
     ghost use Rattle.table_load.specs.Held.{by_key, HasExpectedTexts, expected_back};
 
     type Row = ExpectedEntry;

@@ -1,10 +1,10 @@
 ghost use Rattle.std.specs.Prelude.{[]};
 ghost use Rattle.sqlite.specs.State.{Survives};
 ghost use Rattle.sqlite.specs.Held.{state};
-ghost use Rattle.raw_rows.specs.Walks.{FoldsTable};
+ghost use Rattle.table_load.specs.Walks.{FoldsTable};
 ghost use Rattle.table_load.specs.Held.{HoldsKeptKey, kept_key_entry};
 
-use raw_rows::{KeyedTable, RowFold, fold_rows, number, words};
+use crate::{KeyedTable, RowFold, fold_rows, number, words};
 use sqlite::{Alter, Connection, Error, Row};
 use std::alloc::Global;
 
@@ -24,7 +24,7 @@ struct KeptKeyTable;
 
 impl KeyedTable for KeptKeyTable {
     ghost use Rattle.std.specs.Prelude.{ℕ, ℤ, List, refl};
-    ghost use Rattle.row_schema.specs.Tables.{Kept, kept_cmp, kept_row};
+    ghost use Rattle.station_schema.specs.Tables.{Kept, kept_cmp, kept_row};
     ghost use Rattle.table_load.specs.Held.{by_key, HasKeptKeyTexts, kept_key_back};
 
     type Row = KeptKeyEntry;

@@ -1,9 +1,9 @@
 ghost use Rattle.sqlite.specs.State.{Survives};
 ghost use Rattle.sqlite.specs.Held.{state};
-ghost use Rattle.raw_rows.specs.Whole.{FindsTable};
+ghost use Rattle.table_load.specs.Whole.{FindsTable};
 ghost use Rattle.table_load.specs.Held.{HoldsKeptText, kept_text_entry};
 
-use raw_rows::{KeyedTable, found_rows, number, words};
+use crate::{KeyedTable, found_rows, number, words};
 use sqlite::{Alter, Connection, Error, Row};
 use std::alloc::Global;
 
@@ -21,7 +21,7 @@ struct KeptTextTable;
 
 impl KeyedTable for KeptTextTable {
     ghost use Rattle.std.specs.Prelude.{ℕ, ℤ, List, refl};
-    ghost use Rattle.row_schema.specs.Tables.{kept_text_cmp, kept_text_row};
+    ghost use Rattle.station_schema.specs.Tables.{kept_text_cmp, kept_text_row};
     ghost use Rattle.table_load.specs.Held.{by_key, HasKeptTextTexts, kept_text_back};
 
     type Row = KeptTextEntry;

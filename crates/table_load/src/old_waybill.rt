@@ -1,9 +1,9 @@
 ghost use Rattle.sqlite.specs.State.{Survives};
 ghost use Rattle.sqlite.specs.Held.{state};
-ghost use Rattle.raw_rows.specs.Whole.{FindsTable};
+ghost use Rattle.table_load.specs.Whole.{FindsTable};
 ghost use Rattle.table_load.specs.Held.{HoldsOldWaybill, old_waybill_entry};
 
-use raw_rows::{KeyedTable, found_rows, number, words};
+use crate::{KeyedTable, found_rows, number, words};
 use sqlite::{Alter, Connection, Error, Row};
 use std::alloc::Global;
 
@@ -27,7 +27,7 @@ struct OldWaybillTable;
 
 impl KeyedTable for OldWaybillTable {
     ghost use Rattle.std.specs.Prelude.{ℕ, ℤ, List, refl};
-    ghost use Rattle.row_schema.specs.Tables.{OldWaybill, old_waybill_id};
+    ghost use Rattle.station_schema.specs.Tables.{OldWaybill, old_waybill_id};
     ghost use Rattle.table_load.specs.Held.{by_number, HasOldWaybillTexts, old_waybill_shown, old_waybill_back};
 
     type Row = OldWaybillEntry;

@@ -5,7 +5,7 @@ ghost use Rattle.sqlite.specs.Held.{state};
 ghost use Rattle.row_laws.specs.Calls.{Reads};
 ghost use Rattle.table_load.specs.Verdict.{station_name, has_table, version_number, found_in_row, found_in_rows, station_of, found_meant};
 
-use raw_rows::{number, table_rows, words};
+use crate::{number, table_rows, words};
 use sqlite::{Alter, Connection, Error, Row};
 use sqlite_schema::schema::Schema;
 use std::alloc::Global;

@@ -1,10 +1,10 @@
 ghost use Rattle.sqlite.specs.State.{Survives};
 ghost use Rattle.sqlite.specs.Held.{state};
-ghost use Rattle.raw_rows.specs.Whole.{FindsTable};
+ghost use Rattle.table_load.specs.Whole.{FindsTable};
 ghost use Rattle.station_rows.specs.Meant.{stock_meant};
 ghost use Rattle.table_load.specs.Held.{HoldsStock};
 
-use raw_rows::{KeyedTable, found_rows, number, words};
+use crate::{KeyedTable, found_rows, number, words};
 use sqlite::{Alter, Connection, Error, Row};
 use station_rows::StockRow;
 use std::alloc::Global;
@@ -14,7 +14,7 @@ struct StockTable;
 
 impl KeyedTable for StockTable {
     ghost use Rattle.std.specs.Prelude.{ℕ, ℤ, List, refl};
-    ghost use Rattle.row_schema.specs.Tables.{Stock, StockKey, stock_cmp, stock_row};
+    ghost use Rattle.station_schema.specs.Tables.{Stock, StockKey, stock_cmp, stock_row};
     ghost use Rattle.station_rows.specs.Meant.{stock_read};
     ghost use Rattle.table_load.specs.Held.{by_key, HasStockTexts};
 

@@ -1,23 +1,23 @@
 ghost use Rattle.std.specs.Prelude.{[]};
 ghost use Rattle.sqlite.specs.State.{Survives};
 ghost use Rattle.sqlite.specs.Held.{state};
-ghost use Rattle.raw_rows.specs.Walks.{FoldsTable};
-ghost use Rattle.text_rows.specs.Meant.{trail_meant};
+ghost use Rattle.table_load.specs.Walks.{FoldsTable};
+ghost use Rattle.table_rows.specs.Meant.{trail_meant};
 ghost use Rattle.table_load.specs.Held.{HoldsTrail};
 
-use raw_rows::{KeyedTable, RowFold, fold_rows, number, words};
+use crate::{KeyedTable, RowFold, fold_rows, number, words};
 use sqlite::{Alter, Connection, Error, Row};
 use std::alloc::Global;
-use text_rows::TrailRow;
+use table_rows::TrailRow;
 
 /// The table `trail`. Its key is `number`.
 struct TrailTable;
 
 impl KeyedTable for TrailTable {
     ghost use Rattle.std.specs.Prelude.{ℕ, ℤ, List, refl};
-    ghost use Rattle.row_schema.specs.Tables.{TrailLine, trail_id};
-    ghost use Rattle.text_rows.specs.Shown.{trail_shown};
-    ghost use Rattle.text_rows.specs.Shown.{trail_read};
+    ghost use Rattle.station_schema.specs.Tables.{TrailLine, trail_id};
+    ghost use Rattle.table_rows.specs.Shown.{trail_shown};
+    ghost use Rattle.table_rows.specs.Shown.{trail_read};
     ghost use Rattle.table_load.specs.Held.{by_number, HasTrailTexts};
 
     type Row = TrailRow;

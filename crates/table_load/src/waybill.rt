@@ -1,22 +1,22 @@
 ghost use Rattle.sqlite.specs.State.{Survives};
 ghost use Rattle.sqlite.specs.Held.{state};
-ghost use Rattle.raw_rows.specs.Whole.{FindsTable};
-ghost use Rattle.cargo_rows.specs.Meant.{waybill_meant};
+ghost use Rattle.table_load.specs.Whole.{FindsTable};
+ghost use Rattle.table_rows.specs.Meant.{waybill_meant};
 ghost use Rattle.table_load.specs.Held.{HoldsWaybill};
 
-use cargo_rows::WaybillRow;
-use raw_rows::{KeyedTable, found_rows, number, words};
+use crate::{KeyedTable, found_rows, number, words};
 use sqlite::{Alter, Connection, Error, Row};
 use std::alloc::Global;
+use table_rows::WaybillRow;
 
 /// The table `waybill2`. Its key is `awb`.
 struct WaybillTable;
 
 impl KeyedTable for WaybillTable {
     ghost use Rattle.std.specs.Prelude.{ℕ, ℤ, List, refl};
-    ghost use Rattle.row_schema.specs.Tables.{Waybill, waybill_id};
-    ghost use Rattle.cargo_rows.specs.Shown.{waybill_shown};
-    ghost use Rattle.cargo_rows.specs.Shown.{waybill_read};
+    ghost use Rattle.station_schema.specs.Tables.{Waybill, waybill_id};
+    ghost use Rattle.table_rows.specs.Shown.{waybill_shown};
+    ghost use Rattle.table_rows.specs.Shown.{waybill_read};
     ghost use Rattle.table_load.specs.Held.{by_number, HasWaybillTexts};
 
     type Row = WaybillRow;

@@ -20,12 +20,11 @@ use Rattle.shipment_machine.specs.declared.plans.Change.TheVariants.{Declare, Us
 use Rattle.station_core.specs.Key.{is_key}
 use Rattle.station_core.specs.Step as step
 use Rattle.station_core.specs.Step.{State}
-use Rattle.row_schema.specs.Store as row
-use Rattle.row_schema.specs.Store.{View, IsShowing}
-use Rattle.row_schema.specs.Tables as table
-use Rattle.row_schema.specs.Tables.{Tables, Stock, stock_cmp, Count, count_cmp, Build, build_cmp, waybill_id, move_id}
-use Rattle.cargo_rows.specs.Meant.{with_flight, with_expected, with_move}
-use Rattle.text_rows.specs.Meant.{with_part, with_trail_line, with_message, with_kept, with_kept_text}
+use Rattle.station_schema.specs.Store as row
+use Rattle.station_schema.specs.Store.{View, IsShowing}
+use Rattle.station_schema.specs.Tables as table
+use Rattle.station_schema.specs.Tables.{Tables, Stock, stock_cmp, Count, count_cmp, Build, build_cmp, waybill_id, move_id}
+use Rattle.table_rows.specs.Meant.{with_flight, with_expected, with_move, with_part, with_trail_line, with_message, with_kept, with_kept_text}
 use Rattle.station_rows.specs.Meant.{confirming}
 use Rattle.row_codec.specs.Numbers.{is_count, AreNumbered}
 use Rattle.row_codec.specs.Moves.{book_in, is_move_row}

@@ -6,8 +6,8 @@ use Rattle.sqlite.specs.State.{State, Survives}
 use Rattle.sqlite.specs.Tree.{Trees}
 use Rattle.sqlite.proofs.StateLemmas.{survives_weaker}
 use Rattle.station_core.specs.Step as step
-use Rattle.row_schema.specs.Connection.{opening}
-use Rattle.row_schema.specs.Own.{IsNewStation}
+use Rattle.station_schema.specs.Connection.{opening}
+use Rattle.station_schema.specs.Own.{IsNewStation}
 use Rattle.row_codec.specs.Meaning.{Means}
 use Rattle.table_state.specs.File.{IsFileOf}
 use Rattle.table_state.proofs.NewState.{opening_means}

@@ -1,9 +1,9 @@
 -- From what the tables of a store show to the state that they mean.
 use Rattle.std.proofs.Common.{◌≡◌, ◌⊎◌, inl, inr, ⊎_elim, ℕ, true, false, List, Option, Some, refl, sym, subst, ◌∙◌}
 use Rattle.station_core.specs.Step.{State}
-use Rattle.row_schema.specs.Tables.{Tables}
-use Rattle.row_schema.specs.Store as row
-use Rattle.row_schema.specs.Store.{View, Displays, IsShowing, MayCommit}
+use Rattle.station_schema.specs.Tables.{Tables}
+use Rattle.station_schema.specs.Store as row
+use Rattle.station_schema.specs.Store.{View, Displays, IsShowing, MayCommit}
 use Rattle.row_codec.specs.Meaning.{Means}
 use Rattle.state_store.specs.Store.{Seen, at_rest, inside, Survives}
 use Rattle.table_state.specs.declared.counted.Counted.{Counted}

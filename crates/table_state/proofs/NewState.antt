@@ -14,9 +14,9 @@ use Rattle.shipment_machine.specs.declared.moves.Part.{Part}
 use Rattle.shipment_machine.specs.declared.moves.Place.{Place}
 use Rattle.station_core.specs.Step as step
 use Rattle.station_core.specs.Step.{State}
-use Rattle.row_schema.specs.Connection.{opening, IsOpening}
-use Rattle.row_schema.specs.Store.{View}
-use Rattle.row_schema.specs.Tables.{Tables, Stock, StockKey, stock_cmp, Flight, flight_cmp, Expected, expected_cmp, part_cmp, Kept, kept_cmp, kept_text_cmp, Count, CountKey, count_cmp, Build, BuildKey, build_cmp}
+use Rattle.station_schema.specs.Connection.{opening, IsOpening}
+use Rattle.station_schema.specs.Store.{View}
+use Rattle.station_schema.specs.Tables.{Tables, Stock, StockKey, stock_cmp, Flight, flight_cmp, Expected, expected_cmp, part_cmp, Kept, kept_cmp, kept_text_cmp, Count, CountKey, count_cmp, Build, BuildKey, build_cmp}
 use Rattle.row_codec.specs.Numbers.{natural}
 use Rattle.row_codec.specs.Stock.{holder_by, stands_for}
 use Rattle.row_codec.specs.Flights.{is_designator, outbound_by, flight_key, flights_in}

@@ -5,9 +5,9 @@ use Rattle.std.proofs.Math.Seq.{take-length}
 use Rattle.std.proofs.lemmas.List.{take-map}
 use Rattle.row_sinks.specs.Handed.{HandedOut, Hands}
 use Rattle.station_core.specs.Step.{State}
-use Rattle.row_schema.specs.Store as row
-use Rattle.row_schema.specs.Store.{View}
-use Rattle.row_schema.specs.Tables.{Tables}
+use Rattle.station_schema.specs.Store as row
+use Rattle.station_schema.specs.Store.{View}
+use Rattle.station_schema.specs.Tables.{Tables}
 use Rattle.row_codec.specs.Meaning.{Means}
 use Rattle.station_rows.specs.Clauses.{HandsIfOpen, HandsOf}
 use Rattle.state_store.specs.Store.{at_rest}

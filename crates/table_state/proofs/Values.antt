@@ -24,18 +24,17 @@ use Rattle.station_core.specs.Readers.{AreExpectations, AreNoted}
 use Rattle.station_core.specs.Step.{State}
 use Rattle.station_core.specs.declared.rows.Expectation.{Expectation}
 use Rattle.station_core.specs.declared.rows.NotedFlight.{NotedFlight}
-use Rattle.row_schema.specs.Store as row
-use Rattle.row_schema.specs.Store.{View, IsShowing, IsUnchanged}
-use Rattle.row_schema.specs.Tables.{waybill_id}
-use Rattle.cargo_rows.specs.declared.waybills.WaybillRow.{WaybillRow}
-use Rattle.cargo_rows.specs.declared.flights.FlightRow.{FlightRow}
-use Rattle.cargo_rows.specs.declared.flights.NotedFlightRow.{NotedFlightRow}
-use Rattle.cargo_rows.specs.declared.expected.ExpectedRow.{ExpectedRow}
-use Rattle.cargo_rows.specs.declared.expected.ListedWaybillRow.{ListedWaybillRow}
-use Rattle.cargo_rows.specs.declared.moves.MoveRow.{MoveRow}
-use Rattle.cargo_rows.specs.Meant.{waybill_meant, flight_meant, noted_flight_meant, expected_meant, listed_waybill_meant, move_meant, is_of}
-use Rattle.text_rows.specs.declared.kept.KeptRow.{KeptRow}
-use Rattle.text_rows.specs.Meant.{kept_meant}
+use Rattle.station_schema.specs.Store as row
+use Rattle.station_schema.specs.Store.{View, IsShowing, IsUnchanged}
+use Rattle.station_schema.specs.Tables.{waybill_id}
+use Rattle.table_rows.specs.declared.waybills.WaybillRow.{WaybillRow}
+use Rattle.table_rows.specs.declared.flights.FlightRow.{FlightRow}
+use Rattle.table_rows.specs.declared.flights.NotedFlightRow.{NotedFlightRow}
+use Rattle.table_rows.specs.declared.expected.ExpectedRow.{ExpectedRow}
+use Rattle.table_rows.specs.declared.expected.ListedWaybillRow.{ListedWaybillRow}
+use Rattle.table_rows.specs.declared.moves.MoveRow.{MoveRow}
+use Rattle.table_rows.specs.Meant.{waybill_meant, flight_meant, noted_flight_meant, expected_meant, listed_waybill_meant, move_meant, is_of, kept_meant}
+use Rattle.table_rows.specs.declared.kept.KeptRow.{KeptRow}
 use Rattle.row_codec.specs.Numbers.{natural}
 use Rattle.row_codec.specs.Waybills.{declared_by}
 use Rattle.row_codec.specs.Flights.{is_designator, noted_by, outbound_by}

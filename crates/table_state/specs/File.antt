@@ -1,8 +1,8 @@
 -- A file that a station wrote.
 use Rattle.std.specs.Prelude.{Some}
 use Rattle.sqlite.specs.Tree.{Trees}
-use Rattle.row_schema.specs.Own.{IsOwn}
-use Rattle.row_schema.specs.Tables.{tables_of}
+use Rattle.station_schema.specs.Own.{IsOwn}
+use Rattle.station_schema.specs.Tables.{tables_of}
 use Rattle.row_codec.specs.Meaning.{Means}
 use Rattle.station_core.specs.Step.{State, IsLawfulState}
 

@@ -3,8 +3,8 @@ use Rattle.std.specs.Prelude.{◌≡◌, ◌≤◌, Bool, ◌&&◌, nat_le, true
 use Rattle.std.proofs.Common.{sym, ap, ◌∙◌, refl, arith}
 use Rattle.shipment_machine.specs.Cargo.{Cargo}
 use Rattle.station_core.specs.Step.{State, has_room}
-use Rattle.row_schema.specs.Tables.{Tables}
-use Rattle.row_schema.specs.Store.{View}
+use Rattle.station_schema.specs.Tables.{Tables}
+use Rattle.station_schema.specs.Store.{View}
 use Rattle.row_codec.specs.Meaning.{Means}
 use Rattle.state_store.specs.Store.{at_rest}
 use Rattle.station_core.specs.Told.{sizes_of}

@@ -6,8 +6,8 @@ use Rattle.shipment_machine.specs.Numbers.{is_in}
 use Rattle.shipment_machine.specs.declared.moves.Move.{Move}
 use Rattle.shipment_machine.specs.declared.moves.Place.TheVariants.{Missing, Surplus}
 use Rattle.station_core.specs.Step.{State}
-use Rattle.row_schema.specs.Tables.{Tables}
-use Rattle.row_schema.specs.Store.{View, IsAtRest}
+use Rattle.station_schema.specs.Tables.{Tables}
+use Rattle.station_schema.specs.Store.{View, IsAtRest}
 use Rattle.row_codec.specs.Counts.{running}
 use Rattle.row_codec.specs.Meaning.{Means}
 use Rattle.running_totals.specs.Known.{AreKnown}

@@ -3,7 +3,7 @@ ghost use Rattle.std.specs.Prelude.{[], OnOk};
 ghost use Rattle.shipment_machine.specs.Cargo.{written};
 ghost use Rattle.shipment_machine.specs.declared.plans.Change.TheVariants.{Confirm, Declare, Expect, NoteFlight, NotePart, Trail, UseUp};
 ghost use Rattle.station_core.specs.Step.{State};
-ghost use Rattle.row_schema.specs.Store.{Survives};
+ghost use Rattle.station_schema.specs.Store.{Survives};
 ghost use Rattle.state_store.specs.Store.{inside};
 ghost use Rattle.station_core.specs.Told.{on_cargo};
 ghost use Rattle.table_state.specs.Shown.{Shows};

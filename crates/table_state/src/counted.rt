@@ -30,5 +30,6 @@ pub(crate) struct Counted {
     pub(crate) boarded: Boardings,
     pub(crate) known: KnownSums,
     pub(crate) waybills: WaybillSets,
-    ghost fit: { (sizes.moves ≤ 4_294_967_295) × (sizes.lines ≤ 4_294_967_295) × (sizes.messages ≤ 4_294_967_295) },
+    ghost fit: { (sizes.moves ≤ 4_294_967_295) × (sizes.lines ≤ 4_294_967_295)
+        × (sizes.messages ≤ 4_294_967_295) },
 }

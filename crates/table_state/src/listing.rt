@@ -1,7 +1,7 @@
 //! The waybills that are asked for by what their moves add up to.
 ghost use Rattle.std.specs.Prelude.{◌≡◌, ◌++◌, Some, IfOk, OnOk};
 ghost use Rattle.station_core.specs.Step.{State};
-ghost use Rattle.row_schema.specs.Store.{Survives};
+ghost use Rattle.station_schema.specs.Store.{Survives};
 ghost use Rattle.state_store.specs.Store.{at_rest};
 ghost use Rattle.state_store.specs.Waybills.{asked, waybills_for};
 ghost use Rattle.table_state.specs.Shown.{HasAsked, Shows};

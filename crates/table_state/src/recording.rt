@@ -1,8 +1,8 @@
 //! A move is written with what it changes of the running counts.
 ghost use Rattle.std.specs.Prelude.{List, ◌++◌, ◌∷◌, [], IfOk, OnOk};
 ghost use Rattle.shipment_machine.specs.declared.moves.Move as cargo;
-ghost use Rattle.row_schema.specs.Store.{IsShowing, Survives, inside};
-ghost use Rattle.row_schema.specs.Tables.{Tables};
+ghost use Rattle.station_schema.specs.Store.{IsShowing, Survives, inside};
+ghost use Rattle.station_schema.specs.Tables.{Tables};
 ghost use Rattle.row_codec.specs.Counts.{AreCounts, AreBuilds, running};
 ghost use Rattle.running_totals.specs.Known.{AreKnown};
 ghost use Rattle.running_totals.specs.Posted.{WereThere};
@@ -26,7 +26,8 @@ pub(crate) fn record_move<S: TableStore>(
 ) -> Result<i64, StoreFault>
     ensures done { (before now : Tables) → IsShowing (S.view store.old) (inside before now)
         → (book : List cargo.Move) → AreCounts now.counts book → AreBuilds now.builds book
-        → AreKnown known.old (running book) → OnOk result (Recorded (S.view store.new) before now number movement.now
+        → AreKnown known.old (running book)
+        → OnOk result (Recorded (S.view store.new) before now number movement.now
         (book ++ movement.now ∷ [])) }
     ensures before { (before now : Tables) → IsShowing (S.view store.old) (inside before now)
         → (book : List cargo.Move) → AreCounts now.counts book → AreBuilds now.builds book

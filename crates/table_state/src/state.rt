@@ -1,8 +1,8 @@
 ghost use Rattle.std.specs.Prelude.{◌≡◌, ◌≤◌, Some};
 ghost use Rattle.station_core.specs.Step.{State, opening};
-ghost use Rattle.row_schema.specs.Tables.{Tables};
+ghost use Rattle.station_schema.specs.Tables.{Tables};
 ghost use Rattle.row_codec.specs.Meaning.{Means};
-ghost use Rattle.row_schema.specs.Connection.{IsOpening};
+ghost use Rattle.station_schema.specs.Connection.{IsOpening};
 ghost use Rattle.state_store.specs.Store.{at_rest};
 ghost use Rattle.table_state.specs.Laws.{finds_what_it_shows, all_numbered};
 ghost use Rattle.table_state.specs.Shown.{Shows, Finds, HasThese, Knows};
@@ -467,7 +467,9 @@ impl<S: TableStore> StateStore for TableState<S> {
         ended(read, telling.is_stuck())
     }
 
-    ghost settled = { λ k s shown sound found finds. finds_what_it_shows (S.view k.store) s (shown sound).holds found finds };
+    ghost settled = { λ k s shown sound found finds. finds_what_it_shows (S.view k.store) s
+        (shown sound).holds found finds };
 
-    ghost numbered = { λ k x shown sound. all_numbered k.counted.sizes x.now.cargo k.counted.fit (shown sound).knows.sizes_are };
+    ghost numbered = { λ k x shown sound. all_numbered k.counted.sizes x.now.cargo k.counted.fit
+        (shown sound).knows.sizes_are };
 }

@@ -1,11 +1,11 @@
 //! Rows that are written over the one with their key, or anew, in a transaction.
-ghost use Rattle.row_schema.specs.Store.{Survives};
-ghost use Rattle.cargo_rows.specs.Meant.{waybill_meant, flight_meant, with_flight, expected_meant, with_expected};
+ghost use Rattle.station_schema.specs.Store.{Survives};
+ghost use Rattle.table_rows.specs.Meant.{waybill_meant, flight_meant, with_flight, expected_meant, with_expected};
 ghost use Rattle.station_rows.specs.Clauses.{ShowsChange};
 ghost use Rattle.table_state.specs.Put.{putting_waybill};
 
-use cargo_rows::{ExpectedRow, FlightRow, WaybillRow};
 use station_rows::{StoreFault, TableStore};
+use table_rows::{ExpectedRow, FlightRow, WaybillRow};
 
 /// Writes what is declared of a waybill. A row that is known to be missing isn't looked for.
 pub(crate) fn put_waybill<S: TableStore>(

@@ -20,12 +20,12 @@ use Rattle.row_laws.proofs.Listed.{changed_at}
 use Rattle.row_laws.proofs.Ran.{IsPlaced, select_ran, update_ran, delete_ran}
 use Rattle.row_laws.proofs.Shared.{cast_int, cast_null}
 use Rattle.row_laws.proofs.Texts.{asks}
-use Rattle.row_schema.specs.Calls.{IsInside, Edits}
-use Rattle.row_schema.specs.Schema.{station_schema, station, waybill, waybill2}
-use Rattle.row_schema.specs.Tables.{undated, Station, station_id, station_row, station_in, OldWaybill, old_waybill_id, old_waybill_row, waybill_id, waybill_row, tables_of, typed_stations, typed_old_waybills, typed_waybills}
-use Rattle.row_schema.proofs.StationLemmas.{station_placed}
-use Rattle.row_schema.proofs.Statements.{execute_survives}
-use Rattle.row_schema.proofs.Stored.{edits_stations, edits_old_waybills, edits_waybills}
+use Rattle.station_schema.specs.Calls.{IsInside, Edits}
+use Rattle.station_schema.specs.Schema.{station_schema, station, waybill, waybill2}
+use Rattle.station_schema.specs.Tables.{undated, Station, station_id, station_row, station_in, OldWaybill, old_waybill_id, old_waybill_row, waybill_id, waybill_row, tables_of, typed_stations, typed_old_waybills, typed_waybills}
+use Rattle.station_schema.proofs.StationLemmas.{station_placed}
+use Rattle.station_schema.proofs.Statements.{execute_survives}
+use Rattle.station_schema.proofs.Stored.{edits_stations, edits_old_waybills, edits_waybills}
 use Rattle.table_upgrade.specs.Upgrade.{copying, clearing, raising}
 use Rattle.table_upgrade.proofs.Texts.{copy_text, copy_terms, copy_query, copy_is, clear_text, clear_is, raise_text, raise_terms, raise_is, station_is}
 

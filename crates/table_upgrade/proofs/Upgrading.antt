@@ -6,8 +6,8 @@ use Rattle.sqlite.specs.Tree.{Trees}
 use Rattle.sqlite_keyed.specs.Keyed.{IsKeyedBy, insert_by}
 use Rattle.sqlite_keyed.proofs.ListLemmas.{ascending-map}
 use Rattle.row_laws.proofs.Keyed.{puts_past}
-use Rattle.row_schema.specs.Calls.{IsInside, Edits}
-use Rattle.row_schema.specs.Tables.{undated, raised, upgraded, Tables, old_waybill_id, waybill_id, old_tables_of, IsOldStation}
+use Rattle.station_schema.specs.Calls.{IsInside, Edits}
+use Rattle.station_schema.specs.Tables.{undated, raised, upgraded, Tables, old_waybill_id, waybill_id, old_tables_of, IsOldStation}
 use Rattle.table_upgrade.specs.Upgrade.{filling, IsInsideOld, IsMoved, MeansUpgraded}
 
 -- rows that come in the order of their keys

@@ -4,8 +4,8 @@ use Rattle.sqlite.specs.Tree.{Trees}
 use Rattle.sqlite.specs.declared.error.Error.{Error}
 use Rattle.sqlite.specs.State.{State, Shows, KeepsCommit}
 use Rattle.sqlite_keyed.specs.Keyed.{insert_by}
-use Rattle.row_schema.specs.Tables.{Tables, undated, raised, upgraded, waybill_id, tables_of, old_tables_of, IsStation, IsOldStation}
-use Rattle.row_schema.specs.Own.{IsOwn}
+use Rattle.station_schema.specs.Tables.{Tables, undated, raised, upgraded, waybill_id, tables_of, old_tables_of, IsStation, IsOldStation}
+use Rattle.station_schema.specs.Own.{IsOwn}
 
 -- in three writes, where `waybill2` has rows already, or none
 abbrev pub copying : Tables → Tables

@@ -2,19 +2,21 @@ ghost use Rattle.std.specs.Prelude.{OnOk, OnErr};
 ghost use Rattle.sqlite.specs.State.{HasCleanDisk, Survives};
 ghost use Rattle.sqlite.specs.Held.{state};
 ghost use Rattle.row_laws.specs.Calls.{IsSettled, IsUndone};
-ghost use Rattle.row_schema.specs.Calls.{Alters, CommitsNothing};
-ghost use Rattle.row_schema.specs.Tables.{IsOldStation};
-ghost use Rattle.row_schema.specs.Own.{IsOwn};
+ghost use Rattle.station_schema.specs.Calls.{Alters, CommitsNothing};
+ghost use Rattle.station_schema.specs.Tables.{IsOldStation};
+ghost use Rattle.station_schema.specs.Own.{IsOwn};
 ghost use Rattle.table_upgrade.specs.Upgrade.{Adds, IsInsideOld, IsUpgraded, Upgrades, Moves, MeansUpgraded, clearing, copying, filling, raising};
 
 use row_laws::{begin, commit, roll_back};
-use row_schema::shows_own;
 use sqlite::{Alter, Connection, Error};
+use station_schema::shows_own;
 
 /// Makes `waybill2` beside the tables of a file of version 1, in a transaction.
 fn create_waybill2<S: Alter>(conn: &mut Connection<S>) -> Result<usize, Error>
-    ensures made { HasCleanDisk (state S.Store conn.new) → IsInsideOld (state S.Store conn.old) → Adds (state S.Store conn.old) (state S.Store conn.new) result }
-    ensures survives { Survives (state S.Store conn.old) (state S.Store conn.new) (λ _. ¬ IsInsideOld (state S.Store conn.old)) }
+    ensures made { HasCleanDisk (state S.Store conn.new) → IsInsideOld (state S.Store conn.old)
+        → Adds (state S.Store conn.old) (state S.Store conn.new) result }
+    ensures survives { Survives (state S.Store conn.old) (state S.Store conn.new)
+        (λ _. ¬ IsInsideOld (state S.Store conn.old)) }
 {
     conn.execute(
         "CREATE TABLE waybill2 (awb INTEGER PRIMARY KEY, origin TEXT NOT NULL, destination TEXT NOT NULL, pieces INTEGER NOT NULL, tenths INTEGER NOT NULL, goods TEXT NOT NULL, notified INTEGER NOT NULL, since INTEGER NOT NULL) STRICT",
@@ -49,7 +51,8 @@ fn raise_version<S: Alter>(conn: &mut Connection<S>) -> Result<usize, Error>
     conn.execute("UPDATE station SET version = 2 WHERE id = 1", &[])
 }
 
-/// Fills `waybill2` from `waybill`, removes the rows of `waybill` and sets the version, in a transaction.
+/// Fills `waybill2` from `waybill`, removes the rows of `waybill` and sets the version, in a
+/// transaction.
 fn fill_waybill2<S: Alter>(conn: &mut Connection<S>) -> Result<(), Error>
     ensures made { Alters S.Store conn.old conn.new result filling }
     ensures survives { CommitsNothing S.Store conn.old conn.new }
@@ -62,8 +65,10 @@ fn fill_waybill2<S: Alter>(conn: &mut Connection<S>) -> Result<(), Error>
 
 /// Makes the tables those of version 2, in a transaction.
 fn move_waybills<S: Alter>(conn: &mut Connection<S>) -> Result<(), Error>
-    ensures made { HasCleanDisk (state S.Store conn.new) → IsInsideOld (state S.Store conn.old) → Moves (state S.Store conn.old) (state S.Store conn.new) result }
-    ensures survives { Survives (state S.Store conn.old) (state S.Store conn.new) (λ _. ¬ IsInsideOld (state S.Store conn.old)) }
+    ensures made { HasCleanDisk (state S.Store conn.new) → IsInsideOld (state S.Store conn.old)
+        → Moves (state S.Store conn.old) (state S.Store conn.new) result }
+    ensures survives { Survives (state S.Store conn.old) (state S.Store conn.new)
+        (λ _. ¬ IsInsideOld (state S.Store conn.old)) }
 {
     create_waybill2(conn)?;
     fill_waybill2(conn)?;
@@ -72,8 +77,11 @@ fn move_waybills<S: Alter>(conn: &mut Connection<S>) -> Result<(), Error>
 
 /// Makes the tables those of version 2 and commits them.
 fn commit_upgrade<S: Alter>(conn: &mut Connection<S>) -> Result<(), Error>
-    ensures made { HasCleanDisk (state S.Store conn.new) → IsInsideOld (state S.Store conn.old) → Upgrades (state S.Store conn.old) (state S.Store conn.new) result }
-    ensures survives { Survives (state S.Store conn.old) (state S.Store conn.new) (λ db. IsInsideOld (state S.Store conn.old) → MeansUpgraded (state S.Store conn.old).now.trees db) }
+    ensures made { HasCleanDisk (state S.Store conn.new) → IsInsideOld (state S.Store conn.old)
+        → Upgrades (state S.Store conn.old) (state S.Store conn.new) result }
+    ensures survives { Survives (state S.Store conn.old) (state S.Store conn.new)
+        (λ db. IsInsideOld (state S.Store conn.old)
+        → MeansUpgraded (state S.Store conn.old).now.trees db) }
 {
     move_waybills(conn)?;
     shows_own(conn);
@@ -81,15 +89,21 @@ fn commit_upgrade<S: Alter>(conn: &mut Connection<S>) -> Result<(), Error>
     Ok(())
 }
 
-/// Makes the tables of a file of version 1 those of version 2, in one transaction: `waybill2` has the waybills, with no
-/// day, and `waybill` is empty. On error the connection is back outside a transaction and, while it is open, at the last
-/// commit. It fails where a transaction is open, and where the store fails.
+/// Makes the tables of a file of version 1 those of version 2, in one transaction: `waybill2` has
+/// the waybills, with no day, and `waybill` is empty. On error the connection is back outside a
+/// transaction and, while it is open, at the last commit. It fails where a transaction is open, and
+/// where the store fails.
 ///
 /// A crash leaves the tables as they were, or those of version 2.
 pub fn upgrade_tables<S: Alter>(conn: &mut Connection<S>) -> Result<(), Error>
-    ensures made { HasCleanDisk (state S.Store conn.new) → IsOldStation (state S.Store conn.old).now → OnOk result (IsUpgraded (state S.Store conn.old) (state S.Store conn.new)) }
-    ensures undone { HasCleanDisk (state S.Store conn.new) → IsOldStation (state S.Store conn.old).now → IsSettled (state S.Store conn.old) → OnErr result (IsUndone (state S.Store conn.old) (state S.Store conn.new)) }
-    ensures survives { Survives (state S.Store conn.old) (state S.Store conn.new) (λ db. IsOldStation (state S.Store conn.old).now → MeansUpgraded (state S.Store conn.old).now.trees db) }
+    ensures made { HasCleanDisk (state S.Store conn.new) → IsOldStation (state S.Store conn.old).now
+        → OnOk result (IsUpgraded (state S.Store conn.old) (state S.Store conn.new)) }
+    ensures undone { HasCleanDisk (state S.Store conn.new)
+        → IsOldStation (state S.Store conn.old).now → IsSettled (state S.Store conn.old)
+        → OnErr result (IsUndone (state S.Store conn.old) (state S.Store conn.new)) }
+    ensures survives { Survives (state S.Store conn.old) (state S.Store conn.new)
+        (λ db. IsOldStation (state S.Store conn.old).now
+        → MeansUpgraded (state S.Store conn.old).now.trees db) }
 {
     begin(conn)?;
     match commit_upgrade(conn) {

@@ -1,7 +1,7 @@
 use Rattle.std.proofs.Common.{subst, sym}
 use Rattle.sqlite.specs.Held.{state}
 use Rattle.table_audits.specs.declared.name.TableName.TheVariants as table
-use Rattle.raw_rows.specs.Whole.{TellsTable}
+use Rattle.table_load.specs.Whole.{TellsTable}
 use Rattle.table_load.specs.Held.{old_waybill_entry}
 use Rattle.table_load.specs.Reading.{HoldsOldWaybills}
 use Rattle.file_audit.proofs.EachTable.{old_waybills_missing, old_waybills_judged}

@@ -1,7 +1,7 @@
 use Rattle.std.proofs.Common.{◌≡◌, length, map, subst}
 use Rattle.std.specs.Prelude.{is_some}
 use Rattle.sqlite.specs.Held.{state}
-use Rattle.cargo_rows.specs.Meant.{waybill_meant}
+use Rattle.table_rows.specs.Meant.{waybill_meant}
 use Rattle.table_audits.specs.declared.name.TableName.TheVariants as table
 use Rattle.table_audits.specs.Order.{RisesByNumber}
 use Rattle.table_audits.specs.Taken.{AreLinesTaken}

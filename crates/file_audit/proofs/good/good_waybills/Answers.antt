@@ -1,8 +1,8 @@
 use Rattle.std.proofs.Common.{subst, sym, refl, map}
 use Rattle.sqlite.specs.Held.{state}
-use Rattle.cargo_rows.specs.Meant.{waybill_meant}
+use Rattle.table_rows.specs.Meant.{waybill_meant}
 use Rattle.table_audits.specs.declared.name.TableName.TheVariants as table
-use Rattle.raw_rows.specs.Whole.{TellsTable}
+use Rattle.table_load.specs.Whole.{TellsTable}
 use Rattle.table_load.specs.Reading.{HoldsWaybills}
 use Rattle.file_audit.specs.Judged.{IsJudged}
 use Rattle.file_audit.proofs.ReadLists.{waybills_rise}

@@ -1,7 +1,7 @@
 use Rattle.std.proofs.Common.{arith, map, ap, sym, subst, ◌∙◌}
 use Rattle.sqlite.specs.Held.{state}
 use Rattle.sqlite.specs.State.{HasCleanDisk}
-use Rattle.cargo_rows.specs.Meant.{waybill_meant}
+use Rattle.table_rows.specs.Meant.{waybill_meant}
 use Rattle.table_audits.specs.declared.name.TableName.TheVariants as table
 use Rattle.file_audit.specs.Judged.{IsJudged}
 use Rattle.file_audit.proofs.Judged.{reads_err, then_reads}

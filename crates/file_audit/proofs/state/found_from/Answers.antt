@@ -1,8 +1,8 @@
 use Rattle.std.proofs.Common.{◌∙◌, ◌∷◌, [], refl, sym, subst, w64}
 use Rattle.std.proofs.lemmas.Int.{to_z-of_z}
-use Rattle.raw_rows.proofs.WholeLemmas.{at_rest}
+use Rattle.table_load.proofs.WholeLemmas.{at_rest}
 use Rattle.sqlite.specs.Held.{state}
-use Rattle.row_schema.specs.Connection.{opening}
+use Rattle.station_schema.specs.Connection.{opening}
 use Rattle.table_audits.specs.declared.name.TableName.TheVariants as table
 use Rattle.table_load.specs.Reading.{read_as}
 use Rattle.table_load.specs.Verdict.{new_row}

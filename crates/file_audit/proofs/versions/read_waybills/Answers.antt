@@ -1,7 +1,7 @@
 use Rattle.std.proofs.Common.{List, map, sym, subst}
 use Rattle.sqlite.specs.Held.{state}
-use Rattle.row_schema.specs.Tables.{Waybill}
-use Rattle.cargo_rows.specs.Meant.{waybill_meant}
+use Rattle.station_schema.specs.Tables.{Waybill}
+use Rattle.table_rows.specs.Meant.{waybill_meant}
 use Rattle.table_load.specs.Reading.{HoldsWaybills}
 use Rattle.file_audit.proofs.Undated.{none_told, some_told}
 use Rattle.file_audit.proofs.versions.read_waybills.Goals as goal

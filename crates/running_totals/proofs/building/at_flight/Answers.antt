@@ -1,7 +1,7 @@
 use Rattle.std.proofs.Common.{◌∙◌, sym, ap, Some, option_map, w64, of_z, to_z, to_z-of_z}
 use Rattle.std.specs.FinMap.{get}
-use Rattle.cargo_rows.specs.Meant.{build_meant}
-use Rattle.row_schema.specs.Tables.{Build, BuildKey}
+use Rattle.table_rows.specs.Meant.{build_meant}
+use Rattle.station_schema.specs.Tables.{Build, BuildKey}
 use Rattle.row_codec.specs.Counts.{Running, running_on}
 use Rattle.running_totals.proofs.Stores.{tally_read}
 use Rattle.running_totals.proofs.building.at_flight.Goals as goal

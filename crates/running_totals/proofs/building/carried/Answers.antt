@@ -1,6 +1,6 @@
 use Rattle.std.proofs.Common.{◌≡◌, subst, option_map, IfOk, to_z-of_z}
 use Rattle.std.specs.FinMap.{get}
-use Rattle.row_schema.specs.Tables.{BuildKey}
+use Rattle.station_schema.specs.Tables.{BuildKey}
 use Rattle.row_codec.specs.Counts.{running_on}
 use Rattle.running_totals.specs.Stored.{meant}
 use Rattle.running_totals.proofs.building.carried.Goals as goal

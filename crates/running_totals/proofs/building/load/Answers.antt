@@ -1,6 +1,6 @@
 use Rattle.std.proofs.Common.{◌≡◌, ◌∙◌, pos, sym, ap, option_map, rules, FitsSigned, w64, to_z, of_z, to_z-of_z}
 use Rattle.std.specs.FinMap.{get}
-use Rattle.row_schema.specs.Tables.{BuildKey}
+use Rattle.station_schema.specs.Tables.{BuildKey}
 use Rattle.row_codec.specs.Counts.{running_on}
 use Rattle.imp_fields.specs.Flight.{flight_text}
 use Rattle.running_totals.specs.Stored.{meant}

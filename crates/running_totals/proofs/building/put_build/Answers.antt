@@ -1,7 +1,7 @@
 use Rattle.std.proofs.Common.{sym, subst, ◌∙◌, to_z-of_z}
-use Rattle.cargo_rows.specs.Meant.{without_build, changing_build, with_build}
+use Rattle.table_rows.specs.Meant.{without_build, changing_build, with_build}
 use Rattle.station_rows.specs.Clauses.{ShowsChange}
-use Rattle.row_schema.specs.Tables.{Build, BuildKey}
+use Rattle.station_schema.specs.Tables.{Build, BuildKey}
 use Rattle.row_codec.specs.Counts.{build_row}
 use Rattle.running_totals.specs.Stored.{meant}
 use Rattle.running_totals.proofs.Stores.{build_removed, build_changed, build_added}

@@ -1,7 +1,7 @@
 use Rattle.std.proofs.Common.{◌∙◌, ap, map, rules, FitsSigned, w64, to_z-of_z}
 use Rattle.std.specs.List.{filter}
 use Rattle.std.specs.FinMap.{entries}
-use Rattle.cargo_rows.specs.Meant.{count_meant, counts_for}
+use Rattle.table_rows.specs.Meant.{count_meant, counts_for}
 use Rattle.running_totals.proofs.counting.balances.Goals as goal
 
 pub returns-clause-value : goal.returns-clause-value

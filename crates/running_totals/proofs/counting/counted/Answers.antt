@@ -1,7 +1,7 @@
 use Rattle.std.proofs.Common.{◌∙◌, ap, map, option_map, w64, of_z, to_z, to_z-of_z}
 use Rattle.std.specs.FinMap.{get}
-use Rattle.cargo_rows.specs.Meant.{count_meant}
-use Rattle.row_schema.specs.Tables.{CountKey}
+use Rattle.table_rows.specs.Meant.{count_meant}
+use Rattle.station_schema.specs.Tables.{CountKey}
 use Rattle.row_codec.specs.Counts.{running_in}
 use Rattle.running_totals.proofs.counting.counted.Goals as goal
 

@@ -1,7 +1,7 @@
 use Rattle.std.proofs.Common.{sym, ap, subst, ◌∙◌, option_map, IfSome, rules, FitsSigned, w64, of_z, to_z, to_z-of_z}
 use Rattle.std.specs.FinMap.{get}
-use Rattle.row_schema.specs.Store.{inside, IsShowing}
-use Rattle.row_schema.specs.Tables.{CountKey}
+use Rattle.station_schema.specs.Store.{inside, IsShowing}
+use Rattle.station_schema.specs.Tables.{CountKey}
 use Rattle.row_codec.specs.Counts.{running_in}
 use Rattle.running_totals.specs.Known.{IsRowOf}
 use Rattle.running_totals.specs.Stored.{meant, pieces_found, posting_count}

@@ -1,7 +1,7 @@
 use Rattle.std.proofs.Common.{sym, subst, ◌∙◌, to_z-of_z}
-use Rattle.cargo_rows.specs.Meant.{without_count, changing_count, with_count}
+use Rattle.table_rows.specs.Meant.{without_count, changing_count, with_count}
 use Rattle.station_rows.specs.Clauses.{ShowsChange}
-use Rattle.row_schema.specs.Tables.{Count, CountKey}
+use Rattle.station_schema.specs.Tables.{Count, CountKey}
 use Rattle.row_codec.specs.Counts.{count_row}
 use Rattle.running_totals.specs.Stored.{meant}
 use Rattle.running_totals.proofs.Stores.{count_removed, count_changed, count_added}

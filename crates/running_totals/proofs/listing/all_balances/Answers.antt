@@ -1,5 +1,5 @@
 use Rattle.std.proofs.Common.{◌∙◌, ap, map}
-use Rattle.cargo_rows.specs.Meant.{count_meant}
+use Rattle.table_rows.specs.Meant.{count_meant}
 use Rattle.running_totals.proofs.listing.all_balances.Goals as goal
 
 pub returns-clause-value : goal.returns-clause-value

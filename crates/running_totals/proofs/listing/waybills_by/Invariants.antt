@@ -1,8 +1,8 @@
 use Rattle.std.proofs.Common.{◌≡◌, ◌≤◌, ◌-◌, List, drop, length, map}
 use Rattle.std.specs.FinMap.{FinMap, entries}
 use Rattle.shipment_machine.specs.declared.moves.Move.{Move}
-use Rattle.row_schema.specs.Tables.{Count, count_cmp}
-use Rattle.cargo_rows.specs.Meant.{count_meant}
+use Rattle.station_schema.specs.Tables.{Count, count_cmp}
+use Rattle.table_rows.specs.Meant.{count_meant}
 use Rattle.row_codec.specs.Counts.{AreCounts}
 use Rattle.running_totals.proofs.EachWaybill.{Lists}
 use Rattle.running_totals.proofs.listing.waybills_by.Given as goal

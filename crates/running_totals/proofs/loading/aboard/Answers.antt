@@ -1,8 +1,8 @@
 use Rattle.std.proofs.Common.{◌∙◌, ℕ, ℤ, pos, List, ap, ap₂, map, rules, FitsSigned, w64, to_z-of_z}
 use Rattle.std.specs.List.{filter}
 use Rattle.std.specs.FinMap.{entries}
-use Rattle.row_schema.specs.Tables.{Build, BuildKey}
-use Rattle.cargo_rows.specs.Meant.{build_meant, is_on}
+use Rattle.station_schema.specs.Tables.{Build, BuildKey}
+use Rattle.table_rows.specs.Meant.{build_meant, is_on}
 use Rattle.running_totals.specs.Loaded.{row_said, is_loaded}
 use Rattle.running_totals.proofs.FlightRows.{loads_are}
 use Rattle.running_totals.proofs.loading.aboard.Goals as goal

@@ -1,7 +1,7 @@
 use Rattle.std.proofs.Common.{◌∙◌, ℕ, ℤ, pos, int_lt, List, length, ap, ap₂, map, rules, FitsSigned, w64, to_z-of_z}
 use Rattle.std.specs.List.{filter}
 use Rattle.std.specs.FinMap.{entries}
-use Rattle.cargo_rows.specs.Meant.{is_on, pieces_in}
+use Rattle.table_rows.specs.Meant.{is_on, pieces_in}
 use Rattle.running_totals.proofs.FlightRows.{number_is}
 use Rattle.running_totals.proofs.loading.waybills_on.Goals as goal
 

@@ -1,6 +1,6 @@
 use Rattle.std.proofs.Common.{IfSome, ◌≡◌, ◌∙◌, pos, sym, ap, subst, rules, FitsSigned, w64, to_z, of_z, to_z-of_z}
 use Rattle.shipment_machine.specs.declared.moves.Place.{Place}
-use Rattle.row_schema.specs.Store.{inside}
+use Rattle.station_schema.specs.Store.{inside}
 use Rattle.running_totals.specs.Sums.{posting}
 use Rattle.running_totals.specs.Stored.{meant}
 use Rattle.running_totals.specs.Posted.{Keeps}

@@ -1,7 +1,7 @@
 use Rattle.sqlite.specs.Held.{state}
 use Rattle.row_laws.proofs.Inside.{reads}
-use Rattle.row_schema.specs.Schema.{station_schema}
-use Rattle.row_schema.proofs.Statements.{query_survives}
+use Rattle.station_schema.specs.Schema.{station_schema}
+use Rattle.station_schema.proofs.Statements.{query_survives}
 use Rattle.station_rows.proofs.Texts.{get_station_text, get_station_is}
 use Rattle.station_rows.proofs.StationLemmas.{gets_station}
 use Rattle.station_rows.proofs.station.shown_station.Goals as goal

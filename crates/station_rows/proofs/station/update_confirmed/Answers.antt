@@ -1,7 +1,7 @@
 use Rattle.std.proofs.Common.{w64}
 use Rattle.std.proofs.lemmas.Int.{to_z-of_z}
 use Rattle.sqlite.specs.Held.{state}
-use Rattle.row_schema.proofs.Statements.{changes}
+use Rattle.station_schema.proofs.Statements.{changes}
 use Rattle.station_rows.proofs.StationLemmas.{confirms, confirm_survives}
 use Rattle.station_rows.proofs.station.update_confirmed.Goals as goal
 

@@ -1,7 +1,7 @@
 use Rattle.std.proofs.Common.{w64}
 use Rattle.std.proofs.lemmas.Int.{to_z-of_z}
 use Rattle.sqlite.specs.Held.{state}
-use Rattle.row_schema.proofs.Statements.{changes}
+use Rattle.station_schema.proofs.Statements.{changes}
 use Rattle.station_rows.proofs.StockLemmas.{deletes_stock, delete_survives}
 use Rattle.station_rows.proofs.stock.delete_stock.Goals as goal
 

@@ -3,7 +3,7 @@ use Rattle.std.proofs.lemmas.Int.{to_z-of_z}
 use Rattle.std.specs.FinMap.{entries}
 use Rattle.sqlite.specs.Held.{state}
 use Rattle.row_laws.proofs.Inside.{reads_all}
-use Rattle.row_schema.specs.Tables.{stock_row, tables_of}
+use Rattle.station_schema.specs.Tables.{stock_row, tables_of}
 use Rattle.station_rows.specs.Meant.{stock_meant, stock_read, last_rows_up_to}
 use Rattle.station_rows.proofs.Last.{turned_back}
 use Rattle.station_rows.proofs.stock.last_stock_up_to.Goals as goal

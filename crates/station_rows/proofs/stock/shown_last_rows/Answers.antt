@@ -1,9 +1,9 @@
 use Rattle.std.proofs.Common.{w64}
 use Rattle.std.proofs.lemmas.Int.{to_z-of_z}
 use Rattle.sqlite.specs.Held.{state}
-use Rattle.row_schema.specs.Schema.{station_schema}
+use Rattle.station_schema.specs.Schema.{station_schema}
 use Rattle.row_laws.proofs.Inside.{reads}
-use Rattle.row_schema.proofs.Statements.{query_survives}
+use Rattle.station_schema.proofs.Statements.{query_survives}
 use Rattle.station_rows.proofs.Texts.{last_rows_text, last_rows_is}
 use Rattle.station_rows.proofs.StockLemmas.{lists_last_rows}
 use Rattle.station_rows.proofs.stock.shown_last_rows.Goals as goal

@@ -2,8 +2,8 @@ use Rattle.std.proofs.Common.{inl}
 use Rattle.sqlite.specs.Held.{state}
 use Rattle.sqlite.specs.State.{HasCleanDisk, Survives}
 use Rattle.row_laws.specs.Calls.{IsUndone}
-use Rattle.row_schema.specs.Own.{IsOwn, LiesInOrder}
-use Rattle.row_schema.specs.Connection.{connection_view}
+use Rattle.station_schema.specs.Own.{IsOwn, LiesInOrder}
+use Rattle.station_schema.specs.Connection.{connection_view}
 use Rattle.station_tables.specs.Attached.{connection_in}
 use Rattle.station_tables.specs.Found.{Finds}
 use Rattle.station_tables.proofs.Again.{left_on, memory_on, named_other, never_named, never_named_clean, refuses_on, repeated_on, sound_on, spared_on, untouched_on}

@@ -4,7 +4,7 @@ use Rattle.std.specs.Option.{option_and_then}
 use Rattle.std.specs.FinMap.{entries}
 use Rattle.awb_number.specs.Number.{prefix_of, serial_of}
 use Rattle.agent_stock.specs.declared.stock.Holder.{Holder}
-use Rattle.row_schema.specs.Tables.{Tables}
+use Rattle.station_schema.specs.Tables.{Tables}
 use Rattle.row_codec.specs.Stock.{holders_in, run_in}
 use Rattle.station_rows.specs.declared.stock.StockRow.{StockRow}
 use Rattle.station_rows.specs.Meant.{stock_meant, last_up_to}

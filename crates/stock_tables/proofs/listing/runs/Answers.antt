@@ -2,7 +2,7 @@ use Rattle.std.proofs.Common.{◌≡◌, ◌∙◌, List, IfOk, map, sym, ap, su
 use Rattle.std.specs.FinMap.{entries}
 use Rattle.agent_stock.specs.Runs.{AreStockRuns}
 use Rattle.agent_stock.specs.Stock.{Holders}
-use Rattle.row_schema.specs.Tables.{Tables, Stock, StockKey}
+use Rattle.station_schema.specs.Tables.{Tables, Stock, StockKey}
 use Rattle.stock_tables.specs.Rows.{AreRuns, holders_by}
 use Rattle.station_rows.specs.Meant.{stock_meant}
 use Rattle.row_codec.specs.Stock.{run_in}

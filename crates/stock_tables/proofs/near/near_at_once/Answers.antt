@@ -2,7 +2,7 @@ use Rattle.std.proofs.Common.{◌≡◌, ◌∙◌, ◌+◌, ◌+ℤ◌, ℤ, po
 use Rattle.std.proofs.lemmas.Int.{ints}
 use Rattle.std.specs.FinMap.{entries}
 use Rattle.awb_number.specs.Number.{prefix_of, serial_of}
-use Rattle.row_schema.specs.Tables.{Tables}
+use Rattle.station_schema.specs.Tables.{Tables}
 use Rattle.station_rows.specs.Meant.{stock_meant, last_rows_up_to}
 use Rattle.stock_tables.specs.Reads.{reaches, are_enough}
 use Rattle.row_codec.specs.Stock.{run_in}

@@ -2,8 +2,8 @@ use Rattle.std.proofs.Common.{◌≡◌, ◌∙◌, ◌+◌, ◌<◌, List, [], 
 use Rattle.std.specs.FinMap.{FinMap}
 use Rattle.std.proofs.lemmas.List.{drop_all}
 use Rattle.agent_stock.specs.declared.runs.StockRun.{StockRun}
-use Rattle.row_schema.specs.Store.{IsShowing, inside}
-use Rattle.row_schema.specs.Tables.{Stock, stock_cmp}
+use Rattle.station_schema.specs.Store.{IsShowing, inside}
+use Rattle.station_schema.specs.Tables.{Stock, stock_cmp}
 use Rattle.stock_tables.specs.Rows.{written}
 use Rattle.stock_tables.proofs.Lowest.{at_place}
 use Rattle.stock_tables.specs.Writes.{without, cleared}

@@ -1,7 +1,7 @@
 use Rattle.std.proofs.Common.{◌≡◌, drop}
 use Rattle.std.specs.FinMap.{FinMap}
-use Rattle.row_schema.specs.Store.{IsShowing, Survives, inside}
-use Rattle.row_schema.specs.Tables.{Tables, Stock, stock_cmp}
+use Rattle.station_schema.specs.Store.{IsShowing, Survives, inside}
+use Rattle.station_schema.specs.Tables.{Tables, Stock, stock_cmp}
 use Rattle.stock_tables.specs.Rows.{written}
 use Rattle.stock_tables.specs.Writes.{cleared}
 use Rattle.stock_tables.specs.Stocked.{restocked}

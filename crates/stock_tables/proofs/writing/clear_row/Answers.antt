@@ -2,8 +2,8 @@ use Rattle.std.proofs.Common.{◌≡◌, ◌∙◌, pos, arith, w64, of_z, to_z,
 use Rattle.std.proofs.lemmas.Int.{ints}
 use Rattle.std.specs.FinMap.{FinMap, remove}
 use Rattle.awb_number.specs.Number.{prefix_of, serial_of}
-use Rattle.row_schema.specs.Store.{IsShowing, inside}
-use Rattle.row_schema.specs.Tables.{Stock, stock_cmp}
+use Rattle.station_schema.specs.Store.{IsShowing, inside}
+use Rattle.station_schema.specs.Tables.{Stock, stock_cmp}
 use Rattle.stock_tables.specs.Rows.{written}
 use Rattle.stock_tables.specs.Runs.{key_of}
 use Rattle.stock_tables.specs.Writes.{begins, without}

@@ -2,8 +2,8 @@ use Rattle.std.proofs.Common.{◌≡◌, [], ◌∷◌, List, true, sym, subst}
 use Rattle.std.specs.Prelude.{is_some}
 use Rattle.std.specs.FinMap.{FinMap, get}
 use Rattle.agent_stock.specs.declared.runs.StockRun.{StockRun}
-use Rattle.row_schema.specs.Store.{IsShowing, inside}
-use Rattle.row_schema.specs.Tables.{Stock, stock_cmp}
+use Rattle.station_schema.specs.Store.{IsShowing, inside}
+use Rattle.station_schema.specs.Tables.{Stock, stock_cmp}
 use Rattle.stock_tables.specs.Rows.{listed}
 use Rattle.stock_tables.proofs.Standing.{each_split}
 use Rattle.stock_tables.specs.Runs.{key_of}

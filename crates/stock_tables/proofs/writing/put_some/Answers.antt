@@ -1,7 +1,7 @@
 use Rattle.std.proofs.Common.{Option, sym, subst}
 use Rattle.std.specs.Prelude.{OnOk}
 use Rattle.agent_stock.specs.declared.runs.StockRun.{StockRun}
-use Rattle.row_schema.specs.Store.{IsShowing, inside}
+use Rattle.station_schema.specs.Store.{IsShowing, inside}
 use Rattle.stock_tables.specs.Rows.{listed}
 use Rattle.stock_tables.specs.Writes.{put_in}
 use Rattle.stock_tables.specs.Stocked.{restocked, AreThere}

@@ -1,5 +1,5 @@
 use Rattle.std.proofs.Common.{map}
-use Rattle.cargo_rows.specs.Meant.{build_meant}
+use Rattle.table_rows.specs.Meant.{build_meant}
 use Rattle.table_load.specs.Held.{flight_entry}
 use Rattle.table_audits.proofs.Made.{builds_compared}
 use Rattle.table_audits.proofs.builds.are_builds.Goals as goal

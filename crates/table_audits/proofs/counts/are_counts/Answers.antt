@@ -1,5 +1,5 @@
 use Rattle.std.proofs.Common.{map}
-use Rattle.cargo_rows.specs.Meant.{count_meant}
+use Rattle.table_rows.specs.Meant.{count_meant}
 use Rattle.table_audits.proofs.Compared.{counts_compared}
 use Rattle.table_audits.proofs.counts.are_counts.Goals as goal
 

@@ -2,7 +2,7 @@ use Rattle.std.proofs.Common.{rules, ◌≡◌, ◌&&◌, ◌∙◌, false, map,
 use Rattle.std.specs.Prelude.{int_le}
 use Rattle.std.proofs.lemmas.Bool.{and_from}
 use Rattle.std.proofs.lemmas.Int.{to_z-of_z}
-use Rattle.cargo_rows.specs.Meant.{waybill_meant}
+use Rattle.table_rows.specs.Meant.{waybill_meant}
 use Rattle.table_load.specs.Held.{expected_entry}
 use Rattle.row_codec.specs.Manifests.{is_expected_row}
 use Rattle.table_audits.specs.Rows.{has_waybill}

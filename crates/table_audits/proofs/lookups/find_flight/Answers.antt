@@ -1,8 +1,8 @@
 use Rattle.std.proofs.Common.{◌≡◌, ◌∙◌, sym, ap, subst, rules, Some, Ok, Err, of_z, to_z, w64}
 use Rattle.std.specs.List.Sorted.{IsBinarySearchResult}
 use Rattle.std.proofs.lemmas.Int.{to_z-of_z}
-use Rattle.row_schema.proofs.Keys.{flight_total, flight_same}
-use Rattle.row_schema.specs.Tables.{flight_cmp}
+use Rattle.station_schema.proofs.Keys.{flight_total, flight_same}
+use Rattle.station_schema.specs.Tables.{flight_cmp}
 use Rattle.table_load.specs.Held.{flight_entry}
 use Rattle.table_audits.proofs.Searches.{entry_at, no_entry}
 use Rattle.table_audits.proofs.lookups.find_flight.Goals as goal

@@ -1,6 +1,6 @@
 use Rattle.std.proofs.Common.{rules}
 use Rattle.std.proofs.lemmas.Fn.{always_returns_same}
-use Rattle.row_schema.specs.Tables.{kept_text_cmp}
+use Rattle.station_schema.specs.Tables.{kept_text_cmp}
 use Rattle.table_load.specs.Held.{kept_text_entry}
 use Rattle.table_audits.proofs.lookups.text_place.Goals as goal
 

@@ -2,7 +2,7 @@ use Rattle.std.proofs.Common.{◌∙◌, sym, rules, tests}
 use Rattle.std.proofs.lemmas.Iterator.{YieldsList-from_slice}
 use Rattle.std.proofs.lemmas.Iterator.Search.{all_from_yields_List}
 use Rattle.std.proofs.lemmas.List.Folds.{list_all-map}
-use Rattle.cargo_rows.specs.Meant.{waybill_meant}
+use Rattle.table_rows.specs.Meant.{waybill_meant}
 use Rattle.table_audits.specs.Rows.{is_lawful_waybill}
 use Rattle.table_audits.proofs.waybill.are_lawful.Goals as goal
 

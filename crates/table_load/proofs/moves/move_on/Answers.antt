@@ -1,6 +1,6 @@
 use Rattle.std.proofs.Common.{w64, rules}
 use Rattle.std.proofs.lemmas.Int.{to_z-of_z}
-use Rattle.table_load.proofs.Values.{move_values}
+use Rattle.table_load.proofs.ValueLemmas.{move_values}
 use Rattle.table_load.proofs.moves.move_on.Goals as goal
 
 pub returns-clause-some : goal.returns-clause-some

@@ -1,5 +1,5 @@
 use Rattle.std.proofs.Common.{◌∙◌, rules, FitsSigned, w64, to_z-of_z}
-use Rattle.cargo_rows.specs.Meant.{move_meant, with_move}
+use Rattle.table_rows.specs.Meant.{move_meant, with_move}
 use Rattle.table_state.proofs.recording.record_move.Goals as goal
 
 pub returns-clause-done : goal.returns-clause-done

@@ -1,8 +1,8 @@
 use Rattle.std.proofs.Common.{arith, ap, sym, subst, ◌∙◌}
 use Rattle.sqlite.specs.Held.{state}
 use Rattle.sqlite.proofs.StateLemmas.{survives_weaker, survives_then}
-use Rattle.row_schema.specs.Tables.{tables_of}
-use Rattle.row_schema.specs.Own.{IsOwn}
+use Rattle.station_schema.specs.Tables.{tables_of}
+use Rattle.station_schema.specs.Own.{IsOwn}
 use Rattle.table_upgrade.proofs.upgrade.commit_upgrade.Goals as goal
 
 pub returns-in_err-move_waybills-clause-survives : goal.returns-in_err-move_waybills-clause-survives

@@ -1,9 +1,9 @@
 use Rattle.std.proofs.Common.{sym, ap, subst, ◌∙◌, rules}
 use Rattle.sqlite.specs.Held.{state}
 use Rattle.row_laws.specs.Calls.{IsSettled}
-use Rattle.row_schema.specs.Connection.{IsVacant}
-use Rattle.row_schema.specs.Own.{IsOwn}
-use Rattle.row_schema.specs.Tables.{tables_of}
+use Rattle.station_schema.specs.Connection.{IsVacant}
+use Rattle.station_schema.specs.Own.{IsOwn}
+use Rattle.station_schema.specs.Tables.{tables_of}
 use Rattle.station_rows.proofs.Views.{not_so, survives_alone}
 use Rattle.station_rows.proofs.rows.Rows.create.Goals as goal
 

@@ -1,6 +1,6 @@
 use Rattle.std.proofs.Common.{w64, rules, arith}
 use Rattle.std.proofs.lemmas.Int.{to_z-of_z}
-use Rattle.table_load.proofs.Values.{old_waybill_values}
+use Rattle.table_load.proofs.ValueLemmas.{old_waybill_values}
 use Rattle.table_load.proofs.old_waybill.OldWaybillTableKeyedTable.typed.Goals as goal
 
 pub returns-clause-some : goal.returns-clause-some

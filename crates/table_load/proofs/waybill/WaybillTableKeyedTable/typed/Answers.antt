@@ -1,6 +1,6 @@
 use Rattle.std.proofs.Common.{w64, rules, arith}
 use Rattle.std.proofs.lemmas.Int.{to_z-of_z}
-use Rattle.table_load.proofs.Values.{waybill_values}
+use Rattle.table_load.proofs.ValueLemmas.{waybill_values}
 use Rattle.table_load.proofs.waybill.WaybillTableKeyedTable.typed.Goals as goal
 
 pub returns-clause-some : goal.returns-clause-some

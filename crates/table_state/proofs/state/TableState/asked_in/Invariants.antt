@@ -1,6 +1,6 @@
 use Rattle.std.proofs.Common.{◌≡◌, ◌++◌}
 use Rattle.std.specs.List.{flat_map}
-use Rattle.row_schema.specs.Store.{Survives}
+use Rattle.station_schema.specs.Store.{Survives}
 use Rattle.station_core.specs.Step.{State}
 use Rattle.state_store.specs.Store.{at_rest}
 use Rattle.state_store.specs.Waybills.{asked}

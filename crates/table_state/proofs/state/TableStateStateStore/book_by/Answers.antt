@@ -4,8 +4,8 @@ use Rattle.row_codec.specs.Moves.{book_row_by}
 use Rattle.station_core.specs.Readers.{book_by}
 use Rattle.station_core.specs.declared.rows.BookRow as reader
 use Rattle.station_core.specs.declared.stored.Sizes.{Sizes}
-use Rattle.cargo_rows.specs.declared.moves.MoveRow.{MoveRow}
-use Rattle.cargo_rows.specs.Meant.{move_meant, moves_for}
+use Rattle.table_rows.specs.declared.moves.MoveRow.{MoveRow}
+use Rattle.table_rows.specs.Meant.{move_meant, moves_for}
 use Rattle.table_state.specs.Handing.{Tells}
 use Rattle.table_state.proofs.Passing.{given_on, some_told}
 use Rattle.table_state.proofs.state.TableStateStateStore.book_by.Goals as goal

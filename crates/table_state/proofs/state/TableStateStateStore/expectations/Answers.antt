@@ -1,6 +1,6 @@
 use Rattle.std.proofs.Common.{ap, map, ◌∙◌}
-use Rattle.cargo_rows.specs.declared.expected.ListedWaybillRow.{ListedWaybillRow}
-use Rattle.cargo_rows.specs.Meant.{listed_waybill_meant}
+use Rattle.table_rows.specs.declared.expected.ListedWaybillRow.{ListedWaybillRow}
+use Rattle.table_rows.specs.Meant.{listed_waybill_meant}
 use Rattle.row_codec.specs.Manifests.{expectation_by}
 use Rattle.state_store.specs.Store.{at_rest}
 use Rattle.table_state.proofs.Lifting.{seen_in}

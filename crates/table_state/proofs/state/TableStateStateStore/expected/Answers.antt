@@ -1,7 +1,7 @@
 use Rattle.std.proofs.Common.{rules, ap, sym, Some, option_map, ◌∙◌, SFits, w64}
 use Rattle.std.proofs.lemmas.Int.{to_z-of_z}
-use Rattle.cargo_rows.specs.declared.expected.ExpectedRow.{ExpectedRow}
-use Rattle.cargo_rows.specs.Meant.{expected_meant}
+use Rattle.table_rows.specs.declared.expected.ExpectedRow.{ExpectedRow}
+use Rattle.table_rows.specs.Meant.{expected_meant}
 use Rattle.row_codec.specs.Manifests.{expected_by}
 use Rattle.table_state.proofs.Lifting.{seen_in, reads_on}
 use Rattle.table_state.proofs.Values.{expected_is}

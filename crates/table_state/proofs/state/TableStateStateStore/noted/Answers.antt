@@ -1,6 +1,6 @@
 use Rattle.std.proofs.Common.{ap, map, ◌∙◌}
-use Rattle.cargo_rows.specs.declared.flights.NotedFlightRow.{NotedFlightRow}
-use Rattle.cargo_rows.specs.Meant.{noted_flight_meant}
+use Rattle.table_rows.specs.declared.flights.NotedFlightRow.{NotedFlightRow}
+use Rattle.table_rows.specs.Meant.{noted_flight_meant}
 use Rattle.row_codec.specs.Flights.{noted_by}
 use Rattle.state_store.specs.Store.{at_rest}
 use Rattle.table_state.proofs.Lifting.{seen_in}

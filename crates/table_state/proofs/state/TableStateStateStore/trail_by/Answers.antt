@@ -4,8 +4,8 @@ use Rattle.row_codec.specs.Logs.{trail_row_by}
 use Rattle.station_core.specs.Readers.{trail_by}
 use Rattle.station_core.specs.declared.rows.TrailRow as reader
 use Rattle.station_core.specs.declared.stored.Sizes.{Sizes}
-use Rattle.text_rows.specs.declared.trail.TrailRow.{TrailRow}
-use Rattle.text_rows.specs.Meant.{lines_for, trail_meant}
+use Rattle.table_rows.specs.declared.trail.TrailRow.{TrailRow}
+use Rattle.table_rows.specs.Meant.{lines_for, trail_meant}
 use Rattle.table_state.specs.Handing.{Tells}
 use Rattle.table_state.proofs.Passing.{given_on, some_told}
 use Rattle.table_state.proofs.state.TableStateStateStore.trail_by.Goals as goal

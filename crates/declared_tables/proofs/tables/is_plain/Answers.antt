@@ -1,9 +1,0 @@
-use Rattle.std.proofs.Common.{◌≡◌, [], rules}
-use Rattle.declared_tables.proofs.TableLemmas.{no_items}
-use Rattle.declared_tables.proofs.tables.is_plain.Goals as goal
-
-pub returns-clause-on : goal.returns-clause-on
-returns-clause-on c last =
-    let references : c.args.table.now.references ≡ [] = no_items _ (search rules) in
-    let computed : c.args.table.now.computed ≡ [] = no_items _ (search rules) in
-    search rules

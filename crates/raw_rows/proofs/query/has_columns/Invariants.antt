@@ -1,7 +1,0 @@
-use Rattle.std.proofs.Common.{◌≡◌, map}
-use Rattle.std.specs.Prelude.{drop, is_some}
-use Rattle.raw_rows.specs.Raw.{places_by_name}
-use Rattle.raw_rows.proofs.query.has_columns.Given as goal
-
-abbrev pub invariant-loop-name : goal.invariant-loop-name
-invariant-loop-name l = is_some (places_by_name l.table (map (λ n. n.now) l.names)) ≡ is_some (places_by_name l.table (map (λ n. n.now) (drop l.name-index l.names)))

@@ -1,4 +1,0 @@
-pub mod Raw
-pub mod Selects
-pub mod Whole
-pub mod Walks

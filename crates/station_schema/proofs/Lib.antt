@@ -1,0 +1,15 @@
+pub mod Again
+pub mod Begun
+pub mod Compared
+pub mod Creating
+pub mod Files
+pub mod Keys
+pub mod MemoryRows
+pub mod Opened
+pub mod Owned
+pub mod Statements
+pub mod StationLemmas
+pub mod Stored
+pub mod TableLemmas
+pub mod Texts
+pub mod Typed

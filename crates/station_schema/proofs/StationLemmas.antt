@@ -1,0 +1,32 @@
+-- What the statement on `station` does.
+use Rattle.std.proofs.Common.{ℕ, List, [], ◌∷◌, pos, Ok, refl}
+use Rattle.sqlite.specs.declared.types.Value.TheVariants.{Text}
+use Rattle.sqlite.specs.Order.{Row}
+use Rattle.sqlite.specs.Effect.{value_rows}
+use Rattle.sqlite.specs.State.{State, Executes, Survives, CommitsBy}
+use Rattle.sqlite_keyed.specs.Keyed.{insert_by}
+use Rattle.sqlite_keyed.proofs.KeyedLemmas.{IsKeyedBy-insert_by}
+use Rattle.row_laws.proofs.Shared.{cast_int, cast_null}
+use Rattle.row_laws.proofs.Keyed.{puts}
+use Rattle.row_laws.proofs.Ran.{IsPlaced, insert_ran}
+use Rattle.station_schema.specs.Schema.{station_schema, station}
+use Rattle.station_schema.specs.Tables.{tables_of, typed_stations, station_row, station_id}
+use Rattle.station_schema.specs.Calls.{IsInside, Edits, new_station, with_station}
+use Rattle.station_schema.proofs.Statements.{execute_survives}
+use Rattle.station_schema.proofs.Texts.{insert_station_text, insert_station_is, station_terms}
+use Rattle.station_schema.proofs.Stored.{edits_stations}
+
+pub station_placed : IsPlaced station_schema 0 station
+station_placed = record { there = refl; uncounted = refl; unstamped = refl; idle = λ _ _ _. refl }
+
+pub inserts_station : (old new : State) (airport : List ℕ) (count : ℕ) → IsInside old → Executes insert_station_text (Text airport ∷ []) old new (Ok count) → Edits old new (with_station airport)
+inserts_station old new airport count inside h =
+    let was = typed_stations old.now inside.station in
+    let params = Text airport ∷ [] in
+    let ran = insert_ran station_schema old new inside.station.schema 0 station station_placed insert_station_text params count h station_terms 5 insert_station_is in
+    let put = puts station_id station_row (λ _. refl) station_schema _ station old.now.trees new.now.trees (tables_of old.now.trees).stations was.rows (value_rows params 5 1 station_terms) (new_station airport)
+    (rw (cast_null, cast_int (pos 1), cast_int (pos 2), cast_int (pos 0))) ran.applies in
+    edits_stations old new inside ran.kept ran.applies.tables ran.shown (λ xs. insert_by station_id xs (new_station airport)) put.rows (IsKeyedBy-insert_by station_id _ (new_station airport) was.keyed)
+
+pub insert_survives : (old new : State) (params : Row) → Survives old new (CommitsBy insert_station_text params old) → Survives old new (λ _. ¬ IsInside old)
+insert_survives old new params = execute_survives insert_station_text params old new _ insert_station_is.0 ((λ e. cc), λ _ e. cc)

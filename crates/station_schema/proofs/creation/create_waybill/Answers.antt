@@ -1,0 +1,15 @@
+use Rattle.std.proofs.Common.{refl, ◌∙◌}
+use Rattle.sqlite.specs.Held.{state}
+use Rattle.row_laws.proofs.Creating.{makes_it, create_survives}
+use Rattle.station_schema.specs.Schema.{station_made, waybill_made}
+use Rattle.station_schema.proofs.Texts.{create_waybill_text, create_waybill_is}
+use Rattle.station_schema.proofs.Creating.{waybill_makes}
+use Rattle.station_schema.proofs.creation.create_waybill.Goals as goal
+
+pub returns-clause-made : goal.returns-clause-made
+returns-clause-made g c clean was =
+    makes_it create_waybill_text station_made _ create_waybill_is waybill_made waybill_makes refl (state g.S.Store c.args.conn.now) (state g.S.Store c.execute.new.self)
+    (λ it made. (it.others.0 ∙ made.empty.0, (it.empty, tt))) _ was (c.execute.ensures.runs clean)
+
+pub returns-clause-survives : goal.returns-clause-survives
+returns-clause-survives g c = create_survives create_waybill_text station_made _ create_waybill_is waybill_made waybill_makes refl _ _ c.execute.ensures.survives

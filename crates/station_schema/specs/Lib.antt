@@ -1,0 +1,11 @@
+pub mod Beside
+pub mod Calls
+pub mod Code
+pub mod Connection
+pub mod Names
+pub mod Once
+pub mod Own
+pub mod Schema
+pub mod Store
+pub mod Tables
+pub mod Wanted

@@ -1,0 +1,35 @@
+-- Trees whose schema is that of a station.
+use Rattle.std.specs.Prelude.{◌≡◌, ℕ, List, IsTrue}
+use Rattle.sqlite.specs.Tree.{Trees}
+use Rattle.sqlite.specs.Schema.{Schema}
+use Rattle.sqlite_catalog.specs.Listing.{IsSound}
+use Rattle.sqlite_trees.specs.declared.store.Store.{Ghosts}
+use Rattle.sqlite_trees.specs.View.{IsOrdered}
+use Rattle.sqlite_trees.specs.Objects.{catalog_tree, IsListed}
+use Rattle.sqlite_schema.specs.contracts.schema.Schema.{the_row as schema_row}
+use Rattle.station_schema.specs.Connection.{opening}
+use Rattle.station_schema.specs.Schema.{old_schema, station_schema}
+use Rattle.station_schema.specs.Tables.{tables_of}
+use base.Stored.{Coded-set}
+
+-- whoever reads a schema out of these trees finds that of a station
+pub record IsOwn (db : Trees) : Type 0 where
+  pub only : (schema : Schema) → IsSound schema db → schema ≡ station_schema
+
+pub own_once : (db : Trees) → IsProp (IsOwn db)
+own_once db a b = λ i. record { only = λ schema sound. Coded-set schema_row.coded _ _ (a.only schema sound) (b.only schema sound) i }
+
+-- whoever reads a schema out of these trees finds that of a station of version 1
+pub record IsOldOwn (db : Trees) : Type 0 where
+  pub only : (schema : Schema) → IsSound schema db → schema ≡ old_schema
+
+-- These are the trees of a station that was just made.
+pub record IsNewStation (airport : List ℕ) (db : Trees) : Type 0 where
+  pub own : IsOwn db
+  pub tables : tables_of db ≡ opening airport
+
+-- In each store of this type that is open, the rows of the last commit lie by their rowids, as its listing says.
+abbrev pub LiesInOrder : {S : Type 0} → Ghosts S → Type 0
+LiesInOrder {S} g = (s : S) → IsTrue (g.view s).is_open
+    → IsOrdered (g.view s).committed_shape (g.view s).committed
+    × IsListed ((g.view s).committed catalog_tree) (g.view s).committed_shape (g.view s).committed_reals

@@ -1,0 +1,522 @@
+-- The tables of a station as typed rows: a list where SQLite is given the key as an id, and a map where the key is of columns.
+use Rattle.std.specs.Prelude.{◌≡◌, ◌==◌, ℤ, pos, ℕ, List, [], ◌∷◌, map, MatchBool}
+use Rattle.sqlite.specs.declared.types.Value.TheVariants.{Null, Int, Text}
+use Rattle.sqlite.specs.Order.{Row, column}
+use Rattle.std.specs.List.{AllByRecursion}
+use Rattle.sqlite.specs.Tree.{Trees}
+use Rattle.sqlite.specs.Table.{Table}
+use Rattle.sqlite.specs.Effect.{Database}
+use Rattle.sqlite_typed.specs.Columns.{int_of, bytes_of}
+use Rattle.sqlite_typed.specs.Tests.{bytes_cmp}
+use Rattle.std.specs.declared.cmp.Ordering.{Ordering}
+use Rattle.std.specs.Ordering.{int_cmp, int_eq}
+use Rattle.std.specs.FinMap.{FinMap, from_entries}
+use Rattle.sqlite_keyed.specs.Lists.{update_where}
+use Rattle.sqlite_keyed.proofs.SortLemmas.{pair_cmp}
+use Rattle.row_laws.specs.Columns.{AreEntries, AreListed}
+use Rattle.station_schema.specs.Schema.{old_schema, station_schema}
+
+-- Of each table: a row (where the key is of columns, apart from the key), the row as it is stored, and back. A row that is stored
+-- begins with its rowid; SQLite keeps NULL in the place of an INTEGER PRIMARY KEY.
+
+-- ---- station
+
+-- the one row of `station`
+pub record Station : Type 0 where
+  pub id : ℤ
+  pub airport : List ℕ
+  pub version : ℤ
+  pub confirmed : ℤ
+
+abbrev pub station_id : Station → ℤ
+station_id s = s.id
+
+abbrev pub station_row : Station → Row
+station_row s = Int s.id ∷ Null ∷ Text s.airport ∷ Int s.version ∷ Int s.confirmed ∷ []
+
+abbrev pub station_in : Row → Station
+station_in r = record {
+  id = int_of (column r 0);
+  airport = bytes_of (column r 2);
+  version = int_of (column r 3);
+  confirmed = int_of (column r 4);
+}
+
+-- ---- waybill: those of a file of version 1
+
+-- a row of `waybill`
+pub record OldWaybill : Type 0 where
+  pub awb : ℤ
+  pub origin : List ℕ
+  pub destination : List ℕ
+  pub pieces : ℤ
+  pub tenths : ℤ
+  pub goods : List ℕ
+  pub notified : ℤ
+
+abbrev pub old_waybill_id : OldWaybill → ℤ
+old_waybill_id w = w.awb
+
+abbrev pub old_waybill_row : OldWaybill → Row
+old_waybill_row w = Int w.awb ∷ Null ∷ Text w.origin ∷ Text w.destination ∷ Int w.pieces ∷ Int w.tenths
+    ∷ Text w.goods ∷ Int w.notified ∷ []
+
+abbrev pub old_waybill_in : Row → OldWaybill
+old_waybill_in r = record {
+  awb = int_of (column r 0);
+  origin = bytes_of (column r 2);
+  destination = bytes_of (column r 3);
+  pieces = int_of (column r 4);
+  tenths = int_of (column r 5);
+  goods = bytes_of (column r 6);
+  notified = int_of (column r 7);
+}
+
+-- ---- waybill2
+
+-- a row of `waybill2`: `since` is the day on which it was last declared, or 0 where none is known
+pub record Waybill : Type 0 where
+  pub awb : ℤ
+  pub origin : List ℕ
+  pub destination : List ℕ
+  pub pieces : ℤ
+  pub tenths : ℤ
+  pub goods : List ℕ
+  pub notified : ℤ
+  pub since : ℤ
+
+abbrev pub waybill_id : Waybill → ℤ
+waybill_id w = w.awb
+
+abbrev pub waybill_row : Waybill → Row
+waybill_row w = Int w.awb ∷ Null ∷ Text w.origin ∷ Text w.destination ∷ Int w.pieces ∷ Int w.tenths
+    ∷ Text w.goods ∷ Int w.notified ∷ Int w.since ∷ []
+
+abbrev pub waybill_in : Row → Waybill
+waybill_in r = record {
+  awb = int_of (column r 0);
+  origin = bytes_of (column r 2);
+  destination = bytes_of (column r 3);
+  pieces = int_of (column r 4);
+  tenths = int_of (column r 5);
+  goods = bytes_of (column r 6);
+  notified = int_of (column r 7);
+  since = int_of (column r 8);
+}
+
+-- ---- stock
+
+-- a row of `stock`, apart from its key
+pub record Stock : Type 0 where
+  pub high : ℤ
+  pub holder : ℤ
+  pub agent : List ℕ
+
+-- prefix and low
+abbrev pub StockKey : Type 0
+StockKey = ℤ × ℤ
+
+abbrev pub stock_cmp : StockKey → StockKey → Ordering
+stock_cmp = pair_cmp int_cmp int_cmp
+
+abbrev pub stock_row : StockKey × Stock → Row
+stock_row e = Int e.0.0 ∷ Int e.0.1 ∷ Int e.1.high ∷ Int e.1.holder ∷ Text e.1.agent ∷ []
+
+abbrev pub stock_in : Row → StockKey × Stock
+stock_in r = (
+  (int_of (column r 1), int_of (column r 2)),
+  record { high = int_of (column r 3); holder = int_of (column r 4); agent = bytes_of (column r 5) },
+)
+
+-- ---- flight
+
+-- a row of `flight`, apart from its key
+pub record Flight : Type 0 where
+  pub unload : List ℕ
+  pub closed : ℤ
+
+-- flight and day
+abbrev pub FlightKey : Type 0
+FlightKey = List ℕ × ℤ
+
+abbrev pub flight_cmp : FlightKey → FlightKey → Ordering
+flight_cmp = pair_cmp bytes_cmp int_cmp
+
+abbrev pub flight_row : FlightKey × Flight → Row
+flight_row e = Text e.0.0 ∷ Int e.0.1 ∷ Text e.1.unload ∷ Int e.1.closed ∷ []
+
+abbrev pub flight_in : Row → FlightKey × Flight
+flight_in r = (
+  (bytes_of (column r 1), int_of (column r 2)),
+  record { unload = bytes_of (column r 3); closed = int_of (column r 4) },
+)
+
+-- ---- moves
+
+-- a row of `moves`
+pub record Move : Type 0 where
+  pub number : ℤ
+  pub awb : ℤ
+  pub src : ℤ
+  pub dst : ℤ
+  pub pieces : ℤ
+  pub tenths : ℤ
+  pub flight : List ℕ
+  pub fday : ℤ
+  pub day : ℤ
+  pub minute : ℤ
+
+abbrev pub move_id : Move → ℤ
+move_id m = m.number
+
+abbrev pub move_row : Move → Row
+move_row m = Int m.number ∷ Null ∷ Int m.awb ∷ Int m.src ∷ Int m.dst ∷ Int m.pieces ∷ Int m.tenths
+    ∷ Text m.flight ∷ Int m.fday ∷ Int m.day ∷ Int m.minute ∷ []
+
+abbrev pub move_in : Row → Move
+move_in r = record {
+  number = int_of (column r 0);
+  awb = int_of (column r 2);
+  src = int_of (column r 3);
+  dst = int_of (column r 4);
+  pieces = int_of (column r 5);
+  tenths = int_of (column r 6);
+  flight = bytes_of (column r 7);
+  fday = int_of (column r 8);
+  day = int_of (column r 9);
+  minute = int_of (column r 10);
+}
+
+-- ---- expected
+
+-- a row of `expected`, apart from its key
+pub record Expected : Type 0 where
+  pub pieces : ℤ
+  pub tenths : ℤ
+  pub checked : ℤ
+
+-- flight, day and awb
+abbrev pub ExpectedKey : Type 0
+ExpectedKey = List ℕ × (ℤ × ℤ)
+
+abbrev pub expected_cmp : ExpectedKey → ExpectedKey → Ordering
+expected_cmp = pair_cmp bytes_cmp (pair_cmp int_cmp int_cmp)
+
+abbrev pub expected_row : ExpectedKey × Expected → Row
+expected_row e = Text e.0.0 ∷ Int e.0.1.0 ∷ Int e.0.1.1 ∷ Int e.1.pieces ∷ Int e.1.tenths
+    ∷ Int e.1.checked ∷ []
+
+abbrev pub expected_in : Row → ExpectedKey × Expected
+expected_in r = (
+  (bytes_of (column r 1), (int_of (column r 2), int_of (column r 3))),
+  record { pieces = int_of (column r 4); tenths = int_of (column r 5); checked = int_of (column r 6) },
+)
+
+-- ---- part
+
+-- flight, day, airport and seq
+abbrev pub PartKey : Type 0
+PartKey = List ℕ × (ℤ × (List ℕ × ℤ))
+
+abbrev pub part_cmp : PartKey → PartKey → Ordering
+part_cmp = pair_cmp bytes_cmp (pair_cmp int_cmp (pair_cmp bytes_cmp int_cmp))
+
+abbrev pub part_row : PartKey × List ℕ → Row
+part_row e = Text e.0.0 ∷ Int e.0.1.0 ∷ Text e.0.1.1.0 ∷ Int e.0.1.1.1 ∷ Text e.1 ∷ []
+
+abbrev pub part_in : Row → PartKey × List ℕ
+part_in r = ((bytes_of (column r 1), (int_of (column r 2), (bytes_of (column r 3), int_of (column r 4)))), bytes_of (column r 5))
+
+-- ---- trail
+
+-- a row of `trail`
+pub record TrailLine : Type 0 where
+  pub number : ℤ
+  pub awb : ℤ
+  pub line : List ℕ
+
+abbrev pub trail_id : TrailLine → ℤ
+trail_id t = t.number
+
+abbrev pub trail_row : TrailLine → Row
+trail_row t = Int t.number ∷ Null ∷ Int t.awb ∷ Text t.line ∷ []
+
+abbrev pub trail_in : Row → TrailLine
+trail_in r = record {
+  number = int_of (column r 0);
+  awb = int_of (column r 2);
+  line = bytes_of (column r 3);
+}
+
+-- ---- outbox
+
+-- a row of `outbox`
+pub record Message : Type 0 where
+  pub number : ℤ
+  pub body : List ℕ
+
+abbrev pub message_id : Message → ℤ
+message_id m = m.number
+
+abbrev pub message_row : Message → Row
+message_row m = Int m.number ∷ Null ∷ Text m.body ∷ []
+
+abbrev pub message_in : Row → Message
+message_in r = record {
+  number = int_of (column r 0);
+  body = bytes_of (column r 2);
+}
+
+-- ---- kept_key
+
+-- a row of `kept_key`, apart from its key
+pub record Kept : Type 0 where
+  pub command : List ℕ
+  pub count : ℤ
+
+abbrev pub kept_cmp : List ℕ → List ℕ → Ordering
+kept_cmp = bytes_cmp
+
+abbrev pub kept_row : List ℕ × Kept → Row
+kept_row e = Text e.0 ∷ Text e.1.command ∷ Int e.1.count ∷ []
+
+abbrev pub kept_in : Row → List ℕ × Kept
+kept_in r = (
+  bytes_of (column r 1),
+  record { command = bytes_of (column r 2); count = int_of (column r 3) },
+)
+
+-- ---- kept_text
+
+abbrev pub kept_text_cmp : List ℕ → List ℕ → Ordering
+kept_text_cmp = bytes_cmp
+
+abbrev pub kept_text_row : List ℕ × ℤ → Row
+kept_text_row e = Text e.0 ∷ Int e.1 ∷ []
+
+abbrev pub kept_text_in : Row → List ℕ × ℤ
+kept_text_in r = (bytes_of (column r 1), int_of (column r 2))
+
+-- ---- counts
+
+-- a row of `counts`, apart from its key
+pub record Count : Type 0 where
+  pub pieces : ℤ
+  pub tenths : ℤ
+
+-- awb and place
+abbrev pub CountKey : Type 0
+CountKey = ℤ × ℤ
+
+abbrev pub count_cmp : CountKey → CountKey → Ordering
+count_cmp = pair_cmp int_cmp int_cmp
+
+abbrev pub count_row : CountKey × Count → Row
+count_row e = Int e.0.0 ∷ Int e.0.1 ∷ Int e.1.pieces ∷ Int e.1.tenths ∷ []
+
+abbrev pub count_in : Row → CountKey × Count
+count_in r = (
+  (int_of (column r 1), int_of (column r 2)),
+  record { pieces = int_of (column r 3); tenths = int_of (column r 4) },
+)
+
+-- ---- build
+
+-- a row of `build`, apart from its key
+pub record Build : Type 0 where
+  pub pieces : ℤ
+  pub tenths : ℤ
+
+-- flight, day and awb
+abbrev pub BuildKey : Type 0
+BuildKey = List ℕ × (ℤ × ℤ)
+
+abbrev pub build_cmp : BuildKey → BuildKey → Ordering
+build_cmp = pair_cmp bytes_cmp (pair_cmp int_cmp int_cmp)
+
+abbrev pub build_row : BuildKey × Build → Row
+build_row e = Text e.0.0 ∷ Int e.0.1.0 ∷ Int e.0.1.1 ∷ Int e.1.pieces ∷ Int e.1.tenths ∷ []
+
+abbrev pub build_in : Row → BuildKey × Build
+build_in r = (
+  (bytes_of (column r 1), (int_of (column r 2), int_of (column r 3))),
+  record { pieces = int_of (column r 4); tenths = int_of (column r 5) },
+)
+
+-- ---- all tables
+
+-- the rows of each table, as they lie in its tree
+pub record TreeRows : Type 0 where
+  pub stations : List Row
+  pub old_waybills : List Row
+  pub waybills : List Row
+  pub stock : List Row
+  pub flights : List Row
+  pub moves : List Row
+  pub expected : List Row
+  pub parts : List Row
+  pub trail : List Row
+  pub outbox : List Row
+  pub kept : List Row
+  pub kept_texts : List Row
+  pub counts : List Row
+  pub builds : List Row
+
+abbrev pub rows_in : Trees → TreeRows
+rows_in db = record {
+  stations = db 0;
+  old_waybills = db 1;
+  waybills = db 22;
+  stock = db 2;
+  flights = db 4;
+  moves = db 6;
+  expected = db 8;
+  parts = db 10;
+  trail = db 12;
+  outbox = db 13;
+  kept = db 14;
+  kept_texts = db 16;
+  counts = db 18;
+  builds = db 20;
+}
+
+-- and what they stand for
+pub record Tables : Type 0 where
+  pub stations : List Station
+  pub old_waybills : List OldWaybill
+  pub waybills : List Waybill
+  pub stock : FinMap stock_cmp Stock
+  pub flights : FinMap flight_cmp Flight
+  pub moves : List Move
+  pub expected : FinMap expected_cmp Expected
+  pub parts : FinMap part_cmp (List ℕ)
+  pub trail : List TrailLine
+  pub outbox : List Message
+  pub kept : FinMap kept_cmp Kept
+  pub kept_texts : FinMap kept_text_cmp ℤ
+  pub counts : FinMap count_cmp Count
+  pub builds : FinMap build_cmp Build
+
+abbrev pub tables_in : TreeRows → Tables
+tables_in r = record {
+  stations = map station_in r.stations;
+  old_waybills = map old_waybill_in r.old_waybills;
+  waybills = map waybill_in r.waybills;
+  stock = from_entries (map stock_in r.stock);
+  flights = from_entries (map flight_in r.flights);
+  moves = map move_in r.moves;
+  expected = from_entries (map expected_in r.expected);
+  parts = from_entries (map part_in r.parts);
+  trail = map trail_in r.trail;
+  outbox = map message_in r.outbox;
+  kept = from_entries (map kept_in r.kept);
+  kept_texts = from_entries (map kept_text_in r.kept_texts);
+  counts = from_entries (map count_in r.counts);
+  builds = from_entries (map build_in r.builds);
+}
+
+abbrev pub tables_of : Trees → Tables
+tables_of db = tables_in (rows_in db)
+
+-- each row of the table with this tree is typed, and keys come once
+abbrev pub IsTyped : ℕ → List Row → Type 0
+IsTyped t rows =
+    MatchBool (t == 0) (AreListed station_id station_row station_in rows)
+    (MatchBool (t == 1) (AreListed old_waybill_id old_waybill_row old_waybill_in rows)
+    (MatchBool (t == 2) (AreEntries stock_cmp stock_row stock_in rows)
+    (MatchBool (t == 4) (AreEntries flight_cmp flight_row flight_in rows)
+    (MatchBool (t == 6) (AreListed move_id move_row move_in rows)
+    (MatchBool (t == 8) (AreEntries expected_cmp expected_row expected_in rows)
+    (MatchBool (t == 10) (AreEntries part_cmp part_row part_in rows)
+    (MatchBool (t == 12) (AreListed trail_id trail_row trail_in rows)
+    (MatchBool (t == 13) (AreListed message_id message_row message_in rows)
+    (MatchBool (t == 14) (AreEntries kept_cmp kept_row kept_in rows)
+    (MatchBool (t == 16) (AreEntries kept_text_cmp kept_text_row kept_text_in rows)
+    (MatchBool (t == 18) (AreEntries count_cmp count_row count_in rows)
+    (MatchBool (t == 20) (AreEntries build_cmp build_row build_in rows)
+    (MatchBool (t == 22) (AreListed waybill_id waybill_row waybill_in rows) (Unit {0}))))))))))))))
+
+abbrev pub AreTyped : Trees → Type 0
+AreTyped db = AllByRecursion (λ (table : Table). IsTyped table.tree (db table.tree)) station_schema.tables
+
+-- ---- a file of version 1
+
+-- one of its waybills as one of `waybill2`, with no day
+abbrev pub undated : OldWaybill → Waybill
+undated w = record {
+  awb = w.awb;
+  origin = w.origin;
+  destination = w.destination;
+  pieces = w.pieces;
+  tenths = w.tenths;
+  goods = w.goods;
+  notified = w.notified;
+  since = pos 0;
+}
+
+-- the tables of such trees: there is no `waybill2`
+abbrev pub old_tables_of : Trees → Tables
+old_tables_of db = tables_in (record (rows_in db) { waybills = [] })
+
+-- the row of `station`, of version 2
+abbrev pub raised : List Station → List Station
+raised stations = update_where (λ s. int_eq (station_id s) (pos 1)) (λ s. record s { version = pos 2 }) stations
+
+-- the tables of version 2 that those of version 1 become
+abbrev pub upgraded : Tables → Tables
+upgraded t = record t { stations = raised t.stations; old_waybills = []; waybills = map undated t.old_waybills }
+
+-- the database has the tables of such a station, and each row of them is typed
+pub record IsOldStation (db : Database) : Type 0 where
+  pub schema : db.schema ≡ old_schema
+  pub typed : AllByRecursion (λ (table : Table). IsTyped table.tree (db.trees table.tree)) old_schema.tables
+
+-- ---- a station
+
+-- the database has a station's tables, and each row of them is typed
+pub record IsStation (db : Database) : Type 0 where
+  pub schema : db.schema ≡ station_schema
+  pub typed : AreTyped db.trees
+
+module _ (db : Database) (was : IsStation db) where
+  abbrev pub typed_stations : AreListed station_id station_row station_in (db.trees 0)
+  typed_stations = was.typed.0
+
+  abbrev pub typed_old_waybills : AreListed old_waybill_id old_waybill_row old_waybill_in (db.trees 1)
+  typed_old_waybills = was.typed.1.0
+
+  abbrev pub typed_stock : AreEntries stock_cmp stock_row stock_in (db.trees 2)
+  typed_stock = was.typed.1.1.0
+
+  abbrev pub typed_flights : AreEntries flight_cmp flight_row flight_in (db.trees 4)
+  typed_flights = was.typed.1.1.1.0
+
+  abbrev pub typed_moves : AreListed move_id move_row move_in (db.trees 6)
+  typed_moves = was.typed.1.1.1.1.0
+
+  abbrev pub typed_expected : AreEntries expected_cmp expected_row expected_in (db.trees 8)
+  typed_expected = was.typed.1.1.1.1.1.0
+
+  abbrev pub typed_parts : AreEntries part_cmp part_row part_in (db.trees 10)
+  typed_parts = was.typed.1.1.1.1.1.1.0
+
+  abbrev pub typed_trail : AreListed trail_id trail_row trail_in (db.trees 12)
+  typed_trail = was.typed.1.1.1.1.1.1.1.0
+
+  abbrev pub typed_outbox : AreListed message_id message_row message_in (db.trees 13)
+  typed_outbox = was.typed.1.1.1.1.1.1.1.1.0
+
+  abbrev pub typed_kept : AreEntries kept_cmp kept_row kept_in (db.trees 14)
+  typed_kept = was.typed.1.1.1.1.1.1.1.1.1.0
+
+  abbrev pub typed_kept_texts : AreEntries kept_text_cmp kept_text_row kept_text_in (db.trees 16)
+  typed_kept_texts = was.typed.1.1.1.1.1.1.1.1.1.1.0
+
+  abbrev pub typed_counts : AreEntries count_cmp count_row count_in (db.trees 18)
+  typed_counts = was.typed.1.1.1.1.1.1.1.1.1.1.1.0
+
+  abbrev pub typed_builds : AreEntries build_cmp build_row build_in (db.trees 20)
+  typed_builds = was.typed.1.1.1.1.1.1.1.1.1.1.1.1.0
+
+  abbrev pub typed_waybills : AreListed waybill_id waybill_row waybill_in (db.trees 22)
+  typed_waybills = was.typed.1.1.1.1.1.1.1.1.1.1.1.1.1.0

@@ -1,0 +1,15 @@
+ghost use Rattle.sqlite.specs.Files.{over_files};
+ghost use Rattle.sqlite.specs.Steps.{over_memory};
+ghost use Rattle.station_schema.specs.Own.{LiesInOrder};
+
+use sqlite_disk::Disk;
+
+/// The law that the rows of tables in memory lie in order.
+pub fn memory_lies_in_order()
+    ensures { LiesInOrder over_memory }
+{}
+
+/// The law that the rows of tables in files lie in order, on every disk.
+pub fn files_lie_in_order<D: Disk>()
+    ensures { LiesInOrder (over_files {g = D.Disk}) }
+{}

@@ -1,0 +1,16 @@
+ghost use Rattle.std.specs.Prelude.{◌≡◌, IsTrue};
+ghost use Rattle.sqlite.specs.Held.{state};
+ghost use Rattle.station_schema.specs.Own.{IsOwn};
+ghost use Rattle.station_schema.specs.Schema.{station_schema};
+
+use sqlite::{Alter, Connection};
+
+/// The law that an open connection with the schema of a station shows trees out of which no other
+/// schema is read.
+pub fn shows_own<S: Alter>(conn: &Connection<S>)
+    ensures { IsTrue (state S.Store conn.now).is_open
+        → (state S.Store conn.now).now.schema ≡ station_schema
+        → IsOwn (state S.Store conn.now).now.trees }
+{
+    let _ = conn.schema();
+}

@@ -1,0 +1,80 @@
+-- From the names in a schema to the rows that a query shows.
+use Rattle.std.proofs.Common.{◌≡◌, ◌≢◌, ℕ, ◌≤◌, List, [], map, length, Bool, true, false, None, Some, Option, IsTrue, refl, sym, ap, ◌∙◌, take, arith, Bor}
+use Rattle.std.proofs.lemmas.List.{length-map}
+use Rattle.sqlite.specs.Schema.{Schema}
+use Rattle.std.specs.Prelude.{Vec, is_some}
+use Rattle.std.specs.declared.alloc.Global.{Global}
+use Rattle.sqlite.specs.declared.types.Value.TheVariants.{Text}
+use Rattle.sqlite.specs.Order.{Row, column}
+use Rattle.sqlite.specs.Tree.{Trees}
+use Rattle.sqlite.specs.Table.{Table}
+use Rattle.sqlite.specs.State.{State, Survives, IsUnchanged, FailsToQuery, Shown, CommitsShowing}
+use Rattle.sqlite.specs.declared.error.Error.{Error}
+use Rattle.row_laws.specs.Calls.{Stops}
+use Rattle.std.specs.List.Sorted.{IsPermutation}
+use Rattle.table_load.specs.Raw.{AreInOrder, rows_of, found, found_at, found_in, table_by_name, places_by_name}
+use Rattle.table_load.specs.Selects.{IsSelect}
+use Rattle.table_load.specs.Walks.{IsReadOnly}
+use Rattle.table_load.specs.Whole.{is_whole, is_whole_in, ShowsWhole}
+use Rattle.table_load.proofs.RawLemmas.{plain_whole, reads_whole, stops_whole, survives_whole}
+
+-- ---- what the schema has
+
+held_in : (trees : Trees) (table : Table) (o : Option (List ℕ)) → is_some o ≡ true → (raw : List Row) × (found_in trees table o ≡ rows_of raw)
+held_in trees table None h = absurd (cc)
+held_in trees table (Some places) h = (map (λ r. map (column r) places) (trees table.tree), refl)
+
+lost_in : (trees : Trees) (table : Table) (o : Option (List ℕ)) → is_some o ≡ false → (raw : List Row) → found_in trees table o ≢ rows_of raw
+lost_in trees table None h raw e = absurd (cc)
+lost_in trees table (Some places) h raw e = absurd (cc)
+
+pub held : (trees : Trees) (names : List (List ℕ)) (o : Option Table) → is_whole_in names o ≡ true → (raw : List Row) × (found_at trees names o ≡ rows_of raw)
+held trees names None h = absurd (cc)
+held trees names (Some table) h = held_in trees table (places_by_name table names) h
+
+pub lost : (trees : Trees) (names : List (List ℕ)) (o : Option Table) → is_whole_in names o ≡ false → (raw : List Row) → found_at trees names o ≢ rows_of raw
+lost trees names None h raw e = absurd (cc)
+lost trees names (Some table) h raw e = lost_in trees table (places_by_name table names) h raw e
+
+-- ---- as a call returns it
+
+pub is_there : (schema now : Schema) (name : List ℕ) (names : List (List ℕ)) (told : Bool) → schema ≡ now → told ≡ is_whole schema name names → told ≡ true → is_whole now name names ≡ true
+is_there schema now name names told same is h = ap (λ s. is_whole s name names) (sym same) ∙ sym is ∙ h
+
+pub few_names : (columns : List (Bor (List ℕ))) (n : ℕ) → n ≤ length columns → n ≤ length (map (λ c. c.now) columns)
+few_names columns n few = let e : length (map (λ c. c.now) columns) ≡ length columns = length-map columns (λ c. c.now) in omega arith
+
+-- ---- the query for a whole table
+
+module _ (text name : List ℕ) (names : List (List ℕ)) (n : ℕ) (low : n ≤ length names) (select : IsSelect text name names (take n names)) (old new : State) (whole : is_whole old.now.schema name names ≡ true) where
+  abbrev there : (raw : List Row) × (found old.now name names ≡ rows_of raw)
+  there = held old.now.trees names (table_by_name old.now.schema name) whole
+
+  pub shows_whole : (rows : Vec Row Global) → Shown text [] old new rows.items → ShowsWhole (found old.now name names) n (Some rows) × IsUnchanged old new
+  shows_whole rows h =
+      let got = reads_whole text name names n low select old new there.0 there.1 rows.items h in
+      ((there.0, there.1, got.0.same, got.0.sorted), got.1)
+
+  pub plain : IsReadOnly old.now.schema text
+  plain = plain_whole text name names n low select old new there.0 there.1
+
+  -- the rows that were given are those of the table
+  abbrev pub IsGiven : List Row → Type 0
+  IsGiven rows = (raw : List Row) × (found old.now name names ≡ rows_of raw) × IsPermutation raw rows × AreInOrder n rows
+
+  pub given_whole : (rows : List Row) → Shown text [] old new rows → IsGiven rows
+  given_whole rows h =
+      let got = reads_whole text name names n low select old new there.0 there.1 rows h in
+      (there.0, there.1, got.0.same, got.0.sorted)
+
+  pub stops : (e : Error) → FailsToQuery text [] old new e → Stops old new
+  stops e h = stops_whole text name names n low select old new there.0 there.1 e h
+
+  pub survives : Survives old new (CommitsShowing text [] old) → Survives old new (λ _. ⊥)
+  survives h = survives_whole text name names n low select old new there.0 there.1 h
+
+pub at_rest : (s : State) → IsTrue s.is_open → IsUnchanged s s
+at_rest s up = (record { was_open = up; is_open = up; now_is = refl; committed_is = refl; mode = refl }, record { changes = refl; last_rowid = refl }, refl)
+
+pub same_text : {a b : List ℕ} → Text a ≡ Text b → b ≡ a
+same_text h = cc

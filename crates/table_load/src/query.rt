@@ -1,0 +1,77 @@
+ghost use Rattle.std.specs.Prelude.{◌≡◌, ◌≤◌, IsTrue, List, map, take, length, is_some};
+ghost use Rattle.sqlite.specs.State.{HasCleanDisk, Survives};
+ghost use Rattle.sqlite.specs.Held.{state};
+ghost use Rattle.row_laws.specs.Calls.{Reads};
+ghost use Rattle.table_load.specs.Raw.{found, place_by_name, places_by_name};
+ghost use Rattle.table_load.specs.Selects.{IsSelect};
+ghost use Rattle.table_load.specs.Whole.{is_whole, ShowsWhole};
+
+use sqlite::{Alter, Connection, Error, Row};
+use sqlite_schema::schema::{Schema, Table};
+use sqlite_value::keys::Collation;
+
+/// Whether the table has the column, in the collation BINARY.
+fn has_column(table: &Table, name: &str) -> bool
+    ensures { result ≡ is_some (place_by_name table.now name.now) }
+{
+    match table.column_named(name.as_bytes()) {
+        None => false,
+        Some(at) => match table.columns.as_slice().get(at) {
+            None => false,
+            Some(column) => column.collation == Collation::Binary,
+        },
+    }
+}
+
+/// Whether the table has each of the columns, in the collation BINARY.
+fn has_columns(table: &Table, names: &[&str]) -> bool
+    ensures { result ≡ is_some (places_by_name table.now (map (λ n. n.now) names.now)) }
+{
+    for name in names {
+        if !has_column(table, name) {
+            return false;
+        }
+    }
+    true
+}
+
+/// Whether there is a table of this name with these columns.
+pub(crate) fn has_table(schema: &Schema, name: &str, columns: &[&str]) -> bool
+    ensures { result ≡ is_whole schema.now name.now (map (λ n. n.now) columns.now) }
+{
+    match schema.table_named(name.as_bytes()) {
+        None => false,
+        Some(at) => match schema.tables.as_slice().get(at) {
+            None => false,
+            Some(table) => has_columns(table, columns),
+        },
+    }
+}
+
+/// The rows of a table as they are in the database, in the order of so many of their first columns,
+/// by the text that selects these columns. Nothing where the table or a column is missing. The
+/// connection is open. On error nothing was done, or the transaction that was open is undone.
+pub fn table_rows<S: Alter>(
+    conn: &mut Connection<S>,
+    text: &str,
+    name: &str,
+    columns: &[&str],
+    keys: usize,
+) -> Result<Option<Vec<Row>>, Error>
+    requires few { keys ≤ length columns.now }
+    requires selects { let names = map (λ n. n.now) columns.now in
+        IsSelect text.now name.now names (take keys names) }
+    ensures read { HasCleanDisk (state S.Store conn.new) → IsTrue (state S.Store conn.old).is_open
+        → Reads (state S.Store conn.old) (state S.Store conn.new) result
+        (ShowsWhole (found (state S.Store conn.old).now name.now (map (λ n. n.now) columns.now))
+        keys) }
+    ensures survives { Survives (state S.Store conn.old) (state S.Store conn.new) (λ _. ⊥) }
+{
+    if !has_table(conn.schema(), name, columns) {
+        return Ok(None);
+    }
+    match conn.query_all(text, &[]) {
+        Ok(rows) => Ok(Some(rows)),
+        Err(error) => Err(error),
+    }
+}

@@ -1,0 +1,172 @@
+ghost use Rattle.std.specs.Prelude.{◌≡◌, ◌++◌, ◌∷◌, [], ℕ, List, IfOk, OnOk, IsTrue};
+ghost use Rattle.sqlite.specs.Given.{HasGiven};
+ghost use Rattle.sqlite.specs.Held.{state};
+ghost use Rattle.sqlite.specs.Order.{Row as Values};
+ghost use Rattle.sqlite.specs.State.{HasCleanDisk, Survives, CommitsShowing};
+ghost use Rattle.row_laws.specs.Streams.{Moves};
+ghost use Rattle.table_load.specs.Whole.{Agrees, AreLawful};
+ghost use Rattle.table_load.specs.Walks.{follows, IsTyped, IsWalked, IsReadOnly, TellsRows, Walks};
+
+use crate::fold::RowFold;
+use crate::tables::KeyedTable;
+use sqlite::{Alter, Connection, Error, ErrorCode, Row, Rows};
+use std::alloc::Global;
+
+/// A table of which some rows were given: all of them but the last are folded.
+#[derive(Drop)]
+pub(crate) struct Walk<X, F> {
+    /// The last row.
+    last: Option<X>,
+    /// Whether each row is one of the table's type, and each key below the next.
+    is_held: bool,
+    fold: F,
+}
+
+/// The row that the values are, if they are one. It fails only where memory runs out.
+fn typed_row<T: KeyedTable>(alloc: Global, row: &Row) -> Result<Option<T::Row>, Error>
+    ensures { IfOk result (IsTyped T.meant T.to_row T.IsLawful row.now) }
+{
+    match T::typed(alloc, row)? {
+        None => Ok(None),
+        Some(typed) => Ok(Some(typed)),
+    }
+}
+
+/// Moves on to the next row and types it. Past the last there is none.
+fn next_typed<S: Alter, T: KeyedTable>(
+    alloc: Global,
+    rows: &mut Rows<'_, S>,
+) -> Result<Option<Option<T::Row>>, Error>
+    ensures same_reference { rows.new.conn.ghost_name ≡ rows.old.conn.ghost_name }
+    ensures moves { HasCleanDisk (state S.Store rows.new.conn.now)
+        → (sql : List ℕ) (params : Values) (given : List Values)
+        → HasGiven S.Store sql params rows.old.conn.now given
+        → Moves S.Store sql params (IsTyped T.meant T.to_row T.IsLawful)
+        rows.old.conn.now rows.new.conn.now given result }
+    ensures survives { Survives (state S.Store rows.old.conn.now) (state S.Store rows.new.conn.now)
+        (λ _. ⊥) }
+{
+    rows.advance()?;
+    match rows.get() {
+        None => Ok(None),
+        Some(row) => Ok(Some(typed_row::<T>(alloc, row)?)),
+    }
+}
+
+/// Whether the key of the last row, if there is one, is below that of the next.
+fn follows<T: KeyedTable>(last: &Option<T::Row>, next: &T::Row) -> bool
+    ensures { result ≡ follows T.meant T.cmp last.now next.now }
+{
+    match last {
+        None => true,
+        Some(last) => T::is_below(last, next),
+    }
+}
+
+/// Takes the next row, as it was typed, and folds the one before it.
+fn step<T: KeyedTable, F: RowFold<T::Row>>(
+    walk: &mut Walk<T::Row, F>,
+    beside: &F::Beside,
+    next: Option<T::Row>,
+) -> Result<(), Error>
+    ensures { (keys : ℕ) (given : List Values) (raw : Values) → Agrees keys T.to_row T.cmp
+        → IsTyped T.meant T.to_row T.IsLawful raw next
+        → IsWalked (F.has beside.now) T.meant T.to_row (AreLawful T.cmp T.IsLawful) given walk.old
+        → OnOk result (IsWalked (F.has beside.now) T.meant T.to_row
+        (AreLawful T.cmp T.IsLawful) (given ++ raw ∷ []) walk.new) }
+{
+    let Some(row) = next else {
+        walk.is_held = false;
+        return Ok(());
+    };
+    if !walk.is_held {
+        return Ok(());
+    }
+    if !follows::<T>(&walk.last, &row) {
+        walk.is_held = false;
+        return Ok(());
+    }
+    match walk.last.replace(row) {
+        None => Ok(()),
+        Some(before) => walk.fold.take(beside, before),
+    }
+}
+
+/// Takes the rows of a query, in the order in which it gives them.
+fn walk_rows<S: Alter, T: KeyedTable, F: RowFold<T::Row>>(
+    alloc: Global,
+    rows: &mut Rows<'_, S>,
+    beside: &F::Beside,
+    walk: &mut Walk<T::Row, F>,
+) -> Result<(), Error>
+    ensures same_reference { rows.new.conn.ghost_name ≡ rows.old.conn.ghost_name }
+    ensures walks { HasCleanDisk (state S.Store rows.new.conn.now)
+        → (sql : List ℕ) (params : Values) (keys : ℕ)
+        → HasGiven S.Store sql params rows.old.conn.now []
+        → IsTrue (state S.Store rows.old.conn.now).is_open → Agrees keys T.to_row T.cmp
+        → IsWalked (F.has beside.now) T.meant T.to_row (AreLawful T.cmp T.IsLawful) [] walk.old
+        → Walks sql params (state S.Store rows.old.conn.now) (state S.Store rows.new.conn.now)
+        result (λ given x. IsWalked (F.has beside.now) T.meant T.to_row
+        (AreLawful T.cmp T.IsLawful) given walk.new) }
+    ensures survives { Survives (state S.Store rows.old.conn.now) (state S.Store rows.new.conn.now)
+        (λ _. ⊥) }
+{
+    for _ in 0..u64::MAX {
+        match next_typed::<S, T>(alloc, rows)? {
+            None => return Ok(()),
+            Some(next) => step::<T, F>(walk, beside, next)?,
+        }
+    }
+    Err(Error::SqliteFailure(ErrorCode::TooBig))
+}
+
+/// Takes the rows of a query of one table, all of them. On error nothing was done, or the
+/// transaction that was open is undone.
+pub(crate) fn walked<S: Alter, T: KeyedTable, F: RowFold<T::Row> + Drop>(
+    alloc: Global,
+    conn: &mut Connection<S>,
+    text: &str,
+    beside: &F::Beside,
+    fold: F,
+) -> Result<Walk<T::Row, F>, Error>
+    ensures walks { HasCleanDisk (state S.Store conn.new) → IsTrue (state S.Store conn.old).is_open
+        → IsReadOnly (state S.Store conn.old).now.schema text.now → (keys : ℕ)
+        → Agrees keys T.to_row T.cmp → F.has beside.now fold []
+        → Walks text.now [] (state S.Store conn.old) (state S.Store conn.new) result
+        (IsWalked (F.has beside.now) T.meant T.to_row (AreLawful T.cmp T.IsLawful)) }
+    ensures survives { Survives (state S.Store conn.old) (state S.Store conn.new)
+        (CommitsShowing text.now [] (state S.Store conn.old)) }
+{
+    let mut rows = conn.query(text, &[])?;
+    let mut walk = Walk {
+        last: None,
+        is_held: true,
+        fold,
+    };
+    walk_rows::<S, T, F>(alloc, &mut rows, beside, &mut walk)?;
+    Ok(walk)
+}
+
+/// What the rows of a table make of the fold, once all were given. `None`: they are no entries.
+pub(crate) fn ended<T: KeyedTable, F: RowFold<T::Row> + Drop>(
+    walk: Walk<T::Row, F>,
+    beside: &F::Beside,
+) -> Result<Option<F>, Error>
+    ensures { (given : List Values)
+        → IsWalked (F.has beside.now) T.meant T.to_row (AreLawful T.cmp T.IsLawful) given walk
+        → IfOk result (TellsRows (F.has beside.now) T.meant T.to_row
+        (AreLawful T.cmp T.IsLawful) given) }
+{
+    let Walk {
+        last,
+        is_held,
+        mut fold,
+    } = walk;
+    if !is_held {
+        return Ok(None);
+    }
+    if let Some(row) = last {
+        fold.take(beside, row)?;
+    }
+    Ok(Some(fold))
+}

@@ -1,0 +1,12 @@
+pub mod BuildLemmas
+pub mod CountLemmas
+pub mod ExpectedLemmas
+pub mod FlightLemmas
+pub mod KeptLemmas
+pub mod KeptTextLemmas
+pub mod MessageLemmas
+pub mod MoveLemmas
+pub mod PartLemmas
+pub mod Texts
+pub mod TrailLemmas
+pub mod WaybillLemmas

@@ -1,0 +1,14 @@
+use Rattle.std.proofs.Common.{w64}
+use Rattle.std.proofs.lemmas.Int.{to_z-of_z}
+use Rattle.sqlite.specs.Held.{state}
+use Rattle.station_schema.proofs.Statements.{changes}
+use Rattle.table_rows.proofs.BuildLemmas.{deletes_build, delete_survives}
+use Rattle.table_rows.proofs.builds.delete_build.Goals as goal
+
+pub returns-clause-made : goal.returns-clause-made
+returns-clause-made g c clean inside =
+    changes _ _ (state g.S.Store c.args.conn.now) (state g.S.Store c.execute.new.self) _ (λ made h. deletes_build (state g.S.Store c.args.conn.now) (state g.S.Store c.execute.new.self) (c.args.flight.now, (c.args.day, c.args.awb)) made inside h) _
+    (rw (c.params-to_sql.ensures, c.params-to_sql-2.ensures, c.params-to_sql-3.ensures, to_z-of_z w64 c.args.day c.ranges.day, to_z-of_z w64 c.args.awb c.ranges.awb) at (c.execute.ensures.runs clean))
+
+pub returns-clause-survives : goal.returns-clause-survives
+returns-clause-survives g c = delete_survives _ _ _ c.execute.ensures.survives
