@@ -13,7 +13,7 @@ pub mod Posts
 pub mod AsItComes
 pub mod ReadBack
 pub mod RowPaths
-pub mod Rows
+pub mod RowsPrinted
 pub mod RowsAsked
 pub mod Tails
 pub mod Telling

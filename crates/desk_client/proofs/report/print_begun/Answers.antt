@@ -3,7 +3,7 @@ use Rattle.desk_client.specs.Again.{talk}
 use Rattle.desk_client.specs.Printed.{HasPrintedBody}
 use Rattle.desk_client.specs.declared.connect.LastTry.TheVariants as last
 use Rattle.desk_client.specs.declared.printing.PrintFault.{PrintFault}
-use Rattle.desk_client.proofs.Rows.{broken}
+use Rattle.desk_client.proofs.RowsPrinted.{broken}
 use Rattle.desk_client.proofs.report.print_begun.Goals as goal
 
 pub returns-in-Err-Rest : goal.returns-in-Err-Rest
