@@ -12,7 +12,7 @@ use std::alloc::Global;
 use std::cell::{Cell, RefCell};
 use std::io;
 use std::io::{ErrorKind, Read, Write};
-use test_kit::shown;
+use test_kit::{Narrow, shown};
 
 /// What stands before each connection of a script.
 const NEXT: &str = "\n==\n";
@@ -28,19 +28,24 @@ enum End {
     Late,
 }
 
-/// A connection: the bytes that are left to read, how it goes on after them, and how many bytes of
-/// a request it takes before a write fails.
+/// A connection: the bytes that are left to read, how many of them a read brings at most, how it goes
+/// on after them, and how many bytes of a request it takes before a write fails.
 #[derive(Clone, Copy, Drop)]
 struct Play<'a> {
     left: &'a [u8],
+    step: usize,
     end: End,
     room: usize,
 }
 
 /// The connection that a part of a script says; `None`: it is refused.
 fn played(part: &str) -> Option<Play<'_>> {
-    let (word, bytes) = part.split_once(':')?;
+    let (words, bytes) = part.split_once(':')?;
     let whole = usize::MAX;
+    let (word, step) = match words.split_once(" by ") {
+        Some((word, step)) => (word, step.parse::<usize>().ok()?),
+        None => (words, whole),
+    };
     let (end, room) = match word {
         "ends" => (End::Closed, whole),
         "breaks" => (End::Broken, whole),
@@ -52,6 +57,7 @@ fn played(part: &str) -> Option<Play<'_>> {
     };
     Some(Play {
         left: bytes.as_bytes(),
+        step,
         end,
         room,
     })
@@ -103,7 +109,8 @@ impl<'a> Wire<'a> {
             return Err(failure());
         };
         if !play.left.is_empty() {
-            return play.left.read(buf);
+            let len = buf.len().min(play.step);
+            return play.left.read(&mut buf[..len]);
         }
         self.is_late.set(matches!(play.end, End::Late));
         match play.end {
@@ -219,13 +226,17 @@ impl Write for PlayedEnd<'_, '_> {
 /// What comes of what is asked.
 pub fn answer(alloc: Global, asked: &str, text: &[u8]) -> Option<String> {
     match asked {
-        "ask" => ask(alloc, shown(text)),
-        _ => None,
+        "ask" => ask(alloc, shown(text), usize::MAX),
+        _ => {
+            let room = asked.strip_prefix("ask-room-for-")?.parse::<usize>().ok()?;
+            ask(alloc, shown(text), room)
+        }
     }
 }
 
-/// A call: its words stand on the first line, its input behind that, and then its connections.
-fn ask(alloc: Global, text: &str) -> Option<String> {
+/// A call: its words stand on the first line, its input behind that, and then its connections. Its
+/// output takes so many bytes.
+fn ask(alloc: Global, text: &str, room: usize) -> Option<String> {
     let (call, script) = match text.split_once(NEXT) {
         Some((call, script)) => (call, Some(script)),
         None => (text, None),
@@ -233,13 +244,19 @@ fn ask(alloc: Global, text: &str) -> Option<String> {
     let (first, input) = call.split_once('\n').unwrap_or((call, ""));
     let words = words_of(alloc, first)?;
     match parse_words(alloc, words.as_slice()) {
-        Ok(line) => run(alloc, &line, input, script),
+        Ok(line) => run(alloc, &line, input, script, room),
         Err(fault) => fault_said(alloc, &fault),
     }
 }
 
 /// Asks the service of a script for what a line wants.
-fn run(alloc: Global, line: &Line<'_>, input: &str, script: Option<&str>) -> Option<String> {
+fn run(
+    alloc: Global,
+    line: &Line<'_>,
+    input: &str,
+    script: Option<&str>,
+    room: usize,
+) -> Option<String> {
     let port = line.at?;
     let turns = Turns::new();
     let mut feed = Feed::new(Parts::new(input, false, &turns), &turns);
@@ -255,7 +272,7 @@ fn run(alloc: Global, line: &Line<'_>, input: &str, script: Option<&str>) -> Opt
         writer: Counted::new(PlayedEnd { wire: &wire }),
         last: LastTry::Nothing,
     };
-    let mut output = Counted::new(Vec::new(alloc));
+    let mut output = Counted::new(Narrow::new(alloc, room));
     let mut errors = Counted::new(Vec::new(alloc));
     let ended = ask_command(
         alloc,
@@ -266,7 +283,7 @@ fn run(alloc: Global, line: &Line<'_>, input: &str, script: Option<&str>) -> Opt
         &mut errors,
     );
     let status = end_asked(&mut errors, ended, port, service.last);
-    let (printed, told) = (output.into_inner(), errors.into_inner());
+    let (printed, told) = (output.into_inner().into_taken(), errors.into_inner());
     let printed = shown(printed.as_slice());
     let said = ended_said(alloc, status, printed, shown(told.as_slice()))?;
     let tries = wire.tries.try_borrow().ok()?;
