@@ -30,7 +30,7 @@ fn show_rows<W: ByteOut>(answer: &Answer, output: &mut W) -> Result<bool, RunFau
 }
 
 /// Prints a report that was begun, and the rest of it as it comes.
-#[tactic(auto, using(crate::proofs::Rows::printed, crate::proofs::Rows::broken))]
+#[tactic(auto, using(crate::proofs::RowsPrinted::printed, crate::proofs::RowsPrinted::broken))]
 fn print_begun<C: Connect, I: ByteIn, O: ByteOut, W: ByteOut>(
     alloc: Global,
     service: &mut Service<C, I, O>,
