@@ -1,4 +1,5 @@
--- The stock of waybill numbers: a map from a number to its holder, and what the four orders make of it.
+-- The stock of waybill numbers: a map from a number to its holder, and what the four orders make of
+-- it.
 use Rattle.std.specs.Prelude.{ℕ, ◌≡◌, ◌+◌, Bool, true, false, not, ◌&&◌, nat_lt, nat_le, if◌then◌else◌, Option, Some, None}
 use Rattle.std.specs.List.{find, range_with_len}
 use Rattle.std.specs.Str.{bytes_eq}

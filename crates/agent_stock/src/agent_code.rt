@@ -27,11 +27,15 @@ impl Model for AgentCode {
 
     ghost view = { λ a. take a.len a.bytes };
 
-    ghost invariant = { λ a. IsFilledUp 11 a.len a.bytes × IsTrue (is_agent_code (take a.len a.bytes)) };
+    ghost invariant = { λ a. IsFilledUp 11 a.len a.bytes
+        × IsTrue (is_agent_code (take a.len a.bytes)) };
 
     ghost inverse = { λ text. record { bytes = filled_up 11 text; len = length text } };
 
-    ghost inverse_ok = { λ a h i. record { bytes = filled_up-take 11 a.len a.bytes h.0 i; len = length-filled 11 a.len a.bytes h.0 i } };
+    ghost inverse_ok = { λ a h i. record {
+      bytes = filled_up-take 11 a.len a.bytes h.0 i;
+      len = length-filled 11 a.len a.bytes h.0 i;
+    } };
 }
 
 fn are_letters_or_digits(text: &[u8]) -> bool

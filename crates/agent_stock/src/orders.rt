@@ -9,11 +9,20 @@ use crate::terms::Terms;
 /// Gives the run of some terms to their holder, where each of its numbers passes the test.
 fn change<R: StockRows>(rows: &mut R, terms: &Terms) -> Result<(), StockFault<R::Fault>>
     requires { R.is_sound rows.old → R.is_ready rows.old }
-    ensures accepted { R.is_sound rows.new → OnOk result (run_refusal (R.holders rows.old) terms.now.run terms.now.test terms.now.refusal ≡ None) }
-    ensures given { R.is_sound rows.new → OnOk result (R.holders rows.new ≡ assigned (R.holders rows.old) terms.now.run terms.now.to) }
+    ensures accepted { R.is_sound rows.new
+        → OnOk result
+        (run_refusal (R.holders rows.old) terms.now.run terms.now.test terms.now.refusal ≡ None) }
+    ensures given { R.is_sound rows.new
+        → OnOk result
+        (R.holders rows.new ≡ assigned (R.holders rows.old) terms.now.run terms.now.to) }
     ensures beside { R.is_sound rows.new → OnOk result (R.beside rows.old rows.new) }
-    ensures refused { R.is_sound rows.new → IfErr result (RefusesOrder (run_refusal (R.holders rows.old) terms.now.run terms.now.test terms.now.refusal) (R.holders rows.old) (R.holders rows.new)) }
-    ensures as_before { R.is_sound rows.new → IfErr result (UnlessRows (R.as_before rows.old rows.new)) }
+    ensures refused { R.is_sound rows.new
+        → IfErr result
+        (RefusesOrder
+        (run_refusal (R.holders rows.old) terms.now.run terms.now.test terms.now.refusal)
+        (R.holders rows.old) (R.holders rows.new)) }
+    ensures as_before { R.is_sound rows.new
+        → IfErr result (UnlessRows (R.as_before rows.old rows.new)) }
     ensures sound { R.is_sound rows.new → R.is_sound rows.old }
     ensures commits { R.commits_nothing rows.old rows.new }
 {
@@ -33,11 +42,17 @@ fn change<R: StockRows>(rows: &mut R, terms: &Terms) -> Result<(), StockFault<R:
 /// Carries out an order.
 pub fn carry_out<R: StockRows>(rows: &mut R, order: &Order) -> Result<(), StockFault<R::Fault>>
     requires { R.is_sound rows.old → R.is_ready rows.old }
-    ensures accepted { R.is_sound rows.new → OnOk result (order_refusal (R.holders rows.old) (order.now) ≡ None) }
-    ensures given { R.is_sound rows.new → OnOk result (R.holders rows.new ≡ after_order (R.holders rows.old) (order.now)) }
+    ensures accepted { R.is_sound rows.new
+        → OnOk result (order_refusal (R.holders rows.old) (order.now) ≡ None) }
+    ensures given { R.is_sound rows.new
+        → OnOk result (R.holders rows.new ≡ after_order (R.holders rows.old) (order.now)) }
     ensures beside { R.is_sound rows.new → OnOk result (R.beside rows.old rows.new) }
-    ensures refused { R.is_sound rows.new → IfErr result (RefusesOrder (order_refusal (R.holders rows.old) (order.now)) (R.holders rows.old) (R.holders rows.new)) }
-    ensures as_before { R.is_sound rows.new → IfErr result (UnlessRows (R.as_before rows.old rows.new)) }
+    ensures refused { R.is_sound rows.new
+        → IfErr result
+        (RefusesOrder (order_refusal (R.holders rows.old) (order.now)) (R.holders rows.old)
+        (R.holders rows.new)) }
+    ensures as_before { R.is_sound rows.new
+        → IfErr result (UnlessRows (R.as_before rows.old rows.new)) }
     ensures sound { R.is_sound rows.new → R.is_sound rows.old }
     ensures commits { R.commits_nothing rows.old rows.new }
 {
@@ -47,11 +62,18 @@ pub fn carry_out<R: StockRows>(rows: &mut R, order: &Order) -> Result<(), StockF
 /// Takes in numbers that aren't in stock: they go to the desk. Refused 105, then 101.
 pub fn take_in<R: StockRows>(rows: &mut R, run: &Run) -> Result<(), StockFault<R::Fault>>
     requires { R.is_sound rows.old → R.is_ready rows.old }
-    ensures accepted { R.is_sound rows.new → OnOk result (order_refusal (R.holders rows.old) (Order.TakeIn run.now) ≡ None) }
-    ensures given { R.is_sound rows.new → OnOk result (R.holders rows.new ≡ after_order (R.holders rows.old) (Order.TakeIn run.now)) }
+    ensures accepted { R.is_sound rows.new
+        → OnOk result (order_refusal (R.holders rows.old) (Order.TakeIn run.now) ≡ None) }
+    ensures given { R.is_sound rows.new
+        → OnOk result
+        (R.holders rows.new ≡ after_order (R.holders rows.old) (Order.TakeIn run.now)) }
     ensures beside { R.is_sound rows.new → OnOk result (R.beside rows.old rows.new) }
-    ensures refused { R.is_sound rows.new → IfErr result (RefusesOrder (order_refusal (R.holders rows.old) (Order.TakeIn run.now)) (R.holders rows.old) (R.holders rows.new)) }
-    ensures as_before { R.is_sound rows.new → IfErr result (UnlessRows (R.as_before rows.old rows.new)) }
+    ensures refused { R.is_sound rows.new
+        → IfErr result
+        (RefusesOrder (order_refusal (R.holders rows.old) (Order.TakeIn run.now))
+        (R.holders rows.old) (R.holders rows.new)) }
+    ensures as_before { R.is_sound rows.new
+        → IfErr result (UnlessRows (R.as_before rows.old rows.new)) }
     ensures sound { R.is_sound rows.new → R.is_sound rows.old }
     ensures commits { R.commits_nothing rows.old rows.new }
 {
@@ -65,11 +87,18 @@ pub fn issue<R: StockRows>(
     agent: AgentCode,
 ) -> Result<(), StockFault<R::Fault>>
     requires { R.is_sound rows.old → R.is_ready rows.old }
-    ensures accepted { R.is_sound rows.new → OnOk result (order_refusal (R.holders rows.old) (Order.Issue run.now agent) ≡ None) }
-    ensures given { R.is_sound rows.new → OnOk result (R.holders rows.new ≡ after_order (R.holders rows.old) (Order.Issue run.now agent)) }
+    ensures accepted { R.is_sound rows.new
+        → OnOk result (order_refusal (R.holders rows.old) (Order.Issue run.now agent) ≡ None) }
+    ensures given { R.is_sound rows.new
+        → OnOk result
+        (R.holders rows.new ≡ after_order (R.holders rows.old) (Order.Issue run.now agent)) }
     ensures beside { R.is_sound rows.new → OnOk result (R.beside rows.old rows.new) }
-    ensures refused { R.is_sound rows.new → IfErr result (RefusesOrder (order_refusal (R.holders rows.old) (Order.Issue run.now agent)) (R.holders rows.old) (R.holders rows.new)) }
-    ensures as_before { R.is_sound rows.new → IfErr result (UnlessRows (R.as_before rows.old rows.new)) }
+    ensures refused { R.is_sound rows.new
+        → IfErr result
+        (RefusesOrder (order_refusal (R.holders rows.old) (Order.Issue run.now agent))
+        (R.holders rows.old) (R.holders rows.new)) }
+    ensures as_before { R.is_sound rows.new
+        → IfErr result (UnlessRows (R.as_before rows.old rows.new)) }
     ensures sound { R.is_sound rows.new → R.is_sound rows.old }
     ensures commits { R.commits_nothing rows.old rows.new }
 {
@@ -83,11 +112,18 @@ pub fn give_back<R: StockRows>(
     agent: AgentCode,
 ) -> Result<(), StockFault<R::Fault>>
     requires { R.is_sound rows.old → R.is_ready rows.old }
-    ensures accepted { R.is_sound rows.new → OnOk result (order_refusal (R.holders rows.old) (Order.GiveBack run.now agent) ≡ None) }
-    ensures given { R.is_sound rows.new → OnOk result (R.holders rows.new ≡ after_order (R.holders rows.old) (Order.GiveBack run.now agent)) }
+    ensures accepted { R.is_sound rows.new
+        → OnOk result (order_refusal (R.holders rows.old) (Order.GiveBack run.now agent) ≡ None) }
+    ensures given { R.is_sound rows.new
+        → OnOk result
+        (R.holders rows.new ≡ after_order (R.holders rows.old) (Order.GiveBack run.now agent)) }
     ensures beside { R.is_sound rows.new → OnOk result (R.beside rows.old rows.new) }
-    ensures refused { R.is_sound rows.new → IfErr result (RefusesOrder (order_refusal (R.holders rows.old) (Order.GiveBack run.now agent)) (R.holders rows.old) (R.holders rows.new)) }
-    ensures as_before { R.is_sound rows.new → IfErr result (UnlessRows (R.as_before rows.old rows.new)) }
+    ensures refused { R.is_sound rows.new
+        → IfErr result
+        (RefusesOrder (order_refusal (R.holders rows.old) (Order.GiveBack run.now agent))
+        (R.holders rows.old) (R.holders rows.new)) }
+    ensures as_before { R.is_sound rows.new
+        → IfErr result (UnlessRows (R.as_before rows.old rows.new)) }
     ensures sound { R.is_sound rows.new → R.is_sound rows.old }
     ensures commits { R.commits_nothing rows.old rows.new }
 {
@@ -97,11 +133,17 @@ pub fn give_back<R: StockRows>(
 /// Makes numbers void that the desk or an agent has. Refused 105, then 104.
 pub fn void_run<R: StockRows>(rows: &mut R, run: &Run) -> Result<(), StockFault<R::Fault>>
     requires { R.is_sound rows.old → R.is_ready rows.old }
-    ensures accepted { R.is_sound rows.new → OnOk result (order_refusal (R.holders rows.old) (Order.Void run.now) ≡ None) }
-    ensures given { R.is_sound rows.new → OnOk result (R.holders rows.new ≡ after_order (R.holders rows.old) (Order.Void run.now)) }
+    ensures accepted { R.is_sound rows.new
+        → OnOk result (order_refusal (R.holders rows.old) (Order.Void run.now) ≡ None) }
+    ensures given { R.is_sound rows.new
+        → OnOk result (R.holders rows.new ≡ after_order (R.holders rows.old) (Order.Void run.now)) }
     ensures beside { R.is_sound rows.new → OnOk result (R.beside rows.old rows.new) }
-    ensures refused { R.is_sound rows.new → IfErr result (RefusesOrder (order_refusal (R.holders rows.old) (Order.Void run.now)) (R.holders rows.old) (R.holders rows.new)) }
-    ensures as_before { R.is_sound rows.new → IfErr result (UnlessRows (R.as_before rows.old rows.new)) }
+    ensures refused { R.is_sound rows.new
+        → IfErr result
+        (RefusesOrder (order_refusal (R.holders rows.old) (Order.Void run.now)) (R.holders rows.old)
+        (R.holders rows.new)) }
+    ensures as_before { R.is_sound rows.new
+        → IfErr result (UnlessRows (R.as_before rows.old rows.new)) }
     ensures sound { R.is_sound rows.new → R.is_sound rows.old }
     ensures commits { R.commits_nothing rows.old rows.new }
 {

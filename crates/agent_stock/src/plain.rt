@@ -52,7 +52,8 @@ impl PlainRows {
     /// The numbers in stock, ascending.
     fn in_stock(&self, alloc: Global) -> Result<Vec<Held>, AllocError>
         ensures rising { IfOk result (λ numbers. AreRising numbers.items) }
-        ensures holders { IfOk result (λ numbers. holders_among numbers.items ≡ holders_of self.now) }
+        ensures holders { IfOk result
+            (λ numbers. holders_among numbers.items ≡ holders_of self.now) }
     {
         let mut numbers = Vec::new(alloc);
         for (key, holder) in &self.by_number {

@@ -31,7 +31,8 @@ pub trait StockRows {
     /// Who holds a number.
     fn holder(&mut self, number: &Awb) -> Result<Option<Holder>, Self::Fault>
         requires { is_sound self.old → is_ready self.old }
-        ensures answer { is_sound self.new → IfOk result (λ holder. holder ≡ holders self.old number.now) }
+        ensures answer { is_sound self.new
+            → IfOk result (λ holder. holder ≡ holders self.old number.now) }
         ensures as_before { is_sound self.new → OnOk result (as_before self.old self.new) }
         ensures sound { is_sound self.new → is_sound self.old }
         ensures commits { commits_nothing self.old self.new };
@@ -40,7 +41,9 @@ pub trait StockRows {
     fn uniform(&mut self, run: &Run, test: &Test) -> Result<Option<Awb>, Self::Fault>
         requires run { is_run run.now ≡ true }
         requires ready { is_sound self.old → is_ready self.old }
-        ensures answer { is_sound self.new → IfOk result (λ failing. failing ≡ lowest_failing (holders self.old) run.now test.now) }
+        ensures answer { is_sound self.new
+            → IfOk result
+            (λ failing. failing ≡ lowest_failing (holders self.old) run.now test.now) }
         ensures as_before { is_sound self.new → OnOk result (as_before self.old self.new) }
         ensures sound { is_sound self.new → is_sound self.old }
         ensures commits { commits_nothing self.old self.new };
@@ -49,7 +52,8 @@ pub trait StockRows {
     fn assign(&mut self, run: &Run, holder: &Holder) -> Result<(), Self::Fault>
         requires run { is_run run.now ≡ true }
         requires ready { is_sound self.old → is_ready self.old }
-        ensures answer { is_sound self.new → OnOk result (holders self.new ≡ assigned (holders self.old) run.now holder.now) }
+        ensures answer { is_sound self.new
+            → OnOk result (holders self.new ≡ assigned (holders self.old) run.now holder.now) }
         ensures beside { is_sound self.new → OnOk result (beside self.old self.new) }
         ensures sound { is_sound self.new → is_sound self.old }
         ensures commits { commits_nothing self.old self.new };
@@ -68,5 +72,6 @@ pub trait StockRows {
 
     ghost nothing_to_commit: { (a : Self) → commits_nothing a a };
 
-    ghost nothing_goes_on: { (a b c : Self) → commits_nothing a b → commits_nothing b c → commits_nothing a c };
+    ghost nothing_goes_on: { (a b c : Self) → commits_nothing a b → commits_nothing b c
+        → commits_nothing a c };
 }

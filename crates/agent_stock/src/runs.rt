@@ -12,7 +12,8 @@ pub struct Held {
     pub holder: Holder,
 }
 
-/// Numbers one after another that one holder has: the first, and how many, at most the 10,000,000 of a prefix.
+/// Numbers one after another that one holder has: the first, and how many, at most the 10,000,000
+/// of a prefix.
 #[derive(Clone, Copy, Debug, PartialEq, Eq)]
 pub struct StockRun {
     pub first: Awb,
@@ -44,7 +45,9 @@ impl StockRun {
 
 /// The maximal runs of a number and those that follow it, where they rise.
 fn runs_from(alloc: Global, first: &Held, following: &[Held]) -> Result<Vec<StockRun>, AllocError>
-    ensures { AreRising (first.now ∷ following.now) → IfOk result (λ rows. AreStockRuns (holders_among (first.now ∷ following.now)) rows.items) }
+    ensures { AreRising (first.now ∷ following.now)
+        → IfOk result
+        (λ rows. AreStockRuns (holders_among (first.now ∷ following.now)) rows.items) }
 {
     let mut rows = Vec::new(alloc);
     let mut row = StockRun::of_one(first);
@@ -63,7 +66,8 @@ fn runs_from(alloc: Global, first: &Held, following: &[Held]) -> Result<Vec<Stoc
 /// The maximal runs of numbers that rise: as many as follow one another in a prefix and have one
 /// holder. Nothing is said of the runs of other numbers. It fails only where memory runs out.
 pub fn runs_of(alloc: Global, numbers: &[Held]) -> Result<Vec<StockRun>, AllocError>
-    ensures { AreRising numbers.now → IfOk result (λ rows. AreStockRuns (holders_among numbers.now) rows.items) }
+    ensures { AreRising numbers.now
+        → IfOk result (λ rows. AreStockRuns (holders_among numbers.now) rows.items) }
 {
     match numbers.split_first() {
         None => Ok(Vec::new(alloc)),

@@ -56,8 +56,8 @@ impl fmt::Display for Holder {
 /// The largest number that an order may state as its count.
 const LARGEST_COUNT: u32 = 9_999_999;
 
-/// How many numbers an order states, 0 to 9,999,999: seven digits at most. Whether so many can be ordered is asked
-/// by [`Run::is_run`].
+/// How many numbers an order states, 0 to 9,999,999: seven digits at most. Whether so many can be
+/// ordered is asked by [`Run::is_run`].
 #[derive(Clone, Copy, Debug, PartialEq, Eq, PartialOrd, Ord)]
 pub struct RunCount {
     number: u32,
@@ -98,7 +98,8 @@ impl RunCount {
     }
 }
 
-/// Numbers one after another: the first, and how many. It may be too long for an order, and end past its prefix.
+/// Numbers one after another: the first, and how many. It may be too long for an order, and end
+/// past its prefix.
 #[derive(Clone, Copy, Debug, PartialEq, Eq)]
 pub struct Run {
     pub first: Awb,
@@ -171,8 +172,8 @@ pub enum Order {
 #[derive(Clone, Copy, Debug, PartialEq, Eq)]
 pub enum StockFault<F> {
     /// Nothing changed. The refusal's number, and the lowest number of the run that failed:
-    /// 101 in stock already, 102 not at the desk, 103 not with that agent, 104 Used, Void or not in stock.
-    /// 105, with no number: the count isn't 1 to 1,000,000, or the run ends past its prefix.
+    /// 101 in stock already, 102 not at the desk, 103 not with that agent, 104 Used, Void or not in
+    /// stock. 105, with no number: the count isn't 1 to 1,000,000, or the run ends past its prefix.
     Refused(u16, Option<Awb>),
     /// The rows failed. Nothing is said of what they hold.
     Rows(F),

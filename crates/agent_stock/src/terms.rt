@@ -3,7 +3,8 @@ ghost use Rattle.agent_stock.specs.Stock.{run_of, test_of, holder_after, refusal
 
 use crate::stock::{Holder, Order, Run, Test};
 
-/// What an order comes to: what is asked of each number of its run, and who has the numbers afterwards.
+/// What an order comes to: what is asked of each number of its run, and who has the numbers
+/// afterwards.
 #[derive(Clone, Copy, Debug, PartialEq, Eq)]
 pub struct Terms {
     /// The numbers. A run that can't be ordered is refused 105.

@@ -157,8 +157,8 @@ fn serve_at(rt: &HostRuntime, line: &Line<'_>, zone: &Zone, port: u16, count: Op
     }
 }
 
-/// Runs a line. The clock is read once, but by `serve`, which reads it once for each connection, and
-/// not where a running service is asked: the moment is the service's.
+/// Runs a line. The clock is read once, but by `serve`, which reads it once for each connection,
+/// and not where a running service is asked: the moment is the service's.
 fn run_now(rt: &HostRuntime, line: &Line<'_>) -> u8 {
     let Some(zone) = Zone::read(line.zone) else {
         return refuse_words(rt, &usage_fault(rt.alloc(), NO_ZONE));

@@ -56,9 +56,9 @@ pub record HasNotBegun (s : State) (e : RunFault) (before after : List ℕ) (kee
   pub nothing : after ≡ before
   pub state : keeps s
 
--- A command over an input has run. Each end of it is where the call has come, and what the input has
--- given by then. At Ok the line of what its bytes ask was written, and the state is the one after
--- it; at Err the command stopped there, or before.
+-- A command over an input has run. Each end of it is where the call has come, and what the input
+-- has given by then. At Ok the line of what its bytes ask was written, and the state is the one
+-- after it; at Err the command stopped there, or before.
 abbrev pub HasRun : {K E : Type 0} → (List ℕ → Asked → Type 0) → Keeping K → State → LocalMinute
     → Come K E × Given → Come K E × Given → Result Bool RunFault → Type 0
 HasRun IsAsked k s at old new (Ok good) =

@@ -265,9 +265,9 @@ fn read_line<'a>(words: Words<'a>) -> Result<Line<'a>, BadValue<'a>>
 /// Returns [`WordsFault::Help`] where the words ask for the help, and [`WordsFault::Version`] where
 /// they ask for the version; [`WordsFault::Usage`] for other words than a command's, a bad key,
 /// number or option's value, an unknown verb or name, an option given twice, `init` without `--db`
-/// and `--station`, `migrate` without `--db`, and `--at` with an option or a command that it doesn't go
-/// with, but not for a text that is no zone's rule;
-/// [`WordsFault::Memory`] when out of memory.
+/// and `--station`, `migrate` without `--db`, and `--at` with an option or a command that it
+/// doesn't go with, but not for a text that is no zone's rule; [`WordsFault::Memory`] when out of
+/// memory.
 pub fn parse_words<'a, S: AsStr>(alloc: Global, words: &'a [S]) -> Result<Line<'a>, WordsFault>
     ensures { IfOk result IsLine }
 {

@@ -19,8 +19,8 @@ HasSent request old new (Ok x) = new.bytes ≡ old.bytes ++ request
 HasSent request old new (Err fault.Write) = ((sent : ℕ) × (new.bytes ≡ old.bytes ++ take sent request)) × HasCause old new
 HasSent request old new (Err _) = ⊥
 
--- the bytes end before the whole answer; or no bytes that follow make them one; or they are more than
--- an answer may have
+-- the bytes end before the whole answer; or no bytes that follow make them one; or they are more
+-- than an answer may have
 abbrev pub IsNoAnswer : AskFault → ℕ → List ℕ → Type 0
 IsNoAnswer fault.Cut most came = (length came ≤ most) × IsNotWhole came × IsCutShort came
 IsNoAnswer fault.Foreign most came = (length came ≤ most) × IsNeverWhole came

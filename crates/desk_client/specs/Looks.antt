@@ -31,8 +31,8 @@ shown talk sent = record { talk = talk; sent = sent }
 abbrev pub is_unknown : Answer → Bool
 is_unknown a = (a.status == 404) && bytes_eq (body_of a) (codes "{\"detail\":\"\",\"refused\":404}")
 
--- a text was written, and that is good or not; or a beginning of it, where the writer failed or took
--- no byte
+-- a text was written, and that is good or not; or a beginning of it, where the writer failed or
+-- took no byte
 abbrev pub HasShown : List ℕ → Bool → Given → Given → Result Bool RunFault → Type 0
 HasShown text good old new (Ok g) = (new.bytes ≡ old.bytes ++ text) × (g ≡ good)
 HasShown text good old new (Err e) = (e ≡ fault.Write) × HasSent text old new × HasCause old new

@@ -46,8 +46,8 @@ pub struct Answer {
     pub bytes: Vec<u8>,
     /// Where its body starts.
     pub start: usize,
-    /// `None`: it came whole. Else it is a report whose rest is still to be read, and this many bytes
-    /// of its body may be printed before.
+    /// `None`: it came whole. Else it is a report whose rest is still to be read, and this many
+    /// bytes of its body may be printed before.
     pub begun: Option<usize>,
 }
 
@@ -263,20 +263,21 @@ pub trait Ask {
     /// Asks a question, by up to three tries: each time the same bytes, and again only where the
     /// connection was refused or broke, or what came is no whole answer.
     ///
-    /// `Ok` is an answer that came whole. Returns [`AskFault::Memory`] when out of memory. Otherwise
-    /// returns the fault of the third try, which `talk` keeps as the end of the last try. The desk
-    /// may have done a command or a telegram then: ask again, under the same key.
+    /// `Ok` is an answer that came whole. Returns [`AskFault::Memory`] when out of memory.
+    /// Otherwise returns the fault of the third try, which `talk` keeps as the end of the last try.
+    /// The desk may have done a command or a telegram then: ask again, under the same key.
     fn ask(&mut self, alloc: Global, question: &Question<'_>) -> Result<Answer, AskFault>
         ensures { IsAnswered (most_of question.now) (request_of question.now) (talk self.old)
             (talk self.new) result };
 
-    /// Asks for rows, a report or a part of one, by up to three tries, and prints them as they come.
-    /// It asks again only while nothing was printed.
+    /// Asks for rows, a report or a part of one, by up to three tries, and prints them as they
+    /// come. It asks again only while nothing was printed.
     ///
     /// `Ok` says that the report came whole, and all of it was printed. Returns [`RunFault::Write`]
-    /// if the output fails or takes no byte: nothing more is read. Returns [`RunFault::Memory`] when
-    /// out of memory. Returns [`RunFault::Store`] if the service doesn't answer, or not as a desk,
-    /// or the report breaks off: then a beginning of it was printed, up to a row, and not its end.
+    /// if the output fails or takes no byte: nothing more is read. Returns [`RunFault::Memory`]
+    /// when out of memory. Returns [`RunFault::Store`] if the service doesn't answer, or not as a
+    /// desk, or the report breaks off: then a beginning of it was printed, up to a row, and not its
+    /// end.
     fn ask_rows<W: ByteOut>(
         &mut self,
         alloc: Global,

@@ -42,8 +42,8 @@ pub fn whole_law()
 
 /// A desk reads the request of a command as what it is: a post of the verb, this key, this body. It
 /// reads that of a telegram as its post, with no key and this text; that of a waybill and of a
-/// number as the look-up of that number; and that of a report, or of a part of one, as those rows in
-/// that form.
+/// number as the look-up of that number; and that of a report, or of a part of one, as those rows
+/// in that form.
 pub fn request_law()
     ensures command { (verb : Verb) (key body : List ℕ) → is_key key ≡ true
         → length body ≤ 65_536 → IsRead (command_head (word verb) key (length body) ++ body)

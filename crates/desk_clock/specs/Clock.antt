@@ -15,7 +15,8 @@ use Rattle.desk_clock.specs.declared.zone.Zone.{Zone}
 abbrev pub FollowsRule : List ℕ → Zone → Type 0
 FollowsRule rule zone = IsPosixZone rule (plain_zone zone.zone)
 
--- a clock in the zone shows this date and time at the instant, in nanoseconds since 1970-01-01 in UTC
+-- a clock in the zone shows this date and time at the instant, in nanoseconds since 1970-01-01 in
+-- UTC
 abbrev pub Shows : Zone → ℤ → DateTime → Type 0
 Shows zone instant local = civil_nanos local ≡ instant +ℤ nanos_of_seconds (offset_at (plain_zone zone.zone) instant)
 

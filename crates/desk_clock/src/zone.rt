@@ -21,8 +21,8 @@ pub struct Zone {
 }
 
 impl Zone {
-    /// The zone of a rule such as `UTC0` or `CET-1CEST,M3.5.0,M10.5.0/3`; `None` for any other text, a name such as
-    /// `Europe/Berlin` too.
+    /// The zone of a rule such as `UTC0` or `CET-1CEST,M3.5.0,M10.5.0/3`; `None` for any other
+    /// text, a name such as `Europe/Berlin` too.
     pub fn read(rule: &str) -> Option<Zone>
         ensures read { IsSome result ↔ IsSome (read_whole rule.now) }
         ensures rule { IfSome result (FollowsRule rule.now) }
@@ -62,16 +62,17 @@ fn moment_at(local: DateTime) -> Option<Moment>
     Moment::new(day as u32, minute_of(local))
 }
 
-/// The moment that a clock in a zone shows at an instant: its local day and minute. `None` where that day is before
-/// 2000-01-01 or after 2099-12-31.
+/// The moment that a clock in a zone shows at an instant: its local day and minute. `None` where
+/// that day is before 2000-01-01 or after 2099-12-31.
 pub fn moment_of(zone: &Zone, now: Timestamp) -> Option<Moment>
-    ensures { (local : AnyDateTime) × Shows zone.now now.nanosecond local × (IsSome result ↔ IsWithinDays local) × IfSome result (IsMinuteOf local) }
+    ensures { (local : AnyDateTime) × Shows zone.now now.nanosecond local
+        × (IsSome result ↔ IsWithinDays local) × IfSome result (IsMinuteOf local) }
 {
     moment_at(zone.local(now))
 }
 
-/// The moment that a clock shows now, in a zone. `None` where the clock can't be read, or shows a day before 2000-01-01 or after
-/// 2099-12-31.
+/// The moment that a clock shows now, in a zone. `None` where the clock can't be read, or shows a
+/// day before 2000-01-01 or after 2099-12-31.
 pub fn moment_now(clock: &impl Clock, zone: &Zone) -> Option<Moment> {
     match Timestamp::now(clock) {
         Ok(now) => moment_of(zone, now),

@@ -33,8 +33,8 @@
 //! thousand orders on the stock.
 //!
 //! `run_cases` goes through a file of cases about sinks that take no more and inputs that come as
-//! one list. `run_memory` goes through what wants memory alone: run it with each allocation failing in
-//! turn. `run_first_steps` has the first lines that a reader of the libraries writes.
+//! one list. `run_memory` goes through what wants memory alone: run it with each allocation failing
+//! in turn. `run_first_steps` has the first lines that a reader of the libraries writes.
 #![tactic(auto)]
 
 mod asking;

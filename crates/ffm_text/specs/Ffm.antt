@@ -44,7 +44,8 @@ field line k = slice_get (fields line) k
 abbrev pub date_in : List ℕ → Option CalendarDay
 date_in text = option_and_then (λ both. Some both.0) (optional_time_of text)
 
--- `1/LH400/12JAN/FRA`: the fields are tested from the left, and what stands behind a further slash is not read
+-- `1/LH400/12JAN/FRA`: the fields are tested from the left, and what stands behind a further slash
+-- is not read
 abbrev pub flight_line_of : List ℕ → Result FlightLine Why
 flight_line_of line = do
   sequence ← need (option_and_then count_of (field line 0)) why.Flight
@@ -60,7 +61,8 @@ is_remark line =
     list_any (starts_with nat_eq line)
     (codes "ULD/" ∷ codes "DIM/" ∷ codes "OSI/" ∷ codes "SCI/" ∷ codes "OCI/" ∷ codes "COR/" ∷ [])
 
--- what may follow a point of unloading: nothing, `/NIL`, or a slash, two digits, a month and anything
+-- what may follow a point of unloading: nothing, `/NIL`, or a slash, two digits, a month and
+-- anything
 abbrev pub may_follow_point : List ℕ → Bool
 may_follow_point rest =
     (length rest == 0) || bytes_eq rest (codes "/NIL")
@@ -79,8 +81,8 @@ last_point above = last_or None (filter_map unloading_point above)
 abbrev pub is_cargo_line : List ℕ → Bool
 is_cargo_line line = list_all is_digit (take 3 line) && (slice_index line 3 == 45)
 
--- The cargo of the lines below those above: each line of cargo is a consignment line, and is unloaded at
--- the last point above it.
+-- The cargo of the lines below those above: each line of cargo is a consignment line, and is
+-- unloaded at the last point above it.
 abbrev pub IsCargo : List (List ℕ) → List (List ℕ) → List Unloaded → Type 0
 IsCargo above [] [] = Unit {0}
 IsCargo above [] (u ∷ cargo) = ⊥
@@ -144,7 +146,8 @@ manifest_of m = record {
   cargo = map unloaded_of m.cargo.items;
 }
 
--- the written line of a load: code T where all declared pieces are on the flight, else P and the declared total
+-- the written line of a load: code T where all declared pieces are on the flight, else P and the
+-- declared total
 abbrev pub cargo_of : Load → WrittenLine
 cargo_of l = record {
   awb = l.awb;

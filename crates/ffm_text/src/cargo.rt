@@ -1,4 +1,5 @@
-//! The lines behind the flight line: points of unloading, consignment lines, and lines that are not read.
+//! The lines behind the flight line: points of unloading, consignment lines, and lines that are not
+//! read.
 
 ghost use Rattle.std.specs.Prelude.{◌≡◌, ◌∷◌, ◌++◌, ◌≤◌, ◌<◌, ◌^◌, ℕ, List, [], length, map, Some, Ok, IfOk, IfErr, OnOk, option_map};
 ghost use Rattle.imp_fields.specs.Consignment.{consignment_of, shipment_of, HasSpans};
@@ -28,7 +29,8 @@ fn is_cargo_line(line: &[u8]) -> bool
 /// # Errors
 /// Those of a consignment line, and then `Order` where no point of unloading stands above it.
 fn cargo_line<'a>(point: Option<Airport>, line: &'a [u8]) -> Result<FfmLine<'a>, Why>
-    ensures read { IfOk result (λ l. (consignment_of line.now ≡ Ok (shipment_of l.consignment)) × (point ≡ Some l.unload)) }
+    ensures read { IfOk result (λ l. (consignment_of line.now ≡ Ok (shipment_of l.consignment))
+        × (point ≡ Some l.unload)) }
     ensures fault { IfErr result (λ why. ordered_fault (consignment_of line.now) point ≡ Some why) }
     ensures spans { IfOk result (λ l. HasSpans line.now l.consignment) }
 {
@@ -66,9 +68,11 @@ impl<'a> ManifestScan<'a> {
 
     /// Takes a line that has to be a consignment line, and no other.
     fn take(&mut self, number: u32, line: &'a [u8]) -> Result<(), TextFault>
-        ensures cargo { (above : List (List ℕ)) → IsScan above self.old → OnOk result (AreCargo (above ++ line.now ∷ []) self.new.cargo.items) }
+        ensures cargo { (above : List (List ℕ)) → IsScan above self.old
+            → OnOk result (AreCargo (above ++ line.now ∷ []) self.new.cargo.items) }
         ensures point { OnOk result (self.new.point ≡ self.old.point) }
-        ensures fault { (above : List (List ℕ)) → IsScan above self.old → IfErr result (IsFaultOf (option_map (fault_at number) (cargo_fault above line.now))) }
+        ensures fault { (above : List (List ℕ)) → IsScan above self.old
+            → IfErr result (IsFaultOf (option_map (fault_at number) (cargo_fault above line.now))) }
     {
         if !is_cargo_line(line) {
             return Ok(());
@@ -85,8 +89,10 @@ impl<'a> ManifestScan<'a> {
 
     /// One more line was seen.
     fn see(&mut self, number: u32, line: &'a [u8]) -> Result<(), TextFault>
-        ensures seen { (above : List (List ℕ)) → IsScan above self.old → OnOk result (IsScan (above ++ line.now ∷ []) self.new) }
-        ensures fault { (above : List (List ℕ)) → IsScan above self.old → IfErr result (IsFaultOf (option_map (fault_at number) (cargo_fault above line.now))) }
+        ensures seen { (above : List (List ℕ)) → IsScan above self.old
+            → OnOk result (IsScan (above ++ line.now ∷ []) self.new) }
+        ensures fault { (above : List (List ℕ)) → IsScan above self.old
+            → IfErr result (IsFaultOf (option_map (fault_at number) (cargo_fault above line.now))) }
     {
         self.take(number, line)?;
         if let Some(point) = unloading_point(line) {
@@ -99,12 +105,13 @@ impl<'a> ManifestScan<'a> {
 /// The consignment lines among the lines behind a flight line. The first of these is line 3.
 ///
 /// # Errors
-/// The fault of the first line that has one: those of a consignment line, and `Order`. `Memory` of line 0 says nothing of
-/// the lines.
+/// The fault of the first line that has one: those of a consignment line, and `Order`. `Memory` of
+/// line 0 says nothing of the lines.
 pub(crate) fn cargo<'a>(alloc: Global, lines: &[Token<'a>]) -> Result<Vec<FfmLine<'a>>, TextFault>
     requires { length lines.now ≤ 1000 }
     ensures read { IfOk result (λ cargo. AreCargo (texts_of lines.now) cargo.items) }
-    ensures fault { IfErr result (IsFaultOf (first_fault 3 (cargo_faults [] (texts_of lines.now)))) }
+    ensures fault { IfErr result
+        (IsFaultOf (first_fault 3 (cargo_faults [] (texts_of lines.now)))) }
 {
     let Ok(mut seen) = ManifestScan::new(alloc, lines.len()) else {
         return Err(fault_at(0, Why::Memory));

@@ -75,8 +75,8 @@ fn date(text: &[u8]) -> Option<DayMonth>
 /// What a flight line says. What stands behind the fourth field is not read.
 ///
 /// # Errors
-/// The fields are tested from the left: `Date` for a date, or a time behind it, that cannot be read; `Flight` for any
-/// other field that cannot be read, and for a missing one.
+/// The fields are tested from the left: `Date` for a date, or a time behind it, that cannot be
+/// read; `Flight` for any other field that cannot be read, and for a missing one.
 pub(crate) fn flight_line(line: &[u8]) -> Result<Part, Why>
     ensures read { IfOk result (λ p. flight_line_of line.now ≡ Ok (part_of p)) }
     ensures fault { IfErr result (λ why. flight_line_of line.now ≡ Err why) }

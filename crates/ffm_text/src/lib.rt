@@ -1,5 +1,5 @@
-//! Flight manifest messages (Cargo-IMP FFM): a head, a flight line, points of unloading and consignment lines among
-//! lines that are not read, and a last line.
+//! Flight manifest messages (Cargo-IMP FFM): a head, a flight line, points of unloading and
+//! consignment lines among lines that are not read, and a last line.
 #![tactic(auto)]
 
 ghost use Rattle.std.specs.Prelude.{◌≡◌, ℕ, List, None};
@@ -18,8 +18,8 @@ pub use reading::read;
 use station_days::DayMonth;
 pub use writing::write_ffm;
 
-/// A consignment line of a manifest, and the point at which its goods are unloaded. The source of the line's tokens is
-/// that line.
+/// A consignment line of a manifest, and the point at which its goods are unloaded. The source of
+/// the line's tokens is that line.
 #[derive(Clone, Copy, Debug)]
 pub struct FfmLine<'a> {
     pub unload: Airport,
@@ -56,6 +56,7 @@ pub struct Load {
 /// Lines are a part of a manifest exactly where they have no fault, and then one part only.
 pub fn ffm_law()
     ensures read { (lines : List (List ℕ)) (m : Manifest) → IsFfm lines m → ffm_fault lines ≡ None }
-    ensures faultless { (lines : List (List ℕ)) → ffm_fault lines ≡ None → (m : Manifest) × IsFfm lines m }
+    ensures faultless { (lines : List (List ℕ)) → ffm_fault lines ≡ None → (m : Manifest)
+        × IsFfm lines m }
     ensures one { (lines : List (List ℕ)) (l m : Manifest) → IsFfm lines l → IsFfm lines m → l ≡ m }
 {}

@@ -29,7 +29,9 @@ fn is_month(name: &[u8; 3]) -> bool
 
 /// Whether a text begins with a slash, two digits and the name of a month.
 fn begins_with_date(rest: &[u8]) -> bool
-    ensures { result ≡ ((slice_index rest.now 0 == 47) && is_some (two_digits_of (slice_range rest.now 1 3)) && is_some (month_of (slice_range rest.now 3 6))) }
+    ensures { result ≡ ((slice_index rest.now 0 == 47)
+        && is_some (two_digits_of (slice_range rest.now 1 3))
+        && is_some (month_of (slice_range rest.now 3 6))) }
 {
     match rest {
         [b'/', tens, ones, first, second, third, ..] => {

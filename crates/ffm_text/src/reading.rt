@@ -24,11 +24,12 @@ fn has_last_line(lines: &[Token<'_>]) -> bool
 /// The part of a manifest that lines are.
 ///
 /// # Errors
-/// The first line, from the top, that is faulty: `Head` where the first isn't `FFM/` and one to three digits; for the
-/// second, the flight line, `Flight` or `Date`; for a line below that begins with three digits and a hyphen the faults
-/// of a consignment line, and then `Order` where no point of unloading stands above it. Then `Ending`, at the last line,
-/// where there is no flight line, or none behind it, or the last is neither `LAST` nor `CONT`. `Memory` of line 0 says
-/// nothing of the lines.
+/// The first line, from the top, that is faulty: `Head` where the first isn't `FFM/` and one to
+/// three digits; for the second, the flight line, `Flight` or `Date`; for a line below that begins
+/// with three digits and a hyphen the faults of a consignment line, and then `Order` where no point
+/// of unloading stands above it. Then `Ending`, at the last line, where there is no flight line, or
+/// none behind it, or the last is neither `LAST` nor `CONT`. `Memory` of line 0 says nothing of the
+/// lines.
 pub fn read<'a>(alloc: Global, lines: &Lines<'a>) -> Result<Ffm<'a>, TextFault>
     ensures read { IfOk result (λ m. IsFfm (line_texts lines.now) (manifest_of m)) }
     ensures fault { IfErr result (IsFaultOf (ffm_fault (line_texts lines.now))) }

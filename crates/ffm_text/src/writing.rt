@@ -40,7 +40,8 @@ fn put_flight_line(
     date: DayMonth,
     here: Airport,
 ) -> Result<(), AllocError>
-    ensures text { OnOk result (out.new.items ≡ out.old.items ++ line_text (flight_line_text flight date here)) }
+    ensures text { OnOk result
+        (out.new.items ≡ out.old.items ++ line_text (flight_line_text flight date here)) }
     ensures begins { Begins out.old.items out.new.items }
 {
     let mut designator = [0; 7];
@@ -64,8 +65,8 @@ fn put_route(out: &mut Vec<u8>, load: &Load) -> Result<(), AllocError>
     put(out, b"/")
 }
 
-/// Appends the quantity of a load: with code T where all declared pieces are on the flight, else with code P and the
-/// declared pieces as the total.
+/// Appends the quantity of a load: with code T where all declared pieces are on the flight, else
+/// with code P and the declared pieces as the total.
 fn put_amount(out: &mut Vec<u8>, load: &Load) -> Result<(), AllocError>
     ensures text { OnOk result (out.new.items ≡ out.old.items ++ amount_text load.now) }
     ensures begins { Begins out.old.items out.new.items }
@@ -118,7 +119,8 @@ fn put_load(out: &mut Vec<u8>, load: &Load) -> Result<(), AllocError>
 
 /// Appends the consignment lines of loads.
 fn put_loads(out: &mut Vec<u8>, loads: &[Load]) -> Result<(), AllocError>
-    ensures text { OnOk result (out.new.items ≡ out.old.items ++ sent_text (map load_line loads.now)) }
+    ensures text { OnOk result
+        (out.new.items ≡ out.old.items ++ sent_text (map load_line loads.now)) }
     ensures begins { Begins out.old.items out.new.items }
 {
     for load in loads {
@@ -136,7 +138,8 @@ fn put_manifest(
     unload: Airport,
     loads: &[Load],
 ) -> Result<(), AllocError>
-    ensures text { OnOk result (out.new.items ≡ out.old.items ++ sent_text (ffm_lines flight date here unload loads.now)) }
+    ensures text { OnOk result
+        (out.new.items ≡ out.old.items ++ sent_text (ffm_lines flight date here unload loads.now)) }
     ensures begins { Begins out.old.items out.new.items }
 {
     put_line(out, b"FFM/8")?;
@@ -146,9 +149,10 @@ fn put_manifest(
     put_line(out, b"LAST")
 }
 
-/// Appends the first part of a manifest, which is also its last: the loads that a flight takes on a date from one airport
-/// to one other. Each line ends with a carriage return and a newline. What is written is read as what was handed in.
-/// The memory is that of the buffer, so that no allocator is passed.
+/// Appends the first part of a manifest, which is also its last: the loads that a flight takes on a
+/// date from one airport to one other. Each line ends with a carriage return and a newline. What is
+/// written is read as what was handed in. The memory is that of the buffer, so that no allocator is
+/// passed.
 ///
 /// # Errors
 /// Want of memory, which leaves the buffer as it was.
@@ -161,12 +165,15 @@ pub fn write_ffm(
     loads: &[Load],
 ) -> Result<(), AllocError>
     requires count { length loads.now ≤ 500 }
-    ensures ok { OnOk result (out.new.items ≡ out.old.items ++ sent_text (ffm_lines flight date here unload loads.now)) }
+    ensures ok { OnOk result
+        (out.new.items ≡ out.old.items ++ sent_text (ffm_lines flight date here unload loads.now)) }
     ensures err { OnErr result (out.new.items ≡ out.old.items) }
 
     // The lines that are sent are normal, and are read as what was written.
-    ensures normal { normal_lines (sent_text (ffm_lines flight date here unload loads.now)) ≡ Ok (ffm_lines flight date here unload loads.now) }
-    ensures read_again { IsFfm (ffm_lines flight date here unload loads.now) (manifest_written flight date here unload loads.now) }
+    ensures normal { normal_lines (sent_text (ffm_lines flight date here unload loads.now))
+        ≡ Ok (ffm_lines flight date here unload loads.now) }
+    ensures read_again { IsFfm (ffm_lines flight date here unload loads.now)
+        (manifest_written flight date here unload loads.now) }
 {
     written_known(&flight, &date, &here, &unload, loads);
     let before = out.len();

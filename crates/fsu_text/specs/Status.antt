@@ -73,7 +73,8 @@ day_of text = option_map (λ both. record { date = both.0; minute = both.1 }) (o
 abbrev pub name_of : List ℕ → Option (List ℕ)
 name_of text = where_true (is_name text) text
 
--- RCS, NFD and DLV: `CODE/12JAN1030/FRA/quantity`, and perhaps a slash and a name, which is all that follows
+-- RCS, NFD and DLV: `CODE/12JAN1030/FRA/quantity`, and perhaps a slash and a name, which is all
+-- that follows
 abbrev pub handled_by : (code at airport quantity name : List ℕ) → Option Reading
 handled_by code at airport quantity name = do
   event ← handling_of code
@@ -108,7 +109,8 @@ route_of text = do
   to ← airport_of (drop 3 text)
   Some (from, to)
 
--- BKD, MAN and DEP: `CODE/flight/12JAN/FRAJFK/quantity`, perhaps with a time; what stands behind a further slash is not read
+-- BKD, MAN and DEP: `CODE/flight/12JAN/FRAJFK/quantity`, perhaps with a time; what stands behind a
+-- further slash is not read
 abbrev pub carried_by : (code flight date route quantity : List ℕ) → Option Reading
 carried_by code flight date route quantity = do
   event ← carriage_of code

@@ -1,4 +1,5 @@
-//! Status update messages (Cargo-IMP FSU): a head, a consignment line, and status lines that join the waybill's trail.
+//! Status update messages (Cargo-IMP FSU): a head, a consignment line, and status lines that join
+//! the waybill's trail.
 #![tactic(auto)]
 
 ghost use Rattle.std.specs.Prelude.{◌≡◌, ℕ, List, None};
@@ -18,7 +19,10 @@ pub use writing::write_fsu;
 
 /// Lines are a message exactly where they have no fault, and then one message only.
 pub fn fsu_law()
-    ensures read { (lines : List (List ℕ)) (u : StatusUpdate) → IsFsu lines u → fsu_fault lines ≡ None }
-    ensures faultless { (lines : List (List ℕ)) → fsu_fault lines ≡ None → (u : StatusUpdate) × IsFsu lines u }
-    ensures one { (lines : List (List ℕ)) (u v : StatusUpdate) → IsFsu lines u → IsFsu lines v → u ≡ v }
+    ensures read { (lines : List (List ℕ)) (u : StatusUpdate) → IsFsu lines u
+        → fsu_fault lines ≡ None }
+    ensures faultless { (lines : List (List ℕ)) → fsu_fault lines ≡ None → (u : StatusUpdate)
+        × IsFsu lines u }
+    ensures one { (lines : List (List ℕ)) (u v : StatusUpdate) → IsFsu lines u → IsFsu lines v
+        → u ≡ v }
 {}

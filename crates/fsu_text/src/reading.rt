@@ -1,5 +1,5 @@
-//! The reader of status update messages. Each layout's function stands apart in the built program: all in one would be
-//! slower.
+//! The reader of status update messages. Each layout's function stands apart in the built program:
+//! all in one would be slower.
 
 ghost use Rattle.std.specs.Prelude.{◌≡◌, ℕ, List, [], ◌∷◌, ◌++◌, All, OnOk, IfOk, IfErr, Some, map, option_map, codes};
 ghost use Rattle.imp_fields.specs.Characters.{fields};
@@ -77,7 +77,8 @@ fn handled_by(
     quantity: &[u8],
     name: &[u8],
 ) -> Option<Status>
-    ensures { (code : List ℕ) → handling_of code ≡ Some event → option_map reading_of result ≡ handled_by code at.now airport.now quantity.now name.now }
+    ensures { (code : List ℕ) → handling_of code ≡ Some event
+        → option_map reading_of result ≡ handled_by code at.now airport.now quantity.now name.now }
 {
     let at = DayTime::read(at)?;
     let airport = Airport::read(airport)?;
@@ -95,7 +96,8 @@ fn handled_by(
 /// What follows the code of RCS, NFD or DLV and its slash.
 #[inline(never)]
 fn handled(event: Handling, text: &[u8]) -> Option<Status>
-    ensures { (code : List ℕ) → handling_of code ≡ Some event → option_map reading_of result ≡ handled_of (code ∷ fields text.now) }
+    ensures { (code : List ℕ) → handling_of code ≡ Some event
+        → option_map reading_of result ≡ handled_of (code ∷ fields text.now) }
 {
     let (at, rest) = cut_at_slash(text)?;
     let (airport, rest) = cut_at_slash(rest)?;
@@ -105,7 +107,8 @@ fn handled(event: Handling, text: &[u8]) -> Option<Status>
 
 /// RCF, by the fields behind its code.
 fn received_by(flight: &[u8], at: &[u8], airport: &[u8], quantity: &[u8]) -> Option<Status>
-    ensures { option_map reading_of result ≡ received_by (codes "RCF") flight.now at.now airport.now quantity.now }
+    ensures { option_map reading_of result ≡ received_by (codes "RCF") flight.now at.now airport.now
+        quantity.now }
 {
     let flight = Flight::read(flight)?;
     let at = DayTime::read(at)?;
@@ -150,7 +153,9 @@ fn carried_by(
     stations: &[u8],
     quantity: &[u8],
 ) -> Option<Status>
-    ensures { (code : List ℕ) → carriage_of code ≡ Some event → option_map reading_of result ≡ carried_by code flight.now day.now stations.now quantity.now }
+    ensures { (code : List ℕ) → carriage_of code ≡ Some event
+        → option_map reading_of result ≡ carried_by code flight.now day.now stations.now
+        quantity.now }
 {
     let flight = Flight::read(flight)?;
     let day = flight_day(day)?;
@@ -166,10 +171,12 @@ fn carried_by(
     })
 }
 
-/// What follows the code of BKD, MAN or DEP and its slash. What stands behind the quantity is not read.
+/// What follows the code of BKD, MAN or DEP and its slash. What stands behind the quantity is not
+/// read.
 #[inline(never)]
 fn carried(event: Carriage, text: &[u8]) -> Option<Status>
-    ensures { (code : List ℕ) → carriage_of code ≡ Some event → option_map reading_of result ≡ carried_of (code ∷ fields text.now) }
+    ensures { (code : List ℕ) → carriage_of code ≡ Some event
+        → option_map reading_of result ≡ carried_of (code ∷ fields text.now) }
 {
     let (flight, rest) = cut_at_slash(text)?;
     let (day, rest) = cut_at_slash(rest)?;
@@ -186,7 +193,8 @@ fn differs_by(
     what: &[u8],
     quantity: &[u8],
 ) -> Option<Status>
-    ensures { option_map reading_of result ≡ differs_by (codes "DIS") flight.now day.now airport.now what.now quantity.now }
+    ensures { option_map reading_of result ≡ differs_by (codes "DIS") flight.now day.now airport.now
+        what.now quantity.now }
 {
     let flight = Flight::read(flight)?;
     let day = flight_day(day)?;
@@ -250,7 +258,8 @@ fn status_line<'a>(text: &Token<'a>) -> StatusLine<'a>
 
 /// A line joins the trail.
 fn join<'a>(trail: &mut Vec<StatusLine<'a>>, text: &Token<'a>) -> Result<(), AllocError>
-    ensures texts { OnOk result (map (λ l. l.text) trail.new.items ≡ map (λ l. l.text) trail.old.items ++ text.now ∷ []) }
+    ensures texts { OnOk result
+        (map (λ l. l.text) trail.new.items ≡ map (λ l. l.text) trail.old.items ++ text.now ∷ []) }
     ensures read { OnOk result (All IsRead trail.old.items → All IsRead trail.new.items) }
 {
     let line = status_line(text);
@@ -272,9 +281,9 @@ fn trail<'a>(alloc: Global, lines: &[Token<'a>]) -> Result<Vec<StatusLine<'a>>, 
 /// The message that lines are.
 ///
 /// # Errors
-/// The first line that is faulty: `Head` where the first isn't `FSU/` and one to three digits; for the second line those
-/// of a consignment line. `Ending`, at the last line, where there is no second or no third. `Memory` of line 0 says
-/// nothing of the lines.
+/// The first line that is faulty: `Head` where the first isn't `FSU/` and one to three digits; for
+/// the second line those of a consignment line. `Ending`, at the last line, where there is no
+/// second or no third. `Memory` of line 0 says nothing of the lines.
 pub fn read<'a>(alloc: Global, lines: &Lines<'a>) -> Result<Fsu<'a>, TextFault>
     ensures read { IfOk result (λ m. IsFsu (line_texts lines.now) (update_of m)) }
     ensures statuses { IfOk result AreRead }

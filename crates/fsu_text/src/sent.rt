@@ -44,7 +44,8 @@ pub enum SentStatus {
     },
 }
 
-/// What is sent of a waybill: the status, the airport that sends it, and the pieces and the weight that it is about.
+/// What is sent of a waybill: the status, the airport that sends it, and the pieces and the weight
+/// that it is about.
 #[derive(Clone, Copy, Debug)]
 pub struct SentUpdate {
     pub of: WaybillSummary,
@@ -54,7 +55,8 @@ pub struct SentUpdate {
     pub tenths: BookTenths,
 }
 
-// What the types of an update keep, for the proof of what is read again. The functions do nothing else.
+// What the types of an update keep, for the proof of what is read again. The functions do nothing
+// else.
 
 fn declared_known(of: &WaybillSummary)
     ensures { IsDeclared of.now }

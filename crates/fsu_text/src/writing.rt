@@ -61,7 +61,8 @@ fn put_amount(
 ) -> usize
     requires { at + 19 ≤ length out.old }
     ensures bound { result ≤ at + 19 }
-    ensures text { take result out.new ≡ take at out.old ++ (47 ∷ quantity_text code pieces tenths None) }
+    ensures text { take result out.new ≡ take at out.old
+        ++ (47 ∷ quantity_text code pieces tenths None) }
 {
     let mut text = [0; 18];
     let len = put_quantity(&mut text, code, pieces, tenths, None);
@@ -93,7 +94,8 @@ fn put_update(out: &mut [u8], at: usize, update: &SentUpdate) -> usize
 fn put_consignment(out: &mut [u8], at: usize, of: &WaybillSummary) -> usize
     requires { at + 37 ≤ length out.old }
     ensures bound { result ≤ at + 37 }
-    ensures text { take result out.new ≡ take at out.old ++ consignment_text (declared_cargo of.now) }
+    ensures text { take result out.new ≡ take at out.old ++ consignment_text
+        (declared_cargo of.now) }
 {
     let at = put(out, at, &of.awb.write());
     let at = put(out, at, &of.origin.letters());
@@ -159,7 +161,8 @@ fn put_handled(
 ) -> usize
     requires { at + 72 ≤ length out.old }
     ensures bound { result ≤ at + 72 }
-    ensures text { take result out.new ≡ take at out.old ++ sent_status_text (sent.Handled event when.now name.now) update.now }
+    ensures text { take result out.new ≡ take at out.old ++ sent_status_text
+        (sent.Handled event when.now name.now) update.now }
 {
     let at = put(out, at, &handling_code(event));
     let at = put_field(out, at, &when.write());
@@ -178,7 +181,8 @@ fn put_received(
 ) -> usize
     requires { at + 44 ≤ length out.old }
     ensures bound { result ≤ at + 44 }
-    ensures text { take result out.new ≡ take at out.old ++ sent_status_text (sent.ReceivedFromFlight flight.now when.now) update.now }
+    ensures text { take result out.new ≡ take at out.old ++ sent_status_text
+        (sent.ReceivedFromFlight flight.now when.now) update.now }
 {
     let at = put(out, at, b"RCF");
     let at = put_flight(out, at, flight);
@@ -199,7 +203,8 @@ fn put_carried(
 ) -> usize
     requires { at + 43 ≤ length out.old }
     ensures bound { result ≤ at + 43 }
-    ensures text { take result out.new ≡ take at out.old ++ sent_status_text (sent.Carried event flight.now date.now to.now) update.now }
+    ensures text { take result out.new ≡ take at out.old ++ sent_status_text
+        (sent.Carried event flight.now date.now to.now) update.now }
 {
     let at = put(out, at, &carriage_code(event));
     let at = put_flight(out, at, flight);
@@ -220,7 +225,8 @@ fn put_differs(
 ) -> usize
     requires { at + 49 ≤ length out.old }
     ensures bound { result ≤ at + 49 }
-    ensures text { take result out.new ≡ take at out.old ++ sent_status_text (sent.Differs discrepancy flight.now when.now) update.now }
+    ensures text { take result out.new ≡ take at out.old ++ sent_status_text
+        (sent.Differs discrepancy flight.now when.now) update.now }
 {
     let at = put(out, at, b"DIS");
     let at = put_flight(out, at, flight);
@@ -234,7 +240,8 @@ fn put_differs(
 fn put_status(out: &mut [u8], at: usize, update: &SentUpdate) -> usize
     requires { at + 72 ≤ length out.old }
     ensures bound { result ≤ at + 72 }
-    ensures text { take result out.new ≡ take at out.old ++ sent_status_text update.now.status update.now }
+    ensures text { take result out.new ≡ take at out.old ++ sent_status_text update.now.status
+        update.now }
 {
     match &update.status {
         SentStatus::Handled {
@@ -271,8 +278,8 @@ fn put_lines(out: &mut [u8; 128], update: &SentUpdate) -> usize
     put(out, at, b"\r\n")
 }
 
-/// Appends a status update to a buffer: the head `FSU/12`, the consignment line with all that is declared and the status
-/// line, each ended by a carriage return and a newline.
+/// Appends a status update to a buffer: the head `FSU/12`, the consignment line with all that is
+/// declared and the status line, each ended by a carriage return and a newline.
 ///
 /// # Errors
 /// Where the buffer cannot grow; then it is as it was.
@@ -283,7 +290,8 @@ pub fn write_fsu(out: &mut Vec<u8>, update: &SentUpdate) -> Result<(), AllocErro
     // The lines that are sent are normal, and are read as what was written.
     ensures normal { normal_lines (sent_text (fsu_lines update.now)) ≡ Ok (fsu_lines update.now) }
     ensures read_again { IsFsu (fsu_lines update.now) (update_written update.now) }
-    ensures status { status_of (sent_status_text update.now.status update.now) ≡ Some (sent_status_reading update.now.status update.now) }
+    ensures status { status_of (sent_status_text update.now.status update.now)
+        ≡ Some (sent_status_reading update.now.status update.now) }
 {
     update_known(update);
     let mut text = [0; 128];

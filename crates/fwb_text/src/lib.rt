@@ -1,4 +1,5 @@
-//! Waybill data messages (Cargo-IMP FWB): a head, a consignment line with a weight, and lines that are not read.
+//! Waybill data messages (Cargo-IMP FWB): a head, a consignment line with a weight, and lines that
+//! are not read.
 #![tactic(auto)]
 
 ghost use Rattle.std.specs.Prelude.{◌≡◌, ℕ, List, None};
@@ -10,7 +11,8 @@ mod reading;
 use imp_fields::Consignment;
 pub use reading::read;
 
-/// A waybill data message: what its consignment line says. The source of the line's tokens is that line.
+/// A waybill data message: what its consignment line says. The source of the line's tokens is that
+/// line.
 #[derive(Clone, Copy, Debug)]
 pub struct Fwb<'a> {
     pub consignment: Consignment<'a>,
@@ -19,6 +21,7 @@ pub struct Fwb<'a> {
 /// Lines are a message exactly where they have no fault, and then one message only.
 pub fn fwb_law()
     ensures read { (lines : List (List ℕ)) (s : Shipment) → IsFwb lines s → fwb_fault lines ≡ None }
-    ensures faultless { (lines : List (List ℕ)) → fwb_fault lines ≡ None → (s : Shipment) × IsFwb lines s }
+    ensures faultless { (lines : List (List ℕ)) → fwb_fault lines ≡ None → (s : Shipment)
+        × IsFwb lines s }
     ensures one { (lines : List (List ℕ)) (s t : Shipment) → IsFwb lines s → IsFwb lines t → s ≡ t }
 {}

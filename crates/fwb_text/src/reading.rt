@@ -10,7 +10,8 @@ use imp_fields::{Consignment, Lines, TextFault, Why, fault_at, is_head, read_con
 
 /// A consignment line that gives a weight.
 fn weighed<'a>(line: &'a [u8]) -> Result<Consignment<'a>, Why>
-    ensures read { IfOk result (λ c. (consignment_of line.now ≡ Ok (shipment_of c)) × IsTrue (is_some c.quantity.weight)) }
+    ensures read { IfOk result (λ c. (consignment_of line.now ≡ Ok (shipment_of c))
+        × IsTrue (is_some c.quantity.weight)) }
     ensures fault { IfErr result (λ why. weighed_fault (consignment_of line.now) ≡ Some why) }
     ensures spans { IfOk result (HasSpans line.now) }
 {
@@ -29,8 +30,9 @@ fn weighed<'a>(line: &'a [u8]) -> Result<Consignment<'a>, Why>
 /// The message that lines are. It takes no memory, so that its faults are those of the lines alone.
 ///
 /// # Errors
-/// The first line that is faulty: `Head` where the first isn't `FWB/` and one to three digits; for the second line those
-/// of a consignment line, and then `Weight` where it gives none. `Ending`, at the last line, where there is no second.
+/// The first line that is faulty: `Head` where the first isn't `FWB/` and one to three digits; for
+/// the second line those of a consignment line, and then `Weight` where it gives none. `Ending`, at
+/// the last line, where there is no second.
 pub fn read<'a>(lines: &Lines<'a>) -> Result<Fwb<'a>, TextFault>
     ensures read { IfOk result (λ m. IsFwb (line_texts lines.now) (fwb_shipment m)) }
     ensures fault { IfErr result (λ told. fwb_fault (line_texts lines.now) ≡ Some told) }

@@ -121,8 +121,8 @@ key_among _ = None
 abbrev pub key_of : List (List ℕ × List ℕ) → Option (List ℕ)
 key_of fields = key_among (values_of (codes "request-key") fields)
 
--- What a body asks: it is refused by a word, it is no telegram, it is a telegram that is only looked
--- at, or it is an input for the station.
+-- What a body asks: it is refused by a word, it is no telegram, it is a telegram that is only
+-- looked at, or it is an input for the station.
 pub data BodyAsks : Type 0 where
   bad_body : Fault → BodyAsks
   unreadable : Refusal → BodyAsks

@@ -22,7 +22,8 @@ abbrev pub err_of : {A : Type 0} → Result A Why → Option Why
 err_of (Ok x) = None
 err_of (Err why) = Some why
 
--- the fault of a message: that of its first line that has one, and where none has, the missing of a line
+-- the fault of a message: that of its first line that has one, and where none has, the missing of a
+-- line
 abbrev pub fault_in : List (List ℕ) → List (Option Why) → Bool → Option TextFault
 fault_in lines faults is_complete =
     or_else (first_fault 1 faults) (if is_complete then None else Some (fault_at (length lines) why.Ending))

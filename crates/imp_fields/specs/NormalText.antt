@@ -35,7 +35,8 @@ line_without_end line = trimmed (strip_carriage_return line)
 abbrev pub lines_of : List ℕ → List (List ℕ)
 lines_of bytes = before_last_while is_empty (map line_without_end (slice_split is_newline bytes))
 
--- where lines begin of which the first begins at a place: each behind the newline that ends the one before it
+-- where lines begin of which the first begins at a place: each behind the newline that ends the one
+-- before it
 abbrev pub starts_from : ℕ → List (List ℕ) → List ℕ
 starts_from place [] = []
 starts_from place (line ∷ lines) = place ∷ starts_from (place + length line + 1) lines
@@ -76,7 +77,8 @@ abbrev pub unless_fault : {A : Type 0} → Option TextFault → Result A TextFau
 unless_fault (Some fault) reading = Err fault
 unless_fault None reading = reading
 
--- the normal lines of a telegram, or its first fault: its size, the number of its lines, a line, its kind
+-- the normal lines of a telegram, or its first fault: its size, the number of its lines, a line,
+-- its kind
 abbrev pub normal_lines : List ℕ → Result (List (List ℕ)) TextFault
 normal_lines bytes =
     if nat_lt 65_536 (length bytes) then Err (fault_at 0 why.Size)

@@ -9,7 +9,8 @@ use Rattle.imp_fields.specs.declared.token.Token.{Token}
 use Rattle.imp_fields.specs.declared.line.MessageKind.{MessageKind}
 use Rattle.imp_fields.specs.declared.normal.Scan.{Scan}
 
--- The lines that are kept: from the message line on, of the first thousand. `before` lines stand before it.
+-- The lines that are kept: from the message line on, of the first thousand. `before` lines stand
+-- before it.
 abbrev pub AreKept : List ℕ → List (List ℕ) → Option MessageKind → ℕ → List Token → Type 0
 AreKept starts lines None before tokens = (position is_message_line (take 11 lines) ≡ None) × (tokens ≡ [])
 AreKept starts lines (Some kind) before tokens =

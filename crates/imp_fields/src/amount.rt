@@ -148,7 +148,8 @@ impl Tenths {
 /// The most tenths of a kilogram that the books and a written message have room for.
 pub const MOST_TENTHS: u32 = 999_999;
 
-/// A weight of the books in tenths of a kilogram, 0 to 999,999: what a written message has room for.
+/// A weight of the books in tenths of a kilogram, 0 to 999,999: what a written message has room
+/// for.
 #[derive(Clone, Copy, Debug, PartialEq, Eq, PartialOrd, Ord)]
 pub struct BookTenths {
     number: u32,
@@ -232,7 +233,8 @@ pub fn share(pieces: u32, tenths: u32, part: u32) -> u64
 
     // Where the weight has a tenth for each piece, so have the part and the rest.
     ensures part { pieces ≤ tenths → part ≤ result }
-    ensures rest { pieces ≤ tenths → part ≤ pieces → (result ≤ tenths) × (pieces - part ≤ tenths - result) }
+    ensures rest { pieces ≤ tenths → part ≤ pieces → (result ≤ tenths)
+        × (pieces - part ≤ tenths - result) }
 {
     u64::from(tenths) * u64::from(part) / u64::from(pieces)
 }

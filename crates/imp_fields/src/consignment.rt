@@ -26,7 +26,8 @@ fn has_number_shape(number: &[u8; 12]) -> bool
 /// The origin and the destination of a line that has a consignment line's shape.
 #[tactic(auto, using(crate::proofs::ShapeLaws::shape_short, crate::proofs::ShapeLaws::shape_by, crate::proofs::ShapeLaws::route_lost))]
 fn route(line: &[u8]) -> Option<(Airport, Airport)>
-    ensures shape { result ≡ where_true (has_consignment_shape line.now) (slice_range line.now 12 15, slice_range line.now 15 18) }
+    ensures shape { result ≡ where_true (has_consignment_shape line.now)
+        (slice_range line.now 12 15, slice_range line.now 15 18) }
     ensures bound { IsSome result → 19 ≤ length line.now }
 {
     if line.len() < 19 {
@@ -44,8 +45,9 @@ fn route(line: &[u8]) -> Option<(Airport, Airport)>
 /// What a consignment line says, and where its fields stand in it.
 ///
 /// # Errors
-/// `Consignment` for a line that doesn't begin with three digits, a hyphen, eight digits, six letters and a slash;
-/// then `Number` for a wrong check digit, and `Quantity` where no quantity stands up to the next slash or the end.
+/// `Consignment` for a line that doesn't begin with three digits, a hyphen, eight digits, six
+/// letters and a slash; then `Number` for a wrong check digit, and `Quantity` where no quantity
+/// stands up to the next slash or the end.
 #[tactic(auto, using(crate::proofs::LineLaws::unshaped, crate::proofs::LineLaws::misnumbered, crate::proofs::LineLaws::uncounted))]
 pub fn read_consignment<'a>(line: &'a [u8]) -> Result<Consignment<'a>, Why>
     ensures exact { plain result ≡ consignment_of line.now }

@@ -65,7 +65,8 @@ impl fmt::Display for Why {
     }
 }
 
-/// The first fault of a text, and the line that has it, counted from 1; 0 stands for the whole text.
+/// The first fault of a text, and the line that has it, counted from 1; 0 stands for the whole
+/// text.
 #[derive(Clone, Copy, Debug, PartialEq, Eq)]
 pub struct TextFault {
     pub line: u32,

@@ -20,7 +20,8 @@ pub fn cut_at_slash(text: &[u8]) -> Option<(&[u8], &[u8])>
     Some((&text[..place], rest))
 }
 
-/// The first field of a text, and all that follows the slash behind it; nothing where there is no slash.
+/// The first field of a text, and all that follows the slash behind it; nothing where there is no
+/// slash.
 #[tactic(auto, using(crate::proofs::Cuts::joined_again))]
 pub fn first_field(text: &[u8]) -> (&[u8], &[u8])
     ensures first { fields text.now ≡ result.0.now ∷ drop 1 (fields text.now) }

@@ -21,7 +21,8 @@ impl Model for Flight {
 
     ghost view = { λ f. record { carrier = f.carrier; number = f.number; suffix = f.suffix } };
 
-    ghost invariant = { λ f. IsDesignator (record { carrier = f.carrier; number = f.number; suffix = f.suffix }) };
+    ghost invariant = { λ f. IsDesignator
+        (record { carrier = f.carrier; number = f.number; suffix = f.suffix }) };
 
     ghost inverse = { λ f. record { carrier = f.carrier; number = f.number; suffix = f.suffix } };
 }
@@ -69,8 +70,9 @@ impl Flight {
             && is_same_letter(self.suffix, other.suffix)
     }
 
-    /// The flight that a text such as `LH400` names: a carrier of two letters or digits, at least one of them a
-    /// letter, one to four digits of value at least 1, and perhaps a letter. Zeros in front don't count.
+    /// The flight that a text such as `LH400` names: a carrier of two letters or digits, at least
+    /// one of them a letter, one to four digits of value at least 1, and perhaps a letter. Zeros in
+    /// front don't count.
     pub fn read(text: &[u8]) -> Option<Flight>
         ensures { result ≡ flight_of text.now }
     {
@@ -91,8 +93,8 @@ impl Flight {
         })
     }
 
-    /// Writes the flight to the front of a buffer, its number with at least three digits: `LH004`. Answers how many
-    /// bytes it has.
+    /// Writes the flight to the front of a buffer, its number with at least three digits: `LH004`.
+    /// Answers how many bytes it has.
     pub fn write(&self, out: &mut [u8; 7]) -> usize
         ensures bound { result ≤ 7 }
         ensures text { take result out.new ≡ flight_text self.now }
@@ -123,7 +125,8 @@ impl fmt::Display for Flight {
 fn put_number(out: &mut [u8], at: usize, number: u16) -> usize
     requires { at + 4 ≤ length out.old }
     ensures bound { result ≤ at + 4 }
-    ensures text { take result out.new ≡ take at out.old ++ (if nat_lt number 1000 then padded 3 number else padded 4 number) }
+    ensures text { take result out.new ≡ take at out.old
+        ++ (if nat_lt number 1000 then padded 3 number else padded 4 number) }
 {
     if number < 1000 {
         put_three(out, at, number)

@@ -12,17 +12,22 @@ pub fn quantity_law()
     ensures read { (text : List ℕ) (q : Quantity) → IsQuantity text q → quantity_of text ≡ Some q }
 {}
 
-/// Flights with the same carrier, number and letter are one flight, and so are flights that are written alike.
+/// Flights with the same carrier, number and letter are one flight, and so are flights that are
+/// written alike.
 pub fn flight_law()
     ensures same { (a b : Designator) → IsTrue (same_flight a b) ↔ (a ≡ b) }
-    ensures written { (a b : Designator) → IsDesignator a → IsDesignator b → flight_text a ≡ flight_text b → a ≡ b }
+    ensures written { (a b : Designator) → IsDesignator a → IsDesignator b
+        → flight_text a ≡ flight_text b → a ≡ b }
 {}
 
-/// The share of all pieces is the whole weight. Where there is at least a tenth for each piece, a part has a tenth for each of its
-/// pieces, and so has the rest.
+/// The share of all pieces is the whole weight. Where there is at least a tenth for each piece, a
+/// part has a tenth for each of its pieces, and so has the rest.
 pub fn share_law()
     ensures whole { (pieces tenths : ℕ) → 1 ≤ pieces → share_of pieces tenths pieces ≡ tenths }
-    ensures part { (pieces tenths part : ℕ) → 1 ≤ pieces → pieces ≤ tenths → part ≤ share_of pieces tenths part }
-    ensures within { (pieces tenths part : ℕ) → pieces ≤ tenths → part ≤ pieces → share_of pieces tenths part ≤ tenths }
-    ensures rest { (pieces tenths part : ℕ) → pieces ≤ tenths → part ≤ pieces → pieces - part ≤ tenths - share_of pieces tenths part }
+    ensures part { (pieces tenths part : ℕ) → 1 ≤ pieces → pieces ≤ tenths
+        → part ≤ share_of pieces tenths part }
+    ensures within { (pieces tenths part : ℕ) → pieces ≤ tenths → part ≤ pieces
+        → share_of pieces tenths part ≤ tenths }
+    ensures rest { (pieces tenths part : ℕ) → pieces ≤ tenths → part ≤ pieces
+        → pieces - part ≤ tenths - share_of pieces tenths part }
 {}

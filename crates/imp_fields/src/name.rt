@@ -24,13 +24,20 @@ impl Model for Name {
 
     ghost invariant = { λ n. IsPadded 35 n.len n.bytes × IsTrue (is_name (take n.len n.bytes)) };
 
-    ghost inverse = { λ text. record { bytes = text ++ replicate (35 - length text) 0; len = length text } };
+    ghost inverse = { λ text. record {
+      bytes = text ++ replicate (35 - length text) 0;
+      len = length
+          text;
+    } };
 
-    ghost inverse_ok = { λ n h i. record { bytes = padding_bytes 35 n.len n.bytes h.0 i; len = padding_length 35 n.len n.bytes h.0 i } };
+    ghost inverse_ok = { λ n h i. record {
+      bytes = padding_bytes 35 n.len n.bytes h.0 i;
+      len = padding_length 35 n.len n.bytes h.0 i;
+    } };
 }
 
-/// A text of at most 15 bytes of printable ASCII that says what the goods are, which doesn't end in a blank.
-/// It may be empty.
+/// A text of at most 15 bytes of printable ASCII that says what the goods are, which doesn't end in
+/// a blank. It may be empty.
 #[derive(Clone, Copy, Debug, PartialEq, Eq)]
 pub struct Goods {
     bytes: [u8; 15],
@@ -44,9 +51,16 @@ impl Model for Goods {
 
     ghost invariant = { λ g. IsPadded 15 g.len g.bytes × IsTrue (is_goods (take g.len g.bytes)) };
 
-    ghost inverse = { λ text. record { bytes = text ++ replicate (15 - length text) 0; len = length text } };
+    ghost inverse = { λ text. record {
+      bytes = text ++ replicate (15 - length text) 0;
+      len = length
+          text;
+    } };
 
-    ghost inverse_ok = { λ g h i. record { bytes = padding_bytes 15 g.len g.bytes h.0 i; len = padding_length 15 g.len g.bytes h.0 i } };
+    ghost inverse_ok = { λ g h i. record {
+      bytes = padding_bytes 15 g.len g.bytes h.0 i;
+      len = padding_length 15 g.len g.bytes h.0 i;
+    } };
 }
 
 /// Whether a text is printable, of at most so many bytes, and doesn't end in a blank.
@@ -113,7 +127,8 @@ impl Goods {
         }
     }
 
-    /// The goods that are kept of a text that was read: its first 15 bytes, less the blanks at their end.
+    /// The goods that are kept of a text that was read: its first 15 bytes, less the blanks at
+    /// their end.
     pub fn kept(text: &[u8]) -> Goods
         requires { IsTrue (list_all is_printable text.now) }
         ensures { result ≡ kept_goods text.now }

@@ -49,7 +49,8 @@ fn line_fault(line: &[u8], printable: bool) -> Option<Why>
     }
 }
 
-/// Whether a line is the head of a message with these letters: the letters, a slash and one to three digits.
+/// Whether a line is the head of a message with these letters: the letters, a slash and one to
+/// three digits.
 pub fn is_head(letters: &[u8; 3], line: &[u8]) -> bool
     ensures { result ≡ is_head letters.now line.now }
 {
@@ -127,7 +128,8 @@ impl<'a> Scan<'a> {
     /// Nothing was seen. There is room for so many lines.
     fn new(alloc: Global, room: usize) -> Result<Scan<'a>, AllocError>
         ensures scanned { IfOk result (IsScanned [] []) }
-        ensures slices { IfOk result (λ scan. (source : List ℕ) → AreSlicesBefore source 0 scan.lines.items) }
+        ensures slices { IfOk result (λ scan. (source : List ℕ)
+            → AreSlicesBefore source 0 scan.lines.items) }
     {
         Ok(Scan {
             count: 0,
@@ -181,14 +183,15 @@ impl<'a> Scan<'a> {
 
 /// The lines of a telegram from its message line on.
 ///
-/// A line ends before a newline or at the end of the text, less one carriage return and then the blanks there; empty
-/// lines at the end of the text don't count. The message line is the first, among the first eleven, that begins with
-/// `FWB/`, `FFM/` or `FSU/`.
+/// A line ends before a newline or at the end of the text, less one carriage return and then the
+/// blanks there; empty lines at the end of the text don't count. The message line is the first,
+/// among the first eleven, that begins with `FWB/`, `FFM/` or `FSU/`.
 ///
 /// # Errors
-/// In this order: `Size` for more than 65,536 bytes, `Lines` for more than 1,000 lines, both of line 0; for the first line
-/// that has one of them, `Byte` where a byte isn't printable ASCII, or else `Long` for more than 255 bytes; `Kind` of line 0
-/// where no message line is found. `Memory` of line 0 says nothing of the text.
+/// In this order: `Size` for more than 65,536 bytes, `Lines` for more than 1,000 lines, both of
+/// line 0; for the first line that has one of them, `Byte` where a byte isn't printable ASCII, or
+/// else `Long` for more than 255 bytes; `Kind` of line 0 where no message line is found. `Memory`
+/// of line 0 says nothing of the text.
 pub fn normal_text<'a>(alloc: Global, bytes: &'a [u8]) -> Result<Lines<'a>, TextFault>
     ensures lines { Gives line_texts result (normal_lines bytes.now) }
     ensures spans { IfOk result (λ l. AreSlices bytes.now l.lines.items) }

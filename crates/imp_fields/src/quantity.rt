@@ -12,8 +12,8 @@ use crate::amount::{BookTenths, Pieces, Quantity, ShipmentCode, Tenths, WeightUn
 use crate::put::{put, put_decimal};
 use crate::run;
 
-/// The number that the digits of a weight's number write, without its points, and how many points there are; nothing
-/// where there is another byte.
+/// The number that the digits of a weight's number write, without its points, and how many points
+/// there are; nothing where there is another byte.
 #[tactic(auto, using(crate::proofs::WeightLaws::ten_pow_of_seven))]
 fn digits_and_points(numeral: &[u8]) -> Option<(u64, u32)>
     requires { length numeral.now ≤ 7 }
@@ -35,8 +35,8 @@ fn digits_and_points(numeral: &[u8]) -> Option<(u64, u32)>
     Some((number, points))
 }
 
-/// The number that the digits of a weight's number write, without its point: one to seven digits and points, at most one
-/// a point, and none at an end.
+/// The number that the digits of a weight's number write, without its point: one to seven digits
+/// and points, at most one a point, and none at an end.
 fn numerator(numeral: &[u8]) -> Option<u64>
     ensures value { result ≡ where_true (is_weight_numeral numeral.now) (numerator_of numeral.now) }
     ensures bound { IfSome result (λ n. n < 10_000_000) }
@@ -83,7 +83,8 @@ fn rounded_tenths(numerator: u64, denominator: u64) -> Option<Tenths>
     Tenths::new(tenths as u32)
 }
 
-/// The weight that a number means in a unit. A pound is 0.45359237 kilograms, and the product is rounded once.
+/// The weight that a number means in a unit. A pound is 0.45359237 kilograms, and the product is
+/// rounded once.
 #[tactic(auto, using(crate::proofs::WeightLaws::kilograms_in_range, crate::proofs::WeightLaws::pounds_in_range))]
 fn tenths(unit: WeightUnit, numeral: &[u8]) -> Option<Tenths>
     ensures { result ≡ where_true (is_weight_numeral numeral.now) (tenths_of unit numeral.now) }
@@ -121,7 +122,8 @@ fn code(letter: u8) -> Option<ShipmentCode>
     }
 }
 
-/// The weight in front of what follows the pieces, where a K or an L stands there, and what is left behind it.
+/// The weight in front of what follows the pieces, where a K or an L stands there, and what is left
+/// behind it.
 fn weight_and_left(text: &[u8]) -> Option<(Option<Tenths>, &[u8])>
     ensures weight { IfSome result (λ r. weight_at_front text.now ≡ Some r.0) }
     ensures left { IfSome result (λ r. r.1.now ≡ left_of_weight text.now) }
@@ -157,8 +159,8 @@ fn total_at_end(left: &[u8]) -> Option<Pieces>
     }
 }
 
-/// The tenths of a kilogram that a weight field such as `K0.25` or `L100` means, a half rounded up. A pound is
-/// 0.45359237 kilograms, and the exact product is rounded once.
+/// The tenths of a kilogram that a weight field such as `K0.25` or `L100` means, a half rounded up.
+/// A pound is 0.45359237 kilograms, and the exact product is rounded once.
 pub fn weight_of(field: &[u8]) -> Option<Tenths>
     ensures { result ≡ weight_of field.now }
 {
@@ -166,8 +168,9 @@ pub fn weight_of(field: &[u8]) -> Option<Tenths>
     tenths(unit(*letter)?, numeral)
 }
 
-/// The quantity that a text such as `T10K100MC0.5` means: a code, one to four digits of value at least 1, perhaps
-/// a weight, and letters, digits and points, which are unread but for a total at their end.
+/// The quantity that a text such as `T10K100MC0.5` means: a code, one to four digits of value at
+/// least 1, perhaps a weight, and letters, digits and points, which are unread but for a total at
+/// their end.
 pub fn read_quantity(text: &[u8]) -> Option<Quantity>
     ensures { result ≡ quantity_of text.now }
 {
@@ -251,8 +254,8 @@ fn put_total(out: &mut [u8], at: usize, total: Option<Pieces>) -> usize
     }
 }
 
-/// Writes a quantity such as `P4K40.0T10` to the front of a buffer: the code, the pieces, the weight in kilograms and
-/// perhaps a total. Answers how many bytes it has.
+/// Writes a quantity such as `P4K40.0T10` to the front of a buffer: the code, the pieces, the
+/// weight in kilograms and perhaps a total. Answers how many bytes it has.
 pub fn put_quantity(
     out: &mut [u8; 18],
     code: ShipmentCode,

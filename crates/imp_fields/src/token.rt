@@ -3,7 +3,8 @@ ghost use Rattle.imp_fields.specs.Token.{IsSlice};
 
 /// A part of a text: its bytes, and where they stand in their source. The end is exclusive.
 ///
-/// The source of a line of `Lines` is the telegram as it came; that of a field of a line is that line.
+/// The source of a line of `Lines` is the telegram as it came; that of a field of a line is that
+/// line.
 #[derive(Clone, Copy, Debug)]
 pub struct Token<'a> {
     pub start: usize,

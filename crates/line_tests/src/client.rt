@@ -28,8 +28,8 @@ enum End {
     Late,
 }
 
-/// A connection: the bytes that are left to read, how many of them a read brings at most, how it goes
-/// on after them, and how many bytes of a request it takes before a write fails.
+/// A connection: the bytes that are left to read, how many of them a read brings at most, how it
+/// goes on after them, and how many bytes of a request it takes before a write fails.
 #[derive(Clone, Copy, Drop)]
 struct Play<'a> {
     left: &'a [u8],

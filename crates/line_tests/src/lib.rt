@@ -1,8 +1,8 @@
 //! Calls of the program: what their words are read as, what they print, and how they end. Each is
 //! asked as a file of cases says.
 //!
-//! The station of `--db` is in memory, and is the same for all calls of a file of cases. The service
-//! of `--at` is a script of connections.
+//! The station of `--db` is in memory, and is the same for all calls of a file of cases. The
+//! service of `--at` is a script of connections.
 #![tactic(auto)]
 
 mod calls;

@@ -9,8 +9,8 @@ use Rattle.map_state.specs.declared.state.MapState.{MapState}
 abbrev pub state_of : MapState → State
 state_of k = record { cargo = cargo_of k; kept_keys = kept_under k.kept_keys; kept_texts = count_under k.kept_texts }
 
--- It has the rows of this state, all of them can be numbered, and what is kept beside the book is what its
--- moves add up to.
+-- It has the rows of this state, all of them can be numbered, and what is kept beside the book is
+-- what its moves add up to.
 pub record Shows (k : MapState) (s : State) : Type 0 where
   pub is : state_of k ≡ s
   pub room : has_room s.cargo ≡ true

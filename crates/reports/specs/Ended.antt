@@ -44,8 +44,8 @@ IsBegun text e old new = Sent old new text e.sent × HasTold e.cause old new
 abbrev pub HaveGone : ℕ → Given → Given → Type 0
 HaveGone sent old new = (out : List ℕ) × (length out ≡ sent) × (new.bytes ≡ old.bytes ++ out)
 
--- the same of a report that is known by what it is, behind what stands in front: of one text that is
--- it, or of each
+-- the same of a report that is known by what it is, behind what stands in front: of one text that
+-- is it, or of each
 abbrev pub IsBegunBy : (List ℕ → Type 0) → List ℕ → ReportFault → Given → Given → Type 0
 IsBegunBy Is front e old new =
     ((text : List ℕ) × Is text × IsBegun (front ++ text) e old new)

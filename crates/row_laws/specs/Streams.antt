@@ -23,7 +23,8 @@ Moves g sql params reads old new given (Err e) = Stops (state g old) (state g ne
 abbrev pub IsBeginning : List ℕ → Row → State → List Row → Type 0
 IsBeginning sql params s rows = IsTrue s.is_open × Begins sql params s rows
 
--- At Ok the sink took the whole answer, or a beginning after which it wanted no more; at an error a beginning. Nothing is changed.
+-- At Ok the sink took the whole answer, or a beginning after which it wanted no more; at an error a
+-- beginning. Nothing is changed.
 abbrev pub Streams : {S : Type 0} → List ℕ → Row → State → State → (S → Row → Bool → S → Type 0) → S → S → Result (Unit {0}) Error → Type 0
 Streams sql params old new takes from to (Ok x) =
     IsUnchanged old new × (given : List Row) × ((Shown sql params old new given × HandedOut takes given from to) ⊎ (IsBeginning sql params old given × ((tail : List Row) → HandedOut takes (given ++ tail) from to)))

@@ -24,8 +24,8 @@ pub record Keeps (v : View) (before now : Tables) (sums : Sums) : Type 0 where
   pub are_counts : (key : CountKey) → get counts key ≡ count_in sums key
   pub are_builds : (key : BuildKey) → get builds key ≡ build_in sums key
 
--- so many pieces of a move's waybill were at the place that it comes to, by the book before it, where
--- it doesn't leave the same place
+-- so many pieces of a move's waybill were at the place that it comes to, by the book before it,
+-- where it doesn't leave the same place
 abbrev pub WereThere : List Move → Move → ℤ → Type 0
 WereThere book m were =
     same_place m.to m.from ≡ false → were ≡ balance pieces_of book m.awb (same_place m.to)

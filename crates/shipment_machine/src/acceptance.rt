@@ -137,7 +137,8 @@ pub(crate) fn book<'a>(
     claim: &ProposedDeclaration,
 ) -> Result<Plan<'a>, PlanFault>
     requires { 1 ≤ claim.now.pieces }
-    ensures { IsAnswer result (decided (declaring view.now awb (dated on.now.at.day (claimed claim.now)))) }
+    ensures { IsAnswer result
+        (decided (declaring view.now awb (dated on.now.at.day (claimed claim.now)))) }
 {
     let Some(declared) = declared_as(claim, on.at) else {
         return Err(refuse_waybill(217, awb));

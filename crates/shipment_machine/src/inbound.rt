@@ -185,8 +185,8 @@ pub(crate) fn announced<'a>(
     at: Moment,
 ) -> Result<Vec<Change<'a>>, PlanFault>
     requires { length rows.now ≡ length lines.now }
-    ensures ok { IfOk result (λ changes. announced_changes no_earlier flight.now at.day lines.now rows.now
-        ≡ Ok changes.items) }
+    ensures ok { IfOk result (λ changes.
+        announced_changes no_earlier flight.now at.day lines.now rows.now ≡ Ok changes.items) }
     ensures refused { IfErr result (IsPartFault
         (announced_changes no_earlier flight.now at.day lines.now rows.now)) }
 {
@@ -246,7 +246,8 @@ pub(crate) fn announce<'a>(
 ) -> Result<Plan<'a>, PlanFault>
     requires { is_day meant ≡ true → length rows.now
         ≡ length (lines_for on.now.here part.now.lines) }
-    ensures answer { IsAnswer result (part_answer on.now.here on.now.at.day taken rows.now part.now meant) }
+    ensures answer { IsAnswer result
+        (part_answer on.now.here on.now.at.day taken rows.now part.now meant) }
     ensures some { IfOk result (λ _. All HasPieces part.now.lines) }
 {
     let Some(number) = meant else {

@@ -9,8 +9,8 @@ use Rattle.station_core.specs.declared.stored.WaybillBalances.{WaybillBalances}
 use Rattle.state_store.specs.declared.query.WaybillQuery.{WaybillQuery}
 use Rattle.state_store.specs.declared.query.WaybillQuery.TheVariants.{Stored, Irregular}
 
--- whether a waybill with these balances is asked for: with pieces in store, or with pieces missing or
--- found
+-- whether a waybill with these balances is asked for: with pieces in store, or with pieces missing
+-- or found
 abbrev pub is_asked_for : WaybillQuery → Balances → Bool
 is_asked_for Stored b = nat_lt 0 (stored_of b).pieces
 is_asked_for Irregular b = nat_lt 0 b.missing.pieces || nat_lt 0 b.found.pieces

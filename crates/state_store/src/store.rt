@@ -291,8 +291,10 @@ pub trait StateStore {
         ensures survives { Survives is_clean is_sound may_find self.old self.new };
 
     /// A reopening finds what it shows between two transactions.
-    ghost settled: { (k : Self) (s : State) → shows k (at_rest s) → is_sound k → (found : Option State) → may_find k found → found ≡ Some s };
+    ghost settled: { (k : Self) (s : State) → shows k (at_rest s) → is_sound k
+        → (found : Option State) → may_find k found → found ≡ Some s };
 
     /// All rows that it shows are numbered.
-    ghost numbered: { (k : Self) (x : Seen) → shows k x → is_sound k → has_room x.now.cargo ≡ true };
+    ghost numbered: { (k : Self) (x : Seen) → shows k x → is_sound k
+        → has_room x.now.cargo ≡ true };
 }

@@ -227,9 +227,9 @@ fn shed_among<S: StateStore>(
     Ok(rows)
 }
 
-/// The waybills with pieces in store, ascending: their balances, and one read more for each. A fault
-/// says that a call of the store failed, that memory ran out, or that what it returned is no lawful
-/// state's.
+/// The waybills with pieces in store, ascending: their balances, and one read more for each. A
+/// fault says that a call of the store failed, that memory ran out, or that what it returned is no
+/// lawful state's.
 pub fn shed_rows<S: StateStore>(alloc: Global, store: &mut S) -> Result<Vec<ShedRow>, StoreFault>
     ensures value { (s : State) → S.shows store.old (at_rest s) → IsLawful s.cargo
         → S.is_sound store.new → IfOk result (λ rows. rows.items ≡ shed_rows s.cargo) }
@@ -302,9 +302,9 @@ fn flights_among<S: StateStore>(
     Ok(rows)
 }
 
-/// The flights that are noted, with what is built on each: a read for all, and one for each flight. A
-/// fault says that a call of the store failed, that memory ran out, or that more waybills are built
-/// on a flight than a lawful state has.
+/// The flights that are noted, with what is built on each: a read for all, and one for each flight.
+/// A fault says that a call of the store failed, that memory ran out, or that more waybills are
+/// built on a flight than a lawful state has.
 pub fn flight_rows<S: StateStore>(
     alloc: Global,
     store: &mut S,
@@ -354,9 +354,9 @@ fn expected_among<S: StateStore>(
     Ok(rows)
 }
 
-/// What flights are to bring, by flight and then by waybill: a read for all, and one for each line. A
-/// fault says that a call of the store failed, that memory ran out, or that an expected waybill isn't
-/// declared.
+/// What flights are to bring, by flight and then by waybill: a read for all, and one for each line.
+/// A fault says that a call of the store failed, that memory ran out, or that an expected waybill
+/// isn't declared.
 pub fn expected_rows<S: StateStore>(
     alloc: Global,
     store: &mut S,

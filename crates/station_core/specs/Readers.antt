@@ -66,8 +66,8 @@ irregular_row s w = record {
 abbrev pub irregular_rows : Cargo → List IrregularRow
 irregular_rows s = flat_map (λ w. if is_irregular s w then irregular_row s w ∷ [] else []) (waybills_of s.book)
 
--- the waybills with pieces in store, ascending: what is free, and what is built on flights, which is
--- the rest of what is in store
+-- the waybills with pieces in store, ascending: what is free, and what is built on flights, which
+-- is the rest of what is in store
 abbrev pub is_in_shed : Cargo → ℕ → Bool
 is_in_shed s w = nat_lt 0 (store s.book w).pieces
 

@@ -43,8 +43,8 @@ load_on book flight w = record { awb = w; amount = built book w flight }
 abbrev pub loads_on : List Move → FlightDate → List Load
 loads_on book flight = map (load_on book flight) (waybills_on book flight)
 
--- All balances, each waybill's once, ascending: a look-up finds them, and a waybill that isn't listed
--- has nothing.
+-- All balances, each waybill's once, ascending: a look-up finds them, and a waybill that isn't
+-- listed has nothing.
 abbrev pub nothing : Balances
 nothing = record {
   taken = amount 0 0;

@@ -134,7 +134,8 @@ pub trait Keeper {
             S.takes (λ s rows. rows ≡ trail_by query.now s) sink.old sink.new };
 
     /// A reopening finds the state that it keeps.
-    ghost settled: { (k : Self) (s : State) → keeps k s → is_sound k → (found : Option State) → may_find k found → found ≡ Some s };
+    ghost settled: { (k : Self) (s : State) → keeps k s → is_sound k → (found : Option State)
+        → may_find k found → found ≡ Some s };
 
     /// Each state that a reopening may find is lawful.
     ghost lawful: { (k : Self) (s : State) → is_sound k → may_find k (Some s) → IsLawfulState s };

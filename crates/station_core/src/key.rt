@@ -31,7 +31,10 @@ impl Model for Key {
 
     ghost inverse = { λ text. record { bytes = filled_up 40 text; len = length text } };
 
-    ghost inverse_ok = { λ a h i. record { bytes = filled_up-take 40 a.len a.bytes h.0 i; len = length-filled 40 a.len a.bytes h.0 i } };
+    ghost inverse_ok = { λ a h i. record {
+      bytes = filled_up-take 40 a.len a.bytes h.0 i;
+      len = length-filled 40 a.len a.bytes h.0 i;
+    } };
 }
 
 fn are_key_bytes(text: &[u8]) -> bool

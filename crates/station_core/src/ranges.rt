@@ -88,8 +88,9 @@ fn status_range(status: &StatusContent<'_>)
 }
 
 /// What a telegram says is in range, as its types keep it. So is a key, by
-/// [`Key::as_bytes`](crate::Key::as_bytes), and a command, by [`command_text`](desk_commands::command_text):
-/// [`step_law`](crate::step_law) and [`run_law`](crate::run_law) hold of whatever a station is handed.
+/// [`Key::as_bytes`](crate::Key::as_bytes), and a command, by
+/// [`command_text`](desk_commands::command_text): [`step_law`](crate::step_law) and
+/// [`run_law`](crate::run_law) hold of whatever a station is handed.
 pub fn content_range_law(content: &Content<'_>)
     ensures { IsContent content.now }
 {

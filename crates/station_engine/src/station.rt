@@ -244,7 +244,8 @@ impl<S: StateStore> Keeper for StoredStation<S> {
 
     ghost may_find = { λ k found. Finds (S.may_find k.store) found };
 
-    ghost settled = { λ k s keeps sound found finds. found_is (S.may_find k.store) s keeps.0 (S.settled k.store s keeps.1 sound) found finds };
+    ghost settled = { λ k s keeps sound found finds. found_is (S.may_find k.store) s keeps.0
+        (S.settled k.store s keeps.1 sound) found finds };
 
     ghost lawful = { λ k s sound finds. finds.1 };
 

@@ -53,7 +53,8 @@ pub record IsOpening (airport : List ℕ) (v : View) : Type 0 where
   pub at_rest : IsAtRest v
   pub now_is : v.now ≡ opening airport
 
--- No fault is forgotten, and a crash leaves what it left before, or in a store that was vacant the tables of a new station.
+-- No fault is forgotten, and a crash leaves what it left before, or in a store that was vacant the
+-- tables of a new station.
 pub record MayOpen (Vacant : Type 0) (airport : List ℕ) (old new : View) : Type 0 where
   pub sound : new.IsSound → old.IsSound
   pub crash : new.IsSound → (t : Tables) → new.may_leave t → old.may_leave t ⊎ (Vacant × (t ≡ opening airport))

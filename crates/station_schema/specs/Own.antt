@@ -28,7 +28,8 @@ pub record IsNewStation (airport : List ℕ) (db : Trees) : Type 0 where
   pub own : IsOwn db
   pub tables : tables_of db ≡ opening airport
 
--- In each store of this type that is open, the rows of the last commit lie by their rowids, as its listing says.
+-- In each store of this type that is open, the rows of the last commit lie by their rowids, as its
+-- listing says.
 abbrev pub LiesInOrder : {S : Type 0} → Ghosts S → Type 0
 LiesInOrder {S} g = (s : S) → IsTrue (g.view s).is_open
     → IsOrdered (g.view s).committed_shape (g.view s).committed

@@ -17,7 +17,8 @@ key_column name kind = record { name = name; kind = kind; is_strict = true; not_
 abbrev pub column_of : List ℕ → Kind → Column
 column_of name kind = record { name = name; kind = kind; is_strict = true; not_null = true; default = Null; collation = Binary }
 
--- a STRICT table whose first column is its INTEGER PRIMARY KEY; its rows lie in the tree of this number
+-- a STRICT table whose first column is its INTEGER PRIMARY KEY; its rows lie in the tree of this
+-- number
 abbrev pub keyed_table : ℕ → List ℕ → List Column → Table
 keyed_table tree name columns = record {
   name = name;

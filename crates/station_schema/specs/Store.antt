@@ -3,19 +3,22 @@ use Rattle.std.specs.Prelude.{◌≡◌, ◌⊎◌, Bool, true, false}
 use Rattle.station_schema.specs.Tables.{Tables}
 
 pub record View : Type 1 where
-  -- as the transaction sees them, and as the last commit left them; they say nothing once the store is shut
+  -- as the transaction sees them, and as the last commit left them; they say nothing once the store
+  -- is shut
   pub now : Tables
   pub committed : Tables
   pub in_transaction : Bool
   pub is_open : Bool
   -- so far the disk has returned what was written
   pub IsClean : Type 0
-  -- the premise of what is said of values: it is clean, and its tables are declared as a new station declares them
+  -- the premise of what is said of values: it is clean, and its tables are declared as a new
+  -- station declares them
   pub IsSound : Type 0
   -- what an open after a crash at this moment may find
   pub may_leave : Tables → Type 0
 
--- what a store shows: what the transaction sees, what the last commit left, and whether a transaction is open
+-- what a store shows: what the transaction sees, what the last commit left, and whether a
+-- transaction is open
 pub record Seen : Type 0 where
   pub now : Tables
   pub committed : Tables
@@ -46,7 +49,8 @@ pub record IsAtRest (v : View) : Type 0 where
   pub same : v.now ≡ v.committed
 
 module _ (old new : View) where
-  -- whatever a call returns: no fault is forgotten, what was sound and is clean is sound, and a crash leaves what it left before
+  -- whatever a call returns: no fault is forgotten, what was sound and is clean is sound, and a
+  -- crash leaves what it left before
   pub record Survives : Type 0 where
     pub clean : new.IsClean → old.IsClean
     pub still : old.IsSound → new.IsClean → new.IsSound

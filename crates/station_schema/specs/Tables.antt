@@ -1,4 +1,5 @@
--- The tables of a station as typed rows: a list where SQLite is given the key as an id, and a map where the key is of columns.
+-- The tables of a station as typed rows: a list where SQLite is given the key as an id, and a map
+-- where the key is of columns.
 use Rattle.std.specs.Prelude.{◌≡◌, ◌==◌, ℤ, pos, ℕ, List, [], ◌∷◌, map, MatchBool}
 use Rattle.sqlite.specs.declared.types.Value.TheVariants.{Null, Int, Text}
 use Rattle.sqlite.specs.Order.{Row, column}
@@ -16,8 +17,9 @@ use Rattle.sqlite_keyed.proofs.SortLemmas.{pair_cmp}
 use Rattle.row_laws.specs.Columns.{AreEntries, AreListed}
 use Rattle.station_schema.specs.Schema.{old_schema, station_schema}
 
--- Of each table: a row (where the key is of columns, apart from the key), the row as it is stored, and back. A row that is stored
--- begins with its rowid; SQLite keeps NULL in the place of an INTEGER PRIMARY KEY.
+-- Of each table: a row (where the key is of columns, apart from the key), the row as it is stored,
+-- and back. A row that is stored begins with its rowid; SQLite keeps NULL in the place of an
+-- INTEGER PRIMARY KEY.
 
 -- ---- station
 

@@ -31,7 +31,8 @@ pub fn create_beside<S: Alter>(conn: &mut Connection<S>, airport: &str) -> Resul
     ensures undone { HasCleanDisk (state S.Store conn.new) → IsSettled (state S.Store conn.old)
         → OnErr result (IsUndone (state S.Store conn.old) (state S.Store conn.new)) }
     ensures rests { HasCleanDisk (state S.Store conn.new)
-        → OnOk result (IsTrue (state S.Store conn.new).is_open × IsSettled (state S.Store conn.new)) }
+        → OnOk result (IsTrue (state S.Store conn.new).is_open
+        × IsSettled (state S.Store conn.new)) }
     ensures step { IsOneStep (state S.Store conn.old) (state S.Store conn.new) }
 {
     let mut tables = conn.transaction();

@@ -148,8 +148,8 @@ pub record HasMoved {S : Type 0} (g : Ghosts S) (conn : Held S)
       → Survives (state g conn) (state g e.0) (λ _. ⊥))
 
 -- A call over what a crash may leave of a station that gave its connection back. Its opening keeps
--- a state that a reopening of that station may find, works and is sound; and unless such a reopening
--- may find no station, it fails only where the store does or memory is out.
+-- a state that a reopening of that station may find, works and is sound; and unless such a
+-- reopening may find no station, it fails only where the store does or memory is out.
 pub record GoesOn {S : Type 0} (g : Ghosts S) (keeps : Station S g → State → Type 0) (is_sound : Station S g → Type 0) (is_broken : Station S g → Bool)
     (may_find : Station S g → Option State → Type 0) (last : Station S g)
     (opened : Result (Station S g) (Held S × AttachFault)) : Type 0 where

@@ -34,7 +34,8 @@ impl RowFold<TrailRow> for NumberedRows {
 
     type Beside = Vec<WaybillRow>;
 
-    ghost has = { λ waybills lines rows. AreLinesTaken (map waybill_meant waybills.items) lines rows };
+    ghost has = { λ waybills lines rows. AreLinesTaken (map waybill_meant waybills.items) lines
+        rows };
 
     fn take(&mut self, waybills: &Vec<WaybillRow>, row: TrailRow) -> Result<(), Error> {
         let is_lawful = is_lawful(&row, waybills);

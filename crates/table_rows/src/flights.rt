@@ -131,7 +131,8 @@ fn read_noted_flight(row: &Row) -> Result<NotedFlightRow, Error>
 }
 
 fn read_flights(alloc: Global, rows: &[Row]) -> Result<Vec<NotedFlightRow>, Error>
-    ensures { IfOk result (λ all. map noted_flight_meant all.items ≡ map noted_flight_read rows.now) }
+    ensures { IfOk result
+        (λ all. map noted_flight_meant all.items ≡ map noted_flight_read rows.now) }
 {
     let mut all = Vec::new(alloc);
     for row in rows {

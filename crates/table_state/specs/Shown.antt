@@ -64,8 +64,8 @@ pub record HaveAsked (sets : WaybillSets) (book : List Move) : Type 0 where
   pub stored : HasAsked Stored sets.stored book
   pub irregular : HasAsked Irregular sets.irregular book
 
--- whether a waybill may be asked for after a move and not before: pieces come from outside the store,
--- or are found or missing
+-- whether a waybill may be asked for after a move and not before: pieces come from outside the
+-- store, or are found or missing
 abbrev pub opens : WaybillQuery → Move → Bool
 opens Stored m = not (in_store m.from)
 opens Irregular m = same_place Surplus m.from || same_place Missing m.to

@@ -7,8 +7,8 @@ ghost use Rattle.telegrams.specs.declared.telegram.Content.TheVariants as conten
 ghost use Rattle.telegram_look.specs.Look.{AreNumbered, AreRead, IsLook, dropped_texts, loaded_by, seen_texts};
 ghost use Rattle.telegram_look.specs.declared.look.Look.{Look};
 
-/// Each line of a telegram is seen once, in order, and the lines of its message are numbered from 1.
-/// What is read of a consignment line is what its own text says. The lines of a manifest say
+/// Each line of a telegram is seen once, in order, and the lines of its message are numbered from
+/// 1. What is read of a consignment line is what its own text says. The lines of a manifest say
 /// exactly the cargo of the manifest, in order.
 pub fn look_law()
     ensures once { (bytes : List ℕ) (look : Look) → IsLook bytes look

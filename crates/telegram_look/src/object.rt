@@ -231,9 +231,11 @@ fn passed_list(alloc: Global, lines: &[SeenLine<'_>]) -> Result<String, AllocErr
 /// - `kind`: `FWB`, `FFM` or `FSU`. An FFM has also `part`, `flight`, `date` and `loaded`, an FSU
 ///   `awb`;
 /// - `dropped`: each line before the message, an object of `text` and `doubtful`;
-/// - `read`: for an FWB its consignment and for an FFM each consignment, an object of `line`, `awb`,
-///   `origin`, `destination`, `pieces`, `tenths` (of a kilogram) and `total` (pieces, or `null`), for
-///   an FFM also `unload`; for an FSU each status line, an object of `line`, `text` and `doubtful`;
+/// - `read`: for an FWB its consignment and for an FFM each consignment, an object of `line`,
+/// `awb`,
+///   `origin`, `destination`, `pieces`, `tenths` (of a kilogram) and `total` (pieces, or `null`),
+///   for an FFM also `unload`; for an FSU each status line, an object of `line`, `text` and
+///   `doubtful`;
 /// - `passed`: each line that is passed over, an object of `line`, `text` and `doubtful`;
 /// - `doubtful`: whether some line is doubtful.
 ///

@@ -105,7 +105,8 @@ impl<'a> Model for StatusLines<'a> {
 
     ghost view = { λ a. a.texts.items };
 
-    ghost invariant = { λ a. (length a.texts.items ≤ 1000) × IsTrue (list_all is_line a.texts.items) };
+    ghost invariant = { λ a. (length a.texts.items ≤ 1000)
+        × IsTrue (list_all is_line a.texts.items) };
 }
 
 impl<'a> StatusLines<'a> {

@@ -28,8 +28,8 @@ fn fault_of<A: Answers>(
     Ok(Some(format!(in alloc; "came {came:?}")?))
 }
 
-/// Goes through the cases of a file, and prints each that came out otherwise, with its line, or else how many there were. Whether
-/// all came out as they must.
+/// Goes through the cases of a file, and prints each that came out otherwise, with its line, or
+/// else how many there were. Whether all came out as they must.
 pub fn go_through<R: AllocGlobal + Print, A: Answers>(
     rt: &R,
     file: &str,

@@ -1,6 +1,7 @@
-//! What the test libraries share: files of cases, in which a line says what is asked, of which text,
-//! and what is expected, as `airport 'FRA' = FRA`; and what cases ask with and are answered in, such
-//! as commands as inputs, inputs and outputs that fail, and texts of a station's replies and rows.
+//! What the test libraries share: files of cases, in which a line says what is asked, of which
+//! text, and what is expected, as `airport 'FRA' = FRA`; and what cases ask with and are answered
+//! in, such as commands as inputs, inputs and outputs that fail, and texts of a station's replies
+//! and rows.
 #![tactic(auto)]
 
 mod case;
