@@ -3,7 +3,7 @@ use Rattle.std.proofs.Common.{◌≡◌, ℕ, Bool, false, Option, Result, Ok, E
 use Rattle.std.proofs.lemmas.Bool.{true≢false}
 use Rattle.std.specs.Prelude.{OnOk, OnErr, IfErr}
 use Rattle.shipment_machine.specs.Cargo.{Cargo}
-use Rattle.station_core.specs.Keeping.{IsReadersFault, OnlyReads, HandsOut}
+use Rattle.station_core.specs.Keeping.{HandsOut, IsReadersFault, OnlyReads, keeping}
 use Rattle.row_sinks.specs.Handed.{HandedOut}
 use Rattle.station_core.specs.declared.answer.ActFault.{ActFault}
 use Rattle.station_core.specs.declared.answer.ActFault.TheVariants as fault
@@ -16,7 +16,7 @@ readers_fault (Err e) is = subst IsReadersFault (sym is) tt
 
 -- what stays as it was was only read
 pub unchanged : {K : Type 0} (keeps : K → State → Type 0) (is_clean is_sound : K → Type 0) (is_broken : K → Bool) (may_find : K → Option State → Type 0) (old new : K)
-    → new ≡ old → OnlyReads keeps is_clean is_sound is_broken may_find old new
+    → new ≡ old → OnlyReads (keeping keeps is_clean is_sound is_broken may_find) old new
 unchanged keeps is_clean is_sound is_broken may_find old new same = record {
   breaks = ap is_broken same;
   clean = subst is_clean same;
@@ -41,7 +41,7 @@ module _ {S Row : Type 0} (takes : S → Row → Bool → S → Type 0) (AreRows
   pub hands_out : {K : Type 0} (state : K → State) (old new : K) (r : Result (Unit {0}) ActFault) (from to : S)
       → OnOk r (All (state old) from to) → OnErr r (Part (state old) from to)
       → IfErr r (λ e. e ≡ fault.Memory) → OnErr r (to ≡ from) → new ≡ old
-      → HandsOut (λ k s. state k ≡ s) (λ k. Unit {0}) (λ k. Unit {0}) (λ k. false) (λ k found. ⊥) old new r takes AreRows from to
+      → HandsOut (keeping (λ k s. state k ≡ s) (λ k. Unit {0}) (λ k. Unit {0}) (λ k. false) (λ k found. ⊥)) old new r takes AreRows from to
   hands_out state old new r from to all part memory none same = record {
     reopen = λ broken. absurd (true≢false (sym broken));
     fault = λ works. readers_fault r memory;
@@ -68,6 +68,6 @@ module _ {S Row : Type 0} (takes : S → Row → Bool → S → Type 0) (rows_of
       → OnOk r (HandedOut takes (rows_of (state old).cargo) from to)
       → OnErr r ((n : ℕ) × HandedOut takes (take n (rows_of (state old).cargo)) from to)
       → IfErr r (λ e. e ≡ fault.Memory) → OnErr r (to ≡ from) → new ≡ old
-      → HandsOut (λ k s. state k ≡ s) (λ k. Unit {0}) (λ k. Unit {0}) (λ k. false) (λ k found. ⊥) old new r takes AreThese from to
+      → HandsOut (keeping (λ k s. state k ≡ s) (λ k. Unit {0}) (λ k. Unit {0}) (λ k. false) (λ k found. ⊥)) old new r takes AreThese from to
   hands_out_these state old new r from to handed begun memory none same =
       hands_out takes AreThese state old new r from to (all r (state old) from to handed) (part r (state old) from to begun) memory none same

@@ -1,5 +1,5 @@
 -- The flights that are noted and what flights are to bring, listed in order.
-use Rattle.std.proofs.Common.{◌≡◌, ℕ, zero, suc, ◌<◌, Bool, true, false, ◌&&◌, ◌||◌, ◌==◌, length, arith, List, [], ◌∷◌, ◌++◌, insert, option_map, is_some, find, get_or, IsSome, IfSome, Option, Some, None, Err, Ordering, Less, Equal, Greater, All, is_eq, refl, sym, ap, ◌∙◌, subst, true≢false}
+use Rattle.std.proofs.Common.{◌≡◌, cond, ℕ, zero, suc, ◌<◌, Bool, true, false, ◌&&◌, ◌||◌, ◌==◌, length, arith, List, [], ◌∷◌, ◌++◌, insert, option_map, is_some, find, get_or, IsSome, IfSome, Option, Some, None, Err, Ordering, Less, Equal, Greater, All, is_eq, refl, sym, ap, ◌∙◌, subst, true≢false}
 use Rattle.std.specs.List.{list_any}
 use Rattle.std.specs.List.Sorted.{IsBinarySearchResult}
 use Rattle.std.specs.FinMap.{nat_cmp-IsAntisymmetric, slice_cmp-IsAntisymmetric}
@@ -18,7 +18,9 @@ use Rattle.shipment_machine.specs.Lawful.{IsLawful, IsLawfulAmount}
 use Rattle.shipment_machine.proofs.FlightKeys.{same-is, same-refl, same-sym}
 use Rattle.station_core.specs.declared.rows.NotedFlight.{NotedFlight}
 use Rattle.station_core.specs.declared.rows.Expectation.{Expectation}
-use Rattle.station_core.specs.Readers.{by_flight, AreNoted, by_expectation, AreExpectations}
+use Rattle.station_core.specs.declared.rows.ExpectedQuery.{ExpectedQuery}
+use Rattle.station_core.specs.declared.rows.ExpectedQuery.TheVariants as query
+use Rattle.station_core.specs.Readers.{by_flight, AreNoted, by_expectation, AreExpectations, asked_of, expected_for}
 use Rattle.plain_station.specs.Lists.{flights_in, expected_in}
 use Rattle.plain_station.specs.declared.rows.FlightRow.{FlightRow}
 use Rattle.plain_station.specs.declared.rows.ExpectedRow.{ExpectedRow}
@@ -148,10 +150,17 @@ declared_there : (D : Type 0) (o : Option Expected) (row : Option Expectation) �
 declared_there D o None e there law = absurd (true≢false (sym there))
 declared_there D o (Some r) e there law = (subst (λ (x : Option Expected). IfSome x (λ e. IsLawfulAmount e.pieces e.tenths × D)) e law).1
 
+-- what holds of a line that is there holds of one that is asked for
+asked_if : (P : Expected → Type 0) (query : ExpectedQuery) (o : Option Expected) → IfSome o P → IfSome (asked_of query o) P
+asked_if P query.All o h = h
+asked_if P query.Open None h = h
+asked_if P query.Open (Some line) h = elim line.checked as (λ b. IfSome (cond b None (Some line)) P) [ true ↦ tt | false ↦ h ]
+
 -- what is expected is of a declared waybill
-pub known_expected : (s : Cargo) → IsLawful s → (rows : List Expectation) → AreExpectations s.expected rows → All (λ (r : Expectation). IsSome (s.declared r.awb)) rows
-known_expected s law rows are = λ k d low.
+pub known_asked : (query : ExpectedQuery) (s : Cargo) → IsLawful s → (rows : List Expectation) → AreExpectations (expected_for query s.expected) rows → All (λ (r : Expectation). IsSome (s.declared r.awb)) rows
+known_asked query s law rows are = λ k d low.
     let r : Expectation = get_or rows k d in
     let itself = and_from _ _ (same-refl r.flight) (eq-eqb r.awb r.awb refl) in
-    declared_there (IsSome (s.declared r.awb)) (s.expected r.flight r.awb) (find (is_of r.flight r.awb) rows) (are.same r.flight r.awb)
-    (any_found (is_of r.flight r.awb) rows ∙ any_at (is_of r.flight r.awb) rows k r d low refl itself) (law.expectations r.flight r.awb)
+    declared_there (IsSome (s.declared r.awb)) (asked_of query (s.expected r.flight r.awb)) (find (is_of r.flight r.awb) rows) (are.same r.flight r.awb)
+    (any_found (is_of r.flight r.awb) rows ∙ any_at (is_of r.flight r.awb) rows k r d low refl itself)
+    (asked_if _ query (s.expected r.flight r.awb) (law.expectations r.flight r.awb))

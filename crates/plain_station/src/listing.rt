@@ -2,7 +2,8 @@
 ghost use Rattle.std.specs.Prelude.{◌≡◌, ◌≤◌, length, sum_by, List, ℕ, take, IsSome, IfOk, OnOk, OnErr, IfErr};
 ghost use Rattle.row_sinks.specs.Handed.{HandedOut};
 ghost use Rattle.shipment_machine.specs.Book.{built};
-ghost use Rattle.station_core.specs.Readers.{AreNoted, flight_row, AreFlightRows, AreExpectations, expected_row, AreExpectedRows};
+ghost use Rattle.station_core.specs.Keeping.{IsMemory};
+ghost use Rattle.station_core.specs.Readers.{AreNoted, flight_row, AreFlightRows, AreExpectations, expected_row, AreExpectedBy};
 ghost use Rattle.station_core.specs.declared.rows.ExpectedRow.{ExpectedRow as AnyExpected};
 ghost use Rattle.station_core.specs.declared.rows.FlightRow.{FlightRow as AnyFlight};
 ghost use Rattle.plain_station.specs.Lists.{cargo_of};
@@ -11,7 +12,10 @@ use crate::cargo::PlainCargo;
 use crate::order::{put_expected, put_flight};
 use awb_number::Awb;
 use shipment_machine::FlightDate;
-use station_core::{ActFault, Expectation, ExpectedRow, FlightRow, NotedFlight, Sink, hand_out};
+use station_core::{
+    ActFault, Expectation, ExpectedQuery, ExpectedRow, FlightRow, NotedFlight, Sink,
+    expectations_for, hand_out,
+};
 use std::alloc::AllocError;
 
 impl PlainCargo {
@@ -79,7 +83,7 @@ impl PlainCargo {
         ensures beginning { OnErr result ((rows : List AnyFlight)
             → AreFlightRows (cargo_of self.now.lists) rows → (n : ℕ)
             × HandedOut S.takes (take n rows) sink.old sink.new) }
-        ensures memory { IfErr result (λ fault. fault ≡ ActFault.Memory) }
+        ensures memory { IfErr result IsMemory }
         ensures none { OnErr result (sink.new ≡ sink.old) }
     {
         let Ok(flights) = self.flight_rows() else {
@@ -116,30 +120,36 @@ impl PlainCargo {
         }
     }
 
-    /// What flights are to bring with the waybills' routes, in its order.
-    fn expected_rows(&self) -> Result<Vec<ExpectedRow>, AllocError>
-        ensures { IfOk result (λ rows. AreExpectedRows (cargo_of self.now.lists) rows.items) }
+    /// What flights are to bring of what is asked for, with the waybills' routes, in its order.
+    fn expected_rows(&self, query: &ExpectedQuery) -> Result<Vec<ExpectedRow>, AllocError>
+        ensures { IfOk result (λ rows.
+            AreExpectedBy query.now (cargo_of self.now.lists) rows.items) }
     {
+        let all = self.expectations()?;
         let mut rows = Vec::new(self.lists.alloc);
-        for expectation in &self.expectations()? {
+        for expectation in &expectations_for(self.lists.alloc, *query, &all)? {
             rows.push(self.expected_row(expectation))?;
         }
         Ok(rows)
     }
 
-    /// Hands out what flights are to bring, by flight and then by waybill, until the sink takes no
-    /// more. Out of memory, it hands out nothing.
-    pub(crate) fn expected<S: Sink<ExpectedRow>>(&self, sink: &mut S) -> Result<(), ActFault>
+    /// Hands out what flights are to bring of what is asked for, by flight and then by waybill,
+    /// until the sink takes no more. Out of memory, it hands out nothing.
+    pub(crate) fn expected_by<S: Sink<ExpectedRow>>(
+        &self,
+        query: &ExpectedQuery,
+        sink: &mut S,
+    ) -> Result<(), ActFault>
         ensures rows { OnOk result ((rows : List AnyExpected)
-            × AreExpectedRows (cargo_of self.now.lists) rows
+            × AreExpectedBy query.now (cargo_of self.now.lists) rows
             × HandedOut S.takes rows sink.old sink.new) }
         ensures beginning { OnErr result ((rows : List AnyExpected)
-            → AreExpectedRows (cargo_of self.now.lists) rows → (n : ℕ)
+            → AreExpectedBy query.now (cargo_of self.now.lists) rows → (n : ℕ)
             × HandedOut S.takes (take n rows) sink.old sink.new) }
-        ensures memory { IfErr result (λ fault. fault ≡ ActFault.Memory) }
+        ensures memory { IfErr result IsMemory }
         ensures none { OnErr result (sink.new ≡ sink.old) }
     {
-        let Ok(expected) = self.expected_rows() else {
+        let Ok(expected) = self.expected_rows(query) else {
             return Err(ActFault::Memory);
         };
         hand_out(sink, expected);

@@ -5,6 +5,7 @@ ghost use Rattle.agent_stock.specs.declared.runs.StockRun.{StockRun};
 ghost use Rattle.row_sinks.specs.Handed.{HandedOut};
 ghost use Rattle.shipment_machine.specs.Amount.{less};
 ghost use Rattle.shipment_machine.specs.Book.{store};
+ghost use Rattle.station_core.specs.Keeping.{IsMemory};
 ghost use Rattle.station_core.specs.Readers.{told_of, waybill_of, is_irregular, irregular_row, irregular_rows, book_by, is_in_shed, shed_row, shed_rows, book_rows, message, pending_messages, trail_row, trail_rows, trail_by};
 ghost use Rattle.plain_station.specs.Lists.{cargo_of, trail_row as kept_line, texts_in};
 
@@ -38,7 +39,7 @@ impl PlainCargo {
         ensures beginning { OnErr result ((rows : List StockRun)
             → AreStockRuns (cargo_of self.now.lists).holders rows → (n : ℕ)
             × HandedOut S.takes (take n rows) sink.old sink.new) }
-        ensures memory { IfErr result (λ fault. fault ≡ ActFault.Memory) }
+        ensures memory { IfErr result IsMemory }
         ensures none { OnErr result (sink.new ≡ sink.old) }
     {
         let Ok(runs) = self.lists.stock.runs(self.lists.alloc) else {
@@ -122,7 +123,7 @@ impl PlainCargo {
         ensures beginning { OnErr result ((n : ℕ)
             × HandedOut S.takes (take n (irregular_rows (cargo_of self.now.lists))) sink.old
             sink.new) }
-        ensures memory { IfErr result (λ fault. fault ≡ ActFault.Memory) }
+        ensures memory { IfErr result IsMemory }
         ensures none { OnErr result (sink.new ≡ sink.old) }
     {
         let Ok(waybills) = self.irregular_rows() else {
@@ -196,7 +197,7 @@ impl PlainCargo {
             (HandedOut S.takes (shed_rows (cargo_of self.now.lists)) sink.old sink.new) }
         ensures beginning { OnErr result ((n : ℕ)
             × HandedOut S.takes (take n (shed_rows (cargo_of self.now.lists))) sink.old sink.new) }
-        ensures memory { IfErr result (λ fault. fault ≡ ActFault.Memory) }
+        ensures memory { IfErr result IsMemory }
         ensures none { OnErr result (sink.new ≡ sink.old) }
     {
         let Ok(stored) = self.shed_rows() else {
@@ -243,7 +244,7 @@ impl PlainCargo {
             (HandedOut S.takes (book_by query.now (cargo_of self.now.lists)) sink.old sink.new) }
         ensures beginning { OnErr result ((n : ℕ) × HandedOut S.takes
             (take n (book_by query.now (cargo_of self.now.lists))) sink.old sink.new) }
-        ensures memory { IfErr result (λ fault. fault ≡ ActFault.Memory) }
+        ensures memory { IfErr result IsMemory }
         ensures none { OnErr result (sink.new ≡ sink.old) }
     {
         let Ok(moves) = self.movements(query) else {
@@ -284,7 +285,7 @@ impl PlainCargo {
         ensures beginning { OnErr result ((n : ℕ)
             × HandedOut S.takes (take n (pending_messages (cargo_of self.now.lists))) sink.old
             sink.new) }
-        ensures memory { IfErr result (λ fault. fault ≡ ActFault.Memory) }
+        ensures memory { IfErr result IsMemory }
         ensures none { OnErr result (sink.new ≡ sink.old) }
     {
         let Ok(messages) = self.pending_rows() else {
@@ -337,7 +338,7 @@ impl PlainCargo {
             (HandedOut S.takes (trail_by query.now (cargo_of self.now.lists)) sink.old sink.new) }
         ensures beginning { OnErr result ((n : ℕ) × HandedOut S.takes
             (take n (trail_by query.now (cargo_of self.now.lists))) sink.old sink.new) }
-        ensures memory { IfErr result (λ fault. fault ≡ ActFault.Memory) }
+        ensures memory { IfErr result IsMemory }
         ensures none { OnErr result (sink.new ≡ sink.old) }
     {
         let Ok(lines) = self.lines(query) else {

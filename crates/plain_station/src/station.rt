@@ -3,9 +3,9 @@ ghost use Rattle.agent_stock.specs.Runs.{AreStockRuns};
 ghost use Rattle.agent_stock.specs.declared.runs.StockRun.{StockRun as AnyRun};
 ghost use Rattle.desk_commands.specs.Command.{command_text};
 ghost use Rattle.plain_station.specs.State.{state_of};
-ghost use Rattle.station_core.specs.Keeping.{Acts, Breaks};
+ghost use Rattle.station_core.specs.Keeping.{Acts, Breaks, IsMemory};
 ghost use Rattle.row_sinks.specs.Handed.{HandedOut};
-ghost use Rattle.station_core.specs.Readers.{waybill_of, shed_rows, AreFlightRows, AreExpectedRows, irregular_rows, book_by, pending_messages, trail_by};
+ghost use Rattle.station_core.specs.Readers.{waybill_of, shed_rows, AreFlightRows, AreExpectedBy, irregular_rows, book_by, pending_messages, trail_by};
 ghost use Rattle.station_core.specs.Step.{opening};
 ghost use Rattle.station_core.specs.declared.rows.ExpectedRow.{ExpectedRow as AnyExpected};
 ghost use Rattle.station_core.specs.declared.rows.FlightRow.{FlightRow as AnyFlight};
@@ -18,8 +18,8 @@ use awb_number::Awb;
 use desk_commands::{Command, command_text};
 use imp_fields::Airport;
 use station_core::{
-    ActFault, Answer, BookQuery, BookRow, ExpectedRow, FlightRow, Input, IrregularRow, Keeper, Key,
-    Message, Reply, ShedRow, Sink, TrailQuery, TrailRow, Waybill,
+    ActFault, Answer, BookQuery, BookRow, ExpectedQuery, ExpectedRow, FlightRow, Input,
+    IrregularRow, Keeper, Key, Message, Reply, ShedRow, Sink, TrailQuery, TrailRow, Waybill,
 };
 use station_days::Moment;
 use std::alloc::Global;
@@ -187,7 +187,7 @@ impl Keeper for PlainStation {
         ensures beginning { OnErr result ((rows : List AnyRun)
             → AreStockRuns (state_of self.old).cargo.holders rows → (n : ℕ)
             × HandedOut S.takes (take n rows) sink.old sink.new) }
-        ensures memory { IfErr result (λ fault. fault ≡ ActFault.Memory) }
+        ensures memory { IfErr result IsMemory }
         ensures none { OnErr result (sink.new ≡ sink.old) }
         ensures as_before { self.new ≡ self.old }
     {
@@ -199,7 +199,7 @@ impl Keeper for PlainStation {
             (HandedOut S.takes (shed_rows (state_of self.old).cargo) sink.old sink.new) }
         ensures beginning { OnErr result ((n : ℕ)
             × HandedOut S.takes (take n (shed_rows (state_of self.old).cargo)) sink.old sink.new) }
-        ensures memory { IfErr result (λ fault. fault ≡ ActFault.Memory) }
+        ensures memory { IfErr result IsMemory }
         ensures none { OnErr result (sink.new ≡ sink.old) }
         ensures as_before { self.new ≡ self.old }
     {
@@ -213,25 +213,29 @@ impl Keeper for PlainStation {
         ensures beginning { OnErr result ((rows : List AnyFlight)
             → AreFlightRows (state_of self.old).cargo rows → (n : ℕ)
             × HandedOut S.takes (take n rows) sink.old sink.new) }
-        ensures memory { IfErr result (λ fault. fault ≡ ActFault.Memory) }
+        ensures memory { IfErr result IsMemory }
         ensures none { OnErr result (sink.new ≡ sink.old) }
         ensures as_before { self.new ≡ self.old }
     {
         self.cargo.flights(sink)
     }
 
-    fn expected<S: Sink<ExpectedRow>>(&mut self, sink: &mut S) -> Result<(), ActFault>
+    fn expected_by<S: Sink<ExpectedRow>>(
+        &mut self,
+        query: &ExpectedQuery,
+        sink: &mut S,
+    ) -> Result<(), ActFault>
         ensures rows { OnOk result ((rows : List AnyExpected)
-            × AreExpectedRows (state_of self.old).cargo rows
+            × AreExpectedBy query.now (state_of self.old).cargo rows
             × HandedOut S.takes rows sink.old sink.new) }
         ensures beginning { OnErr result ((rows : List AnyExpected)
-            → AreExpectedRows (state_of self.old).cargo rows → (n : ℕ)
+            → AreExpectedBy query.now (state_of self.old).cargo rows → (n : ℕ)
             × HandedOut S.takes (take n rows) sink.old sink.new) }
-        ensures memory { IfErr result (λ fault. fault ≡ ActFault.Memory) }
+        ensures memory { IfErr result IsMemory }
         ensures none { OnErr result (sink.new ≡ sink.old) }
         ensures as_before { self.new ≡ self.old }
     {
-        self.cargo.expected(sink)
+        self.cargo.expected_by(query, sink)
     }
 
     fn irregular<S: Sink<IrregularRow>>(&mut self, sink: &mut S) -> Result<(), ActFault>
@@ -240,7 +244,7 @@ impl Keeper for PlainStation {
         ensures beginning { OnErr result ((n : ℕ)
             × HandedOut S.takes (take n (irregular_rows (state_of self.old).cargo)) sink.old
             sink.new) }
-        ensures memory { IfErr result (λ fault. fault ≡ ActFault.Memory) }
+        ensures memory { IfErr result IsMemory }
         ensures none { OnErr result (sink.new ≡ sink.old) }
         ensures as_before { self.new ≡ self.old }
     {
@@ -252,7 +256,7 @@ impl Keeper for PlainStation {
             (HandedOut S.takes (book_by query.now (state_of self.old).cargo) sink.old sink.new) }
         ensures beginning { OnErr result ((n : ℕ) × HandedOut S.takes
             (take n (book_by query.now (state_of self.old).cargo)) sink.old sink.new) }
-        ensures memory { IfErr result (λ fault. fault ≡ ActFault.Memory) }
+        ensures memory { IfErr result IsMemory }
         ensures none { OnErr result (sink.new ≡ sink.old) }
         ensures as_before { self.new ≡ self.old }
     {
@@ -265,7 +269,7 @@ impl Keeper for PlainStation {
         ensures beginning { OnErr result ((n : ℕ)
             × HandedOut S.takes (take n (pending_messages (state_of self.old).cargo)) sink.old
             sink.new) }
-        ensures memory { IfErr result (λ fault. fault ≡ ActFault.Memory) }
+        ensures memory { IfErr result IsMemory }
         ensures none { OnErr result (sink.new ≡ sink.old) }
         ensures as_before { self.new ≡ self.old }
     {
@@ -281,7 +285,7 @@ impl Keeper for PlainStation {
             (HandedOut S.takes (trail_by query.now (state_of self.old).cargo) sink.old sink.new) }
         ensures beginning { OnErr result ((n : ℕ) × HandedOut S.takes
             (take n (trail_by query.now (state_of self.old).cargo)) sink.old sink.new) }
-        ensures memory { IfErr result (λ fault. fault ≡ ActFault.Memory) }
+        ensures memory { IfErr result IsMemory }
         ensures none { OnErr result (sink.new ≡ sink.old) }
         ensures as_before { self.new ≡ self.old }
     {

@@ -1,5 +1,5 @@
 -- What a report that ended before its end leaves.
-use Rattle.std.specs.Prelude.{◌≡◌, ◌⊎◌, ℕ, ◌<◌, Result, Ok, Err, List, ◌++◌, length}
+use Rattle.std.specs.Prelude.{◌≡◌, ◌⊎◌, ℕ, ◌<◌, Bool, true, Result, Ok, Err, List, ◌++◌, length}
 use Rattle.station_core.specs.Given.{Given}
 use Rattle.station_core.specs.Ends.{Sent, HasCause, NoneFailed, OneFailed}
 use Rattle.station_core.specs.Keeping.{IsReadersFault}
@@ -11,6 +11,10 @@ use Rattle.reports.specs.declared.fault.ReportFault.{ReportFault}
 -- the station has to be opened again, and nothing went out
 abbrev pub IsReopen : Result (Unit {0}) ReportFault → Type 0
 IsReopen result = result ≡ Err (record { sent = 0; cause = cause.Act act.Reopen })
+
+-- one that has to be opened again stays as it is, and so does the writer
+abbrev pub OnlyReopens : {K : Type 0} → Bool → Result (Unit {0}) ReportFault → K → K → Given → Given → Type 0
+OnlyReopens is_broken result old new from to = is_broken ≡ true → IsReopen result × (new ≡ old) × (to ≡ from)
 
 -- of a station that is open: the writer's fault, out of memory, or the store's
 abbrev pub IsCause : ReportCause → Type 0

@@ -10,12 +10,14 @@ use Rattle.agent_stock.specs.declared.stock.Holder.TheVariants.{Agent}
 use Rattle.shipment_machine.specs.declared.flight.FlightDate.{FlightDate}
 use Rattle.station_core.specs.declared.rows.FlightRow.{FlightRow}
 use Rattle.station_core.specs.declared.rows.ExpectedRow.{ExpectedRow}
+use Rattle.station_core.specs.declared.rows.ExpectedQuery.{ExpectedQuery}
+use Rattle.station_core.specs.declared.rows.ExpectedQuery.TheVariants as expected
 use Rattle.station_core.specs.declared.rows.Message.{Message}
 use Rattle.station_core.specs.declared.rows.BookQuery.{BookQuery}
 use Rattle.station_core.specs.declared.rows.BookQuery.TheVariants as book
 use Rattle.station_core.specs.declared.rows.TrailQuery.{TrailQuery}
 use Rattle.station_core.specs.declared.rows.TrailQuery.TheVariants as trail
-use Rattle.station_core.specs.Readers.{shed_rows, AreFlightRows, AreExpectedRows, irregular_rows, book_by, pending_messages, trail_by}
+use Rattle.station_core.specs.Readers.{shed_rows, AreFlightRows, AreExpectedBy, irregular_rows, book_by, pending_messages, trail_by}
 use Rattle.station_core.specs.Step.{State}
 use Rattle.reports.specs.Lines.{stock_line, shed_line, flight_line, expected_line, irregular_line, manifest_line, book_line, message_lines, trail_line, report_text}
 use Rattle.reports.specs.Objects.{object_of, count_data, stock_data, shed_data, flight_data, expected_data, irregular_data, manifest_data, book_data, message_data, trail_data}
@@ -87,12 +89,17 @@ IsPendingAfter f s n text = text ≡ rows_text f message_lines message_data (fil
 abbrev pub IsManifest : Form → State → FlightDate → List ℕ → Type 0
 IsManifest f s flight text = text ≡ rows_text f manifest_line manifest_data (manifest_rows s.cargo flight)
 
+-- what flights are to bring of what is asked for
+abbrev pub IsExpected : Form → State → ExpectedQuery → List ℕ → Type 0
+IsExpected f s query text =
+    (rows : List ExpectedRow) × AreExpectedBy query s.cargo rows × (text ≡ rows_text f expected_line expected_data rows)
+
 -- a whole report in a form
 abbrev pub IsWhole : Form → State → Report → List ℕ → Type 0
 IsWhole f s report.Stock text = (rows : List StockRun) × AreStockRuns s.cargo.holders rows × (text ≡ rows_text f stock_line stock_data rows)
 IsWhole f s report.Shed text = text ≡ rows_text f shed_line shed_data (shed_rows s.cargo)
 IsWhole f s report.Flights text = (rows : List FlightRow) × AreFlightRows s.cargo rows × (text ≡ rows_text f flight_line flight_data rows)
-IsWhole f s report.Expected text = (rows : List ExpectedRow) × AreExpectedRows s.cargo rows × (text ≡ rows_text f expected_line expected_data rows)
+IsWhole f s report.Expected text = IsExpected f s expected.All text
 IsWhole f s report.Irregularities text = text ≡ rows_text f irregular_line irregular_data (irregular_rows s.cargo)
 IsWhole f s report.Movements text = IsMovements f s book.All text
 IsWhole f s report.Trail text = IsTrail f s trail.All text
@@ -103,8 +110,7 @@ abbrev pub IsListing : Form → State → Listing → List ℕ → Type 0
 IsListing f s (listing.All r) text = IsWhole f s r text
 IsListing f s listing.OpenFlights text =
     (rows : List FlightRow) × AreFlightRows s.cargo rows × (text ≡ rows_text f flight_line flight_data (filter is_open rows))
-IsListing f s listing.OpenExpected text =
-    (rows : List ExpectedRow) × AreExpectedRows s.cargo rows × (text ≡ rows_text f expected_line expected_data (filter is_awaited rows))
+IsListing f s listing.OpenExpected text = IsExpected f s expected.Open text
 IsListing f s (listing.AgentStock code) text =
     (rows : List StockRun) × AreStockRuns s.cargo.holders rows × (text ≡ rows_text f stock_line stock_data (filter (is_held_by code) rows))
 IsListing f s (listing.Movements w) text = IsMovements f s (book.Of w) text

@@ -1,10 +1,14 @@
 //! Laws of the definitions: each report has one text.
-ghost use Rattle.std.specs.Prelude.{◌≡◌, ℕ, List};
+ghost use Rattle.std.specs.Prelude.{◌≡◌, ℕ, List, filter};
 ghost use Rattle.agent_stock.specs.Stock.{Holders};
 ghost use Rattle.agent_stock.specs.Runs.{AreStockRuns};
 ghost use Rattle.agent_stock.specs.declared.runs.StockRun.{StockRun};
 ghost use Rattle.reports.specs.Reports.{IsStockReport, IsFlightReport, IsExpectedReport};
+ghost use Rattle.reports.specs.Listings.{is_awaited};
 ghost use Rattle.shipment_machine.specs.Cargo.{Cargo};
+ghost use Rattle.station_core.specs.Readers.{AreExpectedBy, AreExpectedRows};
+ghost use Rattle.station_core.specs.declared.rows.ExpectedQuery.TheVariants.{Open};
+ghost use Rattle.station_core.specs.declared.rows.ExpectedRow.{ExpectedRow};
 
 /// A stock has one list of maximal runs, and its report has one text.
 pub fn stock_report_law()
@@ -24,4 +28,10 @@ pub fn flight_report_law()
 pub fn expected_report_law()
     ensures { (s : Cargo) (text other : List ℕ) → IsExpectedReport s text
         → IsExpectedReport s other → text ≡ other }
+{}
+
+/// The lines of what flights are to bring that weren't checked in are those that are open.
+pub fn open_expected_law()
+    ensures { (s : Cargo) (rows : List ExpectedRow) → AreExpectedRows s rows
+        → AreExpectedBy Open s (filter is_awaited rows) }
 {}

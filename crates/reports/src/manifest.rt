@@ -1,7 +1,7 @@
 //! What is on a flight.
 ghost use Rattle.std.specs.Prelude.{◌≡◌, true, false, IfErr, IfOk, Err};
 ghost use Rattle.reports.specs.Manifest.{has_pieces, manifest_rows};
-ghost use Rattle.station_core.specs.Keeping.{IsReadersFault, OnlyReads};
+ghost use Rattle.station_core.specs.Keeping.{IsReadersFault, OnlyReads, keeping};
 ghost use Rattle.station_core.specs.Step.{State};
 
 use crate::readings::Reading;
@@ -39,7 +39,7 @@ fn manifest_of<K: Keeper>(
     ensures reopen { K.is_broken keeper.old ≡ true
         → (result ≡ Err ActFault.Reopen) × (keeper.new ≡ keeper.old) }
     ensures fault { K.is_broken keeper.old ≡ false → IfErr result IsReadersFault }
-    ensures reads { OnlyReads K.keeps K.is_clean K.is_sound K.is_broken K.may_find
+    ensures reads { OnlyReads (keeping K.keeps K.is_clean K.is_sound K.is_broken K.may_find)
         keeper.old keeper.new }
     ensures rows { (s : State) → K.keeps keeper.old s → K.is_sound keeper.new
         → IfOk result (λ rows. rows.items ≡ manifest_rows s.cargo flight.now) }

@@ -1,9 +1,9 @@
 //! Rows that are picked out of those of a report.
 ghost use Rattle.std.specs.Prelude.{◌≡◌, true, not};
-ghost use Rattle.reports.specs.Listings.{is_open, is_awaited, is_held_by, is_behind};
+ghost use Rattle.reports.specs.Listings.{is_open, is_held_by, is_behind};
 
 use agent_stock::{AgentCode, Holder, StockRun};
-use station_core::{ExpectedRow, FlightRow, Message};
+use station_core::{FlightRow, Message};
 
 /// Which rows are wanted.
 pub(crate) trait Pick<Row> {
@@ -29,23 +29,15 @@ impl<Row> Pick<Row> for EveryRow {
     }
 }
 
-/// The noted flights that haven't departed, and what isn't checked in.
+/// The noted flights that haven't departed.
 #[derive(Drop)]
-pub(crate) struct OpenRows;
+pub(crate) struct OpenFlights;
 
-impl Pick<FlightRow> for OpenRows {
+impl Pick<FlightRow> for OpenFlights {
     ghost wanted = { λ pick row. is_open row };
 
     fn wants(&self, row: &FlightRow) -> bool {
         !row.noted.outbound.closed
-    }
-}
-
-impl Pick<ExpectedRow> for OpenRows {
-    ghost wanted = { λ pick row. is_awaited row };
-
-    fn wants(&self, row: &ExpectedRow) -> bool {
-        !row.expectation.expected.checked
     }
 }
 

@@ -1,19 +1,19 @@
 //! What a keeper hands out for each report.
 ghost use Rattle.std.specs.Prelude.{◌≡◌};
 ghost use Rattle.agent_stock.specs.Runs.{AreStockRuns};
-ghost use Rattle.station_core.specs.Readers.{shed_rows, AreFlightRows, AreExpectedRows, irregular_rows, book_by, pending_messages, trail_by};
+ghost use Rattle.station_core.specs.Readers.{shed_rows, AreFlightRows, AreExpectedBy, irregular_rows, book_by, pending_messages, trail_by};
 
 use agent_stock::StockRun;
 use station_core::{
-    ActFault, BookQuery, BookRow, ExpectedRow, FlightRow, IrregularRow, Keeper, Message, ShedRow,
-    Sink, TrailQuery, TrailRow,
+    ActFault, BookQuery, BookRow, ExpectedQuery, ExpectedRow, FlightRow, IrregularRow, Keeper,
+    Message, ShedRow, Sink, TrailQuery, TrailRow,
 };
 
 /// A reader of rows.
 pub(crate) trait Reading<Row> {
     ghost use Rattle.std.specs.Prelude.{List};
     ghost use Rattle.shipment_machine.specs.Cargo.{Cargo};
-    ghost use Rattle.station_core.specs.Keeping.{HandsOut};
+    ghost use Rattle.station_core.specs.Keeping.{HandsOut, keeping};
 
     /// The rows are these.
     ghost rows: { Self → Cargo → List Row → Type 0 };
@@ -24,7 +24,7 @@ pub(crate) trait Reading<Row> {
         keeper: &mut K,
         sink: &mut S,
     ) -> Result<(), ActFault>
-        ensures { HandsOut K.keeps K.is_clean K.is_sound K.is_broken K.may_find
+        ensures { HandsOut (keeping K.keeps K.is_clean K.is_sound K.is_broken K.may_find)
             keeper.old keeper.new result S.takes (rows self.now) sink.old sink.new };
 }
 
@@ -78,17 +78,19 @@ impl Reading<FlightRow> for FlightReading {
 
 /// What flights are to bring.
 #[derive(Drop)]
-pub(crate) struct ExpectedReading;
+pub(crate) struct ExpectedReading {
+    pub(crate) query: ExpectedQuery,
+}
 
 impl Reading<ExpectedRow> for ExpectedReading {
-    ghost rows = { λ reading s rows. AreExpectedRows s rows };
+    ghost rows = { λ reading s rows. AreExpectedBy reading.query s rows };
 
     fn hand_out<K: Keeper, S: Sink<ExpectedRow>>(
         &self,
         keeper: &mut K,
         sink: &mut S,
     ) -> Result<(), ActFault> {
-        keeper.expected(sink)
+        keeper.expected_by(&self.query, sink)
     }
 }
 

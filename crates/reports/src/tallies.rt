@@ -3,6 +3,7 @@ ghost use Rattle.std.specs.Prelude.{◌≡◌, ◌++◌, true, false, IfErr, IfO
 ghost use Rattle.std.specs.BTreeMap.{IsOrdered};
 ghost use Rattle.std.specs.List.{flat_map};
 ghost use Rattle.std.specs.Ordering.{nat_cmp};
+ghost use Rattle.station_core.specs.Keeping.{IsMemory};
 ghost use Rattle.reports.specs.Tallies.{counted, listed, nothing_of, row_of, with_move};
 
 use crate::manifest::ManifestRow;
@@ -108,7 +109,7 @@ impl Tally {
 
 /// Puts the row of a waybill after the others, if it has pieces.
 fn put_row(rows: &mut Vec<ManifestRow>, tally: &Tally) -> Result<(), ActFault>
-    ensures fault { IfErr result (λ fault. fault ≡ ActFault.Memory) }
+    ensures fault { IfErr result IsMemory }
     ensures rows { OnOk result (rows.new.items ≡ rows.old.items ++ listed tally.now) }
 {
     let Some(row) = tally.row() else {
@@ -168,7 +169,7 @@ impl Tallies {
 
     /// The rows of the waybills that have pieces, ascending.
     pub(crate) fn rows(&self, alloc: Global) -> Result<Vec<ManifestRow>, ActFault>
-        ensures fault { IfErr result (λ fault. fault ≡ ActFault.Memory) }
+        ensures fault { IfErr result IsMemory }
         ensures room { OnOk result (self.now.is_full ≡ false) }
         ensures ordered { IsOrdered nat_cmp self.now.by_number }
         ensures rows { IfOk result (λ rows. rows.items

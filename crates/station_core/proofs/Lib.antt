@@ -1,9 +1,12 @@
+pub mod Asked
 mod Examples
 mod Keys
+pub mod Premise
 mod RangeLaws
 mod Reading
 mod Refusals
 mod RetryLaw
+pub mod Rising
 mod RunLaw
 mod Runs
 pub mod StepLaw

@@ -260,22 +260,14 @@ told_stands (cut_after i m ∷ es) s true told P h t =
 told_stands (reopened ∷ es) s up told P h t = told_stands es s true told P h t
 
 -- nothing is kept at the opening
-stands_from_opening : (here : List ℕ) (is : List (Input × LocalMinute)) (j : Input) (r : Reply) → IsKeptOrStands (opening here) is j r → StandsIn is (answers_of (opening here) is) j r
-stands_from_opening here is (Keyed key command) r (inl kept) = absurd (nothing r kept)
-  where
-    nothing : (r : Reply) → ◌≡◌ {A = Option Answer} None (Some (Done r)) → ⊥
-    nothing r e = cc
-stands_from_opening here is (Wire telegram) r (inl kept) = absurd (nothing r kept)
-  where
-    nothing : (r : Reply) → ◌≡◌ {A = Option Answer} None (Some (Done r)) → ⊥
-    nothing r e = cc
-stands_from_opening here is j r (inr stands) = stands
+pub new_keeps_none : (here : List ℕ) (i : Input) → repeated (opening here) i ≡ None
+new_keeps_none here (Keyed key command) = refl
+new_keeps_none here (Wire telegram) = refl
 
 -- the law of retries
-pub acts_once : (here : List ℕ) (events : List RetryEvent) → ActsOnce here events
-acts_once here events = record {
-  state = state_after events (opening here) true [];
-  once = (commit_once events (opening here) true []).once;
-  told = told_stands events (opening here) true [] (StandsIn (committed (started here) events) (answers_of (opening here) (committed (started here) events)))
-      (stands_from_opening here (committed (started here) events)) tt;
+pub acts_once : (start : State) (events : List RetryEvent) → ActsOnce start events
+acts_once start events = record {
+  state = state_after events start true [];
+  once = (commit_once events start true []).once;
+  told = told_stands events start true [] (λ i reply. IsKeptOrStands start (committed (started start) events) i reply) (λ i reply h. h) tt;
 }

@@ -48,3 +48,12 @@ NoneFailed old new = (new.failures ≡ old.failures) × (new.idle ≡ old.idle)
 abbrev pub OneFailed : Given → Given → Type 0
 OneFailed old new = ((new.failures ≡ old.failures + 1) × (new.idle ≡ old.idle))
     ⊎ ((new.failures ≡ old.failures) × (new.idle ≡ old.idle + 1))
+
+-- a beginning of a line went out, which may be all
+abbrev pub HasSent : List ℕ → Given → Given → Type 0
+HasSent line old new = (n : ℕ) × Sent old new line n
+
+-- all of a line went out; or a beginning of it, where the writer failed or took no byte
+abbrev pub SendsLine : List ℕ → Given → Given → Type 0
+SendsLine line old new =
+    (new.bytes ≡ old.bytes ++ line) ⊎ (HasSent line old new × HasCause old new)

@@ -69,6 +69,10 @@ IsMemoryOrReopen fault.Memory = Unit {0}
 IsMemoryOrReopen fault.Reopen = Unit {0}
 IsMemoryOrReopen _ = ⊥
 
+-- memory ran out
+abbrev pub IsMemory : ActFault → Type 0
+IsMemory e = e ≡ fault.Memory
+
 -- a reader never refuses
 abbrev pub IsReadersFault : ActFault → Type 0
 IsReadersFault fault.Memory = Unit {0}
@@ -82,27 +86,56 @@ IsAfterAnswered s inputs answered ended found =
     (found ≡ Some (after_all s (take answered inputs)))
     ⊎ ((ended ≡ Some fault.Store) × (answered < length inputs) × (found ≡ Some (after_all s (take (answered + 1) inputs))))
 
--- A reader changes nothing: what is kept stays, a reopening finds what it found before, and no
--- other call returns anything else.
-pub record OnlyReads {K : Type 0} (keeps : K → State → Type 0) (is_clean is_sound : K → Type 0) (is_broken : K → Bool) (may_find : K → Option State → Type 0) (old new : K) : Type 0 where
-  pub breaks : is_broken new ≡ is_broken old
+-- What is said of a keeper: the state that it keeps, whether the disk was true to it, whether what
+-- is kept is sound, whether it has to be opened again, and what a reopening may find.
+pub record Keeping (K : Type 0) : Type 1 where
+  pub keeps : K → State → Type 0
+  pub is_clean : K → Type 0
+  pub is_sound : K → Type 0
+  pub is_broken : K → Bool
+  pub may_find : K → Option State → Type 0
+
+abbrev pub keeping : {K : Type 0} → (K → State → Type 0) → (K → Type 0) → (K → Type 0) → (K → Bool)
+    → (K → Option State → Type 0) → Keeping K
+keeping keeps is_clean is_sound is_broken may_find =
+    record { keeps = keeps; is_clean = is_clean; is_sound = is_sound; is_broken = is_broken; may_find = may_find }
+
+-- A call changes whether the disk was true and what is kept is sound only where the disk fails.
+pub record KeepsPremise {K : Type 0} (is_clean is_sound : K → Type 0) (old new : K) : Type 0 where
   pub clean : is_clean new → is_clean old
   pub still : is_sound old → is_clean new → is_sound new
   pub sound : is_sound new → is_sound old
-  pub same : (s : State) → keeps old s → is_sound new → keeps new s
-  pub leaves : is_sound new → (found : Option State) → may_find new found → may_find old found
+
+-- what worked goes on to work, where a call is answered
+abbrev pub KeepsWorking : {A E : Type 0} → Bool → Bool → Result A E → Type 0
+KeepsWorking was_broken is_broken result = was_broken ≡ false → OnOk result (is_broken ≡ false)
+
+-- one that has to be opened again stays as it is
+abbrev pub StaysIfBroken : {K : Type 0} → Bool → K → K → Type 0
+StaysIfBroken is_broken old new = is_broken ≡ true → new ≡ old
+
+-- A reader changes nothing: what is kept stays, a reopening finds what it found before, and no
+-- other call returns anything else.
+pub record OnlyReads {K : Type 0} (k : Keeping K) (old new : K) : Type 0 where
+  pub breaks : k.is_broken new ≡ k.is_broken old
+  pub clean : k.is_clean new → k.is_clean old
+  pub still : k.is_sound old → k.is_clean new → k.is_sound new
+  pub sound : k.is_sound new → k.is_sound old
+  pub same : (s : State) → k.keeps old s → k.is_sound new → k.keeps new s
+  pub leaves :
+      k.is_sound new → (found : Option State) → k.may_find new found → k.may_find old found
 
 -- A reader of rows changes nothing. At Ok its sink took the rows in order, or those up to one after
 -- which it wanted no more; at Err a beginning of them. A station that has to be opened again hands
 -- out nothing.
-pub record HandsOut {K S Row : Type 0} (keeps : K → State → Type 0) (is_clean is_sound : K → Type 0) (is_broken : K → Bool) (may_find : K → Option State → Type 0)
-    (old new : K) (result : Result (Unit {0}) ActFault) (takes : S → Row → Bool → S → Type 0) (AreRows : Cargo → List Row → Type 0) (from to : S) : Type 0 where
-  pub reopen : is_broken old ≡ true → (result ≡ Err fault.Reopen) × (new ≡ old) × (to ≡ from)
-  pub fault : is_broken old ≡ false → IfErr result IsReadersFault
-  pub reads : OnlyReads keeps is_clean is_sound is_broken may_find old new
-  pub rows : (s : State) → keeps old s → is_sound new
+pub record HandsOut {K S Row : Type 0} (k : Keeping K) (old new : K) (result : Result (Unit {0}) ActFault)
+    (takes : S → Row → Bool → S → Type 0) (AreRows : Cargo → List Row → Type 0) (from to : S) : Type 0 where
+  pub reopen : k.is_broken old ≡ true → (result ≡ Err fault.Reopen) × (new ≡ old) × (to ≡ from)
+  pub fault : k.is_broken old ≡ false → IfErr result IsReadersFault
+  pub reads : OnlyReads k old new
+  pub rows : (s : State) → k.keeps old s → k.is_sound new
       → OnOk result ((rows : List Row) × AreRows s.cargo rows × HandedOut takes rows from to)
-  pub beginning : (s : State) → keeps old s → is_sound new
+  pub beginning : (s : State) → k.keeps old s → k.is_sound new
       → OnErr result ((rows : List Row) → AreRows s.cargo rows → (n : ℕ)
       × HandedOut takes (take n rows) from to)
   -- whatever it returns, the sink took some rows, one after another

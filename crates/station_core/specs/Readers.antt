@@ -1,5 +1,5 @@
 -- What the readers of a station hand out of its cargo.
-use Rattle.std.specs.Prelude.{◌≡◌, ℕ, ◌+◌, ◌-◌, Bool, ◌||◌, ◌&&◌, ◌==◌, nat_lt, if◌then◌else◌, IsTrue, Option, Some, None, List, [], ◌∷◌, length, map, drop, filter, false}
+use Rattle.std.specs.Prelude.{◌≡◌, ℕ, ◌+◌, ◌-◌, Bool, ◌||◌, ◌&&◌, ◌==◌, not, nat_lt, if◌then◌else◌, IsTrue, Option, Some, None, List, [], ◌∷◌, length, map, drop, filter, true, false}
 use Rattle.std.specs.List.{find, flat_map, sum_by}
 use Rattle.std.specs.FinMap.{is_sorted}
 use Rattle.std.specs.Ordering.{nat_cmp, ordering_then}
@@ -24,6 +24,8 @@ use Rattle.station_core.specs.declared.rows.NotedFlight.{NotedFlight}
 use Rattle.station_core.specs.declared.rows.FlightRow.{FlightRow}
 use Rattle.station_core.specs.declared.rows.Expectation.{Expectation}
 use Rattle.station_core.specs.declared.rows.ExpectedRow.{ExpectedRow}
+use Rattle.station_core.specs.declared.rows.ExpectedQuery.{ExpectedQuery}
+use Rattle.station_core.specs.declared.rows.ExpectedQuery.TheVariants as expected
 use Rattle.station_core.specs.declared.rows.BookRow.{BookRow}
 use Rattle.station_core.specs.declared.rows.BookQuery.{BookQuery}
 use Rattle.station_core.specs.declared.rows.BookQuery.TheVariants as book
@@ -124,6 +126,25 @@ expected_row s row = record {
 
 abbrev pub AreExpectedRows : Cargo → List ExpectedRow → Type 0
 AreExpectedRows s rows = (all : List Expectation) × AreExpectations s.expected all × (rows ≡ map (expected_row s) all)
+
+-- whether a line of what flights are to bring is asked for: each, or one that wasn't checked in yet
+abbrev pub asks_for : ExpectedQuery → Expected → Bool
+asks_for expected.All line = true
+asks_for expected.Open line = not line.checked
+
+-- the same of what a flight is to bring of a waybill, if it is to bring anything
+abbrev pub asked_of : ExpectedQuery → Option Expected → Option Expected
+asked_of expected.All line = line
+asked_of expected.Open None = None
+asked_of expected.Open (Some line) = if line.checked then None else Some line
+
+abbrev pub expected_for : ExpectedQuery → (FlightDate → ℕ → Option Expected) → FlightDate → ℕ → Option Expected
+expected_for query lines f w = asked_of query (lines f w)
+
+-- the same of what is asked for alone
+abbrev pub AreExpectedBy : ExpectedQuery → Cargo → List ExpectedRow → Type 0
+AreExpectedBy query s rows =
+    (asked : List Expectation) × AreExpectations (expected_for query s.expected) asked × (rows ≡ map (expected_row s) asked)
 
 -- rows with their numbers, from the first one's number on
 abbrev pub numbered : {X Row : Type 0} → (ℕ → X → Row) → ℕ → List X → List Row

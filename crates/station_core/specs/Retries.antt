@@ -1,5 +1,5 @@
 -- A caller that repeats its inputs, and a station that power may cut at any moment.
-use Rattle.std.specs.Prelude.{◌≡◌, ℕ, Bool, true, false, ◌&&◌, IsTrue, is_none, if◌then◌else◌, ◌⊎◌, List, [], ◌∷◌, ◌++◌}
+use Rattle.std.specs.Prelude.{◌≡◌, ℕ, Bool, true, false, ◌&&◌, IsTrue, is_none, if◌then◌else◌, ◌⊎◌, List, [], ◌∷◌, ◌++◌, Option, Some}
 use Rattle.std.specs.List.{AllByRecursion, list_any}
 use Rattle.std.specs.Str.{bytes_eq}
 use Rattle.station_days.specs.Date.{LocalMinute}
@@ -9,7 +9,7 @@ use Rattle.station_core.specs.declared.input.Input.TheVariants.{Keyed, Wire}
 use Rattle.desk_commands.specs.Command.{command_text}
 use Rattle.station_core.specs.declared.answer.Answer.{Answer}
 use Rattle.station_core.specs.declared.answer.Answer.TheVariants.{Done, Refused}
-use Rattle.station_core.specs.Step.{State, opening, repeated, step, after_all, answers_of}
+use Rattle.station_core.specs.Step.{State, repeated, step, after_all, answers_of}
 
 -- an input is sent and answered; it is cut off before or after its commit; the station is opened
 -- again
@@ -82,14 +82,19 @@ abbrev pub IfDone : Answer → (Reply → Type 0) → Type 0
 IfDone (Done reply) P = P reply
 IfDone (Refused refusal) P = Unit {0}
 
--- a station that was just made
-abbrev pub started : List ℕ → World
-started here = record { state = opening here; is_up = true; told = [] }
+-- a station that runs, and has answered nothing
+abbrev pub started : State → World
+started start = record { state = start; is_up = true; told = [] }
 
--- Whatever is sent, cut off and repeated: the state is that of the committed inputs, each once, in
--- their order; and each reply that was given is the run's.
-pub record ActsOnce (here : List ℕ) (events : List RetryEvent) : Type 0 where
-  pub state : (after_events (started here) events).state ≡ after_all (opening here) (committed (started here) events)
-  pub once : EachOnce (committed (started here) events)
-  pub told : AllByRecursion (λ (t : Input
-      × Answer). IfDone t.1 (λ reply. StandsIn (committed (started here) events) (answers_of (opening here) (committed (started here) events)) t.0 reply)) (after_events (started here) events).told
+-- the reply that a request got before, which the station has kept
+abbrev pub IsKept : State → Input → Reply → Type 0
+IsKept start i reply = repeated start i ≡ Some (Done reply)
+
+-- Whatever is sent, cut off and repeated from a state on: the state is that of the committed
+-- inputs, each once, in their order; and each reply that was given is the run's, or one that was
+-- kept before. A new station has kept none.
+pub record ActsOnce (start : State) (events : List RetryEvent) : Type 0 where
+  pub state : (after_events (started start) events).state ≡ after_all start (committed (started start) events)
+  pub once : EachOnce (committed (started start) events)
+  pub told : AllByRecursion (λ (t : Input × Answer). IfDone t.1 (λ reply. IsKept start t.0 reply
+      ⊎ StandsIn (committed (started start) events) (answers_of start (committed (started start) events)) t.0 reply)) (after_events (started start) events).told

@@ -78,10 +78,6 @@ irregular_by s row = record {
   found = row.balances.found;
 }
 
-abbrev pub irregulars_by : Cargo → WaybillBalances → List IrregularRow
-irregulars_by s row =
-    if nat_lt 0 row.balances.missing.pieces || nat_lt 0 row.balances.found.pieces then irregular_by s row ∷ [] else []
-
 abbrev pub shed_by : Cargo → WaybillBalances → ShedRow
 shed_by s row = record {
   awb = row.awb;
@@ -91,9 +87,6 @@ shed_by s row = record {
   built = less (stored_of row.balances) row.balances.free;
   notified = (declaration s row.awb).notified;
 }
-
-abbrev pub sheds_by : Cargo → WaybillBalances → List ShedRow
-sheds_by s row = if nat_lt 0 (stored_of row.balances).pieces then shed_by s row ∷ [] else []
 
 -- changes of a state
 

@@ -1,9 +1,9 @@
-ghost use Rattle.std.specs.Prelude.{◌≡◌, ◌<◌, true, false, [], take, length, None, Some, Err, Option, IfErr, OnOk, All};
+ghost use Rattle.std.specs.Prelude.{◌≡◌, ◌<◌, true, false, [], take, length, None, Some, Err, Option, IfErr, All};
 ghost use Rattle.station_days.specs.Date.{LocalMinute};
 ghost use Rattle.station_core.specs.declared.input.Input.{Input as AnyInput};
 ghost use Rattle.station_core.specs.declared.answer.ActFault.{ActFault};
 ghost use Rattle.station_core.specs.Step.{State, after_all, answers_of};
-ghost use Rattle.station_core.specs.Keeping.{Answers, MayLeave, IsMemoryOrStore, IsMemoryOrReopen, IsBrokenAfter, IsBrokenAtEnd, IsAfterAnswered};
+ghost use Rattle.station_core.specs.Keeping.{Answers, KeepsWorking, KeepsPremise, MayLeave, IsMemoryOrStore, IsMemoryOrReopen, IsBrokenAfter, IsBrokenAtEnd, IsAfterAnswered};
 
 use crate::answer::{ActFault, AllAnswers, Answer};
 use crate::input::Input;
@@ -17,10 +17,8 @@ pub fn answer_one<K: Keeper>(
     input: &Input<'_>,
     at: Moment,
 ) -> Result<Answer, ActFault>
-    ensures clean { K.is_clean keeper.new → K.is_clean keeper.old }
-    ensures still { K.is_sound keeper.old → K.is_clean keeper.new → K.is_sound keeper.new }
-    ensures sound { K.is_sound keeper.new → K.is_sound keeper.old }
-    ensures works { K.is_broken keeper.old ≡ false → OnOk result (K.is_broken keeper.new ≡ false) }
+    ensures premise { KeepsPremise K.is_clean K.is_sound keeper.old keeper.new }
+    ensures works { KeepsWorking (K.is_broken keeper.old) (K.is_broken keeper.new) result }
     ensures reopen { K.is_broken keeper.old ≡ true → (result ≡ Err ActFault.Reopen)
         × (keeper.new ≡ keeper.old) }
     ensures fault { K.is_broken keeper.old ≡ false → IfErr result IsMemoryOrStore }
@@ -66,9 +64,7 @@ pub fn act_all<K: Keeper>(
         × (keeper.new ≡ keeper.old) }
     ensures reopen_fault { K.is_broken keeper.old ≡ true → (e : ActFault) → result.fault ≡ Some e
         → IsMemoryOrReopen e }
-    ensures clean { K.is_clean keeper.new → K.is_clean keeper.old }
-    ensures still { K.is_sound keeper.old → K.is_clean keeper.new → K.is_sound keeper.new }
-    ensures sound { K.is_sound keeper.new → K.is_sound keeper.old }
+    ensures premise { KeepsPremise K.is_clean K.is_sound keeper.old keeper.new }
 
     // A reopening finds the state after the inputs that were answered, or where it ended by
     // `Store`, after one more.

@@ -3,8 +3,8 @@ ghost use Rattle.std.specs.Prelude.{◌≡◌, ℕ, Bool, true, false, List, Opt
 use crate::answer::{ActFault, Reply};
 use crate::input::Input;
 use crate::rows::{
-    BookQuery, BookRow, ExpectedRow, FlightRow, IrregularRow, Message, ShedRow, TrailQuery,
-    TrailRow, Waybill,
+    BookQuery, BookRow, ExpectedQuery, ExpectedRow, FlightRow, IrregularRow, Message, ShedRow,
+    TrailQuery, TrailRow, Waybill,
 };
 use agent_stock::{Holder, StockRun};
 use awb_number::Awb;
@@ -18,8 +18,8 @@ use station_days::Moment;
 pub trait Keeper {
     ghost use Rattle.agent_stock.specs.Runs.{AreStockRuns};
     ghost use Rattle.station_core.specs.Step.{State, IsLawfulState};
-    ghost use Rattle.station_core.specs.Keeping.{Breaks, Acts, Leaves, IsReadersFault, OnlyReads, HandsOut};
-    ghost use Rattle.station_core.specs.Readers.{waybill_of, shed_rows, AreFlightRows, AreExpectedRows, irregular_rows, book_rows, book_by, pending_messages, trail_rows, trail_by};
+    ghost use Rattle.station_core.specs.Keeping.{Breaks, Acts, Leaves, IsReadersFault, KeepsPremise, OnlyReads, HandsOut, keeping};
+    ghost use Rattle.station_core.specs.Readers.{waybill_of, shed_rows, AreFlightRows, AreExpectedBy, AreExpectedRows, irregular_rows, book_rows, book_by, pending_messages, trail_rows, trail_by};
 
     /// It keeps this state: what it returns is by it.
     ghost keeps: { Self → State → Type 0 };
@@ -43,9 +43,7 @@ pub trait Keeper {
         ensures reopen { is_broken self.old ≡ true → (result ≡ Err ActFault.Reopen)
             × (self.new ≡ self.old) }
         ensures breaks { is_broken self.old ≡ false → Breaks result (is_broken self.new) }
-        ensures clean { is_clean self.new → is_clean self.old }
-        ensures still { is_sound self.old → is_clean self.new → is_sound self.new }
-        ensures sound { is_sound self.new → is_sound self.old }
+        ensures premise { KeepsPremise is_clean is_sound self.old self.new }
 
         // The answer and the state are those of the step.
         ensures acts { (s : State) → keeps self.old s → is_broken self.old ≡ false
@@ -59,7 +57,8 @@ pub trait Keeper {
         ensures reopen { is_broken self.old ≡ true → (result ≡ Err ActFault.Reopen)
             × (self.new ≡ self.old) }
         ensures fault { is_broken self.old ≡ false → IfErr result IsReadersFault }
-        ensures reads { OnlyReads keeps is_clean is_sound is_broken may_find self.old self.new }
+        ensures reads { OnlyReads (keeping keeps is_clean is_sound is_broken may_find)
+            self.old self.new }
         ensures holder { (s : State) → keeps self.old s → is_sound self.new
             → IfOk result (λ holder. holder ≡ s.cargo.holders number.now) };
 
@@ -68,58 +67,72 @@ pub trait Keeper {
         ensures reopen { is_broken self.old ≡ true → (result ≡ Err ActFault.Reopen)
             × (self.new ≡ self.old) }
         ensures fault { is_broken self.old ≡ false → IfErr result IsReadersFault }
-        ensures reads { OnlyReads keeps is_clean is_sound is_broken may_find self.old self.new }
+        ensures reads { OnlyReads (keeping keeps is_clean is_sound is_broken may_find)
+            self.old self.new }
         ensures waybill { (s : State) → keeps self.old s → is_sound self.new
             → IfOk result (λ waybill. waybill ≡ waybill_of s.cargo number.now) };
 
     /// The stock, as its maximal runs of one holder, ascending.
     fn stock<S: Sink<StockRun>>(&mut self, sink: &mut S) -> Result<(), ActFault>
-        ensures { HandsOut keeps is_clean is_sound is_broken may_find self.old self.new result
-            S.takes (λ s rows. AreStockRuns s.holders rows) sink.old sink.new };
+        ensures { HandsOut (keeping keeps is_clean is_sound is_broken may_find)
+            self.old self.new result S.takes (λ s rows. AreStockRuns s.holders rows) sink.old sink.new };
 
     /// The waybills with pieces in store, ascending.
     fn shed<S: Sink<ShedRow>>(&mut self, sink: &mut S) -> Result<(), ActFault>
-        ensures { HandsOut keeps is_clean is_sound is_broken may_find self.old self.new result
-            S.takes (λ s rows. rows ≡ shed_rows s) sink.old sink.new };
+        ensures { HandsOut (keeping keeps is_clean is_sound is_broken may_find)
+            self.old self.new result S.takes (λ s rows. rows ≡ shed_rows s) sink.old sink.new };
 
     /// The flights that are noted, with what is built on each, by their written form and then by
     /// the day.
     fn flights<S: Sink<FlightRow>>(&mut self, sink: &mut S) -> Result<(), ActFault>
-        ensures { HandsOut keeps is_clean is_sound is_broken may_find self.old self.new result
-            S.takes (λ s rows. AreFlightRows s rows) sink.old sink.new };
+        ensures { HandsOut (keeping keeps is_clean is_sound is_broken may_find)
+            self.old self.new result S.takes (λ s rows. AreFlightRows s rows) sink.old sink.new };
 
     /// What flights are to bring, by flight as `flights` has them and then by waybill.
     fn expected<S: Sink<ExpectedRow>>(&mut self, sink: &mut S) -> Result<(), ActFault>
-        ensures { HandsOut keeps is_clean is_sound is_broken may_find self.old self.new result
-            S.takes (λ s rows. AreExpectedRows s rows) sink.old sink.new };
+        ensures { HandsOut (keeping keeps is_clean is_sound is_broken may_find)
+            self.old self.new result S.takes (λ s rows. AreExpectedRows s rows) sink.old sink.new }
+    {
+        self.expected_by(&ExpectedQuery::All, sink)
+    }
+
+    /// What flights are to bring of what is asked for, in the same order.
+    fn expected_by<S: Sink<ExpectedRow>>(
+        &mut self,
+        query: &ExpectedQuery,
+        sink: &mut S,
+    ) -> Result<(), ActFault>
+        ensures { HandsOut (keeping keeps is_clean is_sound is_broken may_find)
+            self.old self.new result S.takes (λ s rows. AreExpectedBy query.now s rows)
+            sink.old sink.new };
 
     /// The waybills of which pieces are missing or were found, ascending.
     fn irregular<S: Sink<IrregularRow>>(&mut self, sink: &mut S) -> Result<(), ActFault>
-        ensures { HandsOut keeps is_clean is_sound is_broken may_find self.old self.new result
-            S.takes (λ s rows. rows ≡ irregular_rows s) sink.old sink.new };
+        ensures { HandsOut (keeping keeps is_clean is_sound is_broken may_find)
+            self.old self.new result S.takes (λ s rows. rows ≡ irregular_rows s) sink.old sink.new };
 
     /// The movement book, in order.
     fn book<S: Sink<BookRow>>(&mut self, sink: &mut S) -> Result<(), ActFault>
-        ensures { HandsOut keeps is_clean is_sound is_broken may_find self.old self.new result
-            S.takes (λ s rows. rows ≡ book_rows s) sink.old sink.new }
+        ensures { HandsOut (keeping keeps is_clean is_sound is_broken may_find)
+            self.old self.new result S.takes (λ s rows. rows ≡ book_rows s) sink.old sink.new }
     {
         self.book_by(&BookQuery::All, sink)
     }
 
     /// The movements that are asked for, in order, with their numbers in the movement book.
     fn book_by<S: Sink<BookRow>>(&mut self, query: &BookQuery, sink: &mut S) -> Result<(), ActFault>
-        ensures { HandsOut keeps is_clean is_sound is_broken may_find self.old self.new result
-            S.takes (λ s rows. rows ≡ book_by query.now s) sink.old sink.new };
+        ensures { HandsOut (keeping keeps is_clean is_sound is_broken may_find)
+            self.old self.new result S.takes (λ s rows. rows ≡ book_by query.now s) sink.old sink.new };
 
     /// The messages that weren't confirmed yet, in order.
     fn pending<S: Sink<Message>>(&mut self, sink: &mut S) -> Result<(), ActFault>
-        ensures { HandsOut keeps is_clean is_sound is_broken may_find self.old self.new result
-            S.takes (λ s rows. rows ≡ pending_messages s) sink.old sink.new };
+        ensures { HandsOut (keeping keeps is_clean is_sound is_broken may_find)
+            self.old self.new result S.takes (λ s rows. rows ≡ pending_messages s) sink.old sink.new };
 
     /// The trail, in order.
     fn trail<S: Sink<TrailRow>>(&mut self, sink: &mut S) -> Result<(), ActFault>
-        ensures { HandsOut keeps is_clean is_sound is_broken may_find self.old self.new result
-            S.takes (λ s rows. rows ≡ trail_rows s) sink.old sink.new }
+        ensures { HandsOut (keeping keeps is_clean is_sound is_broken may_find)
+            self.old self.new result S.takes (λ s rows. rows ≡ trail_rows s) sink.old sink.new }
     {
         self.trail_by(&TrailQuery::All, sink)
     }
@@ -130,8 +143,8 @@ pub trait Keeper {
         query: &TrailQuery,
         sink: &mut S,
     ) -> Result<(), ActFault>
-        ensures { HandsOut keeps is_clean is_sound is_broken may_find self.old self.new result
-            S.takes (λ s rows. rows ≡ trail_by query.now s) sink.old sink.new };
+        ensures { HandsOut (keeping keeps is_clean is_sound is_broken may_find)
+            self.old self.new result S.takes (λ s rows. rows ≡ trail_by query.now s) sink.old sink.new };
 
     /// A reopening finds the state that it keeps.
     ghost settled: { (k : Self) (s : State) → keeps k s → is_sound k → (found : Option State)

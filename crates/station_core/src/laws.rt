@@ -1,15 +1,17 @@
 //! What holds of the definitions.
-ghost use Rattle.std.specs.Prelude.{◌≡◌, ℕ, List};
+ghost use Rattle.std.specs.Prelude.{◌≡◌, ℕ, List, None};
 ghost use Rattle.station_days.specs.Date.{LocalMinute};
 ghost use Rattle.shipment_machine.specs.Laws.{IsConserved, AreBalances};
 ghost use Rattle.station_core.specs.declared.input.Input.{Input};
 ghost use Rattle.station_core.specs.Ranges.{IsInput, AreInputs};
 ghost use Rattle.station_core.specs.Retries.{RetryEvent, ActsOnce};
-ghost use Rattle.station_core.specs.Step.{State, IsLawfulState, opening, step, after_all};
+ghost use Rattle.station_core.specs.Step.{State, IsLawfulState, opening, repeated, step, after_all};
 
-/// Whatever is sent, cut off by a crash and repeated, each accepted input acts once.
+/// Whatever is sent, cut off by a crash and repeated, each accepted input acts once, from any state
+/// on. A new station has kept no reply.
 pub fn retry_law()
-    ensures { (here : List ℕ) (events : List RetryEvent) → ActsOnce here events }
+    ensures once { (start : State) (events : List RetryEvent) → ActsOnce start events }
+    ensures new { (here : List ℕ) (input : Input) → repeated (opening here) input ≡ None }
 {}
 
 /// A new station is lawful, and a lawful station stays lawful under a step.

@@ -4,6 +4,7 @@
 mod all;
 mod answer;
 mod ends;
+mod expected_query;
 mod input;
 mod keeper;
 mod key;
@@ -20,6 +21,7 @@ mod texts;
 pub use all::{act_all, answer_one};
 pub use answer::{ActFault, AllAnswers, Answer, NO_NUMBERS_LEFT, Reply};
 pub use ends::{ByteIn, ByteOut, Counted, ReadFault, WriteFault, send};
+pub use expected_query::expectations_for;
 pub use input::Input;
 pub use keeper::Keeper;
 pub use key::Key;
@@ -27,8 +29,8 @@ pub use ranges::content_range_law;
 pub use repeat::repeated_key;
 pub use row_sinks::{Sink, hand_out};
 pub use rows::{
-    BookQuery, BookRow, Expectation, ExpectedRow, FlightRow, IrregularRow, Message, NotedFlight,
-    RowText, ShedRow, TrailQuery, TrailRow, Waybill,
+    BookQuery, BookRow, Expectation, ExpectedQuery, ExpectedRow, FlightRow, IrregularRow, Message,
+    NotedFlight, RowText, ShedRow, TrailQuery, TrailRow, Waybill,
 };
 pub use shipment::shipment_of;
 pub use stock::{count_of_order, refusal_of_order};

@@ -112,6 +112,15 @@ pub struct ExpectedRow {
     pub destination: Airport,
 }
 
+/// Which of what flights are to bring is asked for.
+#[derive(Clone, Copy, Debug, PartialEq, Eq)]
+pub enum ExpectedQuery {
+    /// All of it.
+    All,
+    /// What wasn't checked in yet.
+    Open,
+}
+
 /// A line of the movement book.
 #[derive(Clone, Copy, Debug, PartialEq, Eq)]
 pub struct BookRow {

@@ -6,7 +6,7 @@ use Rattle.shipment_machine.specs.Cargo.{Cargo}
 use Rattle.station_core.specs.declared.answer.ActFault.{ActFault}
 use Rattle.station_days.specs.Date.{LocalMinute}
 use Rattle.station_core.specs.declared.input.Input.{Input}
-use Rattle.station_core.specs.Keeping.{HandsOut, IsReadersFault, OnlyReads}
+use Rattle.station_core.specs.Keeping.{HandsOut, IsReadersFault, OnlyReads, keeping}
 use Rattle.station_core.specs.Step.{State, IsLawfulState, step}
 use Rattle.station_engine.specs.Found.{Finds}
 use Rattle.station_engine.specs.Serving.{IsAfter}
@@ -27,7 +27,7 @@ finds_on is_clean is_sound may_find old new survives sound (Some t) finds = (sur
 -- a reader changes nothing
 pub reads_only : {K St : Type 0} (store : K → St) (is_broken : K → Bool) (shows : St → Seen → Type 0) (is_clean is_sound : St → Type 0) (may_find : St → Option State → Type 0) (old new : K) → is_broken new ≡ is_broken old
     → ((s : State) → shows (store old) (at_rest s) → shows (store new) (at_rest s)) → Survives is_clean is_sound may_find (store old) (store new)
-    → OnlyReads (λ k s. IsLawfulState s × shows (store k) (at_rest s)) (λ k. is_clean (store k)) (λ k. is_sound (store k)) is_broken (λ k found. Finds (may_find (store k)) found) old new
+    → OnlyReads (keeping (λ k s. IsLawfulState s × shows (store k) (at_rest s)) (λ k. is_clean (store k)) (λ k. is_sound (store k)) is_broken (λ k found. Finds (may_find (store k)) found)) old new
 reads_only store is_broken shows is_clean is_sound may_find old new broken rests survives = record {
   breaks = broken;
   clean = survives.clean;
@@ -42,7 +42,7 @@ pub hands_out : {K St S Row : Type 0} (store : K → St) (is_broken : K → Bool
     (r : Result (Unit {0}) ActFault) (takes : S → Row → Bool → S → Type 0) (rows_of : Cargo → List Row) (from to : S) → is_broken old ≡ false → is_broken new ≡ is_broken old → IfErr r IsReadersFault
     → ((s : State) → shows (store old) (at_rest s) → shows (store new) (at_rest s)) → Survives is_clean is_sound may_find (store old) (store new)
     → ((s : State) → shows (store old) (at_rest s) → is_sound (store new) → Hands takes (rows_of s.cargo) from to r) → (rows : List Row) × HandedOut takes rows from to
-    → HandsOut (λ k s. IsLawfulState s × shows (store k) (at_rest s)) (λ k. is_clean (store k)) (λ k. is_sound (store k)) is_broken (λ k found. Finds (may_find (store k)) found) old new r takes (λ s rows. rows ≡ rows_of s) from to
+    → HandsOut (keeping (λ k s. IsLawfulState s × shows (store k) (at_rest s)) (λ k. is_clean (store k)) (λ k. is_sound (store k)) is_broken (λ k found. Finds (may_find (store k)) found)) old new r takes (λ s rows. rows ≡ rows_of s) from to
 hands_out {Row = Row} store is_broken shows is_clean is_sound may_find old new r takes rows_of from to works broken fault rests survives hands took = record {
   reopen = λ is. absurd (let no = sym works ∙ is in cc);
   fault = λ _. fault;

@@ -7,9 +7,10 @@ ghost use Rattle.shipment_machine.specs.Cargo.{Cargo as AnyCargo};
 ghost use Rattle.shipment_machine.specs.Effect.{effect};
 ghost use Rattle.shipment_machine.specs.Lawful.{IsLawful};
 ghost use Rattle.telegrams.specs.NoticeText.{notice_text};
+ghost use Rattle.station_core.specs.Keeping.{KeepsPremise};
 ghost use Rattle.station_core.specs.Step.{State, IsLawfulState, acted, stock_acted, cargo_acted, repeated};
 ghost use Rattle.station_engine.specs.Serving.{IsRequestOf, IsEffect, IfPlanned, IsPlanned, IsAfter, Serves};
-ghost use Rattle.state_store.specs.Store.{Seen, at_rest, Survives};
+ghost use Rattle.state_store.specs.Store.{Seen, GoesOnShowing, Survives, at_rest};
 ghost use Rattle.station_engine.specs.Written.{texts_in};
 
 use crate::carrying::{commit_plan, keep_and_commit};
@@ -58,7 +59,7 @@ fn plan_on<'a, S: StateStore>(
         → S.is_sound store.new → IfOk result (IsEffect (effect x.now.cargo command.now at)) }
     ensures stays_lawful { (x : Seen) → S.shows store.old x → IsLawful x.now.cargo
         → S.is_sound store.new → IfOk result (IfPlanned (StaysLawful x.now.cargo)) }
-    ensures same { (x : Seen) → S.shows store.old x → OnOk result (S.shows store.new x) }
+    ensures same { GoesOnShowing S.shows store.old store.new result }
     ensures survives { Survives S.is_clean S.is_sound S.may_find store.old store.new }
 {
     let view = view(alloc, store, command, at)?;
@@ -85,9 +86,7 @@ fn do_plan<S: StateStore>(
         → IsPlanned s input.now at text.now plan.now → S.is_sound store.new
         → IfOk result (Serves s input.now at (λ t. IsLawfulState t
         × S.shows store.new (at_rest t))) }
-    ensures clean { S.is_clean store.new → S.is_clean store.old }
-    ensures still { S.is_sound store.old → S.is_clean store.new → S.is_sound store.new }
-    ensures sound { S.is_sound store.new → S.is_sound store.old }
+    ensures premise { KeepsPremise S.is_clean S.is_sound store.old store.new }
     ensures leaves { (s : State) (at : LocalMinute) → S.shows store.old (at_rest s)
         → IsPlanned s input.now at text.now plan.now → S.is_sound store.new
         → (found : Option State) → S.may_find store.new found → S.may_find store.old found
@@ -118,9 +117,7 @@ fn do_shipment<S: StateStore>(
         → repeated s input.now ≡ None → S.is_sound store.new
         → IfOk result (Serves s input.now at (λ t. IsLawfulState t
         × S.shows store.new (at_rest t))) }
-    ensures clean { S.is_clean store.new → S.is_clean store.old }
-    ensures still { S.is_sound store.old → S.is_clean store.new → S.is_sound store.new }
-    ensures sound { S.is_sound store.new → S.is_sound store.old }
+    ensures premise { KeepsPremise S.is_clean S.is_sound store.old store.new }
     ensures leaves { (s : State) → S.shows store.old (at_rest s) → IsLawfulState s
         → repeated s input.now ≡ None → S.is_sound store.new → (found : Option State)
         → S.may_find store.new found → S.may_find store.old found ⊎ IsAfter s input.now at found }
@@ -145,9 +142,7 @@ fn do_order<S: StateStore>(
         → IsLawfulState s → repeated s input.now ≡ None → S.is_sound store.new
         → IfOk result (Serves s input.now at (λ t. IsLawfulState t
         × S.shows store.new (at_rest t))) }
-    ensures clean { S.is_clean store.new → S.is_clean store.old }
-    ensures still { S.is_sound store.old → S.is_clean store.new → S.is_sound store.new }
-    ensures sound { S.is_sound store.new → S.is_sound store.old }
+    ensures premise { KeepsPremise S.is_clean S.is_sound store.old store.new }
     ensures leaves { (s : State) (at : LocalMinute) → S.shows store.old (at_rest s)
         → IsLawfulState s → repeated s input.now ≡ None → S.is_sound store.new
         → (found : Option State) → S.may_find store.new found → S.may_find store.old found
@@ -179,9 +174,7 @@ fn act_anew<S: StateStore>(
         → repeated s input.now ≡ None → S.is_sound store.new
         → IfOk result (Serves s input.now at (λ t. IsLawfulState t
         × S.shows store.new (at_rest t))) }
-    ensures clean { S.is_clean store.new → S.is_clean store.old }
-    ensures still { S.is_sound store.old → S.is_clean store.new → S.is_sound store.new }
-    ensures sound { S.is_sound store.new → S.is_sound store.old }
+    ensures premise { KeepsPremise S.is_clean S.is_sound store.old store.new }
     ensures leaves { (s : State) → S.shows store.old (at_rest s) → IsLawfulState s
         → repeated s input.now ≡ None → S.is_sound store.new → (found : Option State)
         → S.may_find store.new found → S.may_find store.old found ⊎ IsAfter s input.now at found }
@@ -212,9 +205,7 @@ pub(crate) fn serve<S: StateStore>(
     ensures serves { (s : State) → S.shows store.old (at_rest s) → IsLawfulState s
         → S.is_sound store.new → IfOk result (Serves s input.now at (λ t. IsLawfulState t
         × S.shows store.new (at_rest t))) }
-    ensures clean { S.is_clean store.new → S.is_clean store.old }
-    ensures still { S.is_sound store.old → S.is_clean store.new → S.is_sound store.new }
-    ensures sound { S.is_sound store.new → S.is_sound store.old }
+    ensures premise { KeepsPremise S.is_clean S.is_sound store.old store.new }
     ensures leaves { (s : State) → S.shows store.old (at_rest s) → IsLawfulState s
         → S.is_sound store.new → (found : Option State) → S.may_find store.new found
         → S.may_find store.old found ⊎ IsAfter s input.now at found }

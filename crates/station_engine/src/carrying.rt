@@ -1,5 +1,6 @@
 //! What an accepted input writes.
 ghost use Rattle.std.specs.Prelude.{OnOk};
+ghost use Rattle.station_core.specs.Keeping.{KeepsPremise};
 ghost use Rattle.station_core.specs.Step.{State, kept_with};
 ghost use Rattle.station_engine.specs.Serving.{IsRequestOf};
 ghost use Rattle.state_store.specs.Store.{at_rest, inside, Survives, MayLeave};
@@ -80,9 +81,7 @@ pub(crate) fn keep_and_commit<S: StateStore>(
     requires { IsRequestOf input.now request.now }
     ensures done { (before s : State) → S.shows store.old (inside before s)
         → OnOk result (S.shows store.new (at_rest (kept_with input.now count s))) }
-    ensures clean { S.is_clean store.new → S.is_clean store.old }
-    ensures still { S.is_sound store.old → S.is_clean store.new → S.is_sound store.new }
-    ensures sound { S.is_sound store.new → S.is_sound store.old }
+    ensures premise { KeepsPremise S.is_clean S.is_sound store.old store.new }
     ensures leaves { (before s : State) → S.shows store.old (inside before s)
         → MayLeave S.is_sound S.may_find (kept_with input.now count s) store.old store.new }
 {
@@ -104,9 +103,7 @@ pub(crate) fn commit_plan<S: StateStore>(
     ensures done { (s : State) → S.shows store.old (at_rest s)
         → OnOk result (S.shows store.new (at_rest (kept_with input.now plan.now.count
         (with_plan text.now plan.now (texts_in messages.now) s)))) }
-    ensures clean { S.is_clean store.new → S.is_clean store.old }
-    ensures still { S.is_sound store.old → S.is_clean store.new → S.is_sound store.new }
-    ensures sound { S.is_sound store.new → S.is_sound store.old }
+    ensures premise { KeepsPremise S.is_clean S.is_sound store.old store.new }
     ensures leaves { (s : State) → S.shows store.old (at_rest s)
         → MayLeave S.is_sound S.may_find (kept_with input.now plan.now.count
         (with_plan text.now plan.now (texts_in messages.now) s)) store.old store.new }

@@ -3,7 +3,7 @@ ghost use Rattle.std.specs.Prelude.{◌≡◌, string_bytes, OnOk, IfOk};
 ghost use Rattle.station_core.specs.Step.{State, repeated, key_answer, text_answer, kept_with};
 ghost use Rattle.std.specs.Option.{option_map};
 ghost use Rattle.station_engine.specs.Serving.{IsRequestOf};
-ghost use Rattle.state_store.specs.Store.{Seen, inside, Survives};
+ghost use Rattle.state_store.specs.Store.{Seen, GoesOnShowing, Survives, inside};
 ghost use Rattle.station_core.specs.Told.{kept_of};
 
 use desk_commands::command_text;
@@ -50,7 +50,7 @@ pub(crate) fn known<S: StateStore>(
     requires { IsRequestOf input.now request.now }
     ensures value { (x : Seen) → S.shows store.old x → S.is_sound store.new
         → IfOk result (λ answer. answer ≡ repeated x.now input.now) }
-    ensures same { (x : Seen) → S.shows store.old x → OnOk result (S.shows store.new x) }
+    ensures same { GoesOnShowing S.shows store.old store.new result }
     ensures survives { Survives S.is_clean S.is_sound S.may_find store.old store.new }
 {
     match input {

@@ -1,7 +1,7 @@
 ghost use Rattle.std.specs.Prelude.{◌≡◌, true, false, Err, Option, IfOk, IfErr};
 ghost use Rattle.agent_stock.specs.Runs.{AreStockRuns};
-ghost use Rattle.station_core.specs.Keeping.{Acts, Breaks, IsReadersFault, Leaves, OnlyReads};
-ghost use Rattle.station_core.specs.Readers.{AreExpectedRows, AreFlightRows, irregular_rows, shed_rows};
+ghost use Rattle.station_core.specs.Keeping.{Acts, Breaks, IsReadersFault, KeepsPremise, Leaves, OnlyReads, keeping};
+ghost use Rattle.station_core.specs.Readers.{AreExpectedBy, AreFlightRows, irregular_rows, shed_rows};
 ghost use Rattle.station_core.specs.Step.{State, IsLawfulState};
 ghost use Rattle.station_engine.specs.Found.{Finds};
 ghost use Rattle.state_store.specs.Store.{at_rest};
@@ -12,8 +12,8 @@ use agent_stock::{Holder, StockRun};
 use awb_number::Awb;
 use state_store::{StateStore, expected_rows, flight_rows, irregular_rows, shed_rows, waybill_in};
 use station_core::{
-    ActFault, Answer, BookQuery, BookRow, ExpectedRow, FlightRow, Input, IrregularRow, Keeper,
-    Message, Reply, ShedRow, Sink, TrailQuery, TrailRow, Waybill, hand_out,
+    ActFault, Answer, BookQuery, BookRow, ExpectedQuery, ExpectedRow, FlightRow, Input,
+    IrregularRow, Keeper, Message, Reply, ShedRow, Sink, TrailQuery, TrailRow, Waybill, hand_out,
 };
 use station_days::Moment;
 use std::alloc::Global;
@@ -56,10 +56,7 @@ impl<S: StateStore> StoredStation<S> {
 
         // Memory runs out before the first call of the store, and nothing has changed.
         ensures memory { result ≡ Err ActFault.Memory → self.new ≡ self.old }
-        ensures clean { S.is_clean self.new.store → S.is_clean self.old.store }
-        ensures still { S.is_sound self.old.store → S.is_clean self.new.store
-            → S.is_sound self.new.store }
-        ensures sound { S.is_sound self.new.store → S.is_sound self.old.store }
+        ensures premise { KeepsPremise S.is_clean S.is_sound self.old.store self.new.store }
         ensures acts { (s : State) → ⟦<StoredStation<S> as Keeper>⟧.keeps self.old s
             → self.old.broken ≡ false
             → S.is_sound self.new.store
@@ -116,10 +113,10 @@ impl<S: StateStore> StoredStation<S> {
         ensures reopen { self.old.broken ≡ true → (result ≡ Err ActFault.Reopen)
             × (self.new ≡ self.old) }
         ensures fault { self.old.broken ≡ false → IfErr result IsReadersFault }
-        ensures reads { OnlyReads ⟦<StoredStation<S> as Keeper>⟧.keeps
+        ensures reads { OnlyReads (keeping ⟦<StoredStation<S> as Keeper>⟧.keeps
             ⟦<StoredStation<S> as Keeper>⟧.is_clean
             ⟦<StoredStation<S> as Keeper>⟧.is_sound
-            ⟦<StoredStation<S> as Keeper>⟧.is_broken ⟦<StoredStation<S> as Keeper>⟧.may_find
+            ⟦<StoredStation<S> as Keeper>⟧.is_broken ⟦<StoredStation<S> as Keeper>⟧.may_find)
             self.old self.new }
         ensures rows { (s : State) → ⟦<StoredStation<S> as Keeper>⟧.keeps self.old s
             → ⟦<StoredStation<S> as Keeper>⟧.is_sound self.new
@@ -140,10 +137,10 @@ impl<S: StateStore> StoredStation<S> {
         ensures reopen { self.old.broken ≡ true → (result ≡ Err ActFault.Reopen)
             × (self.new ≡ self.old) }
         ensures fault { self.old.broken ≡ false → IfErr result IsReadersFault }
-        ensures reads { OnlyReads ⟦<StoredStation<S> as Keeper>⟧.keeps
+        ensures reads { OnlyReads (keeping ⟦<StoredStation<S> as Keeper>⟧.keeps
             ⟦<StoredStation<S> as Keeper>⟧.is_clean
             ⟦<StoredStation<S> as Keeper>⟧.is_sound
-            ⟦<StoredStation<S> as Keeper>⟧.is_broken ⟦<StoredStation<S> as Keeper>⟧.may_find
+            ⟦<StoredStation<S> as Keeper>⟧.is_broken ⟦<StoredStation<S> as Keeper>⟧.may_find)
             self.old self.new }
         ensures rows { (s : State) → ⟦<StoredStation<S> as Keeper>⟧.keeps self.old s
             → ⟦<StoredStation<S> as Keeper>⟧.is_sound self.new
@@ -164,10 +161,10 @@ impl<S: StateStore> StoredStation<S> {
         ensures reopen { self.old.broken ≡ true → (result ≡ Err ActFault.Reopen)
             × (self.new ≡ self.old) }
         ensures fault { self.old.broken ≡ false → IfErr result IsReadersFault }
-        ensures reads { OnlyReads ⟦<StoredStation<S> as Keeper>⟧.keeps
+        ensures reads { OnlyReads (keeping ⟦<StoredStation<S> as Keeper>⟧.keeps
             ⟦<StoredStation<S> as Keeper>⟧.is_clean
             ⟦<StoredStation<S> as Keeper>⟧.is_sound
-            ⟦<StoredStation<S> as Keeper>⟧.is_broken ⟦<StoredStation<S> as Keeper>⟧.may_find
+            ⟦<StoredStation<S> as Keeper>⟧.is_broken ⟦<StoredStation<S> as Keeper>⟧.may_find)
             self.old self.new }
         ensures rows { (s : State) → ⟦<StoredStation<S> as Keeper>⟧.keeps self.old s
             → ⟦<StoredStation<S> as Keeper>⟧.is_sound self.new
@@ -182,25 +179,25 @@ impl<S: StateStore> StoredStation<S> {
         }
     }
 
-    /// What flights are to bring, by flight and then by waybill.
+    /// What flights are to bring of what is asked for, by flight and then by waybill.
     #[tactic(auto, using(crate::proofs::Reading::reads_only))]
-    fn expected_rows(&mut self) -> Result<Vec<ExpectedRow>, ActFault>
+    fn expected_rows(&mut self, query: &ExpectedQuery) -> Result<Vec<ExpectedRow>, ActFault>
         ensures reopen { self.old.broken ≡ true → (result ≡ Err ActFault.Reopen)
             × (self.new ≡ self.old) }
         ensures fault { self.old.broken ≡ false → IfErr result IsReadersFault }
-        ensures reads { OnlyReads ⟦<StoredStation<S> as Keeper>⟧.keeps
+        ensures reads { OnlyReads (keeping ⟦<StoredStation<S> as Keeper>⟧.keeps
             ⟦<StoredStation<S> as Keeper>⟧.is_clean
             ⟦<StoredStation<S> as Keeper>⟧.is_sound
-            ⟦<StoredStation<S> as Keeper>⟧.is_broken ⟦<StoredStation<S> as Keeper>⟧.may_find
+            ⟦<StoredStation<S> as Keeper>⟧.is_broken ⟦<StoredStation<S> as Keeper>⟧.may_find)
             self.old self.new }
         ensures rows { (s : State) → ⟦<StoredStation<S> as Keeper>⟧.keeps self.old s
             → ⟦<StoredStation<S> as Keeper>⟧.is_sound self.new
-            → IfOk result (λ rows. AreExpectedRows s.cargo rows.items) }
+            → IfOk result (λ rows. AreExpectedBy query.now s.cargo rows.items) }
     {
         if self.broken {
             return Err(ActFault::Reopen);
         }
-        match expected_rows(self.alloc, &mut self.store) {
+        match expected_rows(self.alloc, &mut self.store, query) {
             Err(_) => Err(ActFault::Store),
             Ok(rows) => Ok(rows),
         }
@@ -212,10 +209,10 @@ impl<S: StateStore> StoredStation<S> {
         ensures reopen { self.old.broken ≡ true → (result ≡ Err ActFault.Reopen)
             × (self.new ≡ self.old) }
         ensures fault { self.old.broken ≡ false → IfErr result IsReadersFault }
-        ensures reads { OnlyReads ⟦<StoredStation<S> as Keeper>⟧.keeps
+        ensures reads { OnlyReads (keeping ⟦<StoredStation<S> as Keeper>⟧.keeps
             ⟦<StoredStation<S> as Keeper>⟧.is_clean
             ⟦<StoredStation<S> as Keeper>⟧.is_sound
-            ⟦<StoredStation<S> as Keeper>⟧.is_broken ⟦<StoredStation<S> as Keeper>⟧.may_find
+            ⟦<StoredStation<S> as Keeper>⟧.is_broken ⟦<StoredStation<S> as Keeper>⟧.may_find)
             self.old self.new }
         ensures rows { (s : State) → ⟦<StoredStation<S> as Keeper>⟧.keeps self.old s
             → ⟦<StoredStation<S> as Keeper>⟧.is_sound self.new
@@ -291,8 +288,12 @@ impl<S: StateStore> Keeper for StoredStation<S> {
         Ok(())
     }
 
-    fn expected<K: Sink<ExpectedRow>>(&mut self, sink: &mut K) -> Result<(), ActFault> {
-        let rows = self.expected_rows()?;
+    fn expected_by<K: Sink<ExpectedRow>>(
+        &mut self,
+        query: &ExpectedQuery,
+        sink: &mut K,
+    ) -> Result<(), ActFault> {
+        let rows = self.expected_rows(query)?;
         hand_out(sink, rows);
         Ok(())
     }

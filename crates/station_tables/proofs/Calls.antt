@@ -5,7 +5,7 @@ use Rattle.station_days.specs.Date.{LocalMinute}
 use Rattle.station_core.specs.declared.answer.ActFault.TheVariants as fault
 use Rattle.station_core.specs.declared.input.Input.{Input}
 use Rattle.station_core.specs.Retries.{RetryEvent, sent, cut_before, cut_after, reopened, World, world_after, after_events, started, ActsOnce}
-use Rattle.station_core.specs.Step.{State, opening, step}
+use Rattle.station_core.specs.Step.{State, step}
 use Rattle.station_tables.specs.Calls.{Call, acted, attached, repeated, Desk, at, Does, DoAll, StandsFor, StandForAll, CallsActOnce}
 
 -- a world and a desk that agree, but for a station that is to be opened again, of which a world may know only later
@@ -109,7 +109,7 @@ all_of world old (call ∷ calls) new are (mid, first, more) =
       agrees = subst (λ w. Agrees w new) (sym (events_append world one.events rest.events)) rest.agrees;
     }
 
-pub calls_act_once : ((here : List ℕ) (events : List RetryEvent) → ActsOnce here events) → (here : List ℕ) (calls : List Call) (new : Desk) → DoAll (at (opening here) true) calls new → CallsActOnce here calls new.state
-calls_act_once acts_once here calls new does =
-    let all = all_of (started here) (at (opening here) true) calls new (refl, λ _. refl) does in
-    record { events = all.events; stand = all.stand; once = acts_once here all.events; state = all.agrees.0 ∙ (acts_once here all.events).state }
+pub calls_act_once : ((start : State) (events : List RetryEvent) → ActsOnce start events) → (start : State) (calls : List Call) (new : Desk) → DoAll (at start true) calls new → CallsActOnce start calls new.state
+calls_act_once acts_once start calls new does =
+    let all = all_of (started start) (at start true) calls new (refl, λ _. refl) does in
+    record { events = all.events; stand = all.stand; once = acts_once start all.events; state = all.agrees.0 ∙ (acts_once start all.events).state }

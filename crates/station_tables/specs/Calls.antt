@@ -6,7 +6,7 @@ use Rattle.station_core.specs.declared.answer.ActFault.TheVariants as fault
 use Rattle.station_core.specs.declared.answer.Answer.{Answer}
 use Rattle.station_core.specs.declared.input.Input.{Input}
 use Rattle.station_core.specs.Retries.{RetryEvent, sent, cut_before, cut_after, reopened, started, ActsOnce, committed}
-use Rattle.station_core.specs.Step.{State, opening, step, after_all}
+use Rattle.station_core.specs.Step.{State, step, after_all}
 
 -- a call, with what it returned: `act`, where a refusal is an answer; `attach`, whether it opened
 -- the station; and `attach_and_repeat`, with its answer, if it gave one
@@ -59,8 +59,8 @@ StandForAll (call ∷ calls) events = (first : List RetryEvent) × (more : List 
 
 -- The calls are such events, so that each accepted input acts once; and the state is that of the
 -- inputs in the order of their first commits.
-pub record CallsActOnce (here : List ℕ) (calls : List Call) (found : State) : Type 0 where
+pub record CallsActOnce (start : State) (calls : List Call) (found : State) : Type 0 where
   pub events : List RetryEvent
   pub stand : StandForAll calls events
-  pub once : ActsOnce here events
-  pub state : found ≡ after_all (opening here) (committed (started here) events)
+  pub once : ActsOnce start events
+  pub state : found ≡ after_all start (committed (started start) events)

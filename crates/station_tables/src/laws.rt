@@ -36,12 +36,13 @@ pub fn migration_law()
     ensures { (s found : State) → IsAfterLife s migration found ↔ (found ≡ s) }
 {}
 
-/// Whatever is called, answered, cut off and repeated on a station that was just made, each
-/// accepted input acts once.
+/// Whatever is called, answered, cut off and repeated on a station that works, each accepted input
+/// acts once: from the state of a new station on, of a file that is opened, or of one that was
+/// migrated.
 pub fn calls_law()
-    ensures { (here : List ℕ) (calls : List Call) (new : Desk)
-        → DoAll (record { state = opening here; works = true }) calls new
-        → CallsActOnce here calls new.state }
+    ensures { (start : State) (calls : List Call) (new : Desk)
+        → DoAll (record { state = start; works = true }) calls new
+        → CallsActOnce start calls new.state }
 {
     retry_law();
 }

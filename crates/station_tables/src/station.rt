@@ -18,8 +18,8 @@ use agent_stock::{Holder, StockRun};
 use awb_number::Awb;
 use sqlite::{Alter, Connection};
 use station_core::{
-    ActFault, BookQuery, BookRow, ExpectedRow, FlightRow, Input, IrregularRow, Keeper, Message,
-    Reply, ShedRow, Sink, TrailQuery, TrailRow, Waybill,
+    ActFault, BookQuery, BookRow, ExpectedQuery, ExpectedRow, FlightRow, Input, IrregularRow,
+    Keeper, Message, Reply, ShedRow, Sink, TrailQuery, TrailRow, Waybill,
 };
 use station_days::Moment;
 use station_engine::StoredStation;
@@ -157,8 +157,12 @@ impl<S: Alter> Keeper for Station<S> {
         self.stored.flights(sink)
     }
 
-    fn expected<K: Sink<ExpectedRow>>(&mut self, sink: &mut K) -> Result<(), ActFault> {
-        self.stored.expected(sink)
+    fn expected_by<K: Sink<ExpectedRow>>(
+        &mut self,
+        query: &ExpectedQuery,
+        sink: &mut K,
+    ) -> Result<(), ActFault> {
+        self.stored.expected_by(query, sink)
     }
 
     fn irregular<K: Sink<IrregularRow>>(&mut self, sink: &mut K) -> Result<(), ActFault> {

@@ -21,6 +21,10 @@ pub record IsUntroubled (old new : Given) : Type 0 where
   pub failures : new.failures ≡ old.failures
   pub idle : new.idle ≡ old.idle
 
+-- a fault that doesn't name the writer comes where the writer didn't fail
+abbrev pub IsWriteOrUntroubled : RunFault → Given → Given → Type 0
+IsWriteOrUntroubled e old new = (e ≡ fault.Write) ⊎ IsUntroubled old new
+
 -- Whether the station has to be opened again after a fault: where its store failed, and then only.
 abbrev pub IsShutAfter : RunFault → Bool → Type 0
 IsShutAfter fault.Store broken = broken ≡ true

@@ -1,8 +1,9 @@
 ghost use Rattle.std.specs.Prelude.{◌≡◌, ℕ, true, false, Err, None, ◌++◌, ◌⊎◌, IfOk, IfErr, OnErr, OnOk, take, string_bytes};
 ghost use Rattle.csv.specs.Records.{fields_of};
+ghost use Rattle.station_core.specs.Keeping.{KeepsPremise, KeepsWorking, StaysIfBroken};
 ghost use Rattle.station_core.specs.Ends.{HasCause};
 ghost use Rattle.station_core.specs.Step.{State};
-ghost use Rattle.stock_list.specs.Ended.{run_fault, IsAnswered, IsShutAfter, IsStopped, IsUntroubled, kept};
+ghost use Rattle.stock_list.specs.Ended.{IsAnswered, IsShutAfter, IsStopped, IsUntroubled, IsWriteOrUntroubled, kept, run_fault};
 ghost use Rattle.input_reasons.specs.Reason.{HasReason};
 ghost use Rattle.stock_list.specs.Lines.{answer_text, answer_line, bad_line};
 ghost use Rattle.stock_list.specs.Reasons.{row_head, HasToldRow};
@@ -123,8 +124,8 @@ pub fn answer_bad_row<W: ByteOut, E: ByteOut>(
     ensures untroubled { OnOk result (IsUntroubled (W.taken writer.old) (W.taken writer.new)) }
     ensures write_cause { result ≡ Err RunFault.Write
         → HasCause (W.taken writer.old) (W.taken writer.new) }
-    ensures write_told { IfErr result (λ e. (e ≡ RunFault.Write)
-        ⊎ IsUntroubled (W.taken writer.old) (W.taken writer.new)) }
+    ensures write_told { IfErr result (λ e. IsWriteOrUntroubled e (W.taken writer.old)
+        (W.taken writer.new)) }
     ensures reasons { HasToldRow E.taken result None errors.old errors.new }
 {
     let Ok(line) = bad_line(alloc, place.number) else {
@@ -146,10 +147,8 @@ pub fn answer_row<K: Keeper, W: ByteOut, E: ByteOut>(
     row: &ByteRecord,
     at: Moment,
 ) -> Result<bool, RunFault>
-    ensures clean { K.is_clean keeper.new → K.is_clean keeper.old }
-    ensures still { K.is_sound keeper.old → K.is_clean keeper.new → K.is_sound keeper.new }
-    ensures sound { K.is_sound keeper.new → K.is_sound keeper.old }
-    ensures works { K.is_broken keeper.old ≡ false → OnOk result (K.is_broken keeper.new ≡ false) }
+    ensures premise { KeepsPremise K.is_clean K.is_sound keeper.old keeper.new }
+    ensures works { KeepsWorking (K.is_broken keeper.old) (K.is_broken keeper.new) result }
     ensures breaks { K.is_broken keeper.old ≡ false
         → IfErr result (λ e. IsShutAfter e (K.is_broken keeper.new)) }
     ensures answered { (s : State) → K.keeps keeper.old s → K.is_broken keeper.old ≡ false
@@ -164,14 +163,14 @@ pub fn answer_row<K: Keeper, W: ByteOut, E: ByteOut>(
     ensures untroubled { OnOk result (IsUntroubled (W.taken writer.old) (W.taken writer.new)) }
     ensures write_cause { result ≡ Err RunFault.Write
         → HasCause (W.taken writer.old) (W.taken writer.new) }
-    ensures write_told { IfErr result (λ e. (e ≡ RunFault.Write)
-        ⊎ IsUntroubled (W.taken writer.old) (W.taken writer.new)) }
+    ensures write_told { IfErr result (λ e. IsWriteOrUntroubled e (W.taken writer.old)
+        (W.taken writer.new)) }
     ensures unread { result ≡ Err RunFault.Read → ⊥ }
     ensures reasons { HasToldRow E.taken result (row_asks (fields_of row.now)) errors.old
         errors.new }
 
     // A station that has to be opened again stays as it is, and no row is asked of it.
-    ensures same { K.is_broken keeper.old ≡ true → keeper.new ≡ keeper.old }
+    ensures same { StaysIfBroken (K.is_broken keeper.old) keeper.old keeper.new }
     ensures reopen { K.is_broken keeper.old ≡ true
         → IsAnsweredShut place.number (row_asks (fields_of row.now)) (W.taken writer.old)
         (W.taken writer.new) result }

@@ -1,8 +1,9 @@
 ghost use Rattle.std.specs.Prelude.{◌≡◌, ◌<◌, ◌⊎◌, true, false, Ok, Err, List, Option, OnOk, IfOk, IfErr, IfSome};
 ghost use Rattle.csv.specs.Reading.{error_kind};
+ghost use Rattle.station_core.specs.Keeping.{KeepsPremise, KeepsWorking, StaysIfBroken};
 ghost use Rattle.station_core.specs.Ends.{HasCause};
 ghost use Rattle.station_core.specs.Step.{State};
-ghost use Rattle.stock_list.specs.Ended.{reader_fault, told_by, HasRun, HasStopped, IsShutAfter, IsUntroubled, kept, rows_read, AreFirst};
+ghost use Rattle.stock_list.specs.Ended.{AreFirst, HasRun, HasStopped, IsShutAfter, IsUntroubled, IsWriteOrUntroubled, kept, reader_fault, rows_read, told_by};
 ghost use Rattle.stock_list.specs.Lines.{Row, stock_rows};
 ghost use Rattle.stock_list.specs.Reasons.{HasToldRows};
 ghost use Rattle.stock_list.specs.Shut.{HasRunShut};
@@ -36,10 +37,8 @@ fn run_rows<K: Keeper, R: Read + Drop, W: ByteOut, E: ByteOut>(
     lines: &LineCount,
     at: Moment,
 ) -> Result<bool, RunFault>
-    ensures clean { K.is_clean keeper.new → K.is_clean keeper.old }
-    ensures still { K.is_sound keeper.old → K.is_clean keeper.new → K.is_sound keeper.new }
-    ensures sound { K.is_sound keeper.new → K.is_sound keeper.old }
-    ensures works { K.is_broken keeper.old ≡ false → OnOk result (K.is_broken keeper.new ≡ false) }
+    ensures premise { KeepsPremise K.is_clean K.is_sound keeper.old keeper.new }
+    ensures works { KeepsWorking (K.is_broken keeper.old) (K.is_broken keeper.new) result }
     ensures breaks { K.is_broken keeper.old ≡ false
         → IfErr result (λ e. IsShutAfter e (K.is_broken keeper.new)) }
     ensures ran { (s : State) → K.keeps keeper.old s → K.is_broken keeper.old ≡ false
@@ -56,13 +55,13 @@ fn run_rows<K: Keeper, R: Read + Drop, W: ByteOut, E: ByteOut>(
         (kept (K.keeps keeper.new) (K.may_find keeper.new))))) }
     ensures write_cause { result ≡ Err RunFault.Write
         → HasCause (W.taken writer.old) (W.taken writer.new) }
-    ensures write_told { IfErr result (λ e. (e ≡ RunFault.Write)
-        ⊎ IsUntroubled (W.taken writer.old) (W.taken writer.new)) }
+    ensures write_told { IfErr result (λ e. IsWriteOrUntroubled e (W.taken writer.old)
+        (W.taken writer.new)) }
     ensures untroubled { OnOk result (IsUntroubled (W.taken writer.old) (W.taken writer.new)) }
     ensures quiet { result ≡ Ok true → errors.new ≡ errors.old }
     ensures reasons { HasToldRows (R.remaining reader) (E.taken errors.old).bytes
         (E.taken errors.new).bytes result }
-    ensures same { K.is_broken keeper.old ≡ true → keeper.new ≡ keeper.old }
+    ensures same { StaysIfBroken (K.is_broken keeper.old) keeper.old keeper.new }
     ensures reopen { K.is_broken keeper.old ≡ true
         → HasRunShut (R.remaining reader) (W.taken writer.old).bytes (W.taken writer.new).bytes
         result }
@@ -126,10 +125,8 @@ pub fn run_stock<K: Keeper, R: Watched + Read, W: ByteOut, E: ByteOut>(
     errors: &mut E,
     at: Moment,
 ) -> Result<bool, RunFault>
-    ensures clean { K.is_clean keeper.new → K.is_clean keeper.old }
-    ensures still { K.is_sound keeper.old → K.is_clean keeper.new → K.is_sound keeper.new }
-    ensures sound { K.is_sound keeper.new → K.is_sound keeper.old }
-    ensures works { K.is_broken keeper.old ≡ false → OnOk result (K.is_broken keeper.new ≡ false) }
+    ensures premise { KeepsPremise K.is_clean K.is_sound keeper.old keeper.new }
+    ensures works { KeepsWorking (K.is_broken keeper.old) (K.is_broken keeper.new) result }
     ensures breaks { K.is_broken keeper.old ≡ false
         → IfErr result (λ e. IsShutAfter e (K.is_broken keeper.new)) }
 
@@ -158,8 +155,8 @@ pub fn run_stock<K: Keeper, R: Watched + Read, W: ByteOut, E: ByteOut>(
     ensures no_failure { OnOk result ((R.given reader.new).failures ≡ 0) }
     ensures write_cause { result ≡ Err RunFault.Write
         → HasCause (W.taken writer.old) (W.taken writer.new) }
-    ensures write_told { IfErr result (λ e. (e ≡ RunFault.Write)
-        ⊎ IsUntroubled (W.taken writer.old) (W.taken writer.new)) }
+    ensures write_told { IfErr result (λ e. IsWriteOrUntroubled e (W.taken writer.old)
+        (W.taken writer.new)) }
     ensures untroubled { OnOk result (IsUntroubled (W.taken writer.old) (W.taken writer.new)) }
 
     // Each row that asks nothing has its reason on `errors`, or a beginning of it, and nothing else
@@ -170,7 +167,7 @@ pub fn run_stock<K: Keeper, R: Watched + Read, W: ByteOut, E: ByteOut>(
 
     // A station that has to be opened again stays as it is. The first row that asks anything of it
     // ends the run.
-    ensures same { K.is_broken keeper.old ≡ true → keeper.new ≡ keeper.old }
+    ensures same { StaysIfBroken (K.is_broken keeper.old) keeper.old keeper.new }
     ensures reopen { K.is_broken keeper.old ≡ true
         → HasRunShut (R.remaining reader.old) (W.taken writer.old).bytes (W.taken writer.new).bytes
         result }

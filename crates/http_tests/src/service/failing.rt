@@ -3,8 +3,8 @@ use agent_stock::{Holder, StockRun};
 use awb_number::Awb;
 use plain_station::PlainStation;
 use station_core::{
-    ActFault, BookQuery, BookRow, ExpectedRow, FlightRow, Input, IrregularRow, Keeper, Message,
-    Reply, ShedRow, Sink, TrailQuery, TrailRow, Waybill,
+    ActFault, BookQuery, BookRow, ExpectedQuery, ExpectedRow, FlightRow, Input, IrregularRow,
+    Keeper, Message, Reply, ShedRow, Sink, TrailQuery, TrailRow, Waybill,
 };
 use station_days::Moment;
 
@@ -92,11 +92,15 @@ impl Keeper for Failing {
         self.station.flights(sink)
     }
 
-    fn expected<S: Sink<ExpectedRow>>(&mut self, sink: &mut S) -> Result<(), ActFault> {
+    fn expected_by<S: Sink<ExpectedRow>>(
+        &mut self,
+        query: &ExpectedQuery,
+        sink: &mut S,
+    ) -> Result<(), ActFault> {
         if self.is_broken {
             return Err(ActFault::Reopen);
         }
-        self.station.expected(sink)
+        self.station.expected_by(query, sink)
     }
 
     fn irregular<S: Sink<IrregularRow>>(&mut self, sink: &mut S) -> Result<(), ActFault> {

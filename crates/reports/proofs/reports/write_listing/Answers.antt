@@ -1,7 +1,7 @@
 use Rattle.std.proofs.Common.{◌≡◌, sym, subst, false}
 use Rattle.reports.specs.Ended.{HasEndedBy, HasEndedEach}
 use Rattle.reports.specs.Listings.{IsListing}
-use Rattle.reports.proofs.FlightLists.{one_flights, one_expected}
+use Rattle.reports.proofs.FlightLists.{one_flights}
 use Rattle.reports.proofs.OneList.{one_list}
 use Rattle.reports.proofs.reports.write_listing.Goals as goal
 
@@ -27,13 +27,13 @@ returns-in-OpenFlights-clause-each g c = λ s keeps sound.
 
 pub returns-in-OpenExpected-clause-ended : goal.returns-in-OpenExpected-clause-ended
 returns-in-OpenExpected-clause-ended g c = λ s keeps sound.
-    subst (λ it. HasEndedBy (g.K.Keeper.is_broken c.args.keeper.now ≡ false) (IsListing c.args.form s it) c.args.front.now (g.W.ByteOut.taken c.args.writer.now) (g.W.ByteOut.taken c.write_rows-in-OpenExpected.new.writer) c.write_rows-in-OpenExpected.result) (sym c.in-OpenExpected.is)
-    (c.write_rows-in-OpenExpected.ensures.ended s keeps sound)
+    subst (λ it. HasEndedBy (g.K.Keeper.is_broken c.args.keeper.now ≡ false) (IsListing c.args.form s it) c.args.front.now (g.W.ByteOut.taken c.args.writer.now) (g.W.ByteOut.taken c.write_expected.new.writer) c.write_expected.result) (sym c.in-OpenExpected.is)
+    (c.write_expected.ensures.ended s keeps sound)
 
 pub returns-in-OpenExpected-clause-each : goal.returns-in-OpenExpected-clause-each
 returns-in-OpenExpected-clause-each g c = λ s keeps sound.
-    subst (λ it. HasEndedEach (g.K.Keeper.is_broken c.args.keeper.now ≡ false) (IsListing c.args.form s it) c.args.front.now (g.W.ByteOut.taken c.args.writer.now) (g.W.ByteOut.taken c.write_rows-in-OpenExpected.new.writer) c.write_rows-in-OpenExpected.result) (sym c.in-OpenExpected.is)
-    (c.write_rows-in-OpenExpected.ensures.each s keeps sound (one_expected s.cargo))
+    subst (λ it. HasEndedEach (g.K.Keeper.is_broken c.args.keeper.now ≡ false) (IsListing c.args.form s it) c.args.front.now (g.W.ByteOut.taken c.args.writer.now) (g.W.ByteOut.taken c.write_expected.new.writer) c.write_expected.result) (sym c.in-OpenExpected.is)
+    (c.write_expected.ensures.each s keeps sound)
 
 pub returns-in-AgentStock-clause-ended : goal.returns-in-AgentStock-clause-ended
 returns-in-AgentStock-clause-ended g c = λ s keeps sound.

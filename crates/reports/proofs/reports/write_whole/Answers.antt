@@ -4,7 +4,7 @@ use Rattle.reports.specs.Ended.{HasEndedBy, HasEndedEach}
 use Rattle.reports.specs.Lines.{shed_line, irregular_line, message_lines}
 use Rattle.reports.specs.Listings.{IsWhole}
 use Rattle.reports.specs.Objects.{shed_data, irregular_data, message_data}
-use Rattle.reports.proofs.FlightLists.{one_flights, one_expected}
+use Rattle.reports.proofs.FlightLists.{one_flights}
 use Rattle.reports.proofs.Handing.{one_ended, one_each, only}
 use Rattle.reports.proofs.OneList.{one_list}
 use Rattle.reports.proofs.reports.write_whole.Goals as goal
@@ -41,13 +41,13 @@ returns-in-Flights-clause-each g c = λ s keeps sound.
 
 pub returns-in-Expected-clause-ended : goal.returns-in-Expected-clause-ended
 returns-in-Expected-clause-ended g c = λ s keeps sound.
-    subst (λ it. HasEndedBy (g.K.Keeper.is_broken c.args.keeper.now ≡ false) (IsWhole c.args.form s it) c.args.front.now (g.W.ByteOut.taken c.args.writer.now) (g.W.ByteOut.taken c.write_all-in-Expected.new.writer) c.write_all-in-Expected.result) (sym c.in-Expected.is)
-    (c.write_all-in-Expected.ensures.ended s keeps sound)
+    subst (λ it. HasEndedBy (g.K.Keeper.is_broken c.args.keeper.now ≡ false) (IsWhole c.args.form s it) c.args.front.now (g.W.ByteOut.taken c.args.writer.now) (g.W.ByteOut.taken c.write_expected.new.writer) c.write_expected.result) (sym c.in-Expected.is)
+    (c.write_expected.ensures.ended s keeps sound)
 
 pub returns-in-Expected-clause-each : goal.returns-in-Expected-clause-each
 returns-in-Expected-clause-each g c = λ s keeps sound.
-    subst (λ it. HasEndedEach (g.K.Keeper.is_broken c.args.keeper.now ≡ false) (IsWhole c.args.form s it) c.args.front.now (g.W.ByteOut.taken c.args.writer.now) (g.W.ByteOut.taken c.write_all-in-Expected.new.writer) c.write_all-in-Expected.result) (sym c.in-Expected.is)
-    (c.write_all-in-Expected.ensures.each s keeps sound (one_expected s.cargo))
+    subst (λ it. HasEndedEach (g.K.Keeper.is_broken c.args.keeper.now ≡ false) (IsWhole c.args.form s it) c.args.front.now (g.W.ByteOut.taken c.args.writer.now) (g.W.ByteOut.taken c.write_expected.new.writer) c.write_expected.result) (sym c.in-Expected.is)
+    (c.write_expected.ensures.each s keeps sound)
 
 pub returns-in-Irregularities-clause-ended : goal.returns-in-Irregularities-clause-ended
 returns-in-Irregularities-clause-ended g c = λ s keeps sound.

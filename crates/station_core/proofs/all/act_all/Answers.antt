@@ -1,12 +1,13 @@
 use Rattle.std.proofs.Common.{◌≡◌, true, ◌+◌, Some, take, length, List, [], ◌∷◌, ◌++◌, sym, ◌∙◌, ap, subst, inl, inr, ⊎_elim, arith, length-append}
 use Rattle.station_core.specs.declared.answer.Answer.{Answer}
 use Rattle.station_core.specs.Step.{after_all, answers_of}
+use Rattle.station_core.proofs.Premise.{kept_on}
 use Rattle.station_core.proofs.Runs.{state_after, answers_after, never_both}
 use Rattle.station_core.proofs.all.act_all.Goals as goal
 
 pub returns-in-Err-clause-leaves : goal.returns-in-Err-clause-leaves
 returns-in-Err-clause-leaves g c = λ s keeps works sound found left.
-    let before = c.answer_one.ensures.sound sound in
+    let before = c.answer_one.ensures.premise.sound sound in
     let here = after_all s (take c.loop-input.input-index c.args.inputs.now) in
     let count : length c.try_reserve.new.self.items ≡ c.loop-input.input-index = ap length c.try_reserve.ensures.items ∙ c.loop-input.invariant.count in
     ⊎_elim
@@ -28,18 +29,16 @@ loop-input-preserved g c =
       idle = λ broken.
           let still : g.K.Keeper.is_broken c.loop-input.keeper ≡ true = subst (λ keeper. g.K.Keeper.is_broken keeper ≡ true) (sym (c.loop-input.invariant.idle broken).1) broken in
           absurd (never_both (c.in-Ok.ensures.reopen still).0);
-      clean = λ clean. c.loop-input.invariant.clean (c.answer_one.ensures.clean clean);
-      still = λ sound clean. c.answer_one.ensures.still (c.loop-input.invariant.still sound (c.answer_one.ensures.clean clean)) clean;
-      sound = λ sound. c.loop-input.invariant.sound (c.answer_one.ensures.sound sound);
+      premise = kept_on c.loop-input.invariant.premise c.answer_one.ensures.premise;
       told = λ s keeps works sound.
-          let before = c.answer_one.ensures.sound sound in
+          let before = c.answer_one.ensures.premise.sound sound in
           let given = c.in-Ok.ensures.answers (after_all s (take at c.args.inputs.now)) (c.loop-input.invariant.state s keeps works before) (c.loop-input.invariant.works works) sound in
           c.in-Ok-push.ensures.items
           ∙ ap (λ (l : List Answer). l ++ c.in-Ok.answer ∷ []) (c.try_reserve.ensures.items ∙ c.loop-input.invariant.told s keeps works before)
           ∙ ap (λ (a : Answer). answers_of s (take at c.args.inputs.now) ++ a ∷ []) (sym given.0)
           ∙ answers_after s c.args.inputs.now at c.input-item.result c.loop-input-test.true c.input-item.is;
       state = λ s keeps works sound.
-          let before = c.answer_one.ensures.sound sound in
+          let before = c.answer_one.ensures.premise.sound sound in
           let given = c.in-Ok.ensures.answers (after_all s (take at c.args.inputs.now)) (c.loop-input.invariant.state s keeps works before) (c.loop-input.invariant.works works) sound in
           subst (g.K.Keeper.keeps c.answer_one.new.keeper) (state_after s c.args.inputs.now at c.input-item.result c.loop-input-test.true c.input-item.is) given.1;
     }

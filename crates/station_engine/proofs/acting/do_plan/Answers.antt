@@ -16,7 +16,7 @@ returns-in_err-commit_plan-clause-leaves g c = λ s at shows planned sound found
     let messages = texts_in c.deref-3.result.now in
     let sends = ap texts_in c.deref-3.ensures.value ∙ c.in_ok-messages.ensures ∙ ap (map notice_text) c.deref.ensures.value in
     let room = ap (λ l. has_room (sent (texts_in l) (carried_out text (outcome_of plan) s.cargo))) (c.deref-3.ensures.value ∙ sym c.deref-2.ensures.value)
-    ∙ sym (c.has_room.ensures s.cargo text (c.sizes.ensures (at_rest s) shows (c.commit_plan.ensures.sound sound))) ∙ c.if-not-has_room.false in
+    ∙ sym (c.has_room.ensures s.cargo text (c.sizes.ensures (at_rest s) shows (c.commit_plan.ensures.premise.sound sound))) ∙ c.if-not-has_room.false in
     let is = plan_step s i at text plan messages planned sends room in
     let law = plan_lawful s i at text plan messages planned sends in
     found_after s i at (accepted plan.count) (kept_with i plan.count (with_plan text plan messages s)) found is law (λ before. before) ((c.commit_plan.ensures.leaves s shows).leaves sound found finds)
@@ -29,7 +29,7 @@ returns-clause-leaves g c = λ s at shows planned sound found finds.
     let messages = texts_in c.deref-3.result.now in
     let sends = ap texts_in c.deref-3.ensures.value ∙ c.in_ok-messages.ensures ∙ ap (map notice_text) c.deref.ensures.value in
     let room = ap (λ l. has_room (sent (texts_in l) (carried_out text (outcome_of plan) s.cargo))) (c.deref-3.ensures.value ∙ sym c.deref-2.ensures.value)
-    ∙ sym (c.has_room.ensures s.cargo text (c.sizes.ensures (at_rest s) shows (c.commit_plan.ensures.sound sound))) ∙ c.if-not-has_room.false in
+    ∙ sym (c.has_room.ensures s.cargo text (c.sizes.ensures (at_rest s) shows (c.commit_plan.ensures.premise.sound sound))) ∙ c.if-not-has_room.false in
     let is = plan_step s i at text plan messages planned sends room in
     let law = plan_lawful s i at text plan messages planned sends in
     found_after s i at (accepted plan.count) (kept_with i plan.count (with_plan text plan messages s)) found is law (λ before. before) ((c.commit_plan.ensures.leaves s shows).leaves sound found finds)
@@ -42,7 +42,7 @@ returns-clause-serves g c = λ s at shows planned sound.
     let messages = texts_in c.deref-3.result.now in
     let sends = ap texts_in c.deref-3.ensures.value ∙ c.in_ok-messages.ensures ∙ ap (map notice_text) c.deref.ensures.value in
     let room = ap (λ l. has_room (sent (texts_in l) (carried_out text (outcome_of plan) s.cargo))) (c.deref-3.ensures.value ∙ sym c.deref-2.ensures.value)
-    ∙ sym (c.has_room.ensures s.cargo text (c.sizes.ensures (at_rest s) shows (c.commit_plan.ensures.sound sound))) ∙ c.if-not-has_room.false in
+    ∙ sym (c.has_room.ensures s.cargo text (c.sizes.ensures (at_rest s) shows (c.commit_plan.ensures.premise.sound sound))) ∙ c.if-not-has_room.false in
     let is = plan_step s i at text plan messages planned sends room in
     let law = plan_lawful s i at text plan messages planned sends in
     serves_by s i at _ (accepted plan.count) (kept_with i plan.count (with_plan text plan messages s)) is (law, c.in_ok-commit_plan.ensures.done s shows)

@@ -17,4 +17,4 @@ returns-clause-sound g c = λ sound left.
     sounds_on _ _ _ _ _ c.attach-opened.ensures.own (leaves_own g.S.Store c.act_all-given.new.keeper sound _ left) (λ k clean declared. (clean, declared, sound.2))
 
 pub returns-clause-still : goal.returns-clause-still
-returns-clause-still g c = λ sound clean. c.act_all-given.ensures.still sound clean
+returns-clause-still g c = λ sound clean. c.act_all-given.ensures.premise.still sound clean

@@ -1,5 +1,6 @@
 use Rattle.std.proofs.Common.{rules, arith, ◌≡◌, ◌∙◌, true, sym, refl, inl, inr, ap, ◌+◌, ◌<◌, ◌≤◌, List, [], ◌∷◌, ◌++◌, Some, None, Err, subst, Fits, w64}
 use Rattle.station_core.specs.Ends.{HasCause}
+use Rattle.station_core.proofs.Premise.{kept_at, kept_on}
 use Rattle.stock_list.specs.Ended.{IsReadersFault, kept}
 use Rattle.csv.specs.Records.{fields_of}
 use Rattle.stock_list.specs.Lines.{Row, rows_after}
@@ -26,9 +27,7 @@ loop-row-init g c =
       left = rw (start) left;
       config = rw (start, rdr) (rw (flexible, headers) at fr.config ∙ c.new.ensures.config);
       counted = omega (arith, fits);
-      clean = λ clean. clean;
-      still = λ sound clean. sound;
-      sound = λ sound. sound;
+      premise = kept_at c.args.keeper.now;
       works = λ works. works;
       untroubled = record { failures = refl; idle = refl };
       quiet = λ accepted. refl;
@@ -50,14 +49,8 @@ overflow_add-number g c =
     let left : 0 < c.loop-row.row-iterator.left = inv.left in
     omega (arith, bound, left)
 
-pub returns-in_err-accepted-in-Ok-clause-sound : goal.returns-in_err-accepted-in-Ok-clause-sound
-returns-in_err-accepted-in-Ok-clause-sound g c = λ sound. c.loop-row.invariant.sound (c.answer_row.ensures.sound sound)
-
-pub returns-in_err-accepted-in-Ok-clause-clean : goal.returns-in_err-accepted-in-Ok-clause-clean
-returns-in_err-accepted-in-Ok-clause-clean g c = λ clean. c.loop-row.invariant.clean (c.answer_row.ensures.clean clean)
-
-pub returns-in_err-accepted-in-Ok-clause-still : goal.returns-in_err-accepted-in-Ok-clause-still
-returns-in_err-accepted-in-Ok-clause-still g c = λ sound clean. c.answer_row.ensures.still (c.loop-row.invariant.still sound (c.answer_row.ensures.clean clean)) clean
+pub returns-in_err-accepted-in-Ok-clause-premise : goal.returns-in_err-accepted-in-Ok-clause-premise
+returns-in_err-accepted-in-Ok-clause-premise g c = kept_on c.loop-row.invariant.premise c.answer_row.ensures.premise
 
 pub loop-row-preserved : goal.loop-row-preserved
 loop-row-preserved g c =
@@ -74,9 +67,7 @@ loop-row-preserved g c =
       left = step.2;
       config = step.0.2 ∙ inv.config;
       counted = omega (arith, bound, fewer);
-      clean = λ clean. inv.clean (c.answer_row.ensures.clean clean);
-      still = λ sound clean. c.answer_row.ensures.still (inv.still sound (c.answer_row.ensures.clean clean)) clean;
-      sound = λ sound. inv.sound (c.answer_row.ensures.sound sound);
+      premise = kept_on inv.premise c.answer_row.ensures.premise;
       works = λ works. c.in_ok-accepted-in-Ok.ensures.works (inv.works works);
       untroubled = untroubled_more (g.W.ByteOut.taken c.args.writer.now) (g.W.ByteOut.taken c.loop-row.writer) (g.W.ByteOut.taken c.answer_row.new.writer)
           inv.untroubled c.in_ok-accepted-in-Ok.ensures.untroubled;
@@ -88,7 +79,7 @@ loop-row-preserved g c =
         counted_more c.loop-row.number rows f inv.rows.1,
         known_more g.R.Read.remaining c.loop-row.row-iterator.rdr c.next.new.self.rdr f rows (g.R.Read.remaining c.args.reader) inv.config step.0 inv.rows.2,
         λ s keeps works sound.
-            let run = inv.rows.3 s keeps works (c.answer_row.ensures.sound sound) in
+            let run = inv.rows.3 s keeps works (c.answer_row.ensures.premise.sound sound) in
             run_more s rows f c.args.at c.loop-row.number c.loop-row.good c.in_ok-accepted-in-Ok.accepted _ _ _ _ _ inv.rows.1 run
             (c.in_ok-accepted-in-Ok.ensures.answered (rows_after s rows c.args.at) run.state (inv.works works) sound),
         λ broken. shut_more rows f c.loop-row.number c.loop-row.good c.in_ok-accepted-in-Ok.accepted (g.W.ByteOut.taken c.args.writer.now).bytes
@@ -99,23 +90,11 @@ loop-row-preserved g c =
       );
     }
 
-pub returns-in-Err-clause-clean : goal.returns-in-Err-clause-clean
-returns-in-Err-clause-clean g c = c.loop-row.invariant.clean
+pub returns-in-Err-clause-premise : goal.returns-in-Err-clause-premise
+returns-in-Err-clause-premise g c = c.loop-row.invariant.premise
 
-pub returns-in-Err-clause-still : goal.returns-in-Err-clause-still
-returns-in-Err-clause-still g c = c.loop-row.invariant.still
-
-pub returns-in-Err-clause-sound : goal.returns-in-Err-clause-sound
-returns-in-Err-clause-sound g c = c.loop-row.invariant.sound
-
-pub returns-clause-clean : goal.returns-clause-clean
-returns-clause-clean g c = c.loop-row.invariant.clean
-
-pub returns-clause-still : goal.returns-clause-still
-returns-clause-still g c = c.loop-row.invariant.still
-
-pub returns-clause-sound : goal.returns-clause-sound
-returns-clause-sound g c = c.loop-row.invariant.sound
+pub returns-clause-premise : goal.returns-clause-premise
+returns-clause-premise g c = c.loop-row.invariant.premise
 
 pub returns-clause-works : goal.returns-clause-works
 returns-clause-works g c = c.loop-row.invariant.works
@@ -155,7 +134,7 @@ returns-in_err-accepted-in-Ok-clause-stopped g c = λ s keeps works sound.
     let rows : List Row = inv.rows.0 in
     let f : Row = fields_of c.in-Ok.row in
     let step = rw (c.in-Some.is, c.in-Ok.is) at ((c.next.ensures.steps inv.left inv.trim).0 inv.ready) in
-    let run = inv.rows.3 s keeps works (c.answer_row.ensures.sound sound) in
+    let run = inv.rows.3 s keeps works (c.answer_row.ensures.premise.sound sound) in
     let known = known_more g.R.Read.remaining c.loop-row.row-iterator.rdr c.next.new.self.rdr f rows (g.R.Read.remaining c.args.reader) inv.config step.0 inv.rows.2 in
     let stopped = c.in_err-accepted-in-Ok.ensures.stopped (rows_after s rows c.args.at) run.state (inv.works works) sound in
     passed_on c.from_residual.result c.in_err-accepted-in-Ok.field-0.0 _ c.from_residual.ensures.1 (

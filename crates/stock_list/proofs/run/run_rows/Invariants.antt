@@ -1,6 +1,7 @@
 use Rattle.std.proofs.Common.{◌≡◌, true, false, List, ◌+◌, ◌<◌, ◌≤◌, length, IfSome}
 use Rattle.csv.specs.Reading.{Ready, default_config}
 use Rattle.csv.specs.declared.reader.Trim.TheVariants as trim
+use Rattle.station_core.specs.Keeping.{KeepsPremise}
 use Rattle.station_core.specs.Step.{State}
 use Rattle.stock_list.specs.Lines.{Row}
 use Rattle.stock_list.specs.Ended.{HasRun, IsUntroubled}
@@ -18,9 +19,7 @@ invariant-loop-row g l =
       left : 0 < l.row-iterator.left;
       config : l.row-iterator.rdr.config ≡ default_config;
       counted : l.number + l.row-iterator.left ≤ 18446744073709551615;
-      clean : g.K.Keeper.is_clean l.keeper → g.K.Keeper.is_clean l.fn.keeper;
-      still : g.K.Keeper.is_sound l.fn.keeper → g.K.Keeper.is_clean l.keeper → g.K.Keeper.is_sound l.keeper;
-      sound : g.K.Keeper.is_sound l.keeper → g.K.Keeper.is_sound l.fn.keeper;
+      premise : KeepsPremise g.K.Keeper.is_clean g.K.Keeper.is_sound l.fn.keeper l.keeper;
       works : g.K.Keeper.is_broken l.fn.keeper ≡ false → g.K.Keeper.is_broken l.keeper ≡ false;
       untroubled : IsUntroubled (g.W.ByteOut.taken l.fn.writer) (g.W.ByteOut.taken l.writer);
       quiet : l.good ≡ true → l.errors ≡ l.fn.errors;

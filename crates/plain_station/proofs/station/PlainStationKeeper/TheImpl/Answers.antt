@@ -1,5 +1,5 @@
 use Rattle.agent_stock.specs.Runs.{AreStockRuns}
-use Rattle.station_core.specs.Readers.{AreExpectedRows, AreFlightRows, book_by, irregular_rows, pending_messages, shed_rows, trail_by}
+use Rattle.station_core.specs.Readers.{AreExpectedBy, AreFlightRows, book_by, irregular_rows, pending_messages, shed_rows, trail_by}
 use Rattle.plain_station.specs.State.{state_of}
 use Rattle.plain_station.proofs.Handed.{hands_out, hands_out_these}
 use Rattle.plain_station.proofs.station.PlainStationKeeper.TheImpl.Goals as goal
@@ -9,9 +9,9 @@ book_by-tells g c =
     hands_out_these g.S.Sink.takes (book_by c.args.query.now) state_of c.args.self.now c.new.self.now c.result c.args.sink.now c.new.sink.now
     c.ensures.rows c.ensures.beginning c.ensures.memory c.ensures.none c.ensures.as_before
 
-pub expected-tells : goal.expected-tells
-expected-tells g c =
-    hands_out g.S.Sink.takes AreExpectedRows state_of c.args.self.now c.new.self.now c.result c.args.sink.now c.new.sink.now
+pub expected_by-tells : goal.expected_by-tells
+expected_by-tells g c =
+    hands_out g.S.Sink.takes (AreExpectedBy c.args.query.now) state_of c.args.self.now c.new.self.now c.result c.args.sink.now c.new.sink.now
     c.ensures.rows c.ensures.beginning c.ensures.memory c.ensures.none c.ensures.as_before
 
 pub flights-tells : goal.flights-tells

@@ -9,7 +9,7 @@ use Rattle.station_engine.proofs.station.StoredStation.act_on.Goals as goal
 pub returns-in-Err-clause-leaves : goal.returns-in-Err-clause-leaves
 returns-in-Err-clause-leaves g c = λ s keeps works sound found finds.
     one_of_two (g.S.StateStore.may_find c.args.self.now.store) (g.S.StateStore.may_find c.serve.new.store) s c.args.input.now c.args.at keeps.0
-    (g.met.S.StateStore.settled c.args.self.now.store s keeps.1 (c.serve.ensures.sound sound)) (c.serve.ensures.leaves s keeps.1 keeps.0 sound) found finds
+    (g.met.S.StateStore.settled c.args.self.now.store s keeps.1 (c.serve.ensures.premise.sound sound)) (c.serve.ensures.leaves s keeps.1 keeps.0 sound) found finds
 
 pub returns-clause-acts : goal.returns-clause-acts
 returns-clause-acts g c = λ s keeps works sound.

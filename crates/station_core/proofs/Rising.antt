@@ -1,13 +1,14 @@
--- Two lists of rows whose keys strictly rise are equal, where each look-up finds the same in both.
+-- Two lists of rows whose keys strictly rise are equal, where each look-up finds the same in both. A
+-- look-up in those of them that pass a test finds what passes.
 use Rattle.std.proofs.Common.{◌≡◌, ◌∙◌, ap, sym, refl, Bool, true, false, cond, Option, Some, None, List, [], ◌∷◌}
 use Rattle.std.specs.Prelude.{IsTrue, is_some, map}
-use Rattle.std.specs.List.{find}
+use Rattle.std.specs.List.{filter, find}
 use Rattle.std.specs.FinMap.Entries.{is_sorted, below_all}
 use Rattle.std.specs.Option.{option_map, unwrap_or}
 use Rattle.std.specs.Ordering.{is_lt}
 use Rattle.std.specs.declared.cmp.Ordering.{Ordering}
 use Rattle.std.specs.declared.cmp.Ordering.TheVariants.{Less, Equal, Greater}
-use Rattle.std.proofs.lemmas.Bool.{and_parts, false≢true, true≢false}
+use Rattle.std.proofs.lemmas.Bool.{and_from, and_parts, false≢true, true≢false}
 
 less : (o : Ordering) → IsTrue (is_lt o) → o ≡ Less
 less Less h = refl
@@ -35,15 +36,15 @@ module _ {K X Row : Type 0} (R : K → K → Ordering) (same : K → K → Bool)
   abbrev IsBelow : K → List Row → Type 0
   IsBelow k rows = IsTrue (below_all R k (map (λ row. (key row, value row)) rows))
 
-  found_first : (row : Row) (rows : List Row) → found (key row) (row ∷ rows) ≡ Some (value row)
+  pub found_first : (row : Row) (rows : List Row) → found (key row) (row ∷ rows) ≡ Some (value row)
   found_first row rows = ap (λ b. option_map value (cond b (Some row) (find (λ other. same (key row) (key other)) rows))) (itself (key row))
 
   -- behind a row of another key
-  found_behind : (q : K) (row : Row) (rows : List Row) → same q (key row) ≡ false → found q (row ∷ rows) ≡ found q rows
+  pub found_behind : (q : K) (row : Row) (rows : List Row) → same q (key row) ≡ false → found q (row ∷ rows) ≡ found q rows
   found_behind q row rows other = ap (λ b. option_map value (cond b (Some row) (find (λ other. same q (key other)) rows))) other
 
   -- a key below all is not found
-  not_found : (k : K) (rows : List Row) → IsBelow k rows → found k rows ≡ None
+  pub not_found : (k : K) (rows : List Row) → IsBelow k rows → found k rows ≡ None
   not_found k [] h = refl
   not_found k (row ∷ rows) h =
       let parts = and_parts _ _ h in
@@ -99,4 +100,66 @@ module _ {K X Row : Type 0} (R : K → K → Ordering) (same : K → K → Bool)
             let there : found (key x) ys ≡ Some (value x) = sym (found_behind (key x) y ys t) ∙ sym (e (key x)) ∙ found_first x xs in
             let here : found (key y) xs ≡ Some (value y) = sym (found_behind (key y) x xs (other_way (key x) (key y) t)) ∙ e (key y) ∙ found_first y ys in
             absurd (apart (key x) (key y) (below_found (key x) (key y) (value y) xs px.0 here) (below_found (key y) (key x) (value x) ys py.0 there))
+      ] refl
+
+-- of what is found, what passes the test
+abbrev pub passing : {X : Type 0} → (X → Bool) → Option X → Option X
+passing test None = None
+passing test (Some x) = cond (test x) (Some x) None
+
+-- Of rows that rise, those whose values pass a test rise, and a look-up among them finds what passes.
+module _ {K X Row : Type 0} (R : K → K → Ordering) (same : K → K → Bool) (key : Row → K) (value : Row → X)
+    (apart : (a b : K) → R a b ≡ Less → R b a ≡ Less → ⊥)
+    (same_is : (a b : K) → same a b ≡ true → a ≡ b)
+    (itself : (a : K) → same a a ≡ true)
+    (one_row : (x y : Row) → key x ≡ key y → value x ≡ value y → x ≡ y) (test : X → Bool) where
+  abbrev Rise : List Row → Type 0
+  Rise rows = Rises R same key value apart same_is itself one_row rows
+
+  abbrev of_key : K → List Row → Option X
+  of_key q rows = found R same key value apart same_is itself one_row q rows
+
+  abbrev kept : List Row → List Row
+  kept rows = filter (λ row. test (value row)) rows
+
+  abbrev IsBefore : K → List Row → Type 0
+  IsBefore k rows = IsTrue (below_all R k (map (λ row. (key row, value row)) rows))
+
+  before_kept : (k : K) (rows : List Row) → IsBefore k rows → IsBefore k (kept rows)
+  before_kept k [] h = h
+  before_kept k (row ∷ rows) h =
+      let parts = and_parts _ _ h in
+      let rest = before_kept k rows parts.1 in
+      elim (test (value row)) as (λ b. IsBefore k (cond b (row ∷ kept rows) (kept rows))) [ true ↦ and_from _ _ parts.0 rest | false ↦ rest ]
+
+  pub kept_rise : (rows : List Row) → Rise rows → Rise (kept rows)
+  kept_rise [] h = h
+  kept_rise (row ∷ rows) h =
+      let parts = and_parts _ _ h in
+      let rest = kept_rise rows parts.1 in
+      elim (test (value row)) as (λ b. Rise (cond b (row ∷ kept rows) (kept rows))) [
+        | true ↦ and_from _ _ (before_kept (key row) rows parts.0) rest
+        | false ↦ rest
+      ]
+
+  pub found_kept : (q : K) (rows : List Row) → Rise rows → of_key q (kept rows) ≡ passing test (of_key q rows)
+  found_kept q [] h = refl
+  found_kept q (row ∷ rows) h =
+      let parts = and_parts _ _ h in
+      let rest : of_key q (kept rows) ≡ passing test (of_key q rows) = found_kept q rows parts.1 in
+      elim (same q (key row)) as (λ b. same q (key row) ≡ b → of_key q (kept (row ∷ rows)) ≡ passing test (of_key q (row ∷ rows))) [
+        | true ↦ λ t.
+            let k : q ≡ key row = same_is q (key row) t in
+            let gone : of_key q rows ≡ None = ap (λ q. of_key q rows) k ∙ not_found R same key value apart same_is itself one_row (key row) rows parts.0 in
+            let first : (more : List Row) → of_key q (row ∷ more) ≡ Some (value row) =
+            λ more. ap (λ q. of_key q (row ∷ more)) k ∙ found_first R same key value apart same_is itself one_row row more in
+            elim (test (value row)) as (λ b. test (value row) ≡ b → of_key q (cond b (row ∷ kept rows) (kept rows)) ≡ passing test (of_key q (row ∷ rows))) [
+              | true ↦ λ p. first (kept rows) ∙ sym (ap (passing test) (first rows) ∙ ap (λ b. cond b (Some (value row)) None) p)
+              | false ↦ λ p. rest ∙ ap (passing test) gone ∙ sym (ap (passing test) (first rows) ∙ ap (λ b. cond b (Some (value row)) None) p)
+            ] refl
+        | false ↦ λ t.
+            let behind : (more : List Row) → of_key q (row ∷ more) ≡ of_key q more = λ more. found_behind R same key value apart same_is itself one_row q row more t in
+            let still : of_key q (kept (row ∷ rows)) ≡ of_key q (kept rows) =
+            elim (test (value row)) as (λ b. of_key q (cond b (row ∷ kept rows) (kept rows)) ≡ of_key q (kept rows)) [ true ↦ behind (kept rows) | false ↦ refl ] in
+            still ∙ rest ∙ ap (passing test) (sym (behind rows))
       ] refl
