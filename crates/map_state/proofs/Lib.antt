@@ -1,11 +1,10 @@
 mod Ahead
 mod BookLists
 mod Examples
-mod InOrder
 mod JoinedRuns
 mod KeptRows
-mod Keyed
 mod Named
+mod NotedOrder
 mod Numbered
 mod Posting
 mod Serials

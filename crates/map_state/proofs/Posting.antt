@@ -1,18 +1,15 @@
 -- What a move more changes of the sums beside the book.
-use Rattle.std.proofs.Common.{◌≡◌, ◌∙◌, ℕ, ◌+◌, Bool, true, false, ◌&&◌, ◌||◌, ◌==◌, Option, Some, None, List, [], ◌∷◌, ◌++◌, is_some, refl, sym, ap, arith, cond, true≢false, Less, Equal, Greater, is_eq, Ordering}
+use Rattle.std.proofs.Common.{◌≡◌, ◌∙◌, ℕ, ◌+◌, Bool, true, false, ◌&&◌, ◌||◌, ◌==◌, Option, Some, None, List, [], ◌∷◌, ◌++◌, is_some, refl, sym, ap, arith, cond, true≢false, is_eq}
 use Rattle.std.specs.Bool.{if◌then◌else◌}
 use Rattle.std.specs.Option.{unwrap_or}
-use Rattle.std.specs.Ordering.{nat_cmp, ordering_then}
+use Rattle.std.specs.Ordering.{nat_cmp}
 use Rattle.std.specs.BTreeMap.{BTreeMap, get, is_at}
 use Rattle.std.specs.Map.{lookup}
 use Rattle.std.specs.Cmp.{tied_itself, Equal-is, both_ways}
-use Rattle.std.specs.FinMap.{nat_cmp-IsAntisymmetric, slice_cmp-IsAntisymmetric}
 use Rattle.std.proofs.lemmas.Bool.{and_from, eqb-true}
 use Rattle.std.proofs.lemmas.List.Folds.{list_any-append}
 use Rattle.std.proofs.lemmas.List.Sums.{sum_by_push}
 use Rattle.std.proofs.lemmas.Grind.{common_steps}
-use Rattle.imp_fields.specs.Flight.{flight_text}
-use Rattle.imp_fields.proofs.SameFlight.{one_by_text}
 use Rattle.shipment_machine.specs.declared.flight.FlightDate.{FlightDate}
 use Rattle.shipment_machine.specs.declared.moves.Move.{Move}
 use Rattle.shipment_machine.specs.declared.moves.Place.{Place}
@@ -20,13 +17,14 @@ use Rattle.shipment_machine.specs.declared.moves.Place.TheVariants.{Built, Deliv
 use Rattle.shipment_machine.specs.Flights.{same_flight_date}
 use Rattle.shipment_machine.specs.Book.{brings, has_moves, moved_in, moved_out, pieces_of, same_place, takes, tenths_of}
 use Rattle.shipment_machine.proofs.FlightKeys.{same-is, same-refl}
-use Rattle.map_state.specs.FlightKey.{by_key, key_total}
+use Rattle.state_store.specs.FlightKey.{by_key, key_total}
 use Rattle.station_core.specs.Readers.{by_flight}
 use Rattle.shipment_machine.proofs.Places.{same_test}
+use Rattle.state_store.proofs.Tied.{one_flight}
 use Rattle.map_state.specs.Flow.{flow_of, flow_with, more, still}
 use Rattle.map_state.specs.Summed.{IsWaybillSummed, flow_at, flow_by, flow_in}
 use Rattle.map_state.specs.WaybillFlows.{flows_of, flows_with, no_flows}
-use Rattle.map_state.specs.declared.flight_key.FlightKey.{FlightKey}
+use Rattle.state_store.specs.declared.flight_key.FlightKey.{FlightKey}
 use Rattle.map_state.specs.declared.flow.Flow.{Flow}
 use Rattle.map_state.specs.declared.flow.Total.{Total}
 use Rattle.map_state.specs.declared.waybill_flows.WaybillFlows.{WaybillFlows}
@@ -136,20 +134,6 @@ posted_waybill old new book m key flows at is updates were w =
     }
 
 -- ---- the flights
-
-pub both_equal : (a b : Ordering) → ordering_then a b ≡ Equal → (a ≡ Equal) × (b ≡ Equal)
-both_equal Less b h = absurd (true≢false (sym (ap is_eq h)))
-both_equal Equal b h = (refl, h)
-both_equal Greater b h = absurd (true≢false (sym (ap is_eq h)))
-
--- keys that tie are of one flight
-pub one_flight : (a b : FlightKey) → by_key a b ≡ Equal → a.flight ≡ b.flight
-one_flight a b h =
-    let parts = both_equal _ _ h in
-    let texts : flight_text a.flight.flight ≡ flight_text b.flight.flight = slice_cmp-IsAntisymmetric nat_cmp-IsAntisymmetric _ _ parts.0 in
-    let flights = one_by_text a.flight.flight b.flight.flight a.is_flight b.is_flight texts in
-    let days = nat_cmp-IsAntisymmetric a.flight.day b.flight.day parts.1 in
-    λ i. record { flight = flights i; day = days i }
 
 -- a key is that of a flight where it ties with the flight's
 flight_tie : (key k : FlightKey) (flight : FlightDate) → key.flight ≡ flight → is_at (by_key key) k ≡ same_flight_date flight k.flight

@@ -1,5 +1,5 @@
 -- What a row more makes of the state that is shown.
-use Rattle.std.proofs.Common.{◌≡◌, ◌∙◌, ℕ, suc, ◌+◌, ◌<◌, Bool, true, false, ◌&&◌, ◌==◌, cond, nat_le, Some, List, [], ◌∷◌, ◌++◌, length, refl, sym, ap, arith, Equal, Ordering}
+use Rattle.std.proofs.Common.{◌≡◌, ◌∙◌, ℕ, suc, ◌+◌, ◌<◌, Bool, true, false, ◌&&◌, ◌==◌, cond, nat_le, Some, List, [], ◌∷◌, ◌++◌, length, refl, sym, ap, arith, Ordering}
 use Rattle.std.specs.Bool.{if◌then◌else◌}
 use Rattle.std.specs.Ordering.{nat_cmp, ordering_then}
 use Rattle.std.specs.FinMap.{nat_cmp-IsAntisymmetric, slice_cmp-IsAntisymmetric}
@@ -16,48 +16,25 @@ use Rattle.std.proofs.lemmas.Bool.{and_parts, and_from, eqb-true, eq-eqb}
 use Rattle.std.proofs.lemmas.Bool.Decides.{nat_tests}
 use Rattle.std.proofs.lemmas.List.{length-append}
 use Rattle.shipment_machine.specs.Cargo.{Cargo, same_part}
-use Rattle.shipment_machine.specs.Flights.{same_flight_date}
-use Rattle.shipment_machine.specs.declared.flight.FlightDate.{FlightDate}
 use Rattle.shipment_machine.specs.declared.moves.Declared.{Declared}
 use Rattle.shipment_machine.specs.declared.moves.Move.{Move}
 use Rattle.shipment_machine.specs.declared.moves.Part.{Part}
 use Rattle.shipment_machine.proofs.FlightKeys.{same-is, same-refl}
 use Rattle.station_core.specs.Step.{State, has_room}
 use Rattle.station_core.specs.Told.{on_cargo}
-use Rattle.map_state.specs.FlightKey.{by_key, key_total}
-use Rattle.station_core.specs.Readers.{by_flight}
-use Rattle.map_state.specs.Maps.{declared_in, line_of, part_of, same_line, texts_in, trail_in, trail_line}
+use Rattle.state_store.specs.FlightKey.{by_key}
+use Rattle.map_state.specs.Maps.{declared_in, part_of, texts_in, trail_in, trail_line}
 use Rattle.map_state.specs.Shown.{Shows, state_of}
 use Rattle.map_state.specs.Summed.{IsSummed}
-use Rattle.map_state.proofs.InOrder.{by_line}
-use Rattle.map_state.specs.declared.flight_key.FlightKey.{FlightKey}
+use Rattle.state_store.specs.declared.flight_key.FlightKey.{FlightKey}
 use Rattle.map_state.specs.declared.state.MapState.{MapState}
 use Rattle.map_state.specs.declared.state.TrailEntry.{TrailEntry}
-use Rattle.map_state.proofs.Keyed.{IsKeyed}
-use Rattle.map_state.proofs.Posting.{both_equal, one_flight}
+use Rattle.state_store.proofs.Keyed.{IsKeyed}
+use Rattle.state_store.proofs.Tied.{both_equal, flight_tied, one_flight}
 
 -- the state with one row more
 pub shows_more : (old new : MapState) (s : State) (f : Cargo → Cargo) → Shows old s → state_of new ≡ on_cargo f (state_of old) → IsSummed new.book → has_room (f s.cargo) ≡ true → Shows new (on_cargo f s)
 shows_more old new s f h e summed room = record { is = e ∙ ap (on_cargo f) h.is; room = room; summed = summed }
-
--- ---- keys
-
-flight_tied : (k e : FlightKey) → k.flight ≡ e.flight → by_key k e ≡ Equal
-flight_tied k e one = ap (λ (f : FlightDate). by_flight f e.flight) one ∙ tied_itself key_total e
-
-pub by_flight_keyed : IsKeyed by_key (λ (k : FlightKey). k.flight) same_flight_date
-by_flight_keyed = record { one = same-is; itself = same-refl; ties = one_flight; tied = flight_tied }
-
-pub by_line_keyed : IsKeyed by_line line_of same_line
-by_line_keyed = record {
-  one = λ a b h. let parts = and_parts _ _ h in let flights = same-is a.0 b.0 parts.0 in let numbers = eqb-true a.1 b.1 parts.1 in λ i. (flights i, numbers i);
-  itself = λ a. and_from _ _ (same-refl a.0) (eq-eqb a.1 a.1 refl);
-  ties = λ k e h. let parts = both_equal _ _ h in let flights = one_flight k.0 e.0 parts.0 in let numbers = nat_cmp-IsAntisymmetric k.1 e.1 parts.1 in λ i. (flights i, numbers i);
-  tied = λ k e one. ap (λ (r : Ordering). ordering_then r (nat_cmp k.1 e.1)) (flight_tied k.0 e.0 (ap (λ (p : FlightDate × ℕ). p.0) one)) ∙ same_numbers k.1 e.1 (ap (λ (p : FlightDate × ℕ). p.1) one);
-}
-  where
-    same_numbers : (v w : ℕ) → v ≡ w → nat_cmp v w ≡ Equal
-    same_numbers v w e = grind (arith, nat_tests)
 
 -- ---- rows of keys
 

@@ -1,5 +1,4 @@
 pub mod Asked
-pub mod FlightKey
 pub mod Flow
 pub mod Kept
 pub mod Listed

@@ -1,5 +1,5 @@
 -- The cargo that maps and lists of rows stand for.
-use Rattle.std.specs.Prelude.{ℕ, Bool, ◌&&◌, ◌==◌, Option, List, Vec, map}
+use Rattle.std.specs.Prelude.{ℕ, Option, List, Vec, map}
 use Rattle.std.specs.BTreeMap.{BTreeMap, get}
 use Rattle.std.specs.Map.{lookup}
 use Rattle.std.specs.Option.{option_map}
@@ -8,11 +8,11 @@ use Rattle.shipment_machine.specs.Cargo.{Cargo, same_part}
 use Rattle.shipment_machine.specs.Flights.{same_flight_date}
 use Rattle.shipment_machine.specs.declared.flight.FlightDate.{FlightDate}
 use Rattle.shipment_machine.specs.declared.moves.Declared.{Declared}
-use Rattle.shipment_machine.specs.declared.moves.Expected.{Expected}
 use Rattle.shipment_machine.specs.declared.moves.Outbound.{Outbound}
 use Rattle.shipment_machine.specs.declared.moves.Part.{Part}
+use Rattle.state_store.specs.ExpectedLines.{lines_in}
 use Rattle.map_state.specs.Stock.{holders_of}
-use Rattle.map_state.specs.declared.flight_key.FlightKey.{FlightKey}
+use Rattle.state_store.specs.declared.flight_key.FlightKey.{FlightKey}
 use Rattle.map_state.specs.declared.state.MapState.{MapState}
 use Rattle.map_state.specs.declared.state.TrailEntry.{TrailEntry}
 
@@ -22,16 +22,6 @@ declared_in rows w = get nat_cmp rows w
 -- the entry of a flight
 abbrev pub flights_in : BTreeMap FlightKey Outbound → FlightDate → Option Outbound
 flights_in rows f = lookup (λ k. same_flight_date f k.flight) rows.entries
-
--- the entry of a waybill on a flight
-abbrev pub same_line : FlightDate × ℕ → FlightDate × ℕ → Bool
-same_line a b = same_flight_date a.0 b.0 && (a.1 == b.1)
-
-abbrev pub line_of : FlightKey × ℕ → FlightDate × ℕ
-line_of k = (k.0.flight, k.1)
-
-abbrev pub expected_in : BTreeMap (FlightKey × ℕ) Expected → FlightDate → ℕ → Option Expected
-expected_in rows f w = lookup (λ k. same_line (f, w) (line_of k)) rows.entries
 
 -- the entry of a part, and its telegram
 abbrev pub part_of : FlightKey × List ℕ × ℕ → Part
@@ -57,7 +47,7 @@ cargo_of k = record {
   declared = declared_in k.declared;
   book = k.book.moves.items;
   flights = flights_in k.flights;
-  expected = expected_in k.expected;
+  expected = lines_in k.expected;
   parts = parts_in k.parts;
   trail = trail_in k.trail.items;
   outbox = texts_in k.outbox.items;

@@ -6,11 +6,11 @@ use Rattle.std.specs.Ordering.{nat_cmp}
 use Rattle.shipment_machine.specs.Book.{has_moves}
 use Rattle.shipment_machine.specs.declared.moves.Move.{Move}
 use Rattle.shipment_machine.specs.declared.moves.Place.TheVariants.{Built}
-use Rattle.map_state.specs.FlightKey.{by_key}
+use Rattle.state_store.specs.FlightKey.{by_key}
 use Rattle.map_state.specs.Flow.{flow_of, still}
 use Rattle.map_state.specs.WaybillFlows.{flows_of, no_flows}
 use Rattle.map_state.specs.declared.book.MovementBook.{MovementBook}
-use Rattle.map_state.specs.declared.flight_key.FlightKey.{FlightKey}
+use Rattle.state_store.specs.declared.flight_key.FlightKey.{FlightKey}
 use Rattle.map_state.specs.declared.flow.Flow.{Flow}
 use Rattle.map_state.specs.declared.waybill_flows.WaybillFlows.{WaybillFlows}
 

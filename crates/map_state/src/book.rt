@@ -4,18 +4,17 @@ ghost use Rattle.std.specs.BTreeMap.{get, is_at};
 ghost use Rattle.std.specs.Option.{unwrap_or};
 ghost use Rattle.shipment_machine.specs.Book.{balances_of, built, has_moves, same_place};
 ghost use Rattle.shipment_machine.specs.declared.moves.Place.TheVariants.{Built};
-ghost use Rattle.map_state.specs.FlightKey.{by_key};
+ghost use Rattle.state_store.specs.FlightKey.{by_key};
 ghost use Rattle.map_state.specs.Flow.{flow_with};
 ghost use Rattle.map_state.specs.Summed.{IsSummed, IsWaybillSummed, flow_at, flow_in};
 ghost use Rattle.map_state.specs.WaybillFlows.{no_flows};
-ghost use Rattle.map_state.specs.declared.flight_key.FlightKey.{FlightKey as AnyFlightKey};
+ghost use Rattle.state_store.specs.declared.flight_key.FlightKey.{FlightKey as AnyFlightKey};
 
-use crate::flight_key::FlightKey;
 use crate::flow::{Flow, STILL};
 use crate::waybill_flows::{NO_FLOWS, WaybillFlows};
 use awb_number::Awb;
 use shipment_machine::{Amount, Balances, FlightDate, Move, Place};
-use state_store::StoreFault;
+use state_store::{FlightKey, StoreFault};
 use std::alloc::Global;
 use std::collections::BTreeMap;
 

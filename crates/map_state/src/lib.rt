@@ -3,8 +3,6 @@
 
 mod asked;
 mod book;
-mod flight_key;
-mod flight_order;
 mod flow;
 mod keeping;
 mod listed;

@@ -10,12 +10,11 @@ ghost use Rattle.map_state.specs.Flow.{flow_of};
 ghost use Rattle.map_state.specs.Summed.{IsSummed, flow_in};
 
 use crate::book::MovementBook;
-use crate::flight_key::FlightKey;
 use crate::flow::Flow;
 use crate::waybill_flows::WaybillFlows;
 use awb_number::Awb;
 use shipment_machine::FlightDate;
-use state_store::{StoreFault, WaybillQuery};
+use state_store::{FlightKey, StoreFault, WaybillQuery};
 use station_core::{Load, WaybillBalances};
 use std::alloc::Global;
 use std::collections::BTreeMap;

@@ -6,7 +6,7 @@ use crate::book::MovementBook;
 use crate::state::MapState;
 use crate::stock::MapStock;
 use imp_fields::Airport;
-use state_store::StateStore;
+use state_store::{ExpectedLines, StateStore};
 use std::alloc::Global;
 use std::collections::{BTreeMap, HashMap};
 
@@ -23,7 +23,7 @@ impl MapState {
             declared: BTreeMap::new(alloc),
             book: MovementBook::new(alloc),
             flights: BTreeMap::new(alloc),
-            expected: BTreeMap::new(alloc),
+            expected: ExpectedLines::new(alloc),
             parts: BTreeMap::new(alloc),
             trail: Vec::new(alloc),
             outbox: Vec::new(alloc),

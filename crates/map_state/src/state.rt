@@ -1,9 +1,9 @@
 use crate::book::MovementBook;
-use crate::flight_key::FlightKey;
 use crate::stock::MapStock;
 use awb_number::Awb;
 use imp_fields::Airport;
-use shipment_machine::{Declared, Expected, Outbound};
+use shipment_machine::{Declared, Outbound};
+use state_store::{ExpectedLines, FlightKey};
 use station_core::KeptReply;
 use std::alloc::Global;
 use std::collections::{BTreeMap, HashMap};
@@ -26,7 +26,7 @@ pub struct MapState {
     pub(crate) declared: BTreeMap<u64, Declared>,
     pub(crate) book: MovementBook,
     pub(crate) flights: BTreeMap<FlightKey, Outbound>,
-    pub(crate) expected: BTreeMap<(FlightKey, u64), Expected>,
+    pub(crate) expected: ExpectedLines,
     pub(crate) parts: BTreeMap<(FlightKey, [u8; 3], u32), Vec<u8>>,
     // In the order in which they were added, as the outbox.
     pub(crate) trail: Vec<TrailEntry>,

@@ -5,7 +5,6 @@ ghost use Rattle.std.specs.Prelude.{◌≡◌, ◌≤◌};
 ghost use Rattle.map_state.specs.Shown.{Shows};
 
 use crate::asked::{lines, messages, movements};
-use crate::flight_key::FlightKey;
 use crate::state::MapState;
 use agent_stock::{Holder, Order, StockFault, StockRun};
 use awb_number::Awb;
@@ -13,10 +12,10 @@ use imp_fields::Airport;
 use shipment_machine::{
     Amount, Balances, Change, Declared, Expected, FlightDate, Move, Outbound, Part,
 };
-use state_store::{StateStore, StoreFault, WaybillQuery};
+use state_store::{FlightKey, StateStore, StoreFault, WaybillQuery};
 use station_core::{
-    BookQuery, BookRow, Expectation, KeptReply, Key, Load, Message, NotedFlight, Sink, Sizes,
-    TrailQuery, TrailRow, WaybillBalances, hand_out,
+    BookQuery, BookRow, Expectation, ExpectedQuery, KeptReply, Key, Load, Message, NotedFlight,
+    Sink, Sizes, TrailQuery, TrailRow, WaybillBalances, expectations_for, hand_out,
 };
 
 /// How many rows a list has, where that can be numbered.
@@ -95,8 +94,7 @@ impl StateStore for MapState {
     }
 
     fn expected(&mut self, flight: &FlightDate, awb: &Awb) -> Result<Option<Expected>, StoreFault> {
-        let key = (FlightKey::of(flight), awb.key());
-        Ok(self.expected.get(&key).copied())
+        Ok(self.expected.get(flight, awb))
     }
 
     fn has_part(&mut self, part: &Part) -> Result<bool, StoreFault> {
@@ -176,8 +174,9 @@ impl StateStore for MapState {
         self.noted_rows()
     }
 
-    fn expectations(&mut self) -> Result<Vec<Expectation>, StoreFault> {
-        self.expected_rows()
+    fn expectations(&mut self, query: &ExpectedQuery) -> Result<Vec<Expectation>, StoreFault> {
+        let all = self.expected.listed(self.alloc)?;
+        Ok(expectations_for(self.alloc, *query, &all)?)
     }
 
     fn book_by<K: Sink<BookRow>>(

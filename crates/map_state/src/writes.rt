@@ -6,12 +6,11 @@ ghost use Rattle.station_core.specs.Step.{State};
 ghost use Rattle.station_core.specs.Told.{on_cargo, with_messages, with_moves};
 ghost use Rattle.map_state.specs.Shown.{Shows};
 
-use crate::flight_key::FlightKey;
 use crate::state::{MapState, TrailEntry};
 use agent_stock::{Holder, Run};
 use awb_number::Awb;
 use shipment_machine::{Declared, Expected, FlightDate, Move, Outbound, Part, TrailLine};
-use state_store::StoreFault;
+use state_store::{FlightKey, StoreFault};
 
 impl MapState {
     /// A move joins the book.
@@ -67,8 +66,7 @@ impl MapState {
         ensures { (s : State) → Shows self.old s → OnOk result (Shows self.new
             (on_cargo (written [] (Expect flight.now awb.now expected)) s)) }
     {
-        let key = (FlightKey::of(flight), awb.key());
-        self.expected.insert(key, expected)?;
+        self.expected.put(flight, awb, &expected)?;
         Ok(())
     }
 

@@ -1,5 +1,5 @@
 -- What a store of a station's state shows, and what a call leaves.
-use Rattle.std.specs.Prelude.{◌≡◌, ◌⊎◌, Bool, true, false, Option, Some}
+use Rattle.std.specs.Prelude.{◌≡◌, ◌⊎◌, Bool, true, false, Option, Some, Result, OnOk}
 use Rattle.agent_stock.specs.declared.stock.StockFault.TheVariants as fault
 use Rattle.station_core.specs.Step.{State}
 
@@ -16,6 +16,14 @@ at_rest s = record { now = s; committed = s; in_transaction = false }
 -- in a transaction that has come so far
 abbrev pub inside : State → State → Seen
 inside before s = record { now = s; committed = before; in_transaction = true }
+
+-- what was shown is shown still, where a call is answered
+abbrev pub GoesOnShowing : {K A E : Type 0} → (K → Seen → Type 0) → K → K → Result A E → Type 0
+GoesOnShowing shows old new result = (x : Seen) → shows old x → OnOk result (shows new x)
+
+-- what is shown between two transactions is shown still, however a call ends
+abbrev pub StaysAtRest : {K : Type 0} → (K → Seen → Type 0) → K → K → Type 0
+StaysAtRest shows old new = (s : State) → shows old (at_rest s) → shows new (at_rest s)
 
 -- whatever a call returns: no fault is forgotten, what was sound and is clean is sound, and a
 -- reopening finds what it found before

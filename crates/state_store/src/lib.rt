@@ -2,12 +2,17 @@
 //! what readers return.
 #![tactic(auto)]
 
+mod expected_lines;
+mod flight_key;
+mod flight_order;
 mod lines;
 mod query;
 mod store;
 mod telling;
 mod viewing;
 
+pub use expected_lines::ExpectedLines;
+pub use flight_key::FlightKey;
 pub use query::WaybillQuery;
 pub use store::{StateStore, StoreFault};
 pub use telling::{expected_rows, flight_rows, irregular_rows, shed_rows, waybill_in};

@@ -8,7 +8,7 @@ ghost use Rattle.shipment_machine.specs.Views.{loads_of, line_view_of};
 ghost use Rattle.shipment_machine.specs.declared.command.ShipmentCommand.TheVariants as order;
 ghost use Rattle.shipment_machine.specs.declared.view.Rows.TheVariants as rows;
 ghost use Rattle.state_store.specs.Lines.{aboard_of, part_rows_on};
-ghost use Rattle.state_store.specs.Store.{Seen, Survives};
+ghost use Rattle.state_store.specs.Store.{Seen, GoesOnShowing, Survives};
 
 use crate::store::{StateStore, StoreFault};
 use awb_number::Awb;
@@ -24,7 +24,7 @@ use std::alloc::Global;
 fn declared_load<S: StateStore>(store: &mut S, load: &Load) -> Result<FlightLoad, StoreFault>
     ensures value { (x : Seen) → S.shows store.old x → S.is_sound store.new
         → IfOk result (λ row. row ≡ aboard_of x.now.cargo load.now) }
-    ensures same { (x : Seen) → S.shows store.old x → OnOk result (S.shows store.new x) }
+    ensures same { GoesOnShowing S.shows store.old store.new result }
     ensures survives { Survives S.is_clean S.is_sound S.may_find store.old store.new }
 {
     match store.declared(&load.awb)? {
@@ -45,7 +45,7 @@ fn declared_loads<S: StateStore>(
 ) -> Result<Vec<FlightLoad>, StoreFault>
     ensures value { (x : Seen) → S.shows store.old x → S.is_sound store.new
         → IfOk result (λ rows. rows.items ≡ map (aboard_of x.now.cargo) loads.now) }
-    ensures same { (x : Seen) → S.shows store.old x → OnOk result (S.shows store.new x) }
+    ensures same { GoesOnShowing S.shows store.old store.new result }
     ensures survives { Survives S.is_clean S.is_sound S.may_find store.old store.new }
 {
     let mut rows = Vec::new(alloc);
@@ -63,7 +63,7 @@ pub(crate) fn loads_of<S: StateStore>(
 ) -> Result<Loads, StoreFault>
     ensures value { (x : Seen) → S.shows store.old x → S.is_sound store.new
         → IfOk result (λ loads. loads ≡ loads_of x.now.cargo flight.now) }
-    ensures same { (x : Seen) → S.shows store.old x → OnOk result (S.shows store.new x) }
+    ensures same { GoesOnShowing S.shows store.old store.new result }
     ensures survives { Survives S.is_clean S.is_sound S.may_find store.old store.new }
 {
     let aboard = store.aboard(flight)?;
@@ -82,7 +82,7 @@ fn line_view<S: StateStore>(
 ) -> Result<LineView, StoreFault>
     ensures value { (x : Seen) → S.shows store.old x → S.is_sound store.new
         → IfOk result (λ row. row ≡ line_view_of x.now.cargo flight.now line.now.cargo) }
-    ensures same { (x : Seen) → S.shows store.old x → OnOk result (S.shows store.new x) }
+    ensures same { GoesOnShowing S.shows store.old store.new result }
     ensures survives { Survives S.is_clean S.is_sound S.may_find store.old store.new }
 {
     let awb = &line.cargo.awb;
@@ -108,7 +108,7 @@ fn put_line<S: StateStore>(
         → OnOk result (rows.new.items
         ≡ rows.old.items ++ map (line_view_of x.now.cargo flight.now) (lines_for here
         (line.now ∷ []))) }
-    ensures same { (x : Seen) → S.shows store.old x → OnOk result (S.shows store.new x) }
+    ensures same { GoesOnShowing S.shows store.old store.new result }
     ensures survives { Survives S.is_clean S.is_sound S.may_find store.old store.new }
 {
     if line.unload == here {
@@ -128,7 +128,7 @@ fn line_rows<S: StateStore>(
     ensures value { (x : Seen) → S.shows store.old x → S.is_sound store.new
         → IfOk result
         (λ rows. rows ≡ map (line_view_of x.now.cargo flight.now) (lines_for here lines.now)) }
-    ensures same { (x : Seen) → S.shows store.old x → OnOk result (S.shows store.new x) }
+    ensures same { GoesOnShowing S.shows store.old store.new result }
     ensures survives { Survives S.is_clean S.is_sound S.may_find store.old store.new }
 {
     let mut rows = Vec::new(alloc);
@@ -167,7 +167,7 @@ fn rows_on<S: StateStore>(
 ) -> Result<Rows, StoreFault>
     ensures value { (x : Seen) → S.shows store.old x → S.is_sound store.new
         → IfOk result (λ made. made ≡ part_rows_on x.now.cargo part.now day) }
-    ensures same { (x : Seen) → S.shows store.old x → OnOk result (S.shows store.new x) }
+    ensures same { GoesOnShowing S.shows store.old store.new result }
     ensures survives { Survives S.is_clean S.is_sound S.may_find store.old store.new }
 {
     let flight = FlightDate {
@@ -194,7 +194,7 @@ pub(crate) fn part_rows<S: StateStore>(
 ) -> Result<Rows, StoreFault>
     ensures value { (x : Seen) → S.shows store.old x → S.is_sound store.new
         → IfOk result (λ made. made ≡ rows_for x.now.cargo (order.Ffm part.now) at) }
-    ensures same { (x : Seen) → S.shows store.old x → OnOk result (S.shows store.new x) }
+    ensures same { GoesOnShowing S.shows store.old store.new result }
     ensures survives { Survives S.is_clean S.is_sound S.may_find store.old store.new }
 {
     match day_meant(part.date, at) {

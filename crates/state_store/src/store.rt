@@ -6,8 +6,8 @@ use shipment_machine::{
     Amount, Balances, Change, Declared, Expected, FlightDate, Move, Outbound, Part,
 };
 use station_core::{
-    BookQuery, BookRow, Expectation, KeptReply, Key, Load, Message, NotedFlight, Sink, Sizes,
-    TrailQuery, TrailRow, WaybillBalances,
+    BookQuery, BookRow, Expectation, ExpectedQuery, KeptReply, Key, Load, Message, NotedFlight,
+    Sink, Sizes, TrailQuery, TrailRow, WaybillBalances,
 };
 use std::alloc::{AllocError, AllocFailed};
 
@@ -39,13 +39,13 @@ pub trait StateStore {
     ghost use Rattle.agent_stock.specs.Stock.{order_refusal};
     ghost use Rattle.shipment_machine.specs.Book.{balances_of, built, has_moves as is_moved, waybills_on};
     ghost use Rattle.shipment_machine.specs.Cargo.{written};
-    ghost use Rattle.station_core.specs.Readers.{AreNoted, AreExpectations, book_by, pending_messages, trail_by};
+    ghost use Rattle.station_core.specs.Readers.{AreNoted, AreExpectations, expected_for, book_by, pending_messages, trail_by};
     ghost use Rattle.station_core.specs.Step.{State, has_room};
     ghost use Rattle.station_core.specs.declared.rows.BookRow.{BookRow as AnyBookRow};
     ghost use Rattle.station_core.specs.declared.rows.Message.{Message as AnyMessage};
     ghost use Rattle.station_core.specs.declared.rows.TrailRow.{TrailRow as AnyTrailRow};
     ghost use Rattle.row_sinks.specs.Handed.{HandedOut, Hands};
-    ghost use Rattle.state_store.specs.Store.{Seen, at_rest, inside, Survives, MayLeave};
+    ghost use Rattle.state_store.specs.Store.{MayLeave, Seen, StaysAtRest, GoesOnShowing, Survives, at_rest, inside};
     ghost use Rattle.state_store.specs.Waybills.{waybills_for};
     ghost use Rattle.agent_stock.specs.Refusing.{OnRefused, RefusesBy};
     ghost use Rattle.station_core.specs.Told.{IsRequest, kept_of, sizes_of, loads_on, on_cargo, with_moves, with_messages, with_key, with_text, with_order};
@@ -83,60 +83,60 @@ pub trait StateStore {
     fn kept_key(&mut self, key: &Key) -> Result<Option<KeptReply>, StoreFault>
         ensures value { (x : Seen) → shows self.old x → is_sound self.new
             → IfOk result (λ kept. option_map kept_of kept ≡ x.now.kept_keys key.now) }
-        ensures same { (x : Seen) → shows self.old x → OnOk result (shows self.new x) }
+        ensures same { GoesOnShowing shows self.old self.new result }
         ensures survives { Survives is_clean is_sound may_find self.old self.new };
 
     /// The count that was kept of the telegram with this normal text, if it was taken.
     fn kept_text(&mut self, text: &[u8]) -> Result<Option<u32>, StoreFault>
         ensures value { (x : Seen) → shows self.old x → is_sound self.new
             → IfOk result (λ kept. kept ≡ x.now.kept_texts text.now) }
-        ensures same { (x : Seen) → shows self.old x → OnOk result (shows self.new x) }
+        ensures same { GoesOnShowing shows self.old self.new result }
         ensures survives { Survives is_clean is_sound may_find self.old self.new };
 
     /// What is declared of a waybill.
     fn declared(&mut self, awb: &Awb) -> Result<Option<Declared>, StoreFault>
         ensures value { (x : Seen) → shows self.old x → is_sound self.new
             → IfOk result (λ declared. declared ≡ x.now.cargo.declared awb.now) }
-        ensures same { (x : Seen) → shows self.old x → OnOk result (shows self.new x) }
-        ensures rests { (s : State) → shows self.old (at_rest s) → shows self.new (at_rest s) }
+        ensures same { GoesOnShowing shows self.old self.new result }
+        ensures rests { StaysAtRest shows self.old self.new }
         ensures survives { Survives is_clean is_sound may_find self.old self.new };
 
     /// Who holds a number.
     fn holder(&mut self, awb: &Awb) -> Result<Option<Holder>, StoreFault>
         ensures value { (x : Seen) → shows self.old x → is_sound self.new
             → IfOk result (λ holder. holder ≡ x.now.cargo.holders awb.now) }
-        ensures same { (x : Seen) → shows self.old x → OnOk result (shows self.new x) }
-        ensures rests { (s : State) → shows self.old (at_rest s) → shows self.new (at_rest s) }
+        ensures same { GoesOnShowing shows self.old self.new result }
+        ensures rests { StaysAtRest shows self.old self.new }
         ensures survives { Survives is_clean is_sound may_find self.old self.new };
 
     /// Whether the book has a move of a waybill.
     fn has_moves(&mut self, awb: &Awb) -> Result<bool, StoreFault>
         ensures value { (x : Seen) → shows self.old x → is_sound self.new
             → IfOk result (λ moved. moved ≡ is_moved x.now.cargo.book awb.now) }
-        ensures same { (x : Seen) → shows self.old x → OnOk result (shows self.new x) }
+        ensures same { GoesOnShowing shows self.old self.new result }
         ensures survives { Survives is_clean is_sound may_find self.old self.new };
 
     /// What the moves of a waybill add up to.
     fn balances(&mut self, awb: &Awb) -> Result<Balances, StoreFault>
         ensures value { (x : Seen) → shows self.old x → is_sound self.new
             → IfOk result (λ balances. balances ≡ balances_of x.now.cargo.book awb.now) }
-        ensures same { (x : Seen) → shows self.old x → OnOk result (shows self.new x) }
-        ensures rests { (s : State) → shows self.old (at_rest s) → shows self.new (at_rest s) }
+        ensures same { GoesOnShowing shows self.old self.new result }
+        ensures rests { StaysAtRest shows self.old self.new }
         ensures survives { Survives is_clean is_sound may_find self.old self.new };
 
     /// What of a waybill is built on a flight.
     fn load(&mut self, awb: &Awb, flight: &FlightDate) -> Result<Amount, StoreFault>
         ensures value { (x : Seen) → shows self.old x → is_sound self.new
             → IfOk result (λ load. load ≡ built x.now.cargo.book awb.now flight.now) }
-        ensures same { (x : Seen) → shows self.old x → OnOk result (shows self.new x) }
+        ensures same { GoesOnShowing shows self.old self.new result }
         ensures survives { Survives is_clean is_sound may_find self.old self.new };
 
     /// The waybills of which something is built on a flight, ascending, each with its load.
     fn aboard(&mut self, flight: &FlightDate) -> Result<Vec<Load>, StoreFault>
         ensures value { (x : Seen) → shows self.old x → is_sound self.new
             → IfOk result (λ loads. loads.items ≡ loads_on x.now.cargo.book flight.now) }
-        ensures same { (x : Seen) → shows self.old x → OnOk result (shows self.new x) }
-        ensures rests { (s : State) → shows self.old (at_rest s) → shows self.new (at_rest s) }
+        ensures same { GoesOnShowing shows self.old self.new result }
+        ensures rests { StaysAtRest shows self.old self.new }
         ensures survives { Survives is_clean is_sound may_find self.old self.new };
 
     /// How many waybills have something built on a flight: a departure reads each load, by
@@ -144,28 +144,28 @@ pub trait StateStore {
     fn waybills_on(&mut self, flight: &FlightDate) -> Result<usize, StoreFault>
         ensures value { (x : Seen) → shows self.old x → is_sound self.new
             → IfOk result (λ number. number ≡ length (waybills_on x.now.cargo.book flight.now)) }
-        ensures same { (x : Seen) → shows self.old x → OnOk result (shows self.new x) }
+        ensures same { GoesOnShowing shows self.old self.new result }
         ensures survives { Survives is_clean is_sound may_find self.old self.new };
 
     /// What is noted of an outbound flight.
     fn outbound(&mut self, flight: &FlightDate) -> Result<Option<Outbound>, StoreFault>
         ensures value { (x : Seen) → shows self.old x → is_sound self.new
             → IfOk result (λ outbound. outbound ≡ x.now.cargo.flights flight.now) }
-        ensures same { (x : Seen) → shows self.old x → OnOk result (shows self.new x) }
+        ensures same { GoesOnShowing shows self.old self.new result }
         ensures survives { Survives is_clean is_sound may_find self.old self.new };
 
     /// What a flight brings of a waybill.
     fn expected(&mut self, flight: &FlightDate, awb: &Awb) -> Result<Option<Expected>, StoreFault>
         ensures value { (x : Seen) → shows self.old x → is_sound self.new
             → IfOk result (λ expected. expected ≡ x.now.cargo.expected flight.now awb.now) }
-        ensures same { (x : Seen) → shows self.old x → OnOk result (shows self.new x) }
+        ensures same { GoesOnShowing shows self.old self.new result }
         ensures survives { Survives is_clean is_sound may_find self.old self.new };
 
     /// Whether a part of a manifest was taken.
     fn has_part(&mut self, part: &Part) -> Result<bool, StoreFault>
         ensures value { (x : Seen) → shows self.old x → is_sound self.new
             → IfOk result (λ taken. taken ≡ is_some (x.now.cargo.parts part.now)) }
-        ensures same { (x : Seen) → shows self.old x → OnOk result (shows self.new x) }
+        ensures same { GoesOnShowing shows self.old self.new result }
         ensures survives { Survives is_clean is_sound may_find self.old self.new };
 
     /// The station's airport.
@@ -231,28 +231,30 @@ pub trait StateStore {
     fn runs(&mut self) -> Result<Vec<StockRun>, StoreFault>
         ensures value { (s : State) → shows self.old (at_rest s) → is_sound self.new
             → IfOk result (λ runs. AreStockRuns s.cargo.holders runs.items) }
-        ensures rests { (s : State) → shows self.old (at_rest s) → shows self.new (at_rest s) }
+        ensures rests { StaysAtRest shows self.old self.new }
         ensures survives { Survives is_clean is_sound may_find self.old self.new };
 
     /// The waybills that are asked for, ascending, each with its balances.
     fn waybills(&mut self, query: WaybillQuery) -> Result<Vec<WaybillBalances>, StoreFault>
         ensures value { (s : State) → shows self.old (at_rest s) → is_sound self.new
             → IfOk result (λ rows. rows.items ≡ waybills_for query s.cargo.book) }
-        ensures rests { (s : State) → shows self.old (at_rest s) → shows self.new (at_rest s) }
+        ensures rests { StaysAtRest shows self.old self.new }
         ensures survives { Survives is_clean is_sound may_find self.old self.new };
 
     /// The flights that are noted, by their written form and then by the day.
     fn noted(&mut self) -> Result<Vec<NotedFlight>, StoreFault>
         ensures value { (s : State) → shows self.old (at_rest s) → is_sound self.new
             → IfOk result (λ rows. AreNoted s.cargo.flights rows.items) }
-        ensures rests { (s : State) → shows self.old (at_rest s) → shows self.new (at_rest s) }
+        ensures rests { StaysAtRest shows self.old self.new }
         ensures survives { Survives is_clean is_sound may_find self.old self.new };
 
-    /// All that flights are to bring, by flight as `noted` has them and then by waybill.
-    fn expectations(&mut self) -> Result<Vec<Expectation>, StoreFault>
+    /// What flights are to bring of what is asked for, by flight as `noted` has them and then by
+    /// waybill.
+    fn expectations(&mut self, query: &ExpectedQuery) -> Result<Vec<Expectation>, StoreFault>
         ensures value { (s : State) → shows self.old (at_rest s) → is_sound self.new
-            → IfOk result (λ rows. AreExpectations s.cargo.expected rows.items) }
-        ensures rests { (s : State) → shows self.old (at_rest s) → shows self.new (at_rest s) }
+            → IfOk result (λ rows.
+            AreExpectations (expected_for query.now s.cargo.expected) rows.items) }
+        ensures rests { StaysAtRest shows self.old self.new }
         ensures survives { Survives is_clean is_sound may_find self.old self.new };
 
     /// Hands out the movements that are asked for, in order, as they are read, until the sink takes
@@ -265,7 +267,7 @@ pub trait StateStore {
         ensures rows { (s : State) → shows self.old (at_rest s) → is_sound self.new
             → Hands K.takes (book_by query.now s.cargo) sink.old sink.new result }
         ensures took { (rows : List AnyBookRow) × HandedOut K.takes rows sink.old sink.new }
-        ensures rests { (s : State) → shows self.old (at_rest s) → shows self.new (at_rest s) }
+        ensures rests { StaysAtRest shows self.old self.new }
         ensures survives { Survives is_clean is_sound may_find self.old self.new };
 
     /// Hands out the messages that weren't confirmed yet, in order, as they are read, until the
@@ -274,7 +276,7 @@ pub trait StateStore {
         ensures rows { (s : State) → shows self.old (at_rest s) → is_sound self.new
             → Hands K.takes (pending_messages s.cargo) sink.old sink.new result }
         ensures took { (rows : List AnyMessage) × HandedOut K.takes rows sink.old sink.new }
-        ensures rests { (s : State) → shows self.old (at_rest s) → shows self.new (at_rest s) }
+        ensures rests { StaysAtRest shows self.old self.new }
         ensures survives { Survives is_clean is_sound may_find self.old self.new };
 
     /// Hands out the lines of the trail that are asked for, in order, as they are read, until the
@@ -287,7 +289,7 @@ pub trait StateStore {
         ensures rows { (s : State) → shows self.old (at_rest s) → is_sound self.new
             → Hands K.takes (trail_by query.now s.cargo) sink.old sink.new result }
         ensures took { (rows : List AnyTrailRow) × HandedOut K.takes rows sink.old sink.new }
-        ensures rests { (s : State) → shows self.old (at_rest s) → shows self.new (at_rest s) }
+        ensures rests { StaysAtRest shows self.old self.new }
         ensures survives { Survives is_clean is_sound may_find self.old self.new };
 
     /// A reopening finds what it shows between two transactions.

@@ -5,9 +5,9 @@ ghost use Rattle.shipment_machine.specs.Book.{balances_of, store};
 ghost use Rattle.shipment_machine.specs.Cargo.{Cargo as AnyCargo};
 ghost use Rattle.shipment_machine.specs.Lawful.{IsLawful};
 ghost use Rattle.shipment_machine.specs.Views.{declaration};
-ghost use Rattle.station_core.specs.Readers.{told_of, waybill_of, irregular_rows, shed_rows, flight_row, AreFlightRows, expected_row, AreExpectedRows};
+ghost use Rattle.station_core.specs.Readers.{told_of, waybill_of, irregular_rows, shed_rows, flight_row, AreFlightRows, expected_row, AreExpectedBy};
 ghost use Rattle.station_core.specs.Step.{State};
-ghost use Rattle.state_store.specs.Store.{at_rest, Survives};
+ghost use Rattle.state_store.specs.Store.{StaysAtRest, Survives, at_rest};
 ghost use Rattle.station_core.specs.Told.{stored_of, irregular_by, shed_by};
 
 use crate::query::WaybillQuery;
@@ -16,8 +16,8 @@ use awb_number::Awb;
 use shipment_machine::laws::conservation_law;
 use shipment_machine::{Amount, Balances, Declared};
 use station_core::{
-    Expectation, ExpectedRow, FlightRow, IrregularRow, Load, NotedFlight, ShedRow, Waybill,
-    WaybillBalances,
+    Expectation, ExpectedQuery, ExpectedRow, FlightRow, IrregularRow, Load, NotedFlight, ShedRow,
+    Waybill, WaybillBalances,
 };
 use std::alloc::Global;
 
@@ -110,7 +110,7 @@ fn told_of(declared: Declared, balances: &Balances) -> Result<Waybill, StoreFaul
 pub fn waybill_in<S: StateStore>(store: &mut S, number: &Awb) -> Result<Option<Waybill>, StoreFault>
     ensures value { (s : State) → S.shows store.old (at_rest s) → IsLawful s.cargo
         → S.is_sound store.new → IfOk result (λ waybill. waybill ≡ waybill_of s.cargo number.now) }
-    ensures rests { (s : State) → S.shows store.old (at_rest s) → S.shows store.new (at_rest s) }
+    ensures rests { StaysAtRest S.shows store.old store.new }
     ensures survives { Survives S.is_clean S.is_sound S.may_find store.old store.new }
 {
     match store.declared(number)? {
@@ -126,7 +126,7 @@ pub fn waybill_in<S: StateStore>(store: &mut S, number: &Awb) -> Result<Option<W
 fn declaration<S: StateStore>(store: &mut S, number: &Awb) -> Result<Declared, StoreFault>
     ensures value { (s : State) → S.shows store.old (at_rest s) → S.is_sound store.new
         → IfOk result (λ declared. declared ≡ declaration s.cargo number.now) }
-    ensures rests { (s : State) → S.shows store.old (at_rest s) → S.shows store.new (at_rest s) }
+    ensures rests { StaysAtRest S.shows store.old store.new }
     ensures survives { Survives S.is_clean S.is_sound S.may_find store.old store.new }
 {
     match store.declared(number)? {
@@ -142,7 +142,7 @@ fn irregular_row<S: StateStore>(
 ) -> Result<IrregularRow, StoreFault>
     ensures value { (s : State) → S.shows store.old (at_rest s) → S.is_sound store.new
         → IfOk result (λ row. row ≡ irregular_by s.cargo waybill.now) }
-    ensures rests { (s : State) → S.shows store.old (at_rest s) → S.shows store.new (at_rest s) }
+    ensures rests { StaysAtRest S.shows store.old store.new }
     ensures survives { Survives S.is_clean S.is_sound S.may_find store.old store.new }
 {
     let declared = declaration(store, &waybill.awb)?;
@@ -163,7 +163,7 @@ fn irregular_among<S: StateStore>(
 ) -> Result<Vec<IrregularRow>, StoreFault>
     ensures value { (s : State) → S.shows store.old (at_rest s) → S.is_sound store.new
         → IfOk result (λ rows. rows.items ≡ map (irregular_by s.cargo) waybills.now) }
-    ensures rests { (s : State) → S.shows store.old (at_rest s) → S.shows store.new (at_rest s) }
+    ensures rests { StaysAtRest S.shows store.old store.new }
     ensures survives { Survives S.is_clean S.is_sound S.may_find store.old store.new }
 {
     let mut rows = Vec::new(alloc);
@@ -182,7 +182,7 @@ pub fn irregular_rows<S: StateStore>(
 ) -> Result<Vec<IrregularRow>, StoreFault>
     ensures value { (s : State) → S.shows store.old (at_rest s) → S.is_sound store.new
         → IfOk result (λ rows. rows.items ≡ irregular_rows s.cargo) }
-    ensures rests { (s : State) → S.shows store.old (at_rest s) → S.shows store.new (at_rest s) }
+    ensures rests { StaysAtRest S.shows store.old store.new }
     ensures survives { Survives S.is_clean S.is_sound S.may_find store.old store.new }
 {
     let waybills = store.waybills(WaybillQuery::Irregular)?;
@@ -193,7 +193,7 @@ pub fn irregular_rows<S: StateStore>(
 fn shed_row<S: StateStore>(store: &mut S, waybill: &WaybillBalances) -> Result<ShedRow, StoreFault>
     ensures value { (s : State) → S.shows store.old (at_rest s) → S.is_sound store.new
         → IfOk result (λ row. row ≡ shed_by s.cargo waybill.now) }
-    ensures rests { (s : State) → S.shows store.old (at_rest s) → S.shows store.new (at_rest s) }
+    ensures rests { StaysAtRest S.shows store.old store.new }
     ensures survives { Survives S.is_clean S.is_sound S.may_find store.old store.new }
 {
     let stored = stored(&waybill.balances)?;
@@ -217,7 +217,7 @@ fn shed_among<S: StateStore>(
 ) -> Result<Vec<ShedRow>, StoreFault>
     ensures value { (s : State) → S.shows store.old (at_rest s) → S.is_sound store.new
         → IfOk result (λ rows. rows.items ≡ map (shed_by s.cargo) waybills.now) }
-    ensures rests { (s : State) → S.shows store.old (at_rest s) → S.shows store.new (at_rest s) }
+    ensures rests { StaysAtRest S.shows store.old store.new }
     ensures survives { Survives S.is_clean S.is_sound S.may_find store.old store.new }
 {
     let mut rows = Vec::new(alloc);
@@ -233,7 +233,7 @@ fn shed_among<S: StateStore>(
 pub fn shed_rows<S: StateStore>(alloc: Global, store: &mut S) -> Result<Vec<ShedRow>, StoreFault>
     ensures value { (s : State) → S.shows store.old (at_rest s) → IsLawful s.cargo
         → S.is_sound store.new → IfOk result (λ rows. rows.items ≡ shed_rows s.cargo) }
-    ensures rests { (s : State) → S.shows store.old (at_rest s) → S.shows store.new (at_rest s) }
+    ensures rests { StaysAtRest S.shows store.old store.new }
     ensures survives { Survives S.is_clean S.is_sound S.may_find store.old store.new }
 {
     conservation_law();
@@ -269,7 +269,7 @@ fn tenths_in(loads: &[Load]) -> u64
 fn flight_row<S: StateStore>(store: &mut S, noted: &NotedFlight) -> Result<FlightRow, StoreFault>
     ensures value { (s : State) → S.shows store.old (at_rest s) → S.is_sound store.new
         → IfOk result (λ row. row ≡ flight_row s.cargo noted.now) }
-    ensures rests { (s : State) → S.shows store.old (at_rest s) → S.shows store.new (at_rest s) }
+    ensures rests { StaysAtRest S.shows store.old store.new }
     ensures survives { Survives S.is_clean S.is_sound S.may_find store.old store.new }
 {
     let loads = store.aboard(&noted.flight)?;
@@ -292,7 +292,7 @@ fn flights_among<S: StateStore>(
 ) -> Result<Vec<FlightRow>, StoreFault>
     ensures value { (s : State) → S.shows store.old (at_rest s) → S.is_sound store.new
         → IfOk result (λ rows. rows.items ≡ map (flight_row s.cargo) flights.now) }
-    ensures rests { (s : State) → S.shows store.old (at_rest s) → S.shows store.new (at_rest s) }
+    ensures rests { StaysAtRest S.shows store.old store.new }
     ensures survives { Survives S.is_clean S.is_sound S.may_find store.old store.new }
 {
     let mut rows = Vec::new(alloc);
@@ -311,7 +311,7 @@ pub fn flight_rows<S: StateStore>(
 ) -> Result<Vec<FlightRow>, StoreFault>
     ensures value { (s : State) → S.shows store.old (at_rest s) → S.is_sound store.new
         → IfOk result (λ rows. AreFlightRows s.cargo rows.items) }
-    ensures rests { (s : State) → S.shows store.old (at_rest s) → S.shows store.new (at_rest s) }
+    ensures rests { StaysAtRest S.shows store.old store.new }
     ensures survives { Survives S.is_clean S.is_sound S.may_find store.old store.new }
 {
     let all = store.noted()?;
@@ -325,7 +325,7 @@ fn expected_row<S: StateStore>(
 ) -> Result<ExpectedRow, StoreFault>
     ensures value { (s : State) → S.shows store.old (at_rest s) → S.is_sound store.new
         → IfOk result (λ row. row ≡ expected_row s.cargo expectation.now) }
-    ensures rests { (s : State) → S.shows store.old (at_rest s) → S.shows store.new (at_rest s) }
+    ensures rests { StaysAtRest S.shows store.old store.new }
     ensures survives { Survives S.is_clean S.is_sound S.may_find store.old store.new }
 {
     let declared = declaration(store, &expectation.awb)?;
@@ -344,7 +344,7 @@ fn expected_among<S: StateStore>(
 ) -> Result<Vec<ExpectedRow>, StoreFault>
     ensures value { (s : State) → S.shows store.old (at_rest s) → S.is_sound store.new
         → IfOk result (λ rows. rows.items ≡ map (expected_row s.cargo) expectations.now) }
-    ensures rests { (s : State) → S.shows store.old (at_rest s) → S.shows store.new (at_rest s) }
+    ensures rests { StaysAtRest S.shows store.old store.new }
     ensures survives { Survives S.is_clean S.is_sound S.may_find store.old store.new }
 {
     let mut rows = Vec::new(alloc);
@@ -354,18 +354,19 @@ fn expected_among<S: StateStore>(
     Ok(rows)
 }
 
-/// What flights are to bring, by flight and then by waybill: a read for all, and one for each line.
-/// A fault says that a call of the store failed, that memory ran out, or that an expected waybill
-/// isn't declared.
+/// What flights are to bring of what is asked for, by flight and then by waybill: a read for all of
+/// it, and one for each line. A fault says that a call of the store failed, that memory ran out, or
+/// that an expected waybill isn't declared.
 pub fn expected_rows<S: StateStore>(
     alloc: Global,
     store: &mut S,
+    query: &ExpectedQuery,
 ) -> Result<Vec<ExpectedRow>, StoreFault>
     ensures value { (s : State) → S.shows store.old (at_rest s) → S.is_sound store.new
-        → IfOk result (λ rows. AreExpectedRows s.cargo rows.items) }
-    ensures rests { (s : State) → S.shows store.old (at_rest s) → S.shows store.new (at_rest s) }
+        → IfOk result (λ rows. AreExpectedBy query.now s.cargo rows.items) }
+    ensures rests { StaysAtRest S.shows store.old store.new }
     ensures survives { Survives S.is_clean S.is_sound S.may_find store.old store.new }
 {
-    let all = store.expectations()?;
-    expected_among(alloc, store, &all)
+    let asked = store.expectations(query)?;
+    expected_among(alloc, store, &asked)
 }

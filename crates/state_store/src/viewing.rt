@@ -5,7 +5,7 @@ ghost use Rattle.shipment_machine.specs.Agreement.{rows_for, view_of};
 ghost use Rattle.shipment_machine.specs.Book.{built};
 ghost use Rattle.shipment_machine.specs.Views.{declaration_view, waybill_view, flight_view, loads_of, rows_of};
 ghost use Rattle.shipment_machine.specs.declared.view.Rows.TheVariants as rows;
-ghost use Rattle.state_store.specs.Store.{Seen, Survives};
+ghost use Rattle.state_store.specs.Store.{Seen, GoesOnShowing, Survives};
 
 use crate::lines::{loads_of, part_rows};
 use crate::store::{StateStore, StoreFault};
@@ -20,7 +20,7 @@ use std::alloc::Global;
 fn declaration_rows<S: StateStore>(store: &mut S, awb: &Awb) -> Result<Rows, StoreFault>
     ensures value { (x : Seen) → S.shows store.old x → S.is_sound store.new
         → IfOk result (λ made. made ≡ rows.Declaration (declaration_view x.now.cargo awb.now)) }
-    ensures same { (x : Seen) → S.shows store.old x → OnOk result (S.shows store.new x) }
+    ensures same { GoesOnShowing S.shows store.old store.new result }
     ensures survives { Survives S.is_clean S.is_sound S.may_find store.old store.new }
 {
     let declared = store.declared(awb)?;
@@ -39,7 +39,7 @@ fn declaration_rows<S: StateStore>(store: &mut S, awb: &Awb) -> Result<Rows, Sto
 fn waybill_view<S: StateStore>(store: &mut S, awb: &Awb) -> Result<WaybillView, StoreFault>
     ensures value { (x : Seen) → S.shows store.old x → S.is_sound store.new
         → IfOk result (λ view. view ≡ waybill_view x.now.cargo awb.now) }
-    ensures same { (x : Seen) → S.shows store.old x → OnOk result (S.shows store.new x) }
+    ensures same { GoesOnShowing S.shows store.old store.new result }
     ensures survives { Survives S.is_clean S.is_sound S.may_find store.old store.new }
 {
     let declared = store.declared(awb)?;
@@ -51,7 +51,7 @@ fn waybill_view<S: StateStore>(store: &mut S, awb: &Awb) -> Result<WaybillView, 
 fn waybill_rows<S: StateStore>(store: &mut S, awb: &Awb) -> Result<Rows, StoreFault>
     ensures value { (x : Seen) → S.shows store.old x → S.is_sound store.new
         → IfOk result (λ made. made ≡ rows.Waybill (waybill_view x.now.cargo awb.now)) }
-    ensures same { (x : Seen) → S.shows store.old x → OnOk result (S.shows store.new x) }
+    ensures same { GoesOnShowing S.shows store.old store.new result }
     ensures survives { Survives S.is_clean S.is_sound S.may_find store.old store.new }
 {
     let waybill = waybill_view(store, awb)?;
@@ -76,7 +76,7 @@ fn flight_view<S: StateStore>(
 ) -> Result<FlightView, StoreFault>
     ensures value { (x : Seen) → S.shows store.old x → S.is_sound store.new
         → IfOk result (λ view. view ≡ flight_view x.now.cargo awb.now flight.now) }
-    ensures same { (x : Seen) → S.shows store.old x → OnOk result (S.shows store.new x) }
+    ensures same { GoesOnShowing S.shows store.old store.new result }
     ensures survives { Survives S.is_clean S.is_sound S.may_find store.old store.new }
 {
     let outbound = store.outbound(flight)?;
@@ -100,7 +100,7 @@ fn manifest_rows<S: StateStore>(
         (λ made. made
         ≡ rows.Manifest (waybill_view x.now.cargo awb.now)
         (flight_view x.now.cargo awb.now flight.now)) }
-    ensures same { (x : Seen) → S.shows store.old x → OnOk result (S.shows store.new x) }
+    ensures same { GoesOnShowing S.shows store.old store.new result }
     ensures survives { Survives S.is_clean S.is_sound S.may_find store.old store.new }
 {
     let waybill = waybill_view(store, awb)?;
@@ -122,7 +122,7 @@ fn offload_rows<S: StateStore>(
         (λ made. made
         ≡ rows.Offload (x.now.cargo.declared awb.now) (x.now.cargo.flights flight.now)
         (built x.now.cargo.book awb.now flight.now)) }
-    ensures same { (x : Seen) → S.shows store.old x → OnOk result (S.shows store.new x) }
+    ensures same { GoesOnShowing S.shows store.old store.new result }
     ensures survives { Survives S.is_clean S.is_sound S.may_find store.old store.new }
 {
     let declared = store.declared(awb)?;
@@ -145,7 +145,7 @@ fn departure_rows<S: StateStore>(
         → IfOk result
         (λ made. made
         ≡ rows.Departure (x.now.cargo.flights flight.now) (loads_of x.now.cargo flight.now)) }
-    ensures same { (x : Seen) → S.shows store.old x → OnOk result (S.shows store.new x) }
+    ensures same { GoesOnShowing S.shows store.old store.new result }
     ensures survives { Survives S.is_clean S.is_sound S.may_find store.old store.new }
 {
     let outbound = store.outbound(flight)?;
@@ -164,7 +164,7 @@ fn check_in_rows<S: StateStore>(
         (λ made. made
         ≡ rows.CheckIn (waybill_view x.now.cargo awb.now)
         (x.now.cargo.expected flight.now awb.now)) }
-    ensures same { (x : Seen) → S.shows store.old x → OnOk result (S.shows store.new x) }
+    ensures same { GoesOnShowing S.shows store.old store.new result }
     ensures survives { Survives S.is_clean S.is_sound S.may_find store.old store.new }
 {
     let waybill = waybill_view(store, awb)?;
@@ -176,7 +176,7 @@ fn check_in_rows<S: StateStore>(
 fn status_rows<S: StateStore>(store: &mut S, awb: &Awb) -> Result<Rows, StoreFault>
     ensures value { (x : Seen) → S.shows store.old x → S.is_sound store.new
         → IfOk result (λ made. made ≡ rows.Status (x.now.cargo.declared awb.now)) }
-    ensures same { (x : Seen) → S.shows store.old x → OnOk result (S.shows store.new x) }
+    ensures same { GoesOnShowing S.shows store.old store.new result }
     ensures survives { Survives S.is_clean S.is_sound S.may_find store.old store.new }
 {
     let declared = store.declared(awb)?;
@@ -199,7 +199,7 @@ fn message_rows<S: StateStore>(store: &S) -> Rows
 fn desk_rows<S: StateStore>(alloc: Global, store: &mut S, key: &RowsKey) -> Result<Rows, StoreFault>
     ensures value { (x : Seen) → S.shows store.old x → S.is_sound store.new
         → IfOk result (λ made. made ≡ rows_of x.now.cargo key.now) }
-    ensures same { (x : Seen) → S.shows store.old x → OnOk result (S.shows store.new x) }
+    ensures same { GoesOnShowing S.shows store.old store.new result }
     ensures survives { Survives S.is_clean S.is_sound S.may_find store.old store.new }
 {
     match key {
@@ -222,7 +222,7 @@ fn rows_for<S: StateStore>(
 ) -> Result<Rows, StoreFault>
     ensures value { (x : Seen) → S.shows store.old x → S.is_sound store.new
         → IfOk result (λ made. made ≡ rows_for x.now.cargo command.now at) }
-    ensures same { (x : Seen) → S.shows store.old x → OnOk result (S.shows store.new x) }
+    ensures same { GoesOnShowing S.shows store.old store.new result }
     ensures survives { Survives S.is_clean S.is_sound S.may_find store.old store.new }
 {
     match command {
@@ -243,7 +243,7 @@ pub fn view<S: StateStore>(
 ) -> Result<View, StoreFault>
     ensures value { (x : Seen) → S.shows store.old x → S.is_sound store.new
         → IfOk result (λ view. view ≡ view_of x.now.cargo command.now at) }
-    ensures same { (x : Seen) → S.shows store.old x → OnOk result (S.shows store.new x) }
+    ensures same { GoesOnShowing S.shows store.old store.new result }
     ensures survives { Survives S.is_clean S.is_sound S.may_find store.old store.new }
 {
     let rows = rows_for(alloc, store, command, at)?;

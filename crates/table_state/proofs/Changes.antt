@@ -41,6 +41,7 @@ use Rattle.row_codec.proofs.Fits.{count_fits}
 use Rattle.row_codec.proofs.Readable.{readable_stock}
 use Rattle.row_codec.proofs.Telling.{book_told}
 use Rattle.row_codec.proofs.Written.{waybill_written, waybill_changed, flight_written, expected_written, part_written, key_kept, text_kept, line_written, message_written, mark_written, move_written}
+use Rattle.state_store.specs.ExpectedLines.{Lines, with_line}
 use Rattle.state_store.specs.Store.{at_rest, inside}
 use Rattle.station_core.specs.Told.{IsRequest, sizes_of, on_cargo, with_moves, with_messages, with_key, with_text, with_order}
 use Rattle.station_core.specs.declared.stored.Sizes.{Sizes}
@@ -50,7 +51,8 @@ use Rattle.stock_tables.specs.Stocked.{Stocked, restocked, using_up, Restocked}
 use Rattle.table_state.specs.Recorded.{Recorded}
 use Rattle.table_state.specs.Put.{put_over, putting_waybill}
 use Rattle.table_state.specs.declared.counted.Counted.{Counted}
-use Rattle.table_state.specs.Shown.{Knows, AreBoarded, HaveAsked, IsCounted, Tells, Shows}
+use Rattle.table_state.specs.declared.open_lines.OpenLines.{OpenLines}
+use Rattle.table_state.specs.Shown.{Knows, AreBoarded, HasOpen, HaveAsked, IsCounted, Tells, Shows}
 use Rattle.table_state.proofs.Lifting.{writes_on, reached}
 
 put_means : (t : Tables) (s : State) (text : List ℕ) (w : ℕ) (d : Declared) (new : table.Waybill) → new ≡ waybill_row w d → is_waybill_row (waybill_row w d) ≡ true → Means t (Some s)
@@ -88,12 +90,20 @@ module _ (old new : View) (here : List ℕ) (counted : Counted) (confirmed : ℕ
 
   pub expects_on : (text name : List ℕ) (day awb : ℤ) (f : FlightDate) (w : ℕ) (e : Expected) (row_is : table.Expected) → name ≡ flight_text f.flight → day ≡ pos f.day → awb ≡ pos w → row_is ≡ expected_row e
       → IsTrue (is_designator f.flight) → IsTrue (is_expected_row (expected_key f w, expected_row e))
+      → (later : Counted) → later.sizes ≡ counted.sizes → later.boarded ≡ counted.boarded → later.known ≡ counted.known → later.waybills ≡ counted.waybills
+      → ((lines : Lines) → HasOpen counted.open_lines.kept lines → HasOpen later.open_lines.kept (with_line lines f w (Some e)))
       → (IsShowing old (row.inside old.committed old.now) → IsShowing new (row.inside old.committed (with_expected (name, (day, awb)) row_is old.now)))
-      → Shows new here counted confirmed (inside before (on_cargo (written text (Expect f w e)) s))
-  expects_on text name day awb f w e row_is is_name is_day is_awb is may fits done =
-      writes_on old new here counted confirmed (with_expected (name, (day, awb)) row_is) counted confirmed before s (on_cargo (written text (Expect f w e)) s) was survives done
+      → Shows new here later confirmed (inside before (on_cargo (written text (Expect f w e)) s))
+  expects_on text name day awb f w e row_is is_name is_day is_awb is may fits later sizes_later same_boarded same_known same_waybills posts done =
+      writes_on old new here counted confirmed (with_expected (name, (day, awb)) row_is) later confirmed before s (on_cargo (written text (Expect f w e)) s) was survives done
       (λ _ means. expected_written old.now s means text name day awb f w e row_is is_name is_day is_awb is may fits)
-      (same_rest (on_cargo (written text (Expect f w e)) s) refl refl refl) (λ b. b)
+      (λ k. record { here_is = k.here_is; sizes_are = sizes_later ∙ k.sizes_are; confirmed_is = k.confirmed_is })
+      (λ kept. record {
+        boarded = subst (λ o. AreBoarded o s.cargo.book) (sym same_boarded) kept.boarded;
+        known = subst (λ o. AreKnown o (running s.cargo.book)) (sym same_known) kept.known;
+        waybills = subst (λ o. HaveAsked o s.cargo.book) (sym same_waybills) kept.waybills;
+        open_lines = posts s.cargo.expected kept.open_lines;
+      })
 
   pub notes_part_on : (text name airport body : List ℕ) (day number : ℤ) (p : Part) → name ≡ flight_text p.flight.flight → day ≡ pos p.flight.day → airport ≡ p.airport → number ≡ pos p.number → body ≡ text
       → IsTrue (is_designator p.flight.flight) → IsTrue (is_part_row (part_key p, text))
@@ -106,17 +116,19 @@ module _ (old new : View) (here : List ℕ) (counted : Counted) (confirmed : ℕ
 
   -- a list that got one more
 
-  same_counted : (later : Counted) (book : List Move) → later.boarded ≡ counted.boarded → later.known ≡ counted.known → later.waybills ≡ counted.waybills → IsCounted counted book → IsCounted later book
-  same_counted later book same_boarded same_known same_waybills kept = record {
+  same_counted : (later : Counted) (book : List Move) (lines : Lines) → later.boarded ≡ counted.boarded → later.known ≡ counted.known → later.waybills ≡ counted.waybills → later.open_lines ≡ counted.open_lines
+      → IsCounted counted book lines → IsCounted later book lines
+  same_counted later book lines same_boarded same_known same_waybills same_open kept = record {
     boarded = subst (λ o. AreBoarded o book) (sym same_boarded) kept.boarded;
     known = subst (λ o. AreKnown o (running book)) (sym same_known) kept.known;
     waybills = subst (λ o. HaveAsked o book) (sym same_waybills) kept.waybills;
+    open_lines = subst (λ (o : OpenLines). HasOpen o.kept lines) (sym same_open) kept.open_lines;
   }
 
-  pub adds_line_on : (text : List ℕ) (n w : ℕ) (line : List ℕ) (row_is : table.TrailLine) → row_is ≡ line_row n w line → IsTrue (is_trail_row (line_row n w line)) → n ≡ counted.sizes.lines + 1 → (later : Counted) → later.sizes ≡ record { moves = counted.sizes.moves; lines = n; messages = counted.sizes.messages } → later.boarded ≡ counted.boarded → later.known ≡ counted.known → later.waybills ≡ counted.waybills
+  pub adds_line_on : (text : List ℕ) (n w : ℕ) (line : List ℕ) (row_is : table.TrailLine) → row_is ≡ line_row n w line → IsTrue (is_trail_row (line_row n w line)) → n ≡ counted.sizes.lines + 1 → (later : Counted) → later.sizes ≡ record { moves = counted.sizes.moves; lines = n; messages = counted.sizes.messages } → later.boarded ≡ counted.boarded → later.known ≡ counted.known → later.waybills ≡ counted.waybills → later.open_lines ≡ counted.open_lines
       → (IsShowing old (row.inside old.committed old.now) → IsShowing new (row.inside old.committed (with_trail_line row_is old.now)))
       → Shows new here later confirmed (inside before (on_cargo (written text (Trail w line)) s))
-  adds_line_on text n w line row_is is fits next later sizes_later same_boarded same_known same_waybills done sound =
+  adds_line_on text n w line row_is is fits next later sizes_later same_boarded same_known same_waybills same_open done sound =
       let had : counted.sizes.lines ≡ length s.cargo.trail = ap (λ (z : Sizes). z.lines) (was (survives.sound sound)).knows.sizes_are in
       let one_more : n ≡ length s.cargo.trail + 1 = next ∙ ap (λ k. k + 1) had in
       writes_on old new here counted confirmed (with_trail_line row_is) later confirmed before s (on_cargo (written text (Trail w line)) s) was survives done
@@ -125,12 +137,12 @@ module _ (old new : View) (here : List ℕ) (counted : Counted) (confirmed : ℕ
         here_is = k.here_is;
         sizes_are = sizes_later ∙ (λ i. record { moves = (k.sizes_are i).moves; lines = (one_more ∙ sym (length-append s.cargo.trail ((w, line) ∷ []))) i; messages = (k.sizes_are i).messages });
         confirmed_is = k.confirmed_is;
-      }) (λ kept. same_counted later s.cargo.book same_boarded same_known same_waybills kept) sound
+      }) (λ kept. same_counted later s.cargo.book s.cargo.expected same_boarded same_known same_waybills same_open kept) sound
 
-  pub adds_message_on : (n : ℕ) (text : List ℕ) (row_is : table.Message) → row_is ≡ message_row n text → IsTrue (is_message_row (message_row n text)) → n ≡ counted.sizes.messages + 1 → (later : Counted) → later.sizes ≡ record { moves = counted.sizes.moves; lines = counted.sizes.lines; messages = n } → later.boarded ≡ counted.boarded → later.known ≡ counted.known → later.waybills ≡ counted.waybills
+  pub adds_message_on : (n : ℕ) (text : List ℕ) (row_is : table.Message) → row_is ≡ message_row n text → IsTrue (is_message_row (message_row n text)) → n ≡ counted.sizes.messages + 1 → (later : Counted) → later.sizes ≡ record { moves = counted.sizes.moves; lines = counted.sizes.lines; messages = n } → later.boarded ≡ counted.boarded → later.known ≡ counted.known → later.waybills ≡ counted.waybills → later.open_lines ≡ counted.open_lines
       → (IsShowing old (row.inside old.committed old.now) → IsShowing new (row.inside old.committed (with_message row_is old.now)))
       → Shows new here later confirmed (inside before (with_messages (text ∷ []) s))
-  adds_message_on n text row_is is fits next later sizes_later same_boarded same_known same_waybills done sound =
+  adds_message_on n text row_is is fits next later sizes_later same_boarded same_known same_waybills same_open done sound =
       let had : counted.sizes.messages ≡ length s.cargo.outbox = ap (λ (z : Sizes). z.messages) (was (survives.sound sound)).knows.sizes_are in
       let one_more : n ≡ length s.cargo.outbox + 1 = next ∙ ap (λ k. k + 1) had in
       writes_on old new here counted confirmed (with_message row_is) later confirmed before s (with_messages (text ∷ []) s) was survives done
@@ -139,7 +151,7 @@ module _ (old new : View) (here : List ℕ) (counted : Counted) (confirmed : ℕ
         here_is = k.here_is;
         sizes_are = sizes_later ∙ (λ i. record { moves = (k.sizes_are i).moves; lines = (k.sizes_are i).lines; messages = (one_more ∙ sym (length-append s.cargo.outbox (text ∷ []))) i });
         confirmed_is = k.confirmed_is;
-      }) (λ kept. same_counted later s.cargo.book same_boarded same_known same_waybills kept) sound
+      }) (λ kept. same_counted later s.cargo.book s.cargo.expected same_boarded same_known same_waybills same_open kept) sound
 
   pub confirms_on : (text : List ℕ) (number : ℤ) (upto : ℕ) → number ≡ pos upto → IsTrue (is_count (pos upto))
       → (IsShowing old (row.inside old.committed old.now) → IsShowing new (row.inside old.committed (confirming number old.now)))
@@ -224,11 +236,11 @@ module _ (old new : View) (here : List ℕ) (counted : Counted) (confirmed : ℕ
   pub moves_on : (n : ℕ) (m : Move) → n ≡ counted.sizes.moves + 1 → (later : Counted) → later.sizes ≡ record { moves = n; lines = counted.sizes.lines; messages = counted.sizes.messages }
       → (were : ℤ) → ((book : List Move) → AreBoarded counted.boarded book → WereThere book m were → AreBoarded later.boarded (book ++ m ∷ []))
       → ((book : List Move) → AreKnown counted.known (running book) → AreKnown later.known (running (book ++ m ∷ [])))
-      → ((book : List Move) → HaveAsked counted.waybills book → HaveAsked later.waybills (book ++ m ∷ []))
+      → ((book : List Move) → HaveAsked counted.waybills book → HaveAsked later.waybills (book ++ m ∷ [])) → later.open_lines ≡ counted.open_lines
       → (IsShowing old (row.inside old.committed old.now) → (book : List Move) → AreCounts old.now.counts book → AreBuilds old.now.builds book → AreKnown counted.known (running book) → new.IsSound → WereThere book m were)
       → (IsShowing old (row.inside old.committed old.now) → (book : List Move) → AreCounts old.now.counts book → AreBuilds old.now.builds book → AreKnown counted.known (running book) → Recorded new old.committed old.now n m (book ++ m ∷ []))
       → Shows new here later confirmed (inside before (with_moves (m ∷ []) s))
-  moves_on n m next later sizes_later were after knows asked there done sound =
+  moves_on n m next later sizes_later were after knows asked same_open there done sound =
       let k = was (survives.sound sound) in
       let up = k.holds.inside refl in
       let h = k.holds.stands up in
@@ -249,6 +261,7 @@ module _ (old new : View) (here : List ℕ) (counted : Counted) (confirmed : ℕ
         boarded = after s.cargo.book kept.boarded (subst (λ book. WereThere book m were) (book_told old.now s h.now) (there (λ _. record { is_open = up; now_is = refl; committed_is = refl; mode = h.mode }) (book_in old.now.moves) h.now.0.counts h.now.0.builds known sound));
         known = knows s.cargo.book kept.known;
         waybills = asked s.cargo.book kept.waybills;
+        open_lines = subst (λ (o : OpenLines). HasOpen o.kept s.cargo.expected) (sym same_open) kept.open_lines;
       }) sound
 
 -- a mark of 32 bits

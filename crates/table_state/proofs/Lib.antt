@@ -1,6 +1,7 @@
 pub mod Passing
 pub mod Lifting
 pub mod HasMoves
+pub mod LineWritten
 pub mod OneMore
 pub mod NewState
 pub mod Putting

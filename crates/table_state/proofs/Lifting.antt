@@ -58,7 +58,7 @@ may_find_on old new here counted confirmed before s was may sound found finds =
     (may.crash sound finds.tables finds.left)
 
 -- another number that is kept
-pub keeps_number : (v : View) (here : List ℕ) (counted : Counted) (confirmed : ℕ) (x : Seen) → Shows v here counted confirmed x → (later : Counted) → later.sizes ≡ counted.sizes → (v.IsSound → IsCounted later x.now.cargo.book) → Shows v here later confirmed x
+pub keeps_number : (v : View) (here : List ℕ) (counted : Counted) (confirmed : ℕ) (x : Seen) → Shows v here counted confirmed x → (later : Counted) → later.sizes ≡ counted.sizes → (v.IsSound → IsCounted later x.now.cargo.book x.now.cargo.expected) → Shows v here later confirmed x
 keeps_number v here counted confirmed x was later same number sound =
     let k = was sound in
     record {
@@ -174,7 +174,7 @@ module _ (old new : View) (here : List ℕ) (counted : Counted) (confirmed : ℕ
       → (new.IsSound → Displays new (row.inside old.committed (change old.now)))
       → (new.IsSound → Means old.now (Some s) → Means (change old.now) (Some after))
       → (Knows here counted.sizes confirmed (inside before s) → Knows here later.sizes confirmed_then (inside before after))
-      → (IsCounted counted s.cargo.book → IsCounted later after.cargo.book)
+      → (IsCounted counted s.cargo.book s.cargo.expected → IsCounted later after.cargo.book after.cargo.expected)
       → Shows new here later confirmed_then (inside before after)
   reached change later confirmed_then before s after was survives shown means knows kept sound =
       let k = was (survives.sound sound) in
@@ -200,7 +200,7 @@ module _ (old new : View) (here : List ℕ) (counted : Counted) (confirmed : ℕ
       → (IsShowing old (row.inside old.committed old.now) → IsShowing new (row.inside old.committed (change old.now)))
       → (new.IsSound → Means old.now (Some s) → Means (change old.now) (Some after))
       → (Knows here counted.sizes confirmed (inside before s) → Knows here later.sizes confirmed_then (inside before after))
-      → (IsCounted counted s.cargo.book → IsCounted later after.cargo.book)
+      → (IsCounted counted s.cargo.book s.cargo.expected → IsCounted later after.cargo.book after.cargo.expected)
       → Shows new here later confirmed_then (inside before after)
   writes_on change later confirmed_then before s after was survives done =
       reached change later confirmed_then before s after was survives (λ sound.

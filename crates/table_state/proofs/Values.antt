@@ -51,7 +51,8 @@ use Rattle.station_core.specs.declared.stored.WaybillBalances.{WaybillBalances}
 use Rattle.running_totals.specs.Known.{AreKnown}
 use Rattle.running_totals.specs.declared.known.KnownSums.{KnownSums}
 use Rattle.table_state.specs.declared.counted.Counted.{Counted}
-use Rattle.table_state.specs.Shown.{AreBoarded, HaveAsked, Shows}
+use Rattle.table_state.specs.declared.open_lines.OpenLines.{OpenLines}
+use Rattle.table_state.specs.Shown.{AreBoarded, HasOpen, HaveAsked, Shows}
 use Rattle.table_state.proofs.Lifting.{keeps_number, rests_on, seen_in, told, told_before}
 use Rattle.table_state.proofs.HasMoves.{any_move}
 
@@ -174,12 +175,13 @@ module _ (old new : View) (here : List ℕ) (counted : Counted) (confirmed : ℕ
 
 -- a read of the balances of a waybill between two transactions, after which more is known of sums
 pub balances_read : (old new : View) (here : List ℕ) (counted : Counted) (confirmed : ℕ) (s : State) → Shows old here counted confirmed (at_rest s) → row.Survives old new → (new.IsSound → row.Rests old new) → (new.IsSound → old.is_open ≡ true)
-    → (later : Counted) → later.sizes ≡ counted.sizes → later.boarded ≡ counted.boarded → later.waybills ≡ counted.waybills
+    → (later : Counted) → later.sizes ≡ counted.sizes → later.boarded ≡ counted.boarded → later.waybills ≡ counted.waybills → later.open_lines ≡ counted.open_lines
     → (IsShowing old (seen_in old) → new.IsSound → (book : List Move) → AreCounts old.now.counts book → AreKnown counted.known (running book) → AreKnown later.known (running book)) → Shows new here later confirmed (at_rest s)
-balances_read old new here counted confirmed s was survives rests up later sizes boarded waybills tells =
+balances_read old new here counted confirmed s was survives rests up later sizes boarded waybills open_lines tells =
     let now = rests_on old new here counted confirmed s was survives rests in
     keeps_number new here counted confirmed (at_rest s) now later sizes (λ sound. record {
       boarded = subst (λ o. AreBoarded o s.cargo.book) (sym boarded) (now sound).kept.boarded;
       known = known_by_counts old new here counted confirmed (at_rest s) was survives up sound counted.known later.known (now sound).kept.known tells;
       waybills = subst (λ o. HaveAsked o s.cargo.book) (sym waybills) (now sound).kept.waybills;
+      open_lines = subst (λ (o : OpenLines). HasOpen o.kept s.cargo.expected) (sym open_lines) (now sound).kept.open_lines;
     })

@@ -5,14 +5,18 @@ use Rattle.shipment_machine.specs.Book.{balances_of, in_store, same_place, waybi
 use Rattle.shipment_machine.specs.Numbers.{is_in}
 use Rattle.shipment_machine.specs.declared.moves.Move.{Move}
 use Rattle.shipment_machine.specs.declared.moves.Place.TheVariants.{Missing, Surplus}
+use Rattle.station_core.specs.Readers.{expected_for}
 use Rattle.station_core.specs.Step.{State}
+use Rattle.station_core.specs.declared.rows.ExpectedQuery.TheVariants.{Open}
 use Rattle.station_schema.specs.Tables.{Tables}
 use Rattle.station_schema.specs.Store.{View, IsAtRest}
 use Rattle.row_codec.specs.Counts.{running}
 use Rattle.row_codec.specs.Meaning.{Means}
 use Rattle.running_totals.specs.Known.{AreKnown}
+use Rattle.state_store.specs.ExpectedLines.{Lines, lines_in}
 use Rattle.state_store.specs.Store.{Seen}
 use Rattle.state_store.specs.Waybills.{is_asked_for}
+use Rattle.state_store.specs.declared.expected_lines.ExpectedLines.{ExpectedLines}
 use Rattle.state_store.specs.declared.query.WaybillQuery.{WaybillQuery}
 use Rattle.state_store.specs.declared.query.WaybillQuery.TheVariants.{Irregular, Stored}
 use Rattle.station_core.specs.Told.{sizes_of}
@@ -70,16 +74,21 @@ abbrev pub opens : WaybillQuery → Move → Bool
 opens Stored m = not (in_store m.from)
 opens Irregular m = same_place Surplus m.from || same_place Missing m.to
 
--- what is kept beside the tables is true of a book
-pub record IsCounted (counted : Counted) (book : List Move) : Type 0 where
+-- where the open lines are kept, they are all lines that weren't checked in
+abbrev pub HasOpen : Option ExpectedLines → Lines → Type 0
+HasOpen kept lines = IfSome kept (λ open_lines. lines_in open_lines ≡ expected_for Open lines)
+
+-- what is kept beside the tables is true of a book, and of what flights are to bring
+pub record IsCounted (counted : Counted) (book : List Move) (lines : Lines) : Type 0 where
   pub boarded : AreBoarded counted.boarded book
   pub known : AreKnown counted.known (running book)
   pub waybills : HaveAsked counted.waybills book
+  pub open_lines : HasOpen counted.open_lines.kept lines
 
 pub record Tells (v : View) (here : List ℕ) (counted : Counted) (confirmed : ℕ) (x : Seen) : Type 0 where
   pub holds : Holds v x
   pub knows : Knows here counted.sizes confirmed x
-  pub kept : IsCounted counted x.now.cargo.book
+  pub kept : IsCounted counted x.now.cargo.book x.now.cargo.expected
 
 -- as long as the disk has returned what was written
 abbrev pub Shows : View → List ℕ → Counted → ℕ → Seen → Type 0

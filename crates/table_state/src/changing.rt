@@ -116,7 +116,10 @@ impl<S: TableStore> TableState<S> {
             &row,
         ) {
             Err(_) => Err(StoreFault),
-            Ok(()) => Ok(()),
+            Ok(()) => {
+                self.counted.open_lines.post(flight, awb, expected);
+                Ok(())
+            }
         }
     }
 

@@ -1,6 +1,7 @@
 //! What is counted of the state that is shown.
 ghost use Rattle.std.specs.Prelude.{◌≤◌};
 
+use crate::open_lines::OpenLines;
 use crate::waybill_sets::WaybillSets;
 use running_totals::KnownSums;
 use shipment_machine::FlightDate;
@@ -23,13 +24,15 @@ pub(crate) struct Boardings {
 }
 
 /// How many rows there are that are numbered, which all have a number, how many waybills are on
-/// flights and which waybills are listed, where this is known, and what is known of sums.
+/// flights, which waybills are listed and what is open of what flights are to bring, where this is
+/// known, and what is known of sums.
 #[derive(Drop)]
 pub(crate) struct Counted {
     pub(crate) sizes: Sizes,
     pub(crate) boarded: Boardings,
     pub(crate) known: KnownSums,
     pub(crate) waybills: WaybillSets,
+    pub(crate) open_lines: OpenLines,
     ghost fit: { (sizes.moves ≤ 4_294_967_295) × (sizes.lines ≤ 4_294_967_295)
         × (sizes.messages ≤ 4_294_967_295) },
 }

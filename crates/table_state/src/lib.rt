@@ -4,10 +4,12 @@
 mod boarding;
 mod changing;
 mod counted;
+mod expecting;
 mod handing;
 mod listing;
 mod missed;
 mod noted;
+mod open_lines;
 mod opening;
 mod recording;
 mod state;

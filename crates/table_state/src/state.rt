@@ -10,7 +10,8 @@ ghost use Rattle.table_state.specs.Shown.{Shows, Finds, HasThese, Knows};
 use crate::counted::{Boarded, Boardings, Counted};
 use crate::handing::{Telling, ended};
 use crate::missed::Missed;
-use crate::noted::{flights_noted, waybills_expected};
+use crate::noted::flights_noted;
+use crate::open_lines::OpenLines;
 use crate::recording::record_move;
 use crate::waybill_sets::{WaybillSets, numbers_of};
 use agent_stock::{Holder, Order, StockFault, StockRun};
@@ -26,8 +27,8 @@ use shipment_machine::{
 };
 use state_store::{StateStore, StoreFault, WaybillQuery};
 use station_core::{
-    BookQuery, BookRow, Expectation, KeptReply, Key, Load, Message, NotedFlight, Sink, Sizes,
-    TrailQuery, TrailRow, WaybillBalances,
+    BookQuery, BookRow, Expectation, ExpectedQuery, KeptReply, Key, Load, Message, NotedFlight,
+    Sink, Sizes, TrailQuery, TrailRow, WaybillBalances,
 };
 use station_rows::TableStore;
 use std::alloc::Global;
@@ -71,6 +72,7 @@ impl<S: TableStore> TableState<S> {
                 boarded: Boardings::none(),
                 known: KnownSums::none(),
                 waybills: WaybillSets::none(),
+                open_lines: OpenLines::none(),
             },
             confirmed,
             missed: Missed::new(alloc),
@@ -421,14 +423,11 @@ impl<S: TableStore> StateStore for TableState<S> {
         }
     }
 
-    #[tactic(auto, using(crate::proofs::Lifting::rests_on, crate::proofs::Lifting::survives_so))]
-    fn expectations(&mut self) -> Result<Vec<Expectation>, StoreFault> {
-        match self.store.all_expected() {
-            Err(_) => Err(StoreFault),
-            Ok(rows) => match waybills_expected(self.alloc, &rows) {
-                Err(_) => Err(StoreFault),
-                Ok(waybills) => Ok(waybills),
-            },
+    #[tactic(auto, using(crate::proofs::Lifting::survives_so))]
+    fn expectations(&mut self, query: &ExpectedQuery) -> Result<Vec<Expectation>, StoreFault> {
+        match query {
+            ExpectedQuery::All => self.all_lines(),
+            ExpectedQuery::Open => self.open_lines(),
         }
     }
 

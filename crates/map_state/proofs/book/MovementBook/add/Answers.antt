@@ -4,7 +4,7 @@ use Rattle.shipment_machine.specs.declared.moves.Place.TheVariants.{Built}
 use Rattle.map_state.specs.Flow.{flow_of, flow_with}
 use Rattle.map_state.specs.Summed.{IsWaybillSummed, flow_at}
 use Rattle.map_state.specs.declared.book.MovementBook.{MovementBook}
-use Rattle.map_state.specs.declared.flight_key.FlightKey.{FlightKey}
+use Rattle.state_store.specs.declared.flight_key.FlightKey.{FlightKey}
 use Rattle.map_state.proofs.Posting.{flight_summed, posted_both, posted_first}
 use Rattle.map_state.proofs.book.MovementBook.add.Goals.{then-not-is_same+in_ok-post_load-2, else-not-is_same}
 use Rattle.map_state.proofs.book.MovementBook.add.Goals as goal

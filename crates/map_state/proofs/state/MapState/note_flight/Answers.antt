@@ -4,12 +4,13 @@ use Rattle.shipment_machine.specs.Flights.{same_flight_date}
 use Rattle.std.specs.Bool.{if◌then◌else◌}
 use Rattle.shipment_machine.specs.declared.flight.FlightDate.{FlightDate}
 use Rattle.shipment_machine.specs.declared.plans.Change.TheVariants.{NoteFlight}
-use Rattle.map_state.specs.FlightKey.{by_key}
+use Rattle.state_store.specs.FlightKey.{by_key}
 use Rattle.map_state.specs.Maps.{cargo_of, flights_in}
 use Rattle.map_state.specs.Shown.{state_of}
-use Rattle.map_state.specs.declared.flight_key.FlightKey.{FlightKey}
-use Rattle.map_state.proofs.Keyed.{put_in}
-use Rattle.map_state.proofs.Writing.{by_flight_keyed, shows_more}
+use Rattle.state_store.specs.declared.flight_key.FlightKey.{FlightKey}
+use Rattle.state_store.proofs.Keyed.{put_in}
+use Rattle.state_store.proofs.Tied.{by_flight_keyed}
+use Rattle.map_state.proofs.Writing.{shows_more}
 use Rattle.map_state.proofs.state.MapState.note_flight.Goals as goal
 
 pub returns : goal.returns

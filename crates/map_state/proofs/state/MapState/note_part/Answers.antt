@@ -6,7 +6,7 @@ use Rattle.shipment_machine.specs.declared.moves.Part.{Part}
 use Rattle.shipment_machine.specs.declared.plans.Change.TheVariants.{NotePart}
 use Rattle.map_state.specs.Maps.{cargo_of, part_of, parts_in}
 use Rattle.map_state.specs.Shown.{state_of}
-use Rattle.map_state.proofs.Keyed.{put_in}
+use Rattle.state_store.proofs.Keyed.{put_in}
 use Rattle.map_state.proofs.KeptRows.{mapped}
 use Rattle.map_state.proofs.Writing.{by_part, by_part_keyed, shows_more}
 use Rattle.map_state.proofs.state.MapState.note_part.Goals as goal

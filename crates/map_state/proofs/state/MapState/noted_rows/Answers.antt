@@ -1,5 +1,6 @@
 use Rattle.std.proofs.Common.{◌∙◌, ap, ◌++◌, map}
-use Rattle.map_state.proofs.InOrder.{are_noted, mapped_last, mapped_more, noted_of}
+use Rattle.state_store.proofs.InOrder.{mapped_last, mapped_more}
+use Rattle.map_state.proofs.NotedOrder.{are_noted, noted_of}
 use Rattle.map_state.proofs.state.MapState.noted_rows.Goals as goal
 
 pub loop-key-init : goal.loop-key-init

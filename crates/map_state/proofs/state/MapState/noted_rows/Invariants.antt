@@ -1,5 +1,5 @@
 use Rattle.std.proofs.Common.{◌≡◌, ◌++◌, map}
-use Rattle.map_state.proofs.InOrder.{noted_of}
+use Rattle.map_state.proofs.NotedOrder.{noted_of}
 use Rattle.map_state.proofs.state.MapState.noted_rows.Given as goal
 
 -- the flights so far and those ahead are all

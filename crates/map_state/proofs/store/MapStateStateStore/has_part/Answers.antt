@@ -3,7 +3,7 @@ use Rattle.std.specs.BTreeMap.{get}
 use Rattle.std.specs.Map.{lookup}
 use Rattle.shipment_machine.specs.Cargo.{Cargo, same_part}
 use Rattle.map_state.specs.Maps.{part_of}
-use Rattle.map_state.proofs.Keyed.{found_by, some_mapped}
+use Rattle.state_store.proofs.Keyed.{found_by, some_mapped}
 use Rattle.map_state.proofs.Surviving.{cargo_is}
 use Rattle.map_state.proofs.Writing.{by_part, by_part_keyed}
 use Rattle.map_state.proofs.store.MapStateStateStore.has_part.Goals as goal

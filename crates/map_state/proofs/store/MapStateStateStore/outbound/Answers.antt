@@ -2,11 +2,11 @@ use Rattle.std.proofs.Common.{◌≡◌, ◌∙◌, ap, rules}
 use Rattle.std.specs.BTreeMap.{get}
 use Rattle.shipment_machine.specs.Cargo.{Cargo}
 use Rattle.shipment_machine.specs.Flights.{same_flight_date}
-use Rattle.map_state.specs.FlightKey.{by_key}
-use Rattle.map_state.specs.declared.flight_key.FlightKey.{FlightKey}
-use Rattle.map_state.proofs.Keyed.{found_by}
+use Rattle.state_store.specs.FlightKey.{by_key}
+use Rattle.state_store.specs.declared.flight_key.FlightKey.{FlightKey}
+use Rattle.state_store.proofs.Keyed.{found_by}
 use Rattle.map_state.proofs.Surviving.{cargo_is}
-use Rattle.map_state.proofs.Writing.{by_flight_keyed}
+use Rattle.state_store.proofs.Tied.{by_flight_keyed}
 use Rattle.map_state.proofs.store.MapStateStateStore.outbound.Goals as goal
 
 pub returns-clause-value : goal.returns-clause-value

@@ -13,11 +13,11 @@ returns-then-not-asks_for-clause-value g c = λ s shown sound.
 
 pub returns-then-not-asks_for-clause-rests : goal.returns-then-not-asks_for-clause-rests
 returns-then-not-asks_for-clause-rests g c = λ s shown.
-    balances_read _ _ _ _ _ s shown c.in-Ok.ensures.survives c.in-Ok.ensures.rests c.in-Ok.ensures.open _ refl refl refl (c.in-Ok.ensures.known (seen_in (g.S.TableStore.view c.args.self.now.store)))
+    balances_read _ _ _ _ _ s shown c.in-Ok.ensures.survives c.in-Ok.ensures.rests c.in-Ok.ensures.open _ refl refl refl refl (c.in-Ok.ensures.known (seen_in (g.S.TableStore.view c.args.self.now.store)))
 
 pub returns-in_err-push-in-Ok-clause-rests : goal.returns-in_err-push-in-Ok-clause-rests
 returns-in_err-push-in-Ok-clause-rests g c = λ s shown.
-    balances_read _ _ _ _ _ s shown c.in-Ok.ensures.survives c.in-Ok.ensures.rests c.in-Ok.ensures.open _ refl refl refl (c.in-Ok.ensures.known (seen_in (g.S.TableStore.view c.args.self.now.store)))
+    balances_read _ _ _ _ _ s shown c.in-Ok.ensures.survives c.in-Ok.ensures.rests c.in-Ok.ensures.open _ refl refl refl refl (c.in-Ok.ensures.known (seen_in (g.S.TableStore.view c.args.self.now.store)))
 
 pub returns-in_ok-push-in-Ok-clause-value : goal.returns-in_ok-push-in-Ok-clause-value
 returns-in_ok-push-in-Ok-clause-value g c = λ s shown sound.
@@ -27,4 +27,4 @@ returns-in_ok-push-in-Ok-clause-value g c = λ s shown sound.
 
 pub returns-in_ok-push-in-Ok-clause-rests : goal.returns-in_ok-push-in-Ok-clause-rests
 returns-in_ok-push-in-Ok-clause-rests g c = λ s shown.
-    balances_read _ _ _ _ _ s shown c.in-Ok.ensures.survives c.in-Ok.ensures.rests c.in-Ok.ensures.open _ refl refl refl (c.in-Ok.ensures.known (seen_in (g.S.TableStore.view c.args.self.now.store)))
+    balances_read _ _ _ _ _ s shown c.in-Ok.ensures.survives c.in-Ok.ensures.rests c.in-Ok.ensures.open _ refl refl refl refl (c.in-Ok.ensures.known (seen_in (g.S.TableStore.view c.args.self.now.store)))

@@ -7,4 +7,4 @@ returns-in-Ok-clause-done g c = λ before s shown.
     let next : c.in-Some.number ≡ c.args.self.now.counted.sizes.moves + 1 = search rules in
     let fits : FitsSigned w64 c.in-Ok.were = search rules in
     moves_on _ _ _ _ _ before s shown c.in-Ok.ensures.survives c.in-Some.number c.args.movement.now next _ refl c.in-Ok.were
-    (λ book known there. c.post.ensures book known (λ other. to_z-of_z fits ∙ there other)) c.in-Ok.ensures.known c.post-in-Ok.ensures (c.in-Ok.ensures.before _ _) (c.in-Ok.ensures.done _ _)
+    (λ book known there. c.post.ensures book known (λ other. to_z-of_z fits ∙ there other)) c.in-Ok.ensures.known c.post-in-Ok.ensures refl (c.in-Ok.ensures.before _ _) (c.in-Ok.ensures.done _ _)

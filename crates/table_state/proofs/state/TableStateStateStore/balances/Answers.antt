@@ -10,9 +10,9 @@ returns-in-Ok-clause-value g c = λ x shown sound. balances_are _ _ _ _ _ x show
 pub returns-in-Ok-clause-same : goal.returns-in-Ok-clause-same
 returns-in-Ok-clause-same g c = λ x shown.
     let now = reads_on _ _ _ _ _ x shown c.in-Ok.ensures.survives (c.in-Ok.ensures.same (seen_in (g.S.TableStore.view c.args.self.now.store))) c.in-Ok.ensures.open in
-    keeps_number _ _ _ _ x now _ refl (λ sound. record { boarded = (now sound).kept.boarded; known = known_by_counts _ _ _ _ _ x shown c.in-Ok.ensures.survives c.in-Ok.ensures.open sound _ _ (now sound).kept.known (c.in-Ok.ensures.known (seen_in (g.S.TableStore.view c.args.self.now.store))); waybills = (now sound).kept.waybills })
+    keeps_number _ _ _ _ x now _ refl (λ sound. record { boarded = (now sound).kept.boarded; known = known_by_counts _ _ _ _ _ x shown c.in-Ok.ensures.survives c.in-Ok.ensures.open sound _ _ (now sound).kept.known (c.in-Ok.ensures.known (seen_in (g.S.TableStore.view c.args.self.now.store))); waybills = (now sound).kept.waybills; open_lines = (now sound).kept.open_lines })
 
 pub returns-in-Ok-clause-rests : goal.returns-in-Ok-clause-rests
 returns-in-Ok-clause-rests g c = λ s shown.
     let now = rests_on _ _ _ _ _ s shown c.in-Ok.ensures.survives c.in-Ok.ensures.rests in
-    keeps_number _ _ _ _ (at_rest s) now _ refl (λ sound. record { boarded = (now sound).kept.boarded; known = known_by_counts _ _ _ _ _ (at_rest s) shown c.in-Ok.ensures.survives c.in-Ok.ensures.open sound _ _ (now sound).kept.known (c.in-Ok.ensures.known (seen_in (g.S.TableStore.view c.args.self.now.store))); waybills = (now sound).kept.waybills })
+    keeps_number _ _ _ _ (at_rest s) now _ refl (λ sound. record { boarded = (now sound).kept.boarded; known = known_by_counts _ _ _ _ _ (at_rest s) shown c.in-Ok.ensures.survives c.in-Ok.ensures.open sound _ _ (now sound).kept.known (c.in-Ok.ensures.known (seen_in (g.S.TableStore.view c.args.self.now.store))); waybills = (now sound).kept.waybills; open_lines = (now sound).kept.open_lines })

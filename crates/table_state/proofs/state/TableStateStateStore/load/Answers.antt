@@ -9,4 +9,4 @@ returns-in-Ok-clause-value g c = λ x shown sound. load_is _ _ _ _ _ x shown c.i
 pub returns-in-Ok-clause-same : goal.returns-in-Ok-clause-same
 returns-in-Ok-clause-same g c = λ x shown.
     let now = reads_on _ _ _ _ _ x shown c.in-Ok.ensures.survives (c.in-Ok.ensures.same (seen_in (g.S.TableStore.view c.args.self.now.store))) c.in-Ok.ensures.open in
-    keeps_number _ _ _ _ x now _ refl (λ sound. record { boarded = (now sound).kept.boarded; known = known_by_builds _ _ _ _ _ x shown c.in-Ok.ensures.survives c.in-Ok.ensures.open sound _ _ (now sound).kept.known (c.in-Ok.ensures.known (seen_in (g.S.TableStore.view c.args.self.now.store))); waybills = (now sound).kept.waybills })
+    keeps_number _ _ _ _ x now _ refl (λ sound. record { boarded = (now sound).kept.boarded; known = known_by_builds _ _ _ _ _ x shown c.in-Ok.ensures.survives c.in-Ok.ensures.open sound _ _ (now sound).kept.known (c.in-Ok.ensures.known (seen_in (g.S.TableStore.view c.args.self.now.store))); waybills = (now sound).kept.waybills; open_lines = (now sound).kept.open_lines })

@@ -13,4 +13,4 @@ pub returns-in-Ok-clause-same : goal.returns-in-Ok-clause-same
 returns-in-Ok-clause-same g c = λ x shown.
     let now = reads_on _ _ _ _ _ x shown c.in-Ok.ensures.survives (c.in-Ok.ensures.same (seen_in (g.S.TableStore.view c.args.self.now.store))) c.in-Ok.ensures.open in
     keeps_number _ _ _ _ x now _ refl
-    (λ sound. record { boarded = c.keep.ensures x.now.cargo.book (now sound).kept.boarded (waybills_are _ _ _ _ _ x shown c.in-Ok.ensures.survives c.in-Ok.ensures.open sound c.args.flight.now c.in-Ok.waybills (c.in-Ok.ensures.value (seen_in (g.S.TableStore.view c.args.self.now.store)))); known = (now sound).kept.known; waybills = (now sound).kept.waybills })
+    (λ sound. record { boarded = c.keep.ensures x.now.cargo.book (now sound).kept.boarded (waybills_are _ _ _ _ _ x shown c.in-Ok.ensures.survives c.in-Ok.ensures.open sound c.args.flight.now c.in-Ok.waybills (c.in-Ok.ensures.value (seen_in (g.S.TableStore.view c.args.self.now.store)))); known = (now sound).kept.known; waybills = (now sound).kept.waybills; open_lines = (now sound).kept.open_lines })

@@ -1,23 +1,21 @@
--- The entries of flights as the rows of the readers.
+-- The entries of a map in the order of the readers, as their rows.
 use Rattle.std.proofs.Common.{◌≡◌, ◌∙◌, ℕ, Bool, true, false, ◌&&◌, cond, List, [], ◌∷◌, ◌++◌, map, option_map, append_assoc, append-nil, Some, find, ◌==◌, refl, sym, ap, subst, Less, Ordering}
 use Rattle.std.specs.FinMap.{is_sorted}
 use Rattle.std.specs.FinMap.Entries.{below_all}
 use Rattle.std.specs.List.{AllByRecursion}
 use Rattle.std.specs.List.Sorted.{IsStrictlySortedBy}
 use Rattle.std.specs.Map.{keys_of, lookup}
-use Rattle.std.specs.Ordering.{is_lt, nat_cmp, ordering_then}
+use Rattle.std.specs.Ordering.{is_lt}
 use Rattle.std.proofs.lemmas.Bool.{and_from}
-use Rattle.std.specs.BTreeMap.{BTreeMap}
 use Rattle.std.proofs.lemmas.Map.Keys.{sorted_head, sorted_tail}
 use Rattle.shipment_machine.specs.Flights.{same_flight_date}
 use Rattle.shipment_machine.specs.declared.moves.Expected.{Expected}
-use Rattle.shipment_machine.specs.declared.moves.Outbound.{Outbound}
-use Rattle.station_core.specs.Readers.{AreExpectations, AreNoted, by_expectation, by_flight}
+use Rattle.station_core.specs.Readers.{AreExpectations, by_expectation}
 use Rattle.station_core.specs.declared.rows.Expectation.{Expectation}
-use Rattle.station_core.specs.declared.rows.NotedFlight.{NotedFlight}
-use Rattle.map_state.specs.FlightKey.{by_key}
-use Rattle.map_state.specs.Maps.{expected_in, flights_in, line_of, same_line}
-use Rattle.map_state.specs.declared.flight_key.FlightKey.{FlightKey}
+use Rattle.state_store.specs.ExpectedLines.{lines_in, line_of, same_line}
+use Rattle.state_store.specs.declared.expected_lines.ExpectedLines.{ExpectedLines}
+use Rattle.state_store.specs.declared.flight_key.FlightKey.{FlightKey}
+use Rattle.state_store.proofs.Tied.{by_line}
 
 -- one row further
 pub mapped_more : {E X : Type 0} (f : E → X) (rows new whole : List X) (ahead more : List E) (e : E) → rows ++ map f ahead ≡ whole → ahead ≡ e ∷ more → new ≡ rows ++ f e ∷ [] → new ++ map f more ≡ whole
@@ -37,12 +35,12 @@ module _ {K X J : Type 0} (cmp : K → K → Ordering) (by : J → J → Orderin
   sorted [] h = refl
   sorted (e ∷ es) h = and_from _ _ (below e.0 es (sorted_head cmp e.0 (keys_of es) h)) (sorted es (sorted_tail cmp e.0 (keys_of es) h))
 
-map_map : {A B C : Type 0} (g : B → C) (f : A → B) (xs : List A) → map g (map f xs) ≡ map (λ x. g (f x)) xs
+pub map_map : {A B C : Type 0} (g : B → C) (f : A → B) (xs : List A) → map g (map f xs) ≡ map (λ x. g (f x)) xs
 map_map g f [] = refl
 map_map g f (x ∷ xs) = ap (λ l. g (f x) ∷ l) (map_map g f xs)
 
 -- a look-up by a test is a look-up in the rows
-found_in : {K X R : Type 0} (test : K → Bool) (row : K × X → R) (key_test : R → Bool) (value : R → X) → ((e : K × X) → key_test (row e) ≡ test e.0) → ((e : K × X) → value (row e) ≡ e.1)
+pub found_in : {K X R : Type 0} (test : K → Bool) (row : K × X → R) (key_test : R → Bool) (value : R → X) → ((e : K × X) → key_test (row e) ≡ test e.0) → ((e : K × X) → value (row e) ≡ e.1)
     → (es : List (K × X)) → lookup test es ≡ option_map value (find key_test (map row es))
 found_in test row key_test value tests is [] = refl
 found_in {K} {X} {R} test row key_test value tests is (e ∷ es) = by_case (test e.0) (tests e) (found_in test row key_test value tests is es)
@@ -52,25 +50,13 @@ found_in {K} {X} {R} test row key_test value tests is (e ∷ es) = by_case (test
     by_case true at h = ap Some (sym (is e)) ∙ sym (ap (λ c. option_map value (cond c (Some (row e)) (find key_test (map row es)))) at)
     by_case false at h = h ∙ sym (ap (λ c. option_map value (cond c (Some (row e)) (find key_test (map row es)))) at)
 
--- ---- the rows
-
-abbrev pub noted_of : FlightKey × Outbound → NotedFlight
-noted_of e = record { flight = e.0.flight; outbound = e.1 }
-
-pub are_noted : (m : BTreeMap FlightKey Outbound) (rows : List NotedFlight) → IsStrictlySortedBy by_key (keys_of m.entries) → rows ≡ map noted_of m.entries → AreNoted (flights_in m) rows
-are_noted m rows ordered are = subst (AreNoted (flights_in m)) (sym are) (record {
-  rising = ap (is_sorted by_flight) (map_map (λ (row : NotedFlight). (row.flight, row.outbound)) noted_of m.entries) ∙ sorted by_key by_flight (λ (k : FlightKey). k.flight) (λ a b. refl) m.entries ordered;
-  same = λ f. found_in (λ k. same_flight_date f k.flight) noted_of (λ row. same_flight_date f row.flight) (λ row. row.outbound) (λ e. refl) (λ e. refl) m.entries;
-})
+-- ---- what flights are to bring
 
 abbrev pub expectation_of : (FlightKey × ℕ) × Expected → Expectation
 expectation_of e = record { flight = e.0.0.flight; awb = e.0.1; expected = e.1 }
 
-abbrev pub by_line : FlightKey × ℕ → FlightKey × ℕ → Ordering
-by_line a b = ordering_then (by_key a.0 b.0) (nat_cmp a.1 b.1)
-
-pub are_expectations : (m : BTreeMap (FlightKey × ℕ) Expected) (rows : List Expectation) → IsStrictlySortedBy by_line (keys_of m.entries) → rows ≡ map expectation_of m.entries → AreExpectations (expected_in m) rows
-are_expectations m rows ordered are = subst (AreExpectations (expected_in m)) (sym are) (record {
-  rising = ap (is_sorted by_expectation) (map_map (λ (row : Expectation). ((row.flight, row.awb), row.expected)) expectation_of m.entries) ∙ sorted by_line by_expectation line_of (λ a b. refl) m.entries ordered;
-  same = λ f w. found_in (λ k. same_line (f, w) (line_of k)) expectation_of (λ row. same_flight_date f row.flight && (w == row.awb)) (λ row. row.expected) (λ e. refl) (λ e. refl) m.entries;
+pub are_expectations : (kept : ExpectedLines) (rows : List Expectation) → IsStrictlySortedBy by_line (keys_of kept.entries.entries) → rows ≡ map expectation_of kept.entries.entries → AreExpectations (lines_in kept) rows
+are_expectations kept rows ordered are = subst (AreExpectations (lines_in kept)) (sym are) (record {
+  rising = ap (is_sorted by_expectation) (map_map (λ (row : Expectation). ((row.flight, row.awb), row.expected)) expectation_of kept.entries.entries) ∙ sorted by_line by_expectation line_of (λ a b. refl) kept.entries.entries ordered;
+  same = λ f w. found_in (λ k. same_line (f, w) (line_of k)) expectation_of (λ row. same_flight_date f row.flight && (w == row.awb)) (λ row. row.expected) (λ e. refl) (λ e. refl) kept.entries.entries;
 })

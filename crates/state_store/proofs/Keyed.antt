@@ -2,8 +2,8 @@
 use Rattle.std.proofs.Common.{◌≡◌, ◌∙◌, Bool, true, false, cond, Option, Some, None, is_some, option_map, List, [], ◌∷◌, refl, sym, ap, Less, Equal, Greater, Ordering, true≢false, is_eq}
 use Rattle.std.specs.BTreeMap.{insert_entry, is_at}
 use Rattle.std.specs.Cmp.{Equal-is, both_ways}
-use Rattle.std.specs.Map.{lookup}
-use Rattle.std.specs.Ordering.{match_ordering}
+use Rattle.std.specs.Map.{AreApart, IsKeyTest, KeepsOthers, lookup}
+use Rattle.std.specs.Ordering.{eq_by_cmp, match_ordering}
 
 -- keys tie where they stand for one thing, and a test decides whether two things are one
 pub record IsKeyed {K F : Type 0} (cmp : K → K → Ordering) (of : K → F) (same : F → F → Bool) : Type 0 where
@@ -54,6 +54,28 @@ module _ {K F X : Type 0} (cmp : K → K → Ordering) (of : K → F) (same : F 
           by_order Greater at rest =
               ap (cond (same q (of e.0)) (Some e.1)) rest
               ∙ swap (same q (of k)) (same q (of e.0)) (Some e.1) (Some v) (lookup (λ e. same q (of e)) es) (λ h g. both e (same q (of k)) (same q (of e.0)) refl refl h g at)
+
+  -- after the entry of a key is taken out
+  still_found : (test other : K → Bool) (es fs : List (K × X)) → KeepsOthers (eq_by_cmp cmp) test es fs → IsKeyTest (eq_by_cmp cmp) other → AreApart test other → lookup other fs ≡ lookup other es
+  unfolding KeepsOthers
+  still_found test other es fs keeps = keeps other
+
+  pub taken_out : (es fs : List (K × X)) (k : K) (f q : F) → of k ≡ f → lookup (is_at (cmp k)) fs ≡ None → KeepsOthers (eq_by_cmp cmp) (is_at (cmp k)) es fs → lookup (λ e. same q (of e)) fs ≡ cond (same q f) None (lookup (λ e. same q (of e)) es)
+  taken_out es fs k f q is gone keeps = by_case (same q f) refl
+    where
+      key_test : IsKeyTest (eq_by_cmp cmp) (λ e. same q (of e))
+      key_test x y at = ap (λ g. same g (of y)) (keyed.one q (of x) at) ∙ sym (at_same cmp of same keyed x y)
+
+      apart : same q f ≡ false → AreApart (is_at (cmp k)) (λ e. same q (of e))
+      apart other e at = ap (same q) (sym (keyed.ties k e ((Equal-is (cmp k e)).0 at)) ∙ is) ∙ other
+
+      by_case : (b : Bool) → same q f ≡ b → lookup (λ e. same q (of e)) fs ≡ cond (same q f) None (lookup (λ e. same q (of e)) es)
+      by_case true at =
+          ap (λ g. lookup (λ e. same g (of e)) fs) (keyed.one q f at) ∙ sym (found_by fs k f is) ∙ gone
+          ∙ sym (ap (λ b. cond b None (lookup (λ e. same q (of e)) es)) at)
+      by_case false at =
+          still_found (is_at (cmp k)) (λ e. same q (of e)) es fs keeps key_test (apart at)
+          ∙ sym (ap (λ b. cond b None (lookup (λ e. same q (of e)) es)) at)
 
 pub some_mapped : {A B : Type 0} (f : A → B) (o : Option A) → is_some o ≡ is_some (option_map f o)
 some_mapped f (Some a) = refl

@@ -1,7 +1,7 @@
 //! The order of flights in a map.
 ghost use Rattle.std.specs.Prelude.{refl, Some};
 ghost use Rattle.std.specs.Cmp.{po};
-ghost use Rattle.map_state.specs.FlightKey.{by_key, key_equiv, key_per, key_total, same_key};
+ghost use Rattle.state_store.specs.FlightKey.{by_key, key_equiv, key_per, key_total, same_key};
 
 use crate::flight_key::FlightKey;
 use std::cmp::Ordering;

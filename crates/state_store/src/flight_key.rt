@@ -6,11 +6,12 @@ use shipment_machine::FlightDate;
 
 /// A flight of a day, in the order of the readers: by its written form, then by the day.
 #[derive(Clone, Copy)]
-pub(crate) struct FlightKey {
-    pub(crate) flight: FlightDate,
+pub struct FlightKey {
+    /// The flight, and its day.
+    pub flight: FlightDate,
     // The written form, and what is behind it.
-    pub(crate) bytes: [u8; 7],
-    pub(crate) len: usize,
+    bytes: [u8; 7],
+    len: usize,
     ghost is_flight: { IsDesignator flight.flight } by { Prim.hlevel props },
     ghost is_text: { take len bytes ≡ flight_text flight.flight } by { Prim.hlevel props },
     ghost within: { len ≤ 7 } by { Prim.hlevel props },
@@ -18,7 +19,7 @@ pub(crate) struct FlightKey {
 
 impl FlightKey {
     /// The key of a flight.
-    pub(crate) fn of(flight: &FlightDate) -> FlightKey
+    pub fn of(flight: &FlightDate) -> FlightKey
         ensures { result.flight ≡ flight.now }
     {
         let mut bytes = [0; 7];

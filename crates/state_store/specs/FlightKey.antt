@@ -7,7 +7,7 @@ use Rattle.std.specs.Cmp.Lexicographic.{nat_list_cmp_total}
 use Rattle.imp_fields.specs.Flight.{flight_text}
 use Rattle.shipment_machine.specs.declared.flight.FlightDate.{FlightDate}
 use Rattle.station_core.specs.Readers.{by_flight}
-use Rattle.map_state.specs.declared.flight_key.FlightKey.{FlightKey}
+use Rattle.state_store.specs.declared.flight_key.FlightKey.{FlightKey}
 
 -- flights are ordered by their written form, and then by the day
 abbrev pub by_key : FlightKey → FlightKey → Ordering

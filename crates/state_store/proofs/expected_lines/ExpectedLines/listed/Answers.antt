@@ -1,8 +1,8 @@
 use Rattle.std.proofs.Common.{◌∙◌, ap, ◌++◌, ◌∷◌, [], ℕ, map}
 use Rattle.shipment_machine.specs.declared.moves.Expected.{Expected}
-use Rattle.map_state.specs.declared.flight_key.FlightKey.{FlightKey}
-use Rattle.map_state.proofs.InOrder.{are_expectations, expectation_of, mapped_last, mapped_more}
-use Rattle.map_state.proofs.state.MapState.expected_rows.Goals as goal
+use Rattle.state_store.specs.declared.flight_key.FlightKey.{FlightKey}
+use Rattle.state_store.proofs.InOrder.{are_expectations, expectation_of, mapped_last, mapped_more}
+use Rattle.state_store.proofs.expected_lines.ExpectedLines.listed.Goals as goal
 
 pub loop-key-init : goal.loop-key-init
 loop-key-init c = ap (λ l. l ++ map expectation_of c.into_iter-key-iterator.result) c.new-rows.ensures.items ∙ ap (map expectation_of) c.into_iter-key-iterator.ensures.into_iter_gives.0
@@ -15,5 +15,5 @@ loop-key-preserved c =
 
 pub returns : goal.returns
 returns c =
-    are_expectations c.args.self.now.expected c.loop-key.rows.items c.into_iter-key-iterator.ensures.into_iter_gives.5
+    are_expectations c.args.self.now c.loop-key.rows.items c.into_iter-key-iterator.ensures.into_iter_gives.5
     (mapped_last expectation_of c.loop-key.rows.items _ c.loop-key.key-iterator c.loop-key.invariant c.in-None.ensures.steps.0)

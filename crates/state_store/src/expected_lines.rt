@@ -1,0 +1,92 @@
+//! What flights are to bring, in the order in which readers list it.
+ghost use Rattle.std.specs.Prelude.{◌≡◌, Some, None, IfOk, OnOk, OnErr};
+ghost use Rattle.station_core.specs.Readers.{AreExpectations};
+ghost use Rattle.state_store.specs.ExpectedLines.{Lines, lines_in, no_lines, with_line};
+
+use crate::flight_key::FlightKey;
+use crate::store::StoreFault;
+use awb_number::Awb;
+use shipment_machine::{Expected, FlightDate};
+use station_core::Expectation;
+use std::alloc::Global;
+use std::collections::BTreeMap;
+
+/// What flights are to bring of waybills: a look-up by flight and waybill.
+#[derive(Drop)]
+pub struct ExpectedLines {
+    entries: BTreeMap<(FlightKey, u64), Expected>,
+}
+
+impl ExpectedLines {
+    /// No line.
+    pub fn new(alloc: Global) -> ExpectedLines
+        ensures { lines_in result ≡ no_lines }
+    {
+        ExpectedLines {
+            entries: BTreeMap::new(alloc),
+        }
+    }
+
+    /// The lines that readers list. It fails only where memory runs out.
+    pub fn of(alloc: Global, rows: &[Expectation]) -> Result<ExpectedLines, StoreFault>
+        ensures { (lines : Lines) → AreExpectations lines rows.now
+            → IfOk result (λ kept. lines_in kept ≡ lines) }
+    {
+        let mut kept = ExpectedLines::new(alloc);
+        for row in rows {
+            kept.put(&row.flight, &row.awb, &row.expected)?;
+        }
+        Ok(kept)
+    }
+
+    /// What a flight is to bring of a waybill, if it is to bring anything.
+    pub fn get(&self, flight: &FlightDate, awb: &Awb) -> Option<Expected>
+        ensures { result ≡ lines_in self.now flight.now awb.now }
+    {
+        let key = (FlightKey::of(flight), awb.key());
+        self.entries.get(&key).copied()
+    }
+
+    /// Writes what a flight is to bring of a waybill. Without memory for it nothing changes.
+    pub fn put(
+        &mut self,
+        flight: &FlightDate,
+        awb: &Awb,
+        expected: &Expected,
+    ) -> Result<(), StoreFault>
+        ensures put { OnOk result (lines_in self.new
+            ≡ with_line (lines_in self.old) flight.now awb.now (Some expected.now)) }
+        ensures kept { OnErr result (lines_in self.new ≡ lines_in self.old) }
+    {
+        let key = (FlightKey::of(flight), awb.key());
+        self.entries.insert(key, *expected)?;
+        Ok(())
+    }
+
+    /// Takes out what a flight is to bring of a waybill, if it is to bring anything.
+    pub fn remove(&mut self, flight: &FlightDate, awb: &Awb)
+        ensures { lines_in self.new ≡ with_line (lines_in self.old) flight.now awb.now None }
+    {
+        let key = (FlightKey::of(flight), awb.key());
+        self.entries.remove(&key);
+    }
+
+    /// All lines, by flight, in the order of the flights' written forms and then by the day, and
+    /// then by waybill. It fails only where memory runs out.
+    pub fn listed(&self, alloc: Global) -> Result<Vec<Expectation>, StoreFault>
+        ensures { IfOk result (λ rows. AreExpectations (lines_in self.now) rows.items) }
+    {
+        let mut rows = Vec::new(alloc);
+        for (key, expected) in &self.entries {
+            let Some(awb) = Awb::of_key(key.1) else {
+                return Err(StoreFault);
+            };
+            rows.push(Expectation {
+                flight: key.0.flight,
+                awb,
+                expected: *expected,
+            })?;
+        }
+        Ok(rows)
+    }
+}

@@ -1,0 +1,22 @@
+-- What is open after a line is written: it is put in if it wasn't checked in, and taken out if it was.
+use Rattle.std.proofs.Common.{◌≡◌, ℕ, true, false, ◌&&◌, ◌==◌, cond, Option, Some, None, refl, sym, ap}
+use Rattle.shipment_machine.specs.Flights.{same_flight_date}
+use Rattle.shipment_machine.specs.declared.flight.FlightDate.{FlightDate}
+use Rattle.shipment_machine.specs.declared.moves.Expected.{Expected}
+use Rattle.station_core.specs.Readers.{asked_of, expected_for}
+use Rattle.station_core.specs.declared.rows.ExpectedQuery.TheVariants.{Open}
+use Rattle.state_store.specs.ExpectedLines.{Lines, with_line}
+
+module _ (lines : Lines) (flight : FlightDate) (w : ℕ) (e : Expected) where
+  -- a line that is written is open as it is asked for
+  written_open : (line : Option Expected) → asked_of Open (Some e) ≡ line → with_line (expected_for Open lines) flight w line ≡ expected_for Open (with_line lines flight w (Some e))
+  written_open line is i f q = (elim (same_flight_date f flight && (q == w)) as (λ b. cond b line (asked_of Open (lines f q)) ≡ asked_of Open (cond b (Some e) (lines f q))) [
+    | true ↦ sym is
+    | false ↦ refl
+  ]) i
+
+  pub closed : e.checked ≡ true → with_line (expected_for Open lines) flight w None ≡ expected_for Open (with_line lines flight w (Some e))
+  closed checked = written_open None (ap (λ b. cond b None (Some e)) checked)
+
+  pub opened : e.checked ≡ false → with_line (expected_for Open lines) flight w (Some e) ≡ expected_for Open (with_line lines flight w (Some e))
+  opened checked = written_open (Some e) (ap (λ b. cond b None (Some e)) checked)

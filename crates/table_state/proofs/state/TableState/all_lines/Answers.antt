@@ -1,0 +1,16 @@
+use Rattle.std.proofs.Common.{ap, map, ◌∙◌}
+use Rattle.table_rows.specs.declared.expected.ListedWaybillRow.{ListedWaybillRow}
+use Rattle.table_rows.specs.Meant.{listed_waybill_meant}
+use Rattle.row_codec.specs.Manifests.{expectation_by}
+use Rattle.state_store.specs.Store.{at_rest}
+use Rattle.state_store.proofs.Walks.{told_so}
+use Rattle.table_state.proofs.Lifting.{seen_in}
+use Rattle.table_state.proofs.Values.{expectations_are}
+use Rattle.table_state.proofs.state.TableState.all_lines.Goals as goal
+
+pub returns-in-Ok-clause-value : goal.returns-in-Ok-clause-value
+returns-in-Ok-clause-value g c = λ s shown sound.
+    told_so _ _ c.waybills_expected.result
+    (λ all are. expectations_are _ _ _ _ _ (at_rest s) shown c.in-Ok.ensures.survives c.in-Ok.ensures.open sound c.in-Ok.rows.items all.items
+    (are ∙ ap (map (λ (row : ListedWaybillRow). expectation_by (listed_waybill_meant row))) c.deref.ensures.value) (c.in-Ok.ensures.read (seen_in (g.S.TableStore.view c.args.self.now.store))))
+    c.waybills_expected.ensures
