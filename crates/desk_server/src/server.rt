@@ -1,5 +1,6 @@
 //! One connection after another.
-ghost use Rattle.std.specs.Prelude.{◌≡◌, ℕ, true};
+ghost use Rattle.std.specs.Prelude.{◌≡◌, ◌≤◌, ℕ, ⊤, true, MatchOption};
+ghost use Rattle.station_core.specs.Keeping.{keeping};
 ghost use Rattle.desk_server.specs.Served.{HasServedOne, HaveServed};
 
 use crate::paced::Paced;
@@ -89,8 +90,8 @@ fn answer<C: Clock, K: Keeper>(
     stream: &TcpStream,
     at: Moment,
 ) -> Result<Served, ServeFault>
-    ensures { HasServedOne K.keeps K.is_clean K.is_sound K.is_broken K.may_find at keeper.old
-        keeper.new }
+    ensures { HasServedOne (keeping K.keeps K.is_clean K.is_sound K.is_broken K.may_find) at
+        keeper.old keeper.new }
 {
     let Ok(reader) = timed(clock, stream) else {
         return Err(ServeFault::Read);
@@ -115,8 +116,8 @@ fn serve_stream<C: Clock, K: Keeper>(
     keeper: &mut K,
     stream: &TcpStream,
 ) -> Result<(), ServerFault>
-    ensures { (n : ℕ) × HaveServed K.keeps K.is_clean K.is_sound K.is_broken K.may_find n keeper.old
-        keeper.new }
+    ensures { (n : ℕ) × HaveServed (keeping K.keeps K.is_clean K.is_sound K.is_broken K.may_find) n
+        keeper.old keeper.new × (n ≤ 1) }
 {
     let Some(at) = moment_now(clock, zone) else {
         return Err(ServerFault::Clock);
@@ -124,6 +125,16 @@ fn serve_stream<C: Clock, K: Keeper>(
     match answer(alloc, clock, keeper, stream, at) {
         Ok(served) if served.reopen => Err(ServerFault::Store),
         _ => Ok(()),
+    }
+}
+
+/// How many connections are served at most.
+fn most_of(count: Option<u32>) -> usize
+    ensures { MatchOption count ⊤ (λ most. result ≡ most) }
+{
+    match count {
+        Some(count) => count as usize,
+        None => usize::MAX,
     }
 }
 
@@ -140,17 +151,13 @@ pub fn serve<C: Clock, K: Keeper>(
     listener: &TcpListener,
     count: Option<u32>,
 ) -> Result<(), ServerFault>
-    // The station changes by what its connections ask, and by nothing else.
-    ensures { (n : ℕ) × HaveServed K.keeps K.is_clean K.is_sound K.is_broken K.may_find n keeper.old
-        keeper.new }
+    // The station changes by what its connections ask, at most so many, and by nothing else.
+    ensures { (n : ℕ) × HaveServed (keeping K.keeps K.is_clean K.is_sound K.is_broken K.may_find) n
+        keeper.old keeper.new × MatchOption count ⊤ (λ most. n ≤ most) }
 {
-    let most = match count {
-        Some(count) => count as usize,
-        None => usize::MAX,
-    };
-    for stream in listener.incoming().take(most) {
-        match stream {
-            Ok(stream) => serve_stream(alloc, clock, zone, keeper, &stream)?,
+    for _ in 0..most_of(count) {
+        match listener.accept() {
+            Ok((stream, _)) => serve_stream(alloc, clock, zone, keeper, &stream)?,
             Err(error) if error.kind() == ErrorKind::ConnectionAborted => {}
             Err(_) => return Err(ServerFault::Listener),
         }

@@ -12,9 +12,9 @@ use Rattle.http_desk.specs.declared.wanted.Wanted.TheVariants as wanted
 use Rattle.http_desk.specs.declared.wanted.HeadWants.{HeadWants}
 use Rattle.http_desk.specs.declared.wanted.HeadWants.TheVariants as wants
 use Rattle.http_desk.specs.Fields.{meant}
-use Rattle.http_desk.specs.Request.{Fault, HeadAsks, BodyAsks, fault, head_asks, key_of, IsAskedUnder, IsAsked}
-use Rattle.http_desk.specs.Reply.{Reply, fault_reply, body_reply}
-use Rattle.http_desk.specs.Answer.{head_room, head_of, HasHead, Replied, SendsAnswer, IsAnsweredAs, Answers}
+use Rattle.http_desk.specs.Request.{Fault, HeadAsks, BodyAsks, fault, head_asks, key_of, IsAskedUnder}
+use Rattle.http_desk.specs.Reply.{Reply, fault_reply, body_reply, body_state}
+use Rattle.http_desk.specs.Answer.{head_room, head_of, HasHead, SendsWhole, Replied, IsAnsweredAs, Answers}
 use Rattle.http_desk.specs.Reading.{HasNoHead}
 use Rattle.http_desk.specs.Wanted.{wanted_state, Wants, BodyWants, posted_of}
 use Rattle.http_desk.specs.Came.{BeginsWith, HasPartBody}
@@ -58,13 +58,14 @@ module _ (bytes : List ℕ) where
   -- what the body asks, at its place behind the head
   asked_there : (post : Post) (n : ℕ) (key : _) (start : ℕ) (body : List ℕ) (asks : BodyAsks) (b : BeginsWith bytes (wants.Body post n) key start) → start + n ≤ length bytes
       → body ≡ take n (drop start bytes) → IsAskedUnder (posted_of post) key body asks
-      → (n ≤ length (drop (length (print_request b.head)) bytes)) × IsAsked (posted_of post) (head_of b.head).fields (take n (drop (length (print_request b.head)) bytes)) asks
+      → SendsWhole (posted_of post) n (head_of b.head) (drop (length (print_request b.head)) bytes) asks
   asked_there post n key start body asks b fits is asked =
       let starts : drop start bytes ≡ drop (length (print_request b.head)) bytes = ap (λ k. drop k bytes) b.start_is in
-      let under : IsAskedUnder (posted_of post) (key_of (head_of b.head).fields) body asks = subst (λ k. IsAskedUnder (posted_of post) k body asks) b.key_is asked in (
-        subst (λ (l : List ℕ). n ≤ length l) starts (room_left n start fits),
-        subst (λ (l : List ℕ). IsAskedUnder (posted_of post) (key_of (head_of b.head).fields) l asks) (is ∙ ap (λ (l : List ℕ). take n l) starts) under,
-      )
+      let under : IsAskedUnder (posted_of post) (key_of (head_of b.head).fields) body asks = subst (λ k. IsAskedUnder (posted_of post) k body asks) b.key_is asked in
+      record {
+        whole = subst (λ (l : List ℕ). n ≤ length l) starts (room_left n start fits);
+        asked = subst (λ (l : List ℕ). IsAskedUnder (posted_of post) (key_of (head_of b.head).fields) l asks) (is ∙ ap (λ (l : List ℕ). take n l) starts) under;
+      }
 
   pub body_wants : (post : Post) (n : ℕ) (key : _) (start : ℕ) (body : List ℕ) (w : Wanted) → BeginsWith bytes (wants.Body post n) key start → start + n ≤ length bytes
       → body ≡ take n (drop start bytes) → BodyWants (posted_of post) key body w → Wants bytes w
@@ -74,13 +75,9 @@ module _ (bytes : List ℕ) where
       let there = asked_there post n key start body asks b fits is asked in
       record {
         answered = λ s at status out after r.
-            let sent : SendsAnswer (posted_of post) n head rest s at status out after = record {
-              whole = there.0;
-              asks = asks;
-              asked = there.1;
-              replied = subst (λ (next : State). Replied s (body_reply s at asks) next status out after) (told.state s at) (subst (λ (reply : Reply). Replied s reply (wanted_state s at w) status out after) (told.reply s at) r);
-            } in
-            by_head s at status out after b.head b.has (subst (λ (a : HeadAsks). IsAnsweredAs a head rest s at status out after) (sym b.wants) sent);
+            let replied : Replied s (body_reply s at asks) (body_state s at asks) status out after =
+            subst (λ (next : State). Replied s (body_reply s at asks) next status out after) (told.state s at) (subst (λ (reply : Reply). Replied s reply (wanted_state s at w) status out after) (told.reply s at) r) in
+            by_head s at status out after b.head b.has (subst (λ (a : HeadAsks). IsAnsweredAs a head rest s at status out after) (sym b.wants) (asks, there, replied));
         report = λ name is. absurd (told.report name is);
         input = λ i is. record {
           head = b.head;
@@ -88,8 +85,7 @@ module _ (bytes : List ℕ) where
           posted = posted_of post;
           size = n;
           is_sent = b.wants;
-          whole = there.0;
-          asked = subst (λ (a : BodyAsks). IsAsked (posted_of post) head.fields (take n rest) a) (told.input i is) there.1;
+          sent = subst (λ (a : BodyAsks). SendsWhole (posted_of post) n head rest a) (told.input i is) there;
         };
       }
 

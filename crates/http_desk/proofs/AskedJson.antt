@@ -1,5 +1,5 @@
 -- What is sent once the station was asked.
-use Rattle.std.proofs.Common.{◌≡◌, sym, ap, subst, refl, inl, inr, ⊎_elim, Bool, false, Option, Some, Err}
+use Rattle.std.proofs.Common.{◌≡◌, sym, ap, subst, refl, inl, inr, ⊎_elim, Bool, Option, Err}
 use Rattle.station_days.specs.Date.{LocalMinute}
 use Rattle.shipment_machine.specs.declared.plans.Refusal.{Refusal}
 use Rattle.station_core.specs.declared.answer.ActFault.{ActFault}
@@ -13,38 +13,38 @@ use Rattle.http_desk.specs.declared.asking.Told.TheVariants as told
 use Rattle.http_desk.specs.declared.wanted.Wanted.{Wanted}
 use Rattle.http_desk.specs.declared.wanted.Wanted.TheVariants as wanted
 use Rattle.http_desk.specs.Reply.{Reply, answer_reply, refusal_reply}
-use Rattle.http_desk.specs.Serving.{IsKept}
+use Rattle.http_desk.specs.StationAfter.{StationAfter, station_at, IsKept}
 use Rattle.http_desk.specs.Told.{IsToldAs, HasAsked, HasAskedShut, IsUnavailable}
 use Rattle.http_desk.specs.Wanted.{wanted_reply, wanted_state}
 use Rattle.http_desk.proofs.Refusals.{refused_stays}
 
 -- a reply of JSON, where the state after it is the one before
-pub asked_json : (s : State) (at : LocalMinute) (w : Wanted) (t : Told) (broken : Bool) (keeps : State → Type 0) (may_find : Option State → Type 0)
-    → IsToldAs (wanted_reply s at w) t → wanted_state s at w ≡ s → IsKept broken keeps s → HasAsked s at w t broken keeps may_find
-asked_json s at w (told.Accepted count) broken keeps may_find is same kept = (is, subst (IsKept broken keeps) (sym same) kept)
-asked_json s at w (told.Json status text) broken keeps may_find is same kept = (is.0, is.1 s, same, kept)
-asked_json s at w (told.Report name) broken keeps may_find is same kept = absurd is
-asked_json s at w (told.Unavailable reopen) broken keeps may_find is same kept = inl kept
+pub asked_json : (s : State) (at : LocalMinute) (w : Wanted) (t : Told) (left : StationAfter)
+    → IsToldAs (wanted_reply s at w) t → wanted_state s at w ≡ s → IsKept left s → HasAsked s at w t left
+asked_json s at w (told.Accepted count) left is same kept = (is, subst (IsKept left) (sym same) kept)
+asked_json s at w (told.Json status text) left is same kept = (is.0, is.1 s, same, kept)
+asked_json s at w (told.Report name) left is same kept = absurd is
+asked_json s at w (told.Unavailable reopen) left is same kept = inl kept
 
 -- an input that was refused
-pub asked_refused : (s : State) (at : LocalMinute) (i : Input) (refusal : Refusal) (t : Told) (broken : Bool) (keeps : State → Type 0) (may_find : Option State → Type 0)
-    → (step s i at).answer ≡ answer.Refused refusal → IsToldAs (refusal_reply refusal) t → IsKept broken keeps (step s i at).state → HasAsked s at (wanted.Input i) t broken keeps may_find
-asked_refused s at i refusal t broken keeps may_find is told kept =
+pub asked_refused : (s : State) (at : LocalMinute) (i : Input) (refusal : Refusal) (t : Told) (left : StationAfter)
+    → (step s i at).answer ≡ answer.Refused refusal → IsToldAs (refusal_reply refusal) t → IsKept left (step s i at).state → HasAsked s at (wanted.Input i) t left
+asked_refused s at i refusal t left is told kept =
     let same : (step s i at).state ≡ s = refused_stays s i at refusal is in
-    asked_json s at (wanted.Input i) t broken keeps may_find (subst (λ (r : Reply). IsToldAs r t) (sym (ap answer_reply is)) told) same (subst (IsKept broken keeps) same kept)
+    asked_json s at (wanted.Input i) t left (subst (λ (r : Reply). IsToldAs r t) (sym (ap answer_reply is)) told) same (subst (IsKept left) same kept)
 
 -- an input that wasn't answered
-pub asked_fault : (s : State) (at : LocalMinute) (i : Input) (e : ActFault) (reopen broken : Bool) (keeps : State → Type 0) (may_find : Option State → Type 0)
-    → IsMemoryOrStore e → IsBrokenAfter e broken → Answers s i at (Err e) keeps → ((found : Option State) → may_find found → MayLeave s i at (Err e) found)
-    → HasAsked s at (wanted.Input i) (told.Unavailable reopen) broken keeps may_find
-asked_fault s at i fault.Memory reopen broken keeps may_find is breaks kept leaves = inl (breaks, kept)
-asked_fault s at i fault.Store reopen broken keeps may_find is breaks kept leaves = inr (breaks, (i, refl, λ found finds. ⊎_elim (λ before. inl before) (λ after. inr after.1) (leaves found finds)))
-asked_fault s at i (fault.Refused refusal) reopen broken keeps may_find is breaks kept leaves = absurd is
-asked_fault s at i fault.Reopen reopen broken keeps may_find is breaks kept leaves = absurd is
+pub asked_fault : (s : State) (at : LocalMinute) (i : Input) (e : ActFault) (reopen : Bool) (left : StationAfter)
+    → IsMemoryOrStore e → IsBrokenAfter e left.is_broken → Answers s i at (Err e) left.keeps → ((found : Option State) → left.may_find found → MayLeave s i at (Err e) found)
+    → HasAsked s at (wanted.Input i) (told.Unavailable reopen) left
+asked_fault s at i fault.Memory reopen left is breaks kept leaves = inl (breaks, kept)
+asked_fault s at i fault.Store reopen left is breaks kept leaves = inr (breaks, (i, refl, λ found finds. ⊎_elim (λ before. inl before) (λ after. inr after.1) (leaves found finds)))
+asked_fault s at i (fault.Refused refusal) reopen left is breaks kept leaves = absurd is
+asked_fault s at i fault.Reopen reopen left is breaks kept leaves = absurd is
 
 -- a reply of JSON that asks nothing of a station that has to be opened again
 pub shut_json : (at : LocalMinute) (w : Wanted) (t : Told) → ((s : State) → IsToldAs (wanted_reply s at w) t) → ((s : State) → wanted_state s at w ≡ s) → HasAskedShut at w t
-shut_json at w t is same = λ s. asked_json s at w t false (λ next. next ≡ s) (λ found. found ≡ Some s) (is s) (same s) (refl, refl)
+shut_json at w t is same = λ s. asked_json s at w t (station_at s) (is s) (same s) (refl, refl)
 
 -- what it would be asked isn't replied
 pub shut_unavailable : (at : LocalMinute) (w : Wanted) (t : Told) → IsUnavailable t → HasAskedShut at w t

@@ -1,5 +1,5 @@
 -- Once a 200 to a POST has begun.
-use Rattle.std.proofs.Common.{arith, ◌≡◌, ◌∙◌, ap, sym, subst, refl, inl, inr, ℕ, ◌≤◌, Bool, true, false, nat_le, Option, Some, None, Result, Ok, Err, List, [], ◌∷◌, ◌++◌, length, take, drop, codes}
+use Rattle.std.proofs.Common.{arith, ◌≡◌, ◌∙◌, ap, sym, subst, refl, inl, inr, ℕ, Bool, true, false, nat_le, Option, Some, None, Result, Ok, Err, List, [], ◌∷◌, ◌++◌, length, take, drop, codes}
 use Rattle.std.specs.Prelude.{◌==◌, ◌||◌, if◌then◌else◌}
 use Rattle.std.specs.Str.{bytes_eq}
 use Rattle.serde_json.specs.Written.{compact_text}
@@ -17,9 +17,10 @@ use Rattle.http_desk.specs.declared.serve.ServeFault.{ServeFault}
 use Rattle.http_desk.specs.declared.serve.ServeFault.TheVariants as serve
 use Rattle.http_desk.specs.Routes.{Posted, posted_command, posted_telegram, posted_look, Got, Place, posts, gets, place_of}
 use Rattle.http_desk.specs.Digits.{number_told}
-use Rattle.http_desk.specs.Request.{Head, Fault, fault, wrong_method, HeadAsks, refuses, looks_up, sends, sends_body, place_asks, is_foreign, own_asks, head_asks, body_length, length_beside, length_among, within_length, key_of, values_of, BodyAsks, bad_body, unreadable, looks_at, for_station, IsAskedUnder, IsAsked}
+use Rattle.http_desk.specs.Request.{Head, Fault, fault, wrong_method, HeadAsks, refuses, looks_up, sends, sends_body, place_asks, is_foreign, own_asks, head_asks, body_length, length_beside, length_among, within_length, key_of, values_of, BodyAsks, bad_body, unreadable, looks_at, for_station, IsAskedUnder}
 use Rattle.http_desk.specs.Reply.{refused_data, answer_reply, refusal_status, body_reply, body_state, IsWritten}
-use Rattle.http_desk.specs.Answer.{head_of, HasHead, Replied, IsAnsweredAs}
+use Rattle.http_desk.specs.Answer.{head_of, HasHead, SendsWhole, Replied, IsAnsweredAs}
+use Rattle.http_desk.specs.StationAfter.{StationAfter}
 use Rattle.http_desk.specs.Serving.{added, GetsReport, IsAnswer, IsPartOut, HasServed, IsPosted, BeginsAs200, IsAfterStep}
 use Rattle.http_desk.proofs.Arrived.{one_head}
 use Rattle.http_desk.proofs.Beginnings.{first_byte, IsNo200, no_400, no_404, no_405, no_409, no_411, no_413, no_503, begins_as_200}
@@ -156,54 +157,54 @@ nothing_begins rest e = nothing (ap first_byte e)
     nothing : ¬ (◌≡◌ {A = ℕ} 0 72)
     nothing e = omega (arith, e)
 
-module _ (s : State) (at : LocalMinute) (bytes : List ℕ) (broken : Bool) (keeps : State → Type 0) (may_find : Option State → Type 0)
-    (settled : (t : State) → keeps t → (found : Option State) → may_find found → found ≡ Some t) where
+module _ (s : State) (at : LocalMinute) (bytes : List ℕ) (left : StationAfter)
+    (settled : (t : State) → left.keeps t → (found : Option State) → left.may_find found → found ≡ Some t) where
   abbrev behind : RequestHead → List ℕ
   behind h = drop (length (print_request h)) bytes
 
   -- what a body that came says
-  sent_begun : (h : RequestHead) → HasHead bytes h → (posted : Posted) (n : ℕ) → head_asks (head_of h) ≡ sends posted n → ¬ (posted ≡ posted_look) → n ≤ length (behind h)
-      → (asks : BodyAsks) → IsAsked posted (head_of h).fields (take n (behind h)) asks → (status : ℕ) (out : List ℕ) (after : State)
-      → Replied s (body_reply s at asks) (body_state s at asks) status out after → keeps after → BeginsAs200 out → IsAfterStep bytes s at may_find
-  sent_begun h has posted n is acts whole (bad_body f) asked status out after r kept (rest, e) =
-      absurd (asked_told posted (key_of (head_of h).fields) (take n (behind h)) (bad_body f) asked f.allow (fault_body f) (rest, sym r.written ∙ e))
-  sent_begun h has posted n is acts whole (unreadable refusal) asked status out after r kept (rest, e) = absurd (no_refusal refusal.number None (refusal_body refusal) (rest, sym r.written ∙ e))
-  sent_begun h has posted n is acts whole (looks_at look) asked status out after r kept begun =
-      absurd (acts (no_look posted (key_of (head_of h).fields) (take n (behind h)) (looks_at look) asked refl))
-  sent_begun h has posted n is acts whole (for_station i) asked status out after r kept begun = (
+  sent_begun : (h : RequestHead) → HasHead bytes h → (posted : Posted) (n : ℕ) → head_asks (head_of h) ≡ sends posted n → ¬ (posted ≡ posted_look)
+      → (asks : BodyAsks) → SendsWhole posted n (head_of h) (behind h) asks → (status : ℕ) (out : List ℕ) (after : State)
+      → Replied s (body_reply s at asks) (body_state s at asks) status out after → left.keeps after → BeginsAs200 out → IsAfterStep bytes s at left.may_find
+  sent_begun h has posted n is acts (bad_body f) sent status out after r kept (rest, e) =
+      absurd (asked_told posted (key_of (head_of h).fields) (take n (behind h)) (bad_body f) sent.asked f.allow (fault_body f) (rest, sym r.written ∙ e))
+  sent_begun h has posted n is acts (unreadable refusal) sent status out after r kept (rest, e) = absurd (no_refusal refusal.number None (refusal_body refusal) (rest, sym r.written ∙ e))
+  sent_begun h has posted n is acts (looks_at look) sent status out after r kept begun =
+      absurd (acts (no_look posted (key_of (head_of h).fields) (take n (behind h)) (looks_at look) sent.asked refl))
+  sent_begun h has posted n is acts (for_station i) sent status out after r kept begun = (
     i,
-    record { head = h; has = has; posted = posted; size = n; is_sent = is; whole = whole; asked = asked },
+    record { head = h; has = has; posted = posted; size = n; is_sent = is; sent = sent },
     accepts s out (step s i at).answer (step s i at).answer refl r.written begun,
-    λ found finds. settled (step s i at).state (subst keeps r.state kept) found finds,
+    λ found finds. settled (step s i at).state (subst left.keeps r.state kept) found finds,
   )
 
   answered : (h : RequestHead) → HasHead bytes h → h.method ≡ codes "POST" → ((size : ℕ) → ¬ (head_asks (head_of h) ≡ sends posted_look size)) → (asks : HeadAsks) → head_asks (head_of h) ≡ asks → (status : ℕ) (out : List ℕ) (after : State)
-      → IsAnsweredAs asks (head_of h) (behind h) s at status out after → keeps after → BeginsAs200 out → IsAfterStep bytes s at may_find
+      → IsAnsweredAs asks (head_of h) (behind h) s at status out after → left.keeps after → BeginsAs200 out → IsAfterStep bytes s at left.may_find
   answered h has post acts (refuses f) is status out after r kept (rest, e) = absurd (subst (IsTold h.method) is (head_told (head_of h)) f.allow (fault_body f) (rest, sym r.written ∙ e))
   answered h has post acts (looks_up got) is status out after r kept begun = absurd (no_get h.method post (subst (IsTold h.method) is (head_told (head_of h))))
-  answered h has post acts (sends posted n) is status out after r kept begun =
-      sent_begun h has posted n is (λ look. acts n (is ∙ ap (λ p. sends p n) look)) r.whole r.asks r.asked status out after r.replied kept begun
+  answered h has post acts (sends posted n) is status out after (asks, sent, r) kept begun =
+      sent_begun h has posted n is (λ look. acts n (is ∙ ap (λ p. sends p n) look)) asks sent status out after r kept begun
 
   no_report : (name : Printout) → GetsReport bytes name → ¬ (IsPosted bytes)
   no_report name (k, also, looks) (h, has, post, acts) =
       no_get k.method (ap (λ (g : RequestHead). g.method) (one_head bytes k h also has) ∙ post) (subst (IsTold k.method) looks (head_told (head_of k)))
 
-  posted_whole : (status : ℕ) (out : List ℕ) → IsAnswer s at bytes status out broken keeps may_find → IsPosted bytes → BeginsAs200 out → IsAfterStep bytes s at may_find
+  posted_whole : (status : ℕ) (out : List ℕ) → IsAnswer s at bytes status out left → IsPosted bytes → BeginsAs200 out → IsAfterStep bytes s at left.may_find
   posted_whole status out (inl (after, answers, (works, kept))) (h, has, post, acts) begun = answered h has post acts (head_asks (head_of h)) refl status out after (answers.head h has) kept begun
   posted_whole status out (inr (inl (is, told, states))) posted (more, e) = absurd (no_503 None (compact_text (refused_data 503 [])) (more, sym is ∙ e))
   posted_whole status out (inr (inr (name, found, part, told, kept))) posted begun = absurd (no_report name found posted)
 
-  posted_part : (sent : ℕ) (old new : Given) → IsPartOut s at bytes sent old new broken keeps may_find → IsPosted bytes → BeginsAs200 (added old new) → IsAfterStep bytes s at may_find
+  posted_part : (sent : ℕ) (old new : Given) → IsPartOut s at bytes sent old new left → IsPosted bytes → BeginsAs200 (added old new) → IsAfterStep bytes s at left.may_find
   posted_part sent old new (inl (status, out, answer, part)) posted begun =
       posted_whole status out answer posted (begins_as_200 sent out (subst BeginsAs200 (added_is old new (take sent out) part.1) begun))
   posted_part sent old new (inr (name, found, kept, part)) posted begun = absurd (no_report name found posted)
 
-pub begun : (s : State) (at : LocalMinute) (before now old new : Given) (broken : Bool) (keeps : State → Type 0) (may_find : Option State → Type 0)
-    → ((t : State) → keeps t → (found : Option State) → may_find found → found ≡ Some t) → (r : Result Served ServeFault) → (r ≡ Err serve.Read → new ≡ old)
-    → HasServed s at before now old new broken keeps may_find r → IsPosted (added before now) → BeginsAs200 (added old new) → IsAfterStep (added before now) s at may_find
-begun s at before now old new broken keeps may_find settled (Ok served) none is posted begins =
-    posted_whole s at (added before now) broken keeps may_find settled served.status (added old new) is posted begins
-begun s at before now old new broken keeps may_find settled (Err serve.Read) none is posted (rest, e) =
+pub begun : (s : State) (at : LocalMinute) (came : List ℕ) (old new : Given) (left : StationAfter)
+    → ((t : State) → left.keeps t → (found : Option State) → left.may_find found → found ≡ Some t) → (r : Result Served ServeFault) → (r ≡ Err serve.Read → new ≡ old)
+    → HasServed s at came old new left r → IsPosted came → BeginsAs200 (added old new) → IsAfterStep came s at left.may_find
+begun s at came old new left settled (Ok served) none is posted begins =
+    posted_whole s at came left settled served.status (added old new) is posted begins
+begun s at came old new left settled (Err serve.Read) none is posted (rest, e) =
     absurd (nothing_begins rest (sym (added_is old new [] (ap (λ (g : Given). g.bytes) (none refl) ∙ sym (append_none old.bytes))) ∙ e))
-begun s at before now old new broken keeps may_find settled (Err (serve.Write sent)) none (is, why) posted begins =
-    posted_part s at (added before now) broken keeps may_find settled sent old new is posted begins
+begun s at came old new left settled (Err (serve.Write sent)) none (is, why) posted begins =
+    posted_part s at came left settled sent old new is posted begins

@@ -1,5 +1,5 @@
 -- What is sent for a request, once it went out, is its answer.
-use Rattle.std.proofs.Common.{◌≡◌, ◌∙◌, ap, sym, subst, refl, inl, inr, ⊎_elim, ℕ, Bool, false, Option, Some, None, Result, Ok, Err, List, [], ◌∷◌, ◌++◌, length, take, drop, string_bytes}
+use Rattle.std.proofs.Common.{◌≡◌, ◌∙◌, ap, sym, subst, refl, inl, inr, ⊎_elim, ℕ, Bool, Option, None, Result, Ok, Err, List, [], ◌∷◌, ◌++◌, length, take, drop, string_bytes}
 use Rattle.std.specs.Prelude.{IfOk}
 use Rattle.station_days.specs.Date.{LocalMinute}
 use Rattle.station_core.specs.Given.{Given}
@@ -17,7 +17,8 @@ use Rattle.http_desk.specs.declared.serve.ServeFault.{ServeFault}
 use Rattle.http_desk.specs.declared.serve.ServeFault.TheVariants as serve
 use Rattle.http_desk.specs.Answer.{Replied}
 use Rattle.http_desk.specs.Reply.{Reply, json_reply, ok_data, ok_answer, report_head}
-use Rattle.http_desk.specs.Serving.{added, unavailable, SomeOrEach, IsBeginning, IsKept, IsUnchangedOrBroken, BeginsAs503, IsAnswer, IsPartOut, HasServed, HasServedShut}
+use Rattle.http_desk.specs.StationAfter.{StationAfter, station_at, IsKept}
+use Rattle.http_desk.specs.Serving.{added, unavailable, SomeOrEach, IsBeginning, IsUnchangedOrBroken, BeginsAs503, IsAnswer, IsPartOut, HasServed, HasServedShut}
 use Rattle.http_desk.specs.Writing.{IsToldFor, IsToldShut, HasSent, HasBegun, HasReported, HasWritten, HasWrittenShut}
 use Rattle.http_desk.proofs.Beginnings.{ok_no_503, begins_as_503}
 use Rattle.http_desk.proofs.Reporting.{some_or_each}
@@ -31,16 +32,16 @@ pub added_is : (old new : Given) (bytes : List ℕ) → new.bytes ≡ old.bytes 
 added_is old new bytes e = ap (λ b. drop (length old.bytes) b) e ∙ drop_front old.bytes bytes
 
 -- what is kept and what may be found only shrinks while an answer is written
-module _ (s : State) (at : LocalMinute) (bytes : List ℕ) (old new : Given) (broken now_broken : Bool) (keeps : State → Type 0) (may_find : Option State → Type 0)
-    (still : State → Type 0) (finds : Option State → Type 0) (breaks : now_broken ≡ broken) (same : (t : State) → keeps t → still t)
-    (fewer : (found : Option State) → finds found → may_find found) where
+module _ (s : State) (at : LocalMinute) (bytes : List ℕ) (old new : Given) (was left : StationAfter)
+    (breaks : left.is_broken ≡ was.is_broken) (same : (t : State) → was.keeps t → left.keeps t)
+    (fewer : (found : Option State) → left.may_find found → was.may_find found) where
   abbrev Gives : ℕ → List ℕ → Type 0
-  Gives status out = IsAnswer s at bytes status out now_broken still finds
+  Gives status out = IsAnswer s at bytes status out left
 
-  kept_on : (t : State) → IsKept broken keeps t → IsKept now_broken still t
+  kept_on : (t : State) → IsKept was t → IsKept left t
   kept_on t (works, kept) = (breaks ∙ works, same t kept)
 
-  told_on : IsUnchangedOrBroken bytes s at broken keeps may_find → IsUnchangedOrBroken bytes s at now_broken still finds
+  told_on : IsUnchangedOrBroken bytes s at was → IsUnchangedOrBroken bytes s at left
   told_on (inl kept) = inl (kept_on s kept)
   told_on (inr (broke, (i, asks, states))) = inr (breaks ∙ broke, (i, asks, λ found is. states found (fewer found is)))
 
@@ -52,17 +53,17 @@ module _ (s : State) (at : LocalMinute) (bytes : List ℕ) (old new : Given) (br
   abbrev Out : Result Served ServeFault → Type 0
   Out (Ok served) = Gives served.status (added old new)
   Out (Err serve.Read) = ⊥
-  Out (Err (serve.Write sent)) = IsPartOut s at bytes sent old new now_broken still finds × HasCause old new
+  Out (Err (serve.Write sent)) = IsPartOut s at bytes sent old new left × HasCause old new
 
   sent : (status : ℕ) (reopen : Bool) (out : List ℕ) (r : Result Served ServeFault) → Gives status out → HasSent status reopen out old new r → Out r
   sent status reopen out (Ok served) answer (is, e) = sent_whole status reopen out served is e answer
   sent status reopen out (Err serve.Read) answer h = absurd h
   sent status reopen out (Err (serve.Write n)) answer (part, why) = (inl (status, out, answer, part), why)
 
-  no_answer : IsUnchangedOrBroken bytes s at now_broken still finds → Gives 503 unavailable
+  no_answer : IsUnchangedOrBroken bytes s at left → Gives 503 unavailable
   no_answer states = inr (inl (refl, refl, states))
 
-  reported : (name : Printout) (r : Result Served ServeFault) → IsToldFor bytes s at (told.Report name) broken keeps may_find → HasReported s name old new r → Out r
+  reported : (name : Printout) (r : Result Served ServeFault) → IsToldFor bytes s at (told.Report name) was → HasReported s name old new r → Out r
   reported name (Ok served) (gets, whole, kept) (inl (is, (text, are, e))) = sent_whole 200 _ (report_head name ++ text) served is e (inl (s, whole text are, kept_on s kept))
   reported name (Ok served) (gets, whole, kept) (inr (inl (is, part))) =
       let begun : SomeOrEach s name (IsBeginning name (added old new)) = some_or_each s name (HasBegun name old new) (IsBeginning name (added old new)) (λ text p. (p.0, (p.1.0, p.1.1, added_is old new (take p.0 text) p.1.2))) part in
@@ -73,32 +74,32 @@ module _ (s : State) (at : LocalMinute) (bytes : List ℕ) (old new : Given) (br
   reported name (Err (serve.Write n)) (gets, whole, kept) h =
       (⊎_elim (λ part. inr (name, gets, kept_on s kept, part)) (λ part. inl (503, unavailable, no_answer (inl (kept_on s kept)), part)) h.0, h.1)
 
-  written : (t : Told) (r : Result Served ServeFault) → IsToldFor bytes s at t broken keeps may_find → HasWritten t s old new r → Out r
+  written : (t : Told) (r : Result Served ServeFault) → IsToldFor bytes s at t was → HasWritten t s old new r → Out r
   written (told.Accepted count) r (after, answers, kept) h = sent 200 _ (ok_answer count) r (inl (after, answers, kept_on after kept)) h
   written (told.Json status text) r (answers, kept) h = sent status _ (string_bytes text) r (inl (s, answers, kept_on s kept)) h
   written (told.Report name) r is h = reported name r is h
   written (told.Unavailable reopen) r states h = sent 503 reopen unavailable r (no_answer (told_on states)) h
 
-  of_out : (r : Result Served ServeFault) (before now : Given) → added before now ≡ bytes → Out r → HasServed s at before now old new now_broken still finds r
-  of_out (Ok served) before now is out = subst (λ (b : List ℕ). IsAnswer s at b served.status (added old new) now_broken still finds) (sym is) out
-  of_out (Err serve.Read) before now is out = absurd out
-  of_out (Err (serve.Write n)) before now is out = subst (λ (b : List ℕ). IsPartOut s at b n old new now_broken still finds × HasCause old new) (sym is) out
+  of_out : (r : Result Served ServeFault) → Out r → HasServed s at bytes old new left r
+  of_out (Ok served) out = out
+  of_out (Err serve.Read) out = absurd out
+  of_out (Err (serve.Write n)) out = out
 
   -- what was served
-  pub served : (t : Told) (r : Result Served ServeFault) (before now : Given) → added before now ≡ bytes → IsToldFor bytes s at t broken keeps may_find → HasWritten t s old new r
-      → HasServed s at before now old new now_broken still finds r
-  served t r before now come is h = of_out r before now come (written t r is h)
+  pub served : (t : Told) (r : Result Served ServeFault) → IsToldFor bytes s at t was → HasWritten t s old new r
+      → HasServed s at bytes old new left r
+  served t r is h = of_out r (written t r is h)
 
   -- the same on a station that has to be opened again
-  written_shut : (t : Told) (r : Result Served ServeFault) → IsToldFor bytes s at t broken keeps may_find → HasWrittenShut t old new r → Out r
+  written_shut : (t : Told) (r : Result Served ServeFault) → IsToldFor bytes s at t was → HasWrittenShut t old new r → Out r
   written_shut (told.Accepted count) r (after, answers, kept) h = sent 200 _ (ok_answer count) r (inl (after, answers, kept_on after kept)) h
   written_shut (told.Json status text) r (answers, kept) h = sent status _ (string_bytes text) r (inl (s, answers, kept_on s kept)) h
   written_shut (told.Report name) r (gets, whole, kept) (reopen, h) = sent 503 reopen unavailable r (no_answer (inl (kept_on s kept))) h
   written_shut (told.Unavailable reopen) r states h = sent 503 reopen unavailable r (no_answer (told_on states)) h
 
-  pub served_shut : (t : Told) (r : Result Served ServeFault) (before now : Given) → added before now ≡ bytes → IsToldFor bytes s at t broken keeps may_find → HasWrittenShut t old new r
-      → HasServed s at before now old new now_broken still finds r
-  served_shut t r before now come is h = of_out r before now come (written_shut t r is h)
+  pub served_shut : (t : Told) (r : Result Served ServeFault) → IsToldFor bytes s at t was → HasWrittenShut t old new r
+      → HasServed s at bytes old new left r
+  served_shut t r is h = of_out r (written_shut t r is h)
 
   -- 503 began: an accepted input isn't answered so, and nothing else changes a station that works
   no_accepted : (count : ℕ) (reopen : Bool) (r : Result Served ServeFault) → HasSent 200 reopen (ok_answer count) old new r → ¬ (BeginsAs503 (added old new))
@@ -106,17 +107,13 @@ module _ (s : State) (at : LocalMinute) (bytes : List ℕ) (old new : Given) (br
   no_accepted count reopen (Err serve.Read) sent begins = sent
   no_accepted count reopen (Err (serve.Write n)) (part, why) begins = ok_no_503 count (begins_as_503 n (ok_answer count) (subst BeginsAs503 (added_is old new (take n (ok_answer count)) part.1) begins))
 
-  gave_up : (t : Told) (r : Result Served ServeFault) → IsToldFor bytes s at t broken keeps may_find → HasWritten t s old new r → BeginsAs503 (added old new)
-      → IsUnchangedOrBroken bytes s at now_broken still finds
+  -- what 503 says of the station
+  pub gave_up : (t : Told) (r : Result Served ServeFault) → IsToldFor bytes s at t was → HasWritten t s old new r → BeginsAs503 (added old new)
+      → IsUnchangedOrBroken bytes s at left
   gave_up (told.Accepted count) r is h begins = absurd (no_accepted count _ r h begins)
   gave_up (told.Json status text) r (answers, kept) h begins = inl (kept_on s kept)
   gave_up (told.Report name) r (gets, whole, kept) h begins = inl (kept_on s kept)
   gave_up (told.Unavailable reopen) r states h begins = told_on states
-
-  -- what 503 says of the station
-  pub unavailable_is : (t : Told) (r : Result Served ServeFault) (before now : Given) → added before now ≡ bytes → IsToldFor bytes s at t broken keeps may_find → HasWritten t s old new r
-      → BeginsAs503 (added old new) → IsUnchangedOrBroken (added before now) s at now_broken still finds
-  unavailable_is t r before now come is h begins = subst (λ (b : List ℕ). IsUnchangedOrBroken b s at now_broken still finds) (sym come) (gave_up t r is h begins)
 
 -- whether it is asked to open the station again
 pub reopen_told : (t : Told) (s : State) (old new : Given) (r : Result Served ServeFault) → HasWritten t s old new r → IfOk r (λ v. v.reopen ≡ tells_reopen t)
@@ -136,28 +133,27 @@ module _ (bytes : List ℕ) (s : State) (at : LocalMinute) where
   accepted_is reply next count is =
       subst (λ (r : Reply). Replied s r next 200 (ok_answer count) next) (sym is) (record { status_is = refl; written = refl; state = refl })
 
-  pub told_bytes : (w : Wanted) (t : Told) (broken : Bool) (keeps : State → Type 0) (may_find : Option State → Type 0) → Wants bytes w → HasAsked s at w t broken keeps may_find → IsToldFor bytes s at t broken keeps may_find
-  told_bytes w (told.Accepted count) broken keeps may_find wants (is, kept) =
+  pub told_bytes : (w : Wanted) (t : Told) (left : StationAfter) → Wants bytes w → HasAsked s at w t left → IsToldFor bytes s at t left
+  told_bytes w (told.Accepted count) left wants (is, kept) =
       (wanted_state s at w, wants.answered s at 200 (ok_answer count) (wanted_state s at w) (accepted_is (wanted_reply s at w) (wanted_state s at w) count is), kept)
-  told_bytes w (told.Json status text) broken keeps may_find wants (is, written, same, kept) =
+  told_bytes w (told.Json status text) left wants (is, written, same, kept) =
       (wants.answered s at status (string_bytes text) s (record { status_is = is; written = written; state = sym same }), kept)
-  told_bytes w (told.Report name) broken keeps may_find wants (is, kept) = (
+  told_bytes w (told.Report name) left wants (is, kept) = (
     wants.report name is,
     λ text are.
         let replied : Replied s (wanted_reply s at (wanted.Report name)) (wanted_state s at (wanted.Report name)) 200 (report_head name ++ text) s = record { status_is = refl; written = (text, are, refl); state = refl } in
         wants.answered s at 200 (report_head name ++ text) s (subst (λ (v : Wanted). Replied s (wanted_reply s at v) (wanted_state s at v) 200 (report_head name ++ text) s) (sym is) replied),
     kept,
   )
-  told_bytes w (told.Unavailable reopen) broken keeps may_find wants (inl kept) = inl kept
-  told_bytes w (told.Unavailable reopen) broken keeps may_find wants (inr (broke, (i, is, states))) = inr (broke, (i, wants.input i is, states))
+  told_bytes w (told.Unavailable reopen) left wants (inl kept) = inl kept
+  told_bytes w (told.Unavailable reopen) left wants (inr (broke, (i, is, states))) = inr (broke, (i, wants.input i is, states))
 
 -- what is served on a station that has to be opened again
-pub all_shut : (at : LocalMinute) (bytes : List ℕ) (old new before now : Given) (t : Told) (r : Result Served ServeFault) → added before now ≡ bytes → IsToldShut bytes at t
-    → HasWrittenShut t old new r → HasServedShut at before now old new r
-all_shut at bytes old new before now t r come told written = λ s.
-    served_shut s at bytes old new false false (λ next. next ≡ s) (λ found. found ≡ Some s) (λ next. next ≡ s) (λ found. found ≡ Some s)
-    refl (λ next is. is) (λ found is. is) t r before now come (told s) written
+pub all_shut : (at : LocalMinute) (bytes : List ℕ) (old new : Given) (t : Told) (r : Result Served ServeFault) → IsToldShut bytes at t
+    → HasWrittenShut t old new r → HasServedShut at bytes old new r
+all_shut at bytes old new t r told written = λ s.
+    served_shut s at bytes old new (station_at s) (station_at s) refl (λ next is. is) (λ found is. is) t r (told s) written
 
 -- what was asked there is told for the request's bytes
 pub shut_bytes : (bytes : List ℕ) (at : LocalMinute) (w : Wanted) (t : Told) → Wants bytes w → HasAskedShut at w t → IsToldShut bytes at t
-shut_bytes bytes at w t wants asked = λ s. told_bytes bytes s at w t false (λ next. next ≡ s) (λ found. found ≡ Some s) wants (asked s)
+shut_bytes bytes at w t wants asked = λ s. told_bytes bytes s at w t (station_at s) wants (asked s)

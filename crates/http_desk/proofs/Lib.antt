@@ -1,4 +1,5 @@
 mod Accepting
+mod Answered
 mod Arrived
 mod AskedJson
 mod Beginnings

@@ -16,7 +16,7 @@ use Rattle.http_desk.specs.declared.printout.Printout.{Printout}
 use Rattle.http_desk.specs.Printouts.{as_text, printout_at}
 use Rattle.http_desk.specs.Routes.{desk_rows, page_of, posted_command, posted_telegram, posted_look, got_waybill, got_holder, got_report, Place, posts, gets, place_at, routed, asked_place, place_of}
 use Rattle.reports.specs.Reports.{report_called}
-use Rattle.http_desk.specs.Paths.{IsPath, IsName, report_path, LeadsToPlace, LeadsToRows, LeadsTo}
+use Rattle.http_desk.specs.Paths.{IsPath, IsName, report_path, LeadsToPlace, LeadsTo}
 use Rattle.http_desk.proofs.Pages.{LeadsToPage, page_leads, page_only, path_is, path_behind}
 
 -- there, by the page of a path

@@ -21,7 +21,8 @@ HasPartBody (wants.Now w) start bytes = ⊥
 HasPartBody (wants.Body post n) start bytes = length bytes < start + n
 
 -- the bytes begin with a head that wants this and has this key, and its body starts there
-pub record BeginsWith (bytes : List ℕ) (w : HeadWants) (key : Option (List ℕ)) (start : ℕ) : Type 0 where
+pub record BeginsWith (bytes : List ℕ) (w : HeadWants) (key : Option (List ℕ))
+    (start : ℕ) : Type 0 where
   pub head : RequestHead
   pub has : HasHead bytes head
   pub wants : HasWants (head_asks (head_of head)) w

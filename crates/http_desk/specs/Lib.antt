@@ -4,6 +4,7 @@ pub mod Request
 pub mod Reply
 pub mod Answer
 pub mod Reading
+pub mod StationAfter
 pub mod Serving
 pub mod Fields
 pub mod Asked

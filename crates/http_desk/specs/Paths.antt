@@ -38,7 +38,8 @@ LeadsToPlace path (posts posted_telegram) = path ≡ codes "/v1/telegrams"
 LeadsToPlace path (posts posted_look) = path ≡ codes "/v1/read"
 LeadsToPlace path (gets (got_waybill name)) = IsName name × (path ≡ codes "/v1/waybills/" ++ name)
 LeadsToPlace path (gets (got_holder name)) = IsName name × (path ≡ codes "/v1/stock/" ++ name)
-LeadsToPlace path (gets (got_report p)) = (name : Report) × (p ≡ as_text name) × (path ≡ report_path name)
+LeadsToPlace path (gets (got_report p)) =
+    (name : Report) × (p ≡ as_text name) × (path ≡ report_path name)
 
 -- the path leads to no page, and asks for rows
 pub record LeadsToRows (path : List ℕ) (place : Place) : Type 0 where

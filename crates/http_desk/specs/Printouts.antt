@@ -47,7 +47,8 @@ waybill_rows word w =
 
 -- `stock` of an agent
 abbrev pub agent_rows : List ℕ → List ℕ → Option Listing
-agent_rows word code = where_true (bytes_eq word (codes "stock") && is_agent_code code) (listing.AgentStock code)
+agent_rows word code =
+    where_true (bytes_eq word (codes "stock") && is_agent_code code) (listing.AgentStock code)
 
 -- a number of one to ten digits, as a row may have it
 abbrev pub row_number : List ℕ → Option ℕ
@@ -72,23 +73,31 @@ message_rows word n = where_true (bytes_eq word (codes "after")) (listing.Pendin
 
 -- the manifest of a flight, on its day
 abbrev pub flight_rows : List ℕ → Designator → Option Listing
-flight_rows day flight = option_map (λ d. listing.Manifest (record { flight = flight; day = d })) (day_of day)
+flight_rows day flight =
+    option_map (λ d. listing.Manifest (record { flight = flight; day = d })) (day_of day)
 
 -- rows of a kind
 abbrev pub rows_of_kind : List ℕ → List ℕ → Option Listing
 rows_of_kind kind rest =
     if bytes_eq kind (codes "reports") then listing_called rest
-    else if bytes_eq kind (codes "waybills") then option_and_then (waybill_rows (later_part rest)) (result_ok (number_of (first_part rest)))
+    else if bytes_eq kind (codes "waybills")
+    then option_and_then (waybill_rows (later_part rest)) (result_ok (number_of (first_part rest)))
     else if bytes_eq kind (codes "agents") then agent_rows (later_part rest) (first_part rest)
-    else if bytes_eq kind (codes "flights") then option_and_then (flight_rows (later_part rest)) (flight_of (first_part rest))
-    else if bytes_eq kind (codes "movements") then option_and_then (movement_rows (first_part rest)) (row_number (later_part rest))
-    else if bytes_eq kind (codes "trail") then option_and_then (line_rows (first_part rest)) (row_number (later_part rest))
-    else if bytes_eq kind (codes "outbox") then option_and_then (message_rows (first_part rest)) (row_number (later_part rest))
+    else if bytes_eq kind (codes "flights")
+    then option_and_then (flight_rows (later_part rest)) (flight_of (first_part rest))
+    else if bytes_eq kind (codes "movements")
+    then option_and_then (movement_rows (first_part rest)) (row_number (later_part rest))
+    else if bytes_eq kind (codes "trail")
+    then option_and_then (line_rows (first_part rest)) (row_number (later_part rest))
+    else if bytes_eq kind (codes "outbox")
+    then option_and_then (message_rows (first_part rest)) (row_number (later_part rest))
     else None
 
 -- the rows behind `/v1/`
 abbrev pub rows_behind : List ℕ → Option Listing
-rows_behind path = if bytes_eq path (codes "outbox") then Some (listing.All report.Pending) else rows_of_kind (first_part path) (later_part path)
+rows_behind path =
+    if bytes_eq path (codes "outbox") then Some (listing.All report.Pending)
+    else rows_of_kind (first_part path) (later_part path)
 
 abbrev pub rows_at : List ℕ → Option Listing
 rows_at path = if bytes_eq (take 4 path) (codes "/v1/") then rows_behind (drop 4 path) else None

@@ -37,11 +37,14 @@ HasEndedAfter turns old new = HasCause old new ⊎ (old.calls + (most_reads - tu
 
 -- no head is there, nor can one with few enough fields come in its room
 abbrev pub HasNoHead : List ℕ → Type 0
-HasNoHead bytes = ((h : RequestHead) → ¬ (HasHead bytes h)) × (RequestOverflows most_fields bytes ⊎ (head_room ≤ length bytes))
+HasNoHead bytes =
+    ((h : RequestHead) → ¬ (HasHead bytes h))
+    × (RequestOverflows most_fields bytes ⊎ (head_room ≤ length bytes))
 
 -- More bytes have come, behind those that had come.
 abbrev pub HasMore : Given → Given → List ℕ → List ℕ → Type 0
-HasMore old new before after = (part : List ℕ) × ((after ≡ before ++ part) × (new.bytes ≡ old.bytes ++ part))
+HasMore old new before after =
+    (part : List ℕ) × ((after ≡ before ++ part) × (new.bytes ≡ old.bytes ++ part))
 
 -- no head is there yet, and there is room for one
 abbrev pub HasNoHeadYet : List ℕ → Type 0

@@ -1,7 +1,6 @@
 -- What a request asks, by the tests in their order.
 use Rattle.std.specs.Prelude.{◌≡◌, ◌⊎◌, ℕ, ◌&&◌, ◌||◌, not, Bool, true, false, nat_le, take, drop, List, [], ◌∷◌, length, map, codes, Option, Some, None, Result, Ok, Err, IsUtf8, if◌then◌else◌}
 use Rattle.std.specs.Char.{to_ascii_lowercase}
-use Rattle.std.specs.List.{list_all}
 use Rattle.std.specs.Str.{bytes_eq}
 use Rattle.serde_json.specs.Data.{Data}
 use Rattle.serde_json.specs.Read.{read}
@@ -46,7 +45,8 @@ is_named name field = bytes_eq (map to_ascii_lowercase field.0) name
 
 abbrev pub values_of : List ℕ → List (List ℕ × List ℕ) → List (List ℕ)
 values_of name [] = []
-values_of name (field ∷ fields) = if is_named name field then field.1 ∷ values_of name fields else values_of name fields
+values_of name (field ∷ fields) =
+    if is_named name field then field.1 ∷ values_of name fields else values_of name fields
 
 -- a length is a number, and at most 65,536
 abbrev pub within_length : Option ℕ → Result ℕ Fault
@@ -67,7 +67,9 @@ length_beside [] lengths = length_among lengths
 length_beside (encoding ∷ encodings) lengths = Err (fault 411 [])
 
 abbrev pub body_length : List (List ℕ × List ℕ) → Result ℕ Fault
-body_length fields = length_beside (values_of (codes "transfer-encoding") fields) (values_of (codes "content-length") fields)
+body_length fields =
+    length_beside (values_of (codes "transfer-encoding") fields)
+    (values_of (codes "content-length") fields)
 
 -- What a head asks: it is refused, it gets something, or it posts a body of some length.
 pub data HeadAsks : Type 0 where
@@ -81,13 +83,18 @@ sends_body posted (Err f) = refuses f
 
 abbrev pub place_asks : Head → Option Place → HeadAsks
 place_asks head None = refuses (fault 404 [])
-place_asks head (Some (posts posted)) = if bytes_eq head.method (codes "POST") then sends_body posted (body_length head.fields) else refuses (wrong_method (codes "POST"))
-place_asks head (Some (gets got)) = if bytes_eq head.method (codes "GET") then looks_up got else refuses (wrong_method (codes "GET"))
+place_asks head (Some (posts posted)) =
+    if bytes_eq head.method (codes "POST") then sends_body posted (body_length head.fields)
+    else refuses (wrong_method (codes "POST"))
+place_asks head (Some (gets got)) =
+    if bytes_eq head.method (codes "GET") then looks_up got
+    else refuses (wrong_method (codes "GET"))
 
 -- Which page a request comes from, where a browser tells it. Only the host's own pages may ask:
 -- this scheme, and then the host.
 abbrev pub is_at : List ℕ → List ℕ → List ℕ → Bool
-is_at scheme host origin = bytes_eq (take (length scheme) origin) scheme && bytes_eq (drop (length scheme) origin) host
+is_at scheme host origin =
+    bytes_eq (take (length scheme) origin) scheme && bytes_eq (drop (length scheme) origin) host
 
 abbrev pub is_own : List ℕ → List ℕ → Bool
 is_own host origin = is_at (codes "http://") host origin || is_at (codes "https://") host origin
@@ -104,14 +111,16 @@ is_foreign_among hosts (origin ∷ []) = is_foreign_to hosts origin
 is_foreign_among hosts (origin ∷ other ∷ origins) = true
 
 abbrev pub is_foreign : List (List ℕ × List ℕ) → Bool
-is_foreign fields = is_foreign_among (values_of (codes "host") fields) (values_of (codes "origin") fields)
+is_foreign fields =
+    is_foreign_among (values_of (codes "host") fields) (values_of (codes "origin") fields)
 
 -- what is asked by a page of the host, or by no page
 abbrev pub own_asks : Head → HeadAsks
 own_asks head = place_asks head (place_of head.target)
 
 abbrev pub head_asks : Head → HeadAsks
-head_asks head = if is_foreign head.fields then refuses (fault 400 (codes "origin")) else own_asks head
+head_asks head =
+    if is_foreign head.fields then refuses (fault 400 (codes "origin")) else own_asks head
 
 -- the key under which a command is posted: there is one, and it is a key
 abbrev pub key_among : List (List ℕ) → Option (List ℕ)
@@ -131,23 +140,27 @@ pub data BodyAsks : Type 0 where
 
 -- the bytes are JSON that says this command of the verb
 abbrev pub IsSaid : Verb → List ℕ → Command → Type 0
-IsSaid verb bytes command = IsUtf8 bytes × ((d : Data) × (read bytes ≡ Some d) × IsBodyOf verb d command)
+IsSaid verb bytes command =
+    IsUtf8 bytes × ((d : Data) × (read bytes ≡ Some d) × IsBodyOf verb d command)
 
 abbrev pub IsCommandAsked : Verb → Option (List ℕ) → List ℕ → BodyAsks → Type 0
 IsCommandAsked verb None bytes asks = asks ≡ bad_body (fault 400 (codes "key"))
 IsCommandAsked verb (Some key) bytes asks =
     ((command : Command) × IsSaid verb bytes command × (asks ≡ for_station (Keyed key command)))
-    ⊎ (((command : Command) → ¬ (IsSaid verb bytes command)) × (asks ≡ bad_body (fault 400 (codes "body"))))
+    ⊎ (((command : Command) → ¬ (IsSaid verb bytes command))
+    × (asks ≡ bad_body (fault 400 (codes "body"))))
 
 abbrev pub IsTelegramAsked : List ℕ → BodyAsks → Type 0
 IsTelegramAsked bytes asks =
     ((t : Meant) × IsTelegram bytes t × (asks ≡ for_station (Wire t)))
-    ⊎ ((told : TextFault) × (telegram_fault bytes ≡ Some told) × (asks ≡ unreadable (refusal_of told)))
+    ⊎ ((told : TextFault) × (telegram_fault bytes ≡ Some told)
+    × (asks ≡ unreadable (refusal_of told)))
 
 abbrev pub IsLookAsked : List ℕ → BodyAsks → Type 0
 IsLookAsked bytes asks =
     ((look : Look) × IsLook bytes look × (asks ≡ looks_at (look_object look)))
-    ⊎ ((told : TextFault) × (telegram_fault bytes ≡ Some told) × (asks ≡ unreadable (refusal_of told)))
+    ⊎ ((told : TextFault) × (telegram_fault bytes ≡ Some told)
+    × (asks ≡ unreadable (refusal_of told)))
 
 abbrev pub IsAskedUnder : Posted → Option (List ℕ) → List ℕ → BodyAsks → Type 0
 IsAskedUnder (posted_command verb) key bytes asks = IsCommandAsked verb key bytes asks

@@ -1,5 +1,5 @@
 -- What one connection leaves.
-use Rattle.std.specs.Prelude.{◌≡◌, ◌⊎◌, ℕ, ◌<◌, ◌≤◌, Bool, true, false, Option, Some, None, Result, Ok, Err, List, [], ◌++◌, length, take, drop, codes}
+use Rattle.std.specs.Prelude.{◌≡◌, ◌⊎◌, ℕ, ◌<◌, ◌≤◌, true, Option, Some, None, Result, Ok, Err, List, [], ◌++◌, length, take, drop, codes}
 use Rattle.serde_json.specs.Written.{compact_text}
 use Rattle.station_days.specs.Date.{LocalMinute}
 use Rattle.station_core.specs.Given.{Given}
@@ -14,9 +14,10 @@ use Rattle.http_desk.specs.Reply.{json_answer, refused_data, report_head}
 use Rattle.http_desk.specs.Printouts.{IsPrinted}
 use Rattle.httparse.specs.Grammar.{RequestHead, print_request}
 use Rattle.http_desk.specs.Routes.{Posted, posted_look, got_report}
-use Rattle.http_desk.specs.Request.{looks_up, sends, head_asks, for_station, IsAsked}
-use Rattle.http_desk.specs.Answer.{head_of, HasHead, Answers}
+use Rattle.http_desk.specs.Request.{looks_up, sends, head_asks, for_station}
+use Rattle.http_desk.specs.Answer.{head_of, HasHead, SendsWhole, Answers}
 use Rattle.http_desk.specs.Reading.{HasNoHeadYet}
+use Rattle.http_desk.specs.StationAfter.{StationAfter, station_at, IsKept}
 
 -- the bytes that were moved since
 abbrev pub added : Given → Given → List ℕ
@@ -30,7 +31,8 @@ unavailable = json_answer 503 None (compact_text (refused_data 503 []))
 -- sends a body that hasn't come whole.
 abbrev pub LacksBody : List ℕ → Type 0
 LacksBody bytes =
-    (h : RequestHead) × (HasHead bytes h × ((posted : Posted) × ((size : ℕ) × ((head_asks (head_of h) ≡ sends posted size)
+    (h : RequestHead) × (HasHead bytes h
+    × ((posted : Posted) × ((size : ℕ) × ((head_asks (head_of h) ≡ sends posted size)
     × (length (drop (length (print_request h)) bytes) < size)))))
 
 abbrev pub IsUnfinished : List ℕ → Type 0
@@ -38,12 +40,15 @@ IsUnfinished bytes = HasNoHeadYet bytes ⊎ LacksBody bytes
 
 -- the request gets a report
 abbrev pub GetsReport : List ℕ → Printout → Type 0
-GetsReport bytes name = (h : RequestHead) × HasHead bytes h × (head_asks (head_of h) ≡ looks_up (got_report name))
+GetsReport bytes name =
+    (h : RequestHead) × HasHead bytes h × (head_asks (head_of h) ≡ looks_up (got_report name))
 
 -- What holds of a report's bytes behind its head: of one text of it, or of each. The texts of a
 -- stock, of flights and of what is expected are known by their rows.
 abbrev pub SomeOrEach : State → Printout → (List ℕ → Type 0) → Type 0
-SomeOrEach s name P = ((text : List ℕ) × IsPrinted s name text × P (report_head name ++ text)) ⊎ ((text : List ℕ) → IsPrinted s name text → P (report_head name ++ text))
+SomeOrEach s name P =
+    ((text : List ℕ) × IsPrinted s name text × P (report_head name ++ text))
+    ⊎ ((text : List ℕ) → IsPrinted s name text → P (report_head name ++ text))
 
 -- The request asks this input of the station: its head sends a body, all of which has come, and the
 -- body says the input.
@@ -53,61 +58,62 @@ pub record AsksInput (bytes : List ℕ) (i : Input) : Type 0 where
   pub posted : Posted
   pub size : ℕ
   pub is_sent : head_asks (head_of head) ≡ sends posted size
-  pub whole : size ≤ length (drop (length (print_request head)) bytes)
-  pub asked : IsAsked posted (head_of head).fields (take size (drop (length (print_request head)) bytes)) (for_station i)
-
--- the station works, and keeps this state
-abbrev pub IsKept : Bool → (State → Type 0) → State → Type 0
-IsKept broken keeps s = (broken ≡ false) × keeps s
+  pub sent : SendsWhole posted size (head_of head) (drop (length (print_request head)) bytes)
+      (for_station i)
 
 -- The station broke at the very input that the request asks: a reopening finds the state before it,
 -- or the one after.
-abbrev pub IsBrokenAt : List ℕ → State → LocalMinute → Bool → (Option State → Type 0) → Type 0
-IsBrokenAt bytes s at broken may_find =
-    (broken ≡ true) × ((i : Input) × AsksInput bytes i × ((found : Option State) → may_find found → (found ≡ Some s) ⊎ (found ≡ Some (step s i at).state)))
+abbrev pub IsBrokenAt : List ℕ → State → LocalMinute → StationAfter → Type 0
+IsBrokenAt bytes s at left =
+    (left.is_broken ≡ true)
+    × ((i : Input) × AsksInput bytes i
+    × ((found : Option State) → left.may_find found
+    → (found ≡ Some s) ⊎ (found ≡ Some (step s i at).state)))
 
 -- what 503 says of the station: it works and nothing has changed, or it broke at the request's
 -- input
-abbrev pub IsUnchangedOrBroken : List ℕ → State → LocalMinute → Bool → (State → Type 0)
-    → (Option State → Type 0) → Type 0
-IsUnchangedOrBroken bytes s at broken keeps may_find = IsKept broken keeps s ⊎ IsBrokenAt bytes s at broken may_find
+abbrev pub IsUnchangedOrBroken : List ℕ → State → LocalMinute → StationAfter → Type 0
+IsUnchangedOrBroken bytes s at left = IsKept left s ⊎ IsBrokenAt bytes s at left
 
 -- the bytes are a beginning of an answer with a report: all of its head, and a byte of the report
 -- or more
 abbrev pub IsBeginning : Printout → List ℕ → List ℕ → Type 0
-IsBeginning name out whole = (n : ℕ) × ((length (report_head name) < n) × (n ≤ length whole) × (out ≡ take n whole))
+IsBeginning name out whole =
+    (n : ℕ) × ((length (report_head name) < n) × (n ≤ length whole) × (out ≡ take n whole))
 
 -- In place of an answer: 503; or the head of the report that the request gets, and a byte of the
 -- report or more, and nothing has changed.
-abbrev pub IsExcuse : List ℕ → State → LocalMinute → List ℕ → ℕ → Bool → (State → Type 0)
-    → (Option State → Type 0) → Type 0
-IsExcuse bytes s at out status broken keeps may_find =
-    ((out ≡ unavailable) × (status ≡ 503) × IsUnchangedOrBroken bytes s at broken keeps may_find)
-    ⊎ ((name : Printout) × GetsReport bytes name × SomeOrEach s name (IsBeginning name out) × (status ≡ 200) × IsKept broken keeps s)
+abbrev pub IsExcuse : List ℕ → State → LocalMinute → List ℕ → ℕ → StationAfter → Type 0
+IsExcuse bytes s at out status left =
+    ((out ≡ unavailable) × (status ≡ 503) × IsUnchangedOrBroken bytes s at left)
+    ⊎ ((name : Printout) × GetsReport bytes name × SomeOrEach s name (IsBeginning name out)
+    × (status ≡ 200) × IsKept left s)
 
 -- the answer to the bytes of a request, and what is kept after it
-abbrev pub IsAnswer : State → LocalMinute → List ℕ → ℕ → List ℕ → Bool → (State → Type 0)
-    → (Option State → Type 0) → Type 0
-IsAnswer s at bytes status out broken keeps may_find =
-    ((after : State) × Answers bytes s at status out after × IsKept broken keeps after) ⊎ IsExcuse bytes s at out status broken keeps may_find
+abbrev pub IsAnswer : State → LocalMinute → List ℕ → ℕ → List ℕ → StationAfter → Type 0
+IsAnswer s at bytes status out left =
+    ((after : State) × Answers bytes s at status out after × IsKept left after)
+    ⊎ IsExcuse bytes s at out status left
 
 -- so many bytes of an answer went out, since the writer failed or took none
-abbrev pub IsPartOut : State → LocalMinute → List ℕ → ℕ → Given → Given → Bool → (State → Type 0)
-    → (Option State → Type 0) → Type 0
-IsPartOut s at bytes sent before after broken keeps may_find =
-    ((status : ℕ) × (out : List ℕ) × IsAnswer s at bytes status out broken keeps may_find × Sent before after out sent)
-    ⊎ ((name : Printout) × GetsReport bytes name × IsKept broken keeps s × SomeOrEach s name (λ whole. Sent before after whole sent))
+abbrev pub IsPartOut : State → LocalMinute → List ℕ → ℕ → Given → Given → StationAfter → Type 0
+IsPartOut s at bytes sent before after left =
+    ((status : ℕ) × (out : List ℕ) × IsAnswer s at bytes status out left
+    × Sent before after out sent)
+    ⊎ ((name : Printout) × GetsReport bytes name × IsKept left s
+    × SomeOrEach s name (λ whole. Sent before after whole sent))
 
--- It was written whole, with its status returned; or its first bytes, as many as are returned,
--- since the writer failed or took none. At a writer's fault the keeper keeps the state after it,
--- also where no byte went out.
-abbrev pub HasServed : State → LocalMinute → Given → Given → Given → Given → Bool → (State → Type 0)
-    → (Option State → Type 0) → Result Served ServeFault → Type 0
-HasServed s at read_before read_after before after broken keeps may_find (Ok served) =
-    IsAnswer s at (added read_before read_after) served.status (added before after) broken keeps may_find
-HasServed s at read_before read_after before after broken keeps may_find (Err serve.Read) = IsKept broken keeps s
-HasServed s at read_before read_after before after broken keeps may_find (Err (serve.Write sent)) =
-    IsPartOut s at (added read_before read_after) sent before after broken keeps may_find × HasCause before after
+-- The answer to what came on a connection was written whole, with its status returned; or its first
+-- bytes, as many as are returned, since the writer failed or took none. At a writer's fault the
+-- keeper keeps the state after the answer, also where no byte went out. After a request that hasn't
+-- come whole nothing has changed.
+abbrev pub HasServed : State → LocalMinute → List ℕ → Given → Given → StationAfter
+    → Result Served ServeFault → Type 0
+HasServed s at came before after left (Ok served) =
+    IsAnswer s at came served.status (added before after) left
+HasServed s at came before after left (Err serve.Read) = IsKept left s
+HasServed s at came before after left (Err (serve.Write sent)) =
+    IsPartOut s at came sent before after left × HasCause before after
 
 -- No write failed or took no byte; at a writer's fault one did, and no second one.
 abbrev pub StopsServing : Given → Given → Result Served ServeFault → Type 0
@@ -117,10 +123,9 @@ StopsServing old new (Err (serve.Write sent)) = OneFailed old new
 
 -- On a station that has to be opened again the answer holds of each state, and leaves it as it is:
 -- one that asks nothing of the station, or 503.
-abbrev pub HasServedShut : LocalMinute → Given → Given → Given → Given → Result Served ServeFault
-    → Type 0
-HasServedShut at read_before read_after before after r =
-    (s : State) → HasServed s at read_before read_after before after false (λ next. next ≡ s) (λ found. found ≡ Some s) r
+abbrev pub HasServedShut : LocalMinute → List ℕ → Given → Given → Result Served ServeFault → Type 0
+HasServedShut at came before after r =
+    (s : State) → HasServed s at came before after (station_at s) r
 
 -- Once an answer has begun.
 
@@ -141,4 +146,5 @@ BeginsAs503 out = (rest : List ℕ) × (out ≡ codes "HTTP/1.1 5" ++ rest)
 -- the request asks an input that is accepted, and a reopening finds the state after its step
 abbrev pub IsAfterStep : List ℕ → State → LocalMinute → (Option State → Type 0) → Type 0
 IsAfterStep bytes s at may_find =
-    (i : Input) × AsksInput bytes i × ((count : ℕ) × ((step s i at).answer ≡ accepted count)) × ((found : Option State) → may_find found → found ≡ Some (step s i at).state)
+    (i : Input) × AsksInput bytes i × ((count : ℕ) × ((step s i at).answer ≡ accepted count))
+    × ((found : Option State) → may_find found → found ≡ Some (step s i at).state)

@@ -8,13 +8,14 @@ use Rattle.http_desk.specs.declared.asking.Told.TheVariants as told
 use Rattle.http_desk.specs.declared.wanted.Wanted.{Wanted}
 use Rattle.http_desk.specs.declared.wanted.Wanted.TheVariants as wanted
 use Rattle.http_desk.specs.Reply.{Reply, json_reply, ok_data, status_of, IsWritten}
-use Rattle.http_desk.specs.Serving.{IsKept}
+use Rattle.http_desk.specs.StationAfter.{StationAfter, station_at, IsKept}
 use Rattle.http_desk.specs.Wanted.{wanted_reply, wanted_state}
 
 -- the bytes of a reply of JSON, with its status; or memory ran out for them
 abbrev pub IsToldAs : Reply → Told → Type 0
 IsToldAs reply (told.Accepted count) = reply ≡ json_reply 200 None (ok_data count)
-IsToldAs reply (told.Json status text) = (status ≡ status_of reply) × ((s : State) → IsWritten s reply (string_bytes text))
+IsToldAs reply (told.Json status text) =
+    (status ≡ status_of reply) × ((s : State) → IsWritten s reply (string_bytes text))
 IsToldAs reply (told.Report name) = ⊥
 IsToldAs reply (told.Unavailable reopen) = reopen ≡ false
 
@@ -22,15 +23,19 @@ IsToldAs reply (told.Unavailable reopen) = reopen ≡ false
 -- only where an input was accepted; a report is still to be read. Where nothing can be replied,
 -- nothing has changed; or the station broke at an input, and a reopening finds the state before it
 -- or the one after.
-abbrev pub HasAsked : State → LocalMinute → Wanted → Told → Bool → (State → Type 0)
-    → (Option State → Type 0) → Type 0
-HasAsked s at w (told.Accepted count) broken keeps may_find = (wanted_reply s at w ≡ json_reply 200 None (ok_data count)) × IsKept broken keeps (wanted_state s at w)
-HasAsked s at w (told.Json status text) broken keeps may_find =
-    (status ≡ status_of (wanted_reply s at w)) × IsWritten s (wanted_reply s at w) (string_bytes text) × (wanted_state s at w ≡ s) × IsKept broken keeps s
-HasAsked s at w (told.Report name) broken keeps may_find = (w ≡ wanted.Report name) × IsKept broken keeps s
-HasAsked s at w (told.Unavailable reopen) broken keeps may_find =
-    IsKept broken keeps s
-    ⊎ ((broken ≡ true) × ((i : Input) × (w ≡ wanted.Input i) × ((found : Option State) → may_find found → (found ≡ Some s) ⊎ (found ≡ Some (step s i at).state))))
+abbrev pub HasAsked : State → LocalMinute → Wanted → Told → StationAfter → Type 0
+HasAsked s at w (told.Accepted count) left =
+    (wanted_reply s at w ≡ json_reply 200 None (ok_data count)) × IsKept left (wanted_state s at w)
+HasAsked s at w (told.Json status text) left =
+    (status ≡ status_of (wanted_reply s at w))
+    × IsWritten s (wanted_reply s at w) (string_bytes text)
+    × (wanted_state s at w ≡ s) × IsKept left s
+HasAsked s at w (told.Report name) left = (w ≡ wanted.Report name) × IsKept left s
+HasAsked s at w (told.Unavailable reopen) left =
+    IsKept left s
+    ⊎ ((left.is_broken ≡ true) × ((i : Input) × (w ≡ wanted.Input i)
+    × ((found : Option State) → left.may_find found
+    → (found ≡ Some s) ⊎ (found ≡ Some (step s i at).state))))
 
 -- whether it asks to open the station again
 abbrev pub tells_reopen : Told → Bool
@@ -45,4 +50,4 @@ IsUnavailable _ = ⊥
 -- What is replied there holds of each state, and leaves it as it is: nothing was asked of the
 -- station, or nothing is replied.
 abbrev pub HasAskedShut : LocalMinute → Wanted → Told → Type 0
-HasAskedShut at w t = (s : State) → HasAsked s at w t false (λ next. next ≡ s) (λ found. found ≡ Some s)
+HasAskedShut at w t = (s : State) → HasAsked s at w t (station_at s)

@@ -43,8 +43,10 @@ pub record Wants (bytes : List ℕ) (w : Wanted) : Type 0 where
 
 -- the same of what a head asks that sends no body
 pub record WantsNow (asks : HeadAsks) (w : Wanted) : Type 0 where
-  pub answered : (head : Head) (rest : List ℕ) (s : State) (at : LocalMinute) (status : ℕ) (out : List ℕ) (after : State)
-      → Replied s (wanted_reply s at w) (wanted_state s at w) status out after → IsAnsweredAs asks head rest s at status out after
+  pub answered : (head : Head) (rest : List ℕ) (s : State) (at : LocalMinute) (status : ℕ)
+      (out : List ℕ) (after : State)
+      → Replied s (wanted_reply s at w) (wanted_state s at w) status out after
+      → IsAnsweredAs asks head rest s at status out after
   pub report : (name : Printout) → w ≡ wanted.Report name → asks ≡ looks_up (got_report name)
   pub input : (i : Input) → w ≡ wanted.Input i → ⊥
 
@@ -68,4 +70,5 @@ pub record WantsAsked (asks : BodyAsks) (w : Wanted) : Type 0 where
 
 -- what a body asks is wanted
 abbrev pub BodyWants : Posted → Option (List ℕ) → List ℕ → Wanted → Type 0
-BodyWants posted key body w = (asks : BodyAsks) × IsAskedUnder posted key body asks × WantsAsked asks w
+BodyWants posted key body w =
+    (asks : BodyAsks) × IsAskedUnder posted key body asks × WantsAsked asks w

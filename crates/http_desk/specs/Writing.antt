@@ -1,5 +1,5 @@
 -- What a request is answered with, and what goes out of it.
-use Rattle.std.specs.Prelude.{◌≡◌, ◌⊎◌, ℕ, ◌<◌, ◌≤◌, Bool, false, Option, Some, Result, Ok, Err, List, ◌++◌, length, take, string_bytes}
+use Rattle.std.specs.Prelude.{◌≡◌, ◌⊎◌, ℕ, ◌<◌, ◌≤◌, Bool, false, Result, Ok, Err, List, ◌++◌, length, take, string_bytes}
 use Rattle.station_days.specs.Date.{LocalMinute}
 use Rattle.station_core.specs.Given.{Given}
 use Rattle.station_core.specs.Ends.{Sent, HasCause}
@@ -13,36 +13,51 @@ use Rattle.http_desk.specs.declared.serve.ServeFault.TheVariants as serve
 use Rattle.http_desk.specs.Reply.{ok_answer, report_head}
 use Rattle.http_desk.specs.Printouts.{IsPrinted}
 use Rattle.http_desk.specs.Answer.{Answers}
-use Rattle.http_desk.specs.Serving.{unavailable, GetsReport, SomeOrEach, IsKept, IsUnchangedOrBroken}
+use Rattle.http_desk.specs.StationAfter.{StationAfter, station_at, IsKept}
+use Rattle.http_desk.specs.Serving.{unavailable, GetsReport, SomeOrEach, IsUnchangedOrBroken}
 
 -- What the request with these bytes is answered with is its answer, and the state after it is kept.
 -- It is another only where an input was accepted.
-abbrev pub IsToldFor : List ℕ → State → LocalMinute → Told → Bool → (State → Type 0)
-    → (Option State → Type 0) → Type 0
-IsToldFor bytes s at (told.Accepted count) broken keeps may_find = (after : State) × Answers bytes s at 200 (ok_answer count) after × IsKept broken keeps after
-IsToldFor bytes s at (told.Json status text) broken keeps may_find = Answers bytes s at status (string_bytes text) s × IsKept broken keeps s
-IsToldFor bytes s at (told.Report name) broken keeps may_find =
-    GetsReport bytes name × ((text : List ℕ) → IsPrinted s name text → Answers bytes s at 200 (report_head name ++ text) s) × IsKept broken keeps s
-IsToldFor bytes s at (told.Unavailable reopen) broken keeps may_find = IsUnchangedOrBroken bytes s at broken keeps may_find
+abbrev pub IsToldFor : List ℕ → State → LocalMinute → Told → StationAfter → Type 0
+IsToldFor bytes s at (told.Accepted count) left =
+    (after : State) × Answers bytes s at 200 (ok_answer count) after × IsKept left after
+IsToldFor bytes s at (told.Json status text) left =
+    Answers bytes s at status (string_bytes text) s × IsKept left s
+IsToldFor bytes s at (told.Report name) left =
+    GetsReport bytes name
+    × ((text : List ℕ) → IsPrinted s name text
+    → Answers bytes s at 200 (report_head name ++ text) s)
+    × IsKept left s
+IsToldFor bytes s at (told.Unavailable reopen) left = IsUnchangedOrBroken bytes s at left
 
 -- the bytes went out, or their beginning
 abbrev pub HasSent : ℕ → Bool → List ℕ → Given → Given → Result Served ServeFault → Type 0
-HasSent status reopen bytes old new (Ok served) = (served ≡ record { status = status; reopen = reopen }) × (new.bytes ≡ old.bytes ++ bytes)
+HasSent status reopen bytes old new (Ok served) =
+    (served ≡ record { status = status; reopen = reopen }) × (new.bytes ≡ old.bytes ++ bytes)
 HasSent status reopen bytes old new (Err serve.Read) = ⊥
-HasSent status reopen bytes old new (Err (serve.Write sent)) = Sent old new bytes sent × HasCause old new
+HasSent status reopen bytes old new (Err (serve.Write sent)) =
+    Sent old new bytes sent × HasCause old new
 
 -- all of a report's head went out, and a byte of the report or more
 abbrev pub HasBegun : Printout → Given → Given → List ℕ → Type 0
-HasBegun name old new whole = (n : ℕ) × ((length (report_head name) < n) × (n ≤ length whole) × (new.bytes ≡ old.bytes ++ take n whole))
+HasBegun name old new whole =
+    (n : ℕ)
+    × ((length (report_head name) < n) × (n ≤ length whole)
+    × (new.bytes ≡ old.bytes ++ take n whole))
 
 -- an answer with a report went out: whole, up to a fault, or 503 where it hadn't begun
 abbrev pub HasReported : State → Printout → Given → Given → Result Served ServeFault → Type 0
 HasReported s name old new (Ok served) =
-    ((served ≡ record { status = 200; reopen = false }) × ((text : List ℕ) × IsPrinted s name text × (new.bytes ≡ old.bytes ++ (report_head name ++ text))))
-    ⊎ (((served ≡ record { status = 200; reopen = false }) × SomeOrEach s name (HasBegun name old new))
+    ((served ≡ record { status = 200; reopen = false })
+    × ((text : List ℕ) × IsPrinted s name text
+    × (new.bytes ≡ old.bytes ++ (report_head name ++ text))))
+    ⊎ (((served ≡ record { status = 200; reopen = false })
+    × SomeOrEach s name (HasBegun name old new))
     ⊎ ((served ≡ record { status = 503; reopen = false }) × (new.bytes ≡ old.bytes ++ unavailable)))
 HasReported s name old new (Err serve.Read) = ⊥
-HasReported s name old new (Err (serve.Write sent)) = (SomeOrEach s name (λ whole. Sent old new whole sent) ⊎ Sent old new unavailable sent) × HasCause old new
+HasReported s name old new (Err (serve.Write sent)) =
+    (SomeOrEach s name (λ whole. Sent old new whole sent) ⊎ Sent old new unavailable sent)
+    × HasCause old new
 
 -- what is answered went out
 abbrev pub HasWritten : Told → State → Given → Given → Result Served ServeFault → Type 0
@@ -54,10 +69,12 @@ HasWritten (told.Unavailable reopen) s old new r = HasSent 503 reopen unavailabl
 -- the same on a station that has to be opened again, whose reports aren't read
 abbrev pub HasWrittenShut : Told → Given → Given → Result Served ServeFault → Type 0
 HasWrittenShut (told.Accepted count) old new r = HasSent 200 false (ok_answer count) old new r
-HasWrittenShut (told.Json status text) old new r = HasSent status false (string_bytes text) old new r
-HasWrittenShut (told.Report name) old new r = (reopen : Bool) × HasSent 503 reopen unavailable old new r
+HasWrittenShut (told.Json status text) old new r =
+    HasSent status false (string_bytes text) old new r
+HasWrittenShut (told.Report name) old new r =
+    (reopen : Bool) × HasSent 503 reopen unavailable old new r
 HasWrittenShut (told.Unavailable reopen) old new r = HasSent 503 reopen unavailable old new r
 
 -- what is answered there holds of each state, and leaves it as it is
 abbrev pub IsToldShut : List ℕ → LocalMinute → Told → Type 0
-IsToldShut bytes at t = (s : State) → IsToldFor bytes s at t false (λ next. next ≡ s) (λ found. found ≡ Some s)
+IsToldShut bytes at t = (s : State) → IsToldFor bytes s at t (station_at s)

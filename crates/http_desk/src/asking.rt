@@ -3,7 +3,9 @@ ghost use Rattle.std.specs.Prelude.{◌≡◌, true, false, IfOk, Option, Some, 
 ghost use Rattle.http.specs.StatusCode.{IsStatusCode};
 ghost use Rattle.serde_json.specs.Data.{Data};
 ghost use Rattle.serde_json.specs.Written.{compact_text};
+ghost use Rattle.station_core.specs.Keeping.{KeepsPremise, StaysIfBroken, keeping};
 ghost use Rattle.station_core.specs.Step.{State};
+ghost use Rattle.http_desk.specs.StationAfter.{station_after};
 ghost use Rattle.http_desk.specs.Told.{IsToldAs, HasAsked, HasAskedShut, IsUnavailable, tells_reopen};
 ghost use Rattle.station_days.specs.Date.{LocalMinute};
 ghost use Rattle.station_core.specs.Texts.{detail_text};
@@ -126,14 +128,12 @@ fn waybill_told(alloc: Global, number: &Awb, waybill: &Option<Waybill>) -> Told
 
 /// Asks who holds a number.
 fn ask_holder<K: Keeper>(alloc: Global, keeper: &mut K, number: &Awb) -> Told
-    ensures clean { K.is_clean keeper.new → K.is_clean keeper.old }
-    ensures still { K.is_sound keeper.old → K.is_clean keeper.new → K.is_sound keeper.new }
-    ensures sound { K.is_sound keeper.new → K.is_sound keeper.old }
+    ensures premise { KeepsPremise K.is_clean K.is_sound keeper.old keeper.new }
     ensures breaks { K.is_broken keeper.new ≡ K.is_broken keeper.old }
     ensures asked { (s : State) (at : LocalMinute) → K.keeps keeper.old s
         → K.is_broken keeper.old ≡ false → K.is_sound keeper.new
-        → HasAsked s at (Wanted.Holder number.now) result (K.is_broken keeper.new)
-        (K.keeps keeper.new) (K.may_find keeper.new) }
+        → HasAsked s at (Wanted.Holder number.now) result (station_after
+        (keeping K.keeps K.is_clean K.is_sound K.is_broken K.may_find) keeper.new) }
     ensures reopen { tells_reopen result ≡ K.is_broken keeper.new }
     ensures shut { K.is_broken keeper.old ≡ true → (keeper.new ≡ keeper.old)
         × IsUnavailable result }
@@ -146,14 +146,12 @@ fn ask_holder<K: Keeper>(alloc: Global, keeper: &mut K, number: &Awb) -> Told
 
 /// Asks what is known of a waybill.
 fn ask_waybill<K: Keeper>(alloc: Global, keeper: &mut K, number: &Awb) -> Told
-    ensures clean { K.is_clean keeper.new → K.is_clean keeper.old }
-    ensures still { K.is_sound keeper.old → K.is_clean keeper.new → K.is_sound keeper.new }
-    ensures sound { K.is_sound keeper.new → K.is_sound keeper.old }
+    ensures premise { KeepsPremise K.is_clean K.is_sound keeper.old keeper.new }
     ensures breaks { K.is_broken keeper.new ≡ K.is_broken keeper.old }
     ensures asked { (s : State) (at : LocalMinute) → K.keeps keeper.old s
         → K.is_broken keeper.old ≡ false → K.is_sound keeper.new
-        → HasAsked s at (Wanted.Waybill number.now) result (K.is_broken keeper.new)
-        (K.keeps keeper.new) (K.may_find keeper.new) }
+        → HasAsked s at (Wanted.Waybill number.now) result (station_after
+        (keeping K.keeps K.is_clean K.is_sound K.is_broken K.may_find) keeper.new) }
     ensures reopen { tells_reopen result ≡ K.is_broken keeper.new }
     ensures shut { K.is_broken keeper.old ≡ true → (keeper.new ≡ keeper.old)
         × IsUnavailable result }
@@ -166,13 +164,11 @@ fn ask_waybill<K: Keeper>(alloc: Global, keeper: &mut K, number: &Awb) -> Told
 
 /// Hands the station an input.
 fn ask_input<K: Keeper>(alloc: Global, keeper: &mut K, input: &Input<'_>, at: Moment) -> Told
-    ensures clean { K.is_clean keeper.new → K.is_clean keeper.old }
-    ensures still { K.is_sound keeper.old → K.is_clean keeper.new → K.is_sound keeper.new }
-    ensures sound { K.is_sound keeper.new → K.is_sound keeper.old }
+    ensures premise { KeepsPremise K.is_clean K.is_sound keeper.old keeper.new }
     ensures asked { (s : State) → K.keeps keeper.old s → K.is_broken keeper.old ≡ false
         → K.is_sound keeper.new
-        → HasAsked s at (Wanted.Input input.now) result (K.is_broken keeper.new)
-        (K.keeps keeper.new) (K.may_find keeper.new) }
+        → HasAsked s at (Wanted.Input input.now) result (station_after
+        (keeping K.keeps K.is_clean K.is_sound K.is_broken K.may_find) keeper.new) }
     ensures reopen { tells_reopen result ≡ K.is_broken keeper.new }
     ensures shut { K.is_broken keeper.old ≡ true → (keeper.new ≡ keeper.old)
         × IsUnavailable result }
@@ -186,15 +182,13 @@ fn ask_input<K: Keeper>(alloc: Global, keeper: &mut K, input: &Input<'_>, at: Mo
 
 /// Asks the station for what is wanted. A report is left to be read while it is written.
 pub(crate) fn ask<K: Keeper>(alloc: Global, keeper: &mut K, wanted: &Wanted<'_>, at: Moment) -> Told
-    ensures clean { K.is_clean keeper.new → K.is_clean keeper.old }
-    ensures still { K.is_sound keeper.old → K.is_clean keeper.new → K.is_sound keeper.new }
-    ensures sound { K.is_sound keeper.new → K.is_sound keeper.old }
+    ensures premise { KeepsPremise K.is_clean K.is_sound keeper.old keeper.new }
     ensures asked { (s : State) → K.keeps keeper.old s → K.is_broken keeper.old ≡ false
         → K.is_sound keeper.new
-        → HasAsked s at wanted.now result (K.is_broken keeper.new) (K.keeps keeper.new)
-        (K.may_find keeper.new) }
+        → HasAsked s at wanted.now result (station_after
+        (keeping K.keeps K.is_clean K.is_sound K.is_broken K.may_find) keeper.new) }
     ensures told { K.is_broken keeper.old ≡ false → tells_reopen result ≡ K.is_broken keeper.new }
-    ensures same { K.is_broken keeper.old ≡ true → keeper.new ≡ keeper.old }
+    ensures same { StaysIfBroken (K.is_broken keeper.old) keeper.old keeper.new }
     ensures shut { K.is_broken keeper.old ≡ true → HasAskedShut at wanted.now result }
 {
     match wanted {

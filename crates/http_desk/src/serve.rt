@@ -1,9 +1,11 @@
 //! One connection.
 ghost use Rattle.std.specs.Prelude.{◌≡◌, ◌+◌, ◌≤◌, true, false, Err, IfOk};
+ghost use Rattle.station_core.specs.Keeping.{KeepsPremise, StaysIfBroken, keeping};
 ghost use Rattle.station_core.specs.Step.{State};
 ghost use Rattle.http_desk.specs.Told.{tells_reopen};
 ghost use Rattle.http_desk.specs.Came.{HasRequest};
 ghost use Rattle.http_desk.specs.Reading.{HasEndedEarly, most_reads};
+ghost use Rattle.http_desk.specs.StationAfter.{station_after};
 ghost use Rattle.http_desk.specs.Serving.{added, HasServed, HasServedShut, IsUnfinished, StopsServing, IsPosted, BeginsAs200, BeginsAs503, IsAfterStep, IsUnchangedOrBroken};
 ghost use Rattle.http_desk.specs.Writing.{IsToldFor, IsToldShut};
 
@@ -36,15 +38,13 @@ pub enum ServeFault {
 /// Asks the station for what a request wants that has come.
 fn told_for<K: Keeper>(alloc: Global, keeper: &mut K, bytes: &[u8], came: Came, at: Moment) -> Told
     requires request { HasRequest bytes.now came }
-    ensures clean { K.is_clean keeper.new → K.is_clean keeper.old }
-    ensures still { K.is_sound keeper.old → K.is_clean keeper.new → K.is_sound keeper.new }
-    ensures sound { K.is_sound keeper.new → K.is_sound keeper.old }
+    ensures premise { KeepsPremise K.is_clean K.is_sound keeper.old keeper.new }
     ensures told { (s : State) → K.keeps keeper.old s → K.is_broken keeper.old ≡ false
         → K.is_sound keeper.new
-        → IsToldFor bytes.now s at result (K.is_broken keeper.new) (K.keeps keeper.new)
-        (K.may_find keeper.new) }
+        → IsToldFor bytes.now s at result (station_after
+        (keeping K.keeps K.is_clean K.is_sound K.is_broken K.may_find) keeper.new) }
     ensures tells { K.is_broken keeper.old ≡ false → tells_reopen result ≡ K.is_broken keeper.new }
-    ensures same { K.is_broken keeper.old ≡ true → keeper.new ≡ keeper.old }
+    ensures same { StaysIfBroken (K.is_broken keeper.old) keeper.old keeper.new }
     ensures shut { K.is_broken keeper.old ≡ true → IsToldShut bytes.now at result }
 {
     match wanted(alloc, bytes, came) {
@@ -61,9 +61,7 @@ pub fn serve_one<K: Keeper, I: ByteIn, O: ByteOut>(
     writer: &mut O,
     at: Moment,
 ) -> Result<Served, ServeFault>
-    ensures clean { K.is_clean keeper.new → K.is_clean keeper.old }
-    ensures still { K.is_sound keeper.old → K.is_clean keeper.new → K.is_sound keeper.new }
-    ensures sound { K.is_sound keeper.new → K.is_sound keeper.old }
+    ensures premise { KeepsPremise K.is_clean K.is_sound keeper.old keeper.new }
 
     // Reading ended within the request: nothing was written, nothing was changed. There are at most
     // so many reads, however it ends.
@@ -82,9 +80,9 @@ pub fn serve_one<K: Keeper, I: ByteIn, O: ByteOut>(
     // after it.
     ensures served { (s : State) → K.keeps keeper.old s → K.is_broken keeper.old ≡ false
         → K.is_sound keeper.new
-        → HasServed s at (I.given reader.old) (I.given reader.new) (O.taken writer.old)
-        (O.taken writer.new)
-        (K.is_broken keeper.new) (K.keeps keeper.new) (K.may_find keeper.new) result }
+        → HasServed s at (added (I.given reader.old) (I.given reader.new))
+        (O.taken writer.old) (O.taken writer.new) (station_after
+        (keeping K.keeps K.is_clean K.is_sound K.is_broken K.may_find) keeper.new) result }
 
     // Once a 200 to a POST has begun, a reopening finds the state after that step, and no other.
     ensures begun { (s : State) → K.keeps keeper.old s → K.is_broken keeper.old ≡ false
@@ -99,8 +97,8 @@ pub fn serve_one<K: Keeper, I: ByteIn, O: ByteOut>(
     ensures unavailable { (s : State) → K.keeps keeper.old s → K.is_broken keeper.old ≡ false
         → K.is_sound keeper.new
         → BeginsAs503 (added (O.taken writer.old) (O.taken writer.new))
-        → IsUnchangedOrBroken (added (I.given reader.old) (I.given reader.new)) s at
-        (K.is_broken keeper.new) (K.keeps keeper.new) (K.may_find keeper.new) }
+        → IsUnchangedOrBroken (added (I.given reader.old) (I.given reader.new)) s at (station_after
+        (keeping K.keeps K.is_clean K.is_sound K.is_broken K.may_find) keeper.new) }
 
     // It asks to open the station again exactly where this connection broke it.
     ensures told { (s : State) → K.keeps keeper.old s → K.is_broken keeper.old ≡ false
@@ -108,10 +106,10 @@ pub fn serve_one<K: Keeper, I: ByteIn, O: ByteOut>(
         → IfOk result (λ served. served.reopen ≡ K.is_broken keeper.new) }
 
     // A station that has to be opened again stays as it is, and nothing of it is told.
-    ensures same { K.is_broken keeper.old ≡ true → keeper.new ≡ keeper.old }
+    ensures same { StaysIfBroken (K.is_broken keeper.old) keeper.old keeper.new }
     ensures reopen { K.is_broken keeper.old ≡ true
-        → HasServedShut at (I.given reader.old) (I.given reader.new) (O.taken writer.old)
-        (O.taken writer.new) result }
+        → HasServedShut at (added (I.given reader.old) (I.given reader.new))
+        (O.taken writer.old) (O.taken writer.new) result }
 {
     let mut bytes = Vec::new(alloc);
     match read_request(alloc, reader, &mut bytes) {

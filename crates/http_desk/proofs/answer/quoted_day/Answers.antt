@@ -1,4 +1,4 @@
-use Rattle.std.proofs.Common.{◌≡◌, ◌∙◌, string_bytes}
+use Rattle.std.proofs.Common.{◌∙◌, string_bytes}
 use Rattle.serde_json.specs.Data.{string}
 use Rattle.serde_json.specs.Written.{compact_text}
 use Rattle.desk_commands.proofs.Written.{told}
