@@ -1,4 +1,4 @@
-ghost use Rattle.std.specs.Prelude.{◌≡◌, ◌↔◌, ◌+◌, ◌*◌, ◌<◌, IsSome, IfSome};
+ghost use Rattle.std.specs.Prelude.{◌≡◌, ◌↔◌, ◌+◌, ◌*◌, ◌<◌, ℤ, IsSome, IfSome};
 ghost use Rattle.jiff_core.specs.declared.civil.datetime.DateTime.{DateTime as AnyDateTime};
 ghost use Rattle.jiff_tz.specs.PosixReader.{read_whole};
 ghost use Rattle.desk_clock.specs.Clock.{FollowsRule, Shows, IsMinuteOf, IsWithinDays};
@@ -73,7 +73,11 @@ pub fn moment_of(zone: &Zone, now: Timestamp) -> Option<Moment>
 
 /// The moment that a clock shows now, in a zone. `None` where the clock can't be read, or shows a
 /// day before 2000-01-01 or after 2099-12-31.
-pub fn moment_now(clock: &impl Clock, zone: &Zone) -> Option<Moment> {
+pub fn moment_now(clock: &impl Clock, zone: &Zone) -> Option<Moment>
+    // It is what a clock in the zone shows at some instant; no contract says which one it is.
+    ensures { IfSome result (λ moment. (instant : ℤ) × (local : AnyDateTime)
+        × Shows zone.now instant local × IsMinuteOf local moment) }
+{
     match Timestamp::now(clock) {
         Ok(now) => moment_of(zone, now),
         Err(_) => None,

@@ -1,10 +1,17 @@
 -- Reasons that are written.
-use Rattle.std.proofs.Common.{◌≡◌, refl, sym, ap, ℕ, IsTrue, List, [], ◌∷◌, ◌++◌, length, Result, Ok, Err, OnOk, IfOk, IfErr}
+use Rattle.std.proofs.Common.{arith, ◌≡◌, ◌∙◌, refl, sym, ap, subst, ℕ, ◌<◌, ◌^◌, true, IsTrue, List, [], ◌∷◌, ◌++◌, length, Result, Ok, Err, OnOk, IfOk, IfErr}
 use Rattle.std.specs.List.{list_all}
+use Rattle.std.specs.Prelude.{codes, decimal}
+use Rattle.std.proofs.lemmas.Bool.{le-leb}
+use Rattle.std.proofs.lemmas.List.{append_assoc}
+use Rattle.std.proofs.lemmas.List.Folds.{list_all-append}
+use Rattle.awb_number.specs.Digits.{is_digit}
+use Rattle.awb_number.proofs.Padded.{is_digit_bounds}
+use Rattle.imp_fields.proofs.WrittenLaws.{all_weaker, decimal_digits}
 use Rattle.imp_fields.specs.Characters.{is_printable}
 use Rattle.station_core.specs.Ends.{Sent}
 use Rattle.station_core.specs.Given.{Given}
-use Rattle.input_reasons.specs.Reason.{HasReason, IsReason}
+use Rattle.input_reasons.specs.Reason.{HasReason, IsReason, numbered_head}
 
 append_none : (xs : List ℕ) → xs ++ [] ≡ xs
 append_none [] = refl
@@ -25,3 +32,26 @@ pub made : {T E : Type 0} (shown : T → List ℕ) (r : Result T E) (head words 
     → IfOk r (λ line. shown line ≡ head ++ (words ++ 10 ∷ [])) → IfOk r (λ line. IsReason head (shown line))
 made shown (Ok line) head words all is = (words, all, is)
 made shown (Err e) head words all is = tt
+
+-- the same line, by what its head is
+pub headed : {T E : Type 0} (shown : T → List ℕ) (r : Result T E) (head other : List ℕ) → head ≡ other → IfOk r (λ line. IsReason head (shown line)) → IfOk r (λ line. IsReason other (shown line))
+headed shown r head other same is = subst (λ h. IfOk r (λ line. IsReason h (shown line))) same is
+
+digit_shows : (b : ℕ) → is_digit b ≡ true → is_printable b ≡ true
+digit_shows b h =
+    let bounds = is_digit_bounds b h in
+    rw (le-leb 32 b (omega (arith, bounds)), le-leb b 126 (omega (arith, bounds))) refl
+
+number_shows : (n : ℕ) → n < 2 ^ 64 → (words : List ℕ) → list_all is_printable words ≡ true → list_all is_printable ((decimal n ++ codes ": ") ++ words) ≡ true
+number_shows n lt words all =
+    list_all-append is_printable (decimal n ++ codes ": ") words
+    ∙ rw (list_all-append is_printable (decimal n) (codes ": "), all_weaker is_digit is_printable digit_shows (decimal n) (decimal_digits n lt), all) refl
+
+-- the reason of a line with a number is one of a line
+pub of_line : {T E : Type 0} (shown : T → List ℕ) (r : Result T E) (n : ℕ) → n < 2 ^ 64 → IfOk r (λ line. IsReason (numbered_head n) (shown line)) → IfOk r (λ line. IsReason (codes "line ") (shown line))
+of_line shown (Ok line) n lt (words, all, is) = (
+  (decimal n ++ codes ": ") ++ words,
+  number_shows n lt words all,
+  is ∙ append_assoc (codes "line ") (decimal n ++ codes ": ") (words ++ 10 ∷ []) ∙ ap (λ xs. codes "line " ++ xs) (sym (append_assoc (decimal n ++ codes ": ") words (10 ∷ []))),
+)
+of_line shown (Err e) n lt is = tt

@@ -1,5 +1,5 @@
 -- Reasons on standard error: one line each, for people.
-use Rattle.std.specs.Prelude.{◌≡◌, ◌==◌, ◌||◌, ℕ, Bool, IsTrue, List, [], ◌∷◌, ◌++◌, take}
+use Rattle.std.specs.Prelude.{◌≡◌, ◌==◌, ◌||◌, ℕ, Bool, IsTrue, List, [], ◌∷◌, ◌++◌, codes, decimal, take}
 use Rattle.std.specs.List.{list_all}
 use Rattle.imp_fields.specs.Characters.{is_printable}
 use Rattle.shipment_machine.specs.declared.plans.Refusal.{Refusal}
@@ -8,6 +8,10 @@ use Rattle.shipment_machine.specs.declared.plans.Refusal.{Refusal}
 abbrev pub IsReason : List ℕ → List ℕ → Type 0
 IsReason head text =
     (words : List ℕ) × IsTrue (list_all is_printable words) × (text ≡ head ++ (words ++ 10 ∷ []))
+
+-- how the reason of a line with this number begins
+abbrev pub numbered_head : ℕ → List ℕ
+numbered_head number = codes "line " ++ (decimal number ++ codes ": ")
 
 -- a reason with this head was written, or a beginning of one, which may be nothing
 abbrev pub HasReason : List ℕ → List ℕ → List ℕ → Type 0

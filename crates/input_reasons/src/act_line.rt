@@ -1,10 +1,10 @@
 //! Why a line of `acts` is neither a command nor a telegram.
 ghost use Rattle.std.specs.Prelude.{IfOk, codes, string_bytes};
-ghost use Rattle.input_reasons.specs.Reason.{IsReason};
+ghost use Rattle.input_reasons.specs.Reason.{IsReason, numbered_head};
 
 use crate::body::value_words;
 use crate::member::kind_words;
-use crate::shown::{quoted, reason_line};
+use crate::shown::{numbered, quoted};
 use crate::telegram::refusal_words;
 use desk_commands::Verb;
 use serde_json::{Error, Value};
@@ -126,19 +126,12 @@ fn line_words(alloc: Global, text: &[u8]) -> Result<String, AllocError> {
     }
 }
 
-/// The reason of a line with this number.
-fn numbered(alloc: Global, number: u64, words: &str) -> Result<String, AllocError>
-    ensures { IfOk result (λ line. IsReason (codes "line ") (string_bytes line)) }
-{
-    let words = format!(in alloc; "{number}: {words}")?;
-    reason_line(alloc, "line ", words.as_str())
-}
-
 /// Why a line of `acts` with this number is neither a command nor a telegram.
 ///
 /// Returns [`AllocError`] when out of memory.
 pub fn act_line_reason(alloc: Global, text: &[u8], number: u64) -> Result<String, AllocError>
-    ensures { IfOk result (λ line. IsReason (codes "line ") (string_bytes line)) }
+    ensures number { IfOk result (λ line. IsReason (numbered_head number) (string_bytes line)) }
+    ensures line { IfOk result (λ line. IsReason (codes "line ") (string_bytes line)) }
 {
     let words = line_words(alloc, text)?;
     numbered(alloc, number, words.as_str())
@@ -152,7 +145,8 @@ pub fn telegram_line_reason(
     refusal: &Refusal,
     number: u64,
 ) -> Result<String, AllocError>
-    ensures { IfOk result (λ line. IsReason (codes "line ") (string_bytes line)) }
+    ensures number { IfOk result (λ line. IsReason (numbered_head number) (string_bytes line)) }
+    ensures line { IfOk result (λ line. IsReason (codes "line ") (string_bytes line)) }
 {
     let words = refusal_words(alloc, refusal)?;
     let words = format!(in alloc; "telegram: {words}")?;

@@ -1,8 +1,8 @@
 //! Why a row of a stock list is bad.
 ghost use Rattle.std.specs.Prelude.{IfOk, codes, string_bytes};
-ghost use Rattle.input_reasons.specs.Reason.{IsReason};
+ghost use Rattle.input_reasons.specs.Reason.{IsReason, numbered_head};
 
-use crate::shown::{cut, digits_words, quoted, reason_line};
+use crate::shown::{cut, digits_words, numbered, quoted};
 use agent_stock::AgentCode;
 use csv::ByteRecord;
 use station_core::Key;
@@ -115,9 +115,9 @@ fn row_words(alloc: Global, row: &ByteRecord) -> Result<String, AllocError> {
 ///
 /// Returns [`AllocError`] when out of memory.
 pub fn row_reason(alloc: Global, row: &ByteRecord, line: u64) -> Result<String, AllocError>
-    ensures { IfOk result (λ text. IsReason (codes "line ") (string_bytes text)) }
+    ensures number { IfOk result (λ text. IsReason (numbered_head line) (string_bytes text)) }
+    ensures line { IfOk result (λ text. IsReason (codes "line ") (string_bytes text)) }
 {
     let words = row_words(alloc, row)?;
-    let words = format!(in alloc; "{line}: {words}")?;
-    reason_line(alloc, "line ", words.as_str())
+    numbered(alloc, line, words.as_str())
 }

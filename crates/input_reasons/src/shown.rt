@@ -1,8 +1,8 @@
 //! Texts of the input as a reason repeats them.
-ghost use Rattle.std.specs.Prelude.{◌≤◌, ◌<◌, OnOk, IfOk, IsTrue, string_bytes};
+ghost use Rattle.std.specs.Prelude.{◌≤◌, ◌<◌, OnOk, IfOk, IsTrue, string_bytes, codes};
 ghost use Rattle.std.specs.List.{list_all};
 ghost use Rattle.imp_fields.specs.Characters.{is_printable};
-ghost use Rattle.input_reasons.specs.Reason.{IsReason};
+ghost use Rattle.input_reasons.specs.Reason.{IsReason, numbered_head};
 
 use std::alloc::{AllocError, Global};
 
@@ -60,6 +60,15 @@ pub(crate) fn reason_line(alloc: Global, head: &str, words: &str) -> Result<Stri
 {
     let words = printable(alloc, words.as_bytes())?;
     format!(in alloc; "{head}{words}\n")
+}
+
+/// The reason of a line with this number.
+pub(crate) fn numbered(alloc: Global, number: u64, words: &str) -> Result<String, AllocError>
+    ensures number { IfOk result (λ line. IsReason (numbered_head number) (string_bytes line)) }
+    ensures line { IfOk result (λ line. IsReason (codes "line ") (string_bytes line)) }
+{
+    let head = format!(in alloc; "line {number}: ")?;
+    reason_line(alloc, head.as_str(), words)
 }
 
 /// A text of the input, cut to forty bytes.
