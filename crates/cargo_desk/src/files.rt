@@ -1,12 +1,9 @@
 //! The file of a station.
 
-use cli_call::DeskFault;
+use cli_call::{DeskFault, open_listed, open_new, station_trees};
 use cli_run::is_opening;
 use cli_words::Line;
 use sqlite::{Alter, Connection, Error, ErrorCode, File, FileStore, Options, Unknown};
-use sqlite_pager::Pager;
-use sqlite_pool::probe_blank;
-use sqlite_store::Unopened;
 use sqlite_wal::PageSize;
 use station_schema::has_station;
 use station_tables::AttachFault;
@@ -48,14 +45,56 @@ impl FileFault {
     }
 }
 
-/// Opens a file that has a database.
-fn open(rt: &HostRuntime, path: &str) -> Result<Connection<FileStore<File>>, FileFault> {
+/// Why the two files of a path aren't opened.
+fn unopened(error: &sqlite_std_file::OpenError) -> FileFault {
+    match error {
+        sqlite_std_file::OpenError::OutOfMemory => FileFault::Memory,
+        sqlite_std_file::OpenError::Busy => FileFault::Busy,
+        _ => FileFault::Store(ErrorCode::CannotOpen),
+    }
+}
+
+/// Opens a file that has a database, whatever its tables.
+fn open_any(rt: &HostRuntime, path: &str) -> Result<Connection<FileStore<File>>, FileFault> {
     match Connection::open(rt, path) {
         Ok(conn) => Ok(conn),
         Err(Error::SqliteFailure(ErrorCode::OutOfMemory)) => Err(FileFault::Memory),
         Err(Error::SqliteFailure(ErrorCode::DatabaseBusy)) => Err(FileFault::Busy),
         Err(Error::SqliteFailure(code)) => Err(FileFault::Store(code)),
         Err(_) => Err(FileFault::Store(ErrorCode::NotADatabase)),
+    }
+}
+
+/// Whether the library opens no file of this name.
+fn is_no_file(path: &str) -> bool {
+    path == ":memory:" || path.starts_with("file:")
+}
+
+/// Opens a file whose tables are declared as `init` declares them, with one recovery of its log.
+fn open_declared(rt: &HostRuntime, path: &str) -> Option<Connection<FileStore<File>>> {
+    if is_no_file(path) {
+        return None;
+    }
+    let options = options(rt).ok()?;
+    let trees = station_trees();
+    let Ok(files) = sqlite_std_file::open(rt, path, Unknown) else {
+        return None;
+    };
+    match open_listed(rt.alloc(), files, options, &trees) {
+        Ok(mut conn) => {
+            conn.set_clock(rt);
+            Some(conn)
+        }
+        Err(_left) => None,
+    }
+}
+
+/// Opens a file that has a database. One whose tables are declared otherwise than by `init` is
+/// opened as the library opens any file, with two recoveries of its log.
+fn open(rt: &HostRuntime, path: &str) -> Result<Connection<FileStore<File>>, FileFault> {
+    match open_declared(rt, path) {
+        Some(conn) => Ok(conn),
+        None => open_any(rt, path),
     }
 }
 
@@ -85,46 +124,27 @@ fn options(rt: &HostRuntime) -> Result<Options, FileFault> {
     }
 }
 
-/// Makes a database with no table in a file that has none. Whatever stops it, the file has none or
-/// the whole one, and the next call goes on from there.
-fn lay_first_page(rt: &HostRuntime, path: &str) -> Result<(), FileFault> {
-    let alloc = rt.alloc();
-    let mut files = match sqlite_std_file::open(rt, path, Unknown) {
-        Ok(files) => files,
-        Err(sqlite_std_file::OpenError::OutOfMemory) => return Err(FileFault::Memory),
-        Err(sqlite_std_file::OpenError::Busy) => return Err(FileFault::Busy),
-        Err(_) => return Err(FileFault::Store(ErrorCode::CannotOpen)),
-    };
-    let size = PageSize::new(PAGE_LEN).unwrap();
-    match probe_blank(alloc, &mut files, size, false) {
-        Ok(true) => {}
-        Ok(false) => return Ok(()),
-        Err(sqlite_wal::Error::OutOfMemory) => return Err(FileFault::Memory),
-        Err(_) => return Err(FileFault::Store(ErrorCode::SystemIoFailure)),
-    }
-    let Ok(pager) = Pager::new(alloc, files, size, options(rt)?) else {
-        return Err(FileFault::Memory);
-    };
-    let Ok(fresh) = Unopened::new(alloc, pager, &[]) else {
-        return Err(FileFault::Memory);
-    };
-    match fresh.create() {
-        Ok(_store) => Ok(()),
-        Err((sqlite_store::OpenError::OutOfMemory, _files)) => Err(FileFault::Memory),
-        Err((sqlite_store::OpenError::Full, _files)) => {
-            Err(FileFault::Store(ErrorCode::DiskFull))
-        }
-        Err(_) => Err(FileFault::Store(ErrorCode::SystemIoFailure)),
-    }
-}
-
-/// Opens a file, or makes it where it is missing or empty.
+/// Opens a file, or makes it where it is missing or empty. Whatever stops it, the file has no
+/// database or the whole one, and the next call goes on from there.
 pub fn make_file(rt: &HostRuntime, path: &str) -> Result<Connection<FileStore<File>>, FileFault> {
-    // The library opens no file of these names.
-    if path != ":memory:" && !path.starts_with("file:") {
-        lay_first_page(rt, path)?;
+    if is_no_file(path) {
+        return open_any(rt, path);
     }
-    open(rt, path)
+    let size = PageSize::new(PAGE_LEN).unwrap();
+    let options = options(rt)?;
+    let files = match sqlite_std_file::open(rt, path, Unknown) {
+        Ok(files) => files,
+        Err(error) => return Err(unopened(&error)),
+    };
+    match open_new(rt.alloc(), files, size, options) {
+        Ok(Some(mut conn)) => {
+            conn.set_clock(rt);
+            Ok(conn)
+        }
+        Ok(None) => open_any(rt, path),
+        Err((ErrorCode::OutOfMemory, _left)) => Err(FileFault::Memory),
+        Err((code, _left)) => Err(FileFault::Store(code)),
+    }
 }
 
 /// Opens a file that is there. A file that is missing or empty has no station, and stays as it is.

@@ -3,7 +3,7 @@
 use crate::files::{make_file, open_file, tell_undeclared, tell_unopened};
 use crate::service::{Service, serve_keeper, serve_line};
 use cli_call::{DeskFault, close_file, end, run_file, run_kept};
-use cli_run::{Feed, Tied, TiedOutput, Turns, airport_of_line, is_opening, tie};
+use cli_run::{Feed, Turns, airport_of_line, is_opening};
 use cli_words::Line;
 use map_state::MapState;
 use sqlite::{Connection, FileStore};
@@ -11,7 +11,7 @@ use sqlite_disk::Disk;
 use station_core::{Counted, Keeper};
 use station_days::Moment;
 use station_engine::StoredStation;
-use std::io::{Read, Write};
+use std::io::Read;
 use stock_list::RunFault;
 
 /// What a line does with its station.
@@ -37,26 +37,7 @@ pub fn faulted(rt: &HostRuntime, fault: RunFault) -> u8 {
     end_call(rt, Err(DeskFault::Run(fault)))
 }
 
-/// Ends a call that ran, and failed behind that. One that was stopped by a fault has reported it,
-/// and reports no other.
-fn failed_late(rt: &HostRuntime, status: u8, fault: RunFault) -> u8 {
-    if status > 1 {
-        status
-    } else {
-        faulted(rt, fault)
-    }
-}
-
-/// Flushes what is gathered of a call's output, and returns the call's status.
-fn let_out<W: Write + Drop>(rt: &HostRuntime, output: Counted<TiedOutput<W>>, status: u8) -> u8 {
-    match output.into_inner().flush() {
-        Ok(()) => status,
-        Err(_) => failed_late(rt, status, RunFault::Write),
-    }
-}
-
-/// Runs a line over a station in memory. What it writes is gathered, and goes out before its input
-/// is read again, before anything is told on standard error, and before the end.
+/// Runs a line over a station in memory. Each answer is written before the next input acts.
 fn run_keeper<K: Keeper, R: Read + Drop>(
     rt: &HostRuntime,
     line: &Line<'_>,
@@ -65,20 +46,18 @@ fn run_keeper<K: Keeper, R: Read + Drop>(
     turns: &Turns,
     at: Moment,
 ) -> u8 {
-    let alloc = rt.alloc();
-    let Ok(tied) = tie(alloc, reader, rt.stdout(), rt.stderr()) else {
-        return faulted(rt, RunFault::Memory);
-    };
-    let Tied {
-        input,
-        output,
-        errors,
-    } = tied;
-    let mut output = Counted::new(output);
-    let mut errors = Counted::new(errors);
-    let mut feed = Feed::new(input, turns);
-    let status = run_kept(alloc, line, keeper, &mut feed, &mut output, &mut errors, at);
-    let_out(rt, output, status)
+    let mut output = Counted::new(rt.stdout());
+    let mut errors = Counted::new(rt.stderr());
+    let mut feed = Feed::new(reader, turns);
+    run_kept(
+        rt.alloc(),
+        line,
+        keeper,
+        &mut feed,
+        &mut output,
+        &mut errors,
+        at,
+    )
 }
 
 /// Does a line's task over a new station in memory.

@@ -17,7 +17,8 @@ use Rattle.cli_words.specs.declared.line.Line.{Line}
 use Rattle.cli_call.specs.declared.closing.FileEnd.{FileEnd}
 use Rattle.cli_call.specs.declared.ended.DeskFault.TheVariants as fault
 use Rattle.cli_call.specs.Ended.{HasTold}
-use Rattle.cli_run.specs.Ends.{Ends, Keeping, Reached}
+use Rattle.station_core.specs.Keeping.{Keeping}
+use Rattle.cli_run.specs.Ends.{Ends, Reached}
 use Rattle.cli_call.specs.Ran.{HasCalled}
 
 -- A call that ended with this status closed its file. Behind a fault the log stays, and nothing is

@@ -7,7 +7,7 @@ use Rattle.stock_list.specs.declared.answer.RunFault.{RunFault}
 use Rattle.stock_list.specs.declared.answer.RunFault.TheVariants as run
 use Rattle.station_tables.specs.declared.fault.AttachFault.{AttachFault}
 use Rattle.station_tables.specs.declared.fault.AttachFault.TheVariants as attach
-use Rattle.cli_run.specs.Sent.{SendsLine}
+use Rattle.station_core.specs.Ends.{SendsLine}
 use Rattle.cli_call.specs.declared.ended.DeskFault.{DeskFault}
 use Rattle.cli_call.specs.declared.ended.DeskFault.TheVariants as fault
 use Rattle.cli_run.specs.Ends.{Reached}

@@ -1,6 +1,9 @@
+pub mod Begun
 pub mod Closed
 pub mod Ended
+pub mod Listed
 pub mod Migrated
 pub mod Opened
 pub mod Ran
+pub mod Spared
 pub mod Version

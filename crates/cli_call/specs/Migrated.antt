@@ -2,14 +2,13 @@
 use Rattle.std.specs.Prelude.{◌≡◌, ℕ, Bool, true, Result, Ok, Err, IfOk, IfErr, OnErr, OnOk, List, ◌++◌, codes}
 use Rattle.sqlite.specs.Held.{Held}
 use Rattle.sqlite_trees.specs.declared.store.Store.{Ghosts}
-use Rattle.station_core.specs.Ends.{HasCause}
+use Rattle.station_core.specs.Ends.{HasCause, HasSent}
 use Rattle.station_core.specs.Given.{Given}
 use Rattle.station_tables.specs.declared.fault.AttachFault.{AttachFault}
 use Rattle.station_tables.specs.Called.{HasMoved}
 use Rattle.stock_list.specs.declared.answer.RunFault.{RunFault}
 use Rattle.stock_list.specs.declared.answer.RunFault.TheVariants as run
 use Rattle.cli_run.specs.Ends.{Reached}
-use Rattle.cli_run.specs.Sent.{HasSent}
 use Rattle.cli_call.specs.Ended.{HasNoStation, HasToldEnd}
 
 -- the line that tells the version of the file

@@ -1,5 +1,5 @@
 -- What a call of the program leaves.
-use Rattle.std.specs.Prelude.{◌≡◌, ℕ, Bool, true, false, Result, Ok, Err, OnOk}
+use Rattle.std.specs.Prelude.{◌≡◌, ℕ, Bool, true, false, Result, Ok, Err}
 use Rattle.sqlite.specs.Held.{Held}
 use Rattle.sqlite_trees.specs.declared.store.Store.{Ghosts}
 use Rattle.station_days.specs.Date.{LocalMinute}
@@ -9,7 +9,8 @@ use Rattle.station_tables.specs.Called.{HasReleased}
 use Rattle.stock_list.specs.declared.answer.RunFault.{RunFault}
 use Rattle.cli_words.specs.declared.line.Line.{Line}
 use Rattle.cli_run.specs.Done.{HasDone}
-use Rattle.cli_run.specs.Ends.{reached, Ends, Keeping, Reached}
+use Rattle.station_core.specs.Keeping.{Keeping, KeepsPremise, KeepsWorking}
+use Rattle.cli_run.specs.Ends.{reached, Ends, Reached}
 use Rattle.cli_run.specs.Place.{here_of, is_migration, is_new}
 use Rattle.cli_run.specs.Reasons.{HasGivenReasons}
 use Rattle.cli_call.specs.Ended.{HasNoStation, HasToldEnd}
@@ -22,10 +23,8 @@ pub record HasRunKept {K I W E : Type 0} (line : Line) (k : Keeping K) (e : Ends
     (old new : K × Reached I W E) (status : ℕ) : Type 0 where
   pub between : E
   pub ended : Result Bool RunFault
-  pub clean : k.is_clean new.0 → k.is_clean old.0
-  pub still : k.is_sound old.0 → k.is_clean new.0 → k.is_sound new.0
-  pub sound : k.is_sound new.0 → k.is_sound old.0
-  pub works : k.is_broken old.0 ≡ false → OnOk ended (k.is_broken new.0 ≡ false)
+  pub premise : KeepsPremise k.is_clean k.is_sound old.0 new.0
+  pub works : KeepsWorking (k.is_broken old.0) (k.is_broken new.0) ended
   pub done : HasDone line.command (here_of line.station) k e at old
       (new.0, reached new.1.reader new.1.output between) ended
   pub explained : HasGivenReasons line.command k e at old

@@ -1,6 +1,7 @@
 //! A call over a file, from its command to the end of its file.
 ghost use Rattle.cli_call.specs.Closed.{HasCalledFile, HasClosed};
-ghost use Rattle.cli_run.specs.Ends.{ends, keeping, reached};
+ghost use Rattle.station_core.specs.Keeping.{keeping};
+ghost use Rattle.cli_run.specs.Ends.{ends, reached};
 
 use crate::ended::{DeskFault, end};
 use crate::run::run_line;

@@ -2,7 +2,7 @@
 ghost use Rattle.std.specs.Prelude.{◌≡◌, ◌++◌, ◌∷◌, [], IfErr, OnOk};
 ghost use Rattle.cli_call.specs.Ended.{attach_status, run_ended, run_line, status_of, HasNoStation, HasTold, HasToldEnd};
 ghost use Rattle.cli_run.specs.Ends.{reached};
-ghost use Rattle.cli_run.specs.Sent.{SendsLine};
+ghost use Rattle.station_core.specs.Ends.{SendsLine};
 
 use cli_run::{send_part, send_word};
 use itoa::Buffer;

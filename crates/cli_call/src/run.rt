@@ -1,5 +1,6 @@
 //! A line over a connection, or over a keeper that has none.
-ghost use Rattle.cli_run.specs.Ends.{ends, keeping, reached};
+ghost use Rattle.station_core.specs.Keeping.{keeping};
+ghost use Rattle.cli_run.specs.Ends.{ends, reached};
 ghost use Rattle.cli_call.specs.Ran.{HasCalled, HasCalledStation, HasEndedCall, HasRunKept, HasRunLine};
 
 use crate::ended::{end_run, refuse_line};

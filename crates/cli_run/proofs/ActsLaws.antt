@@ -8,7 +8,7 @@ use Rattle.stock_list.specs.declared.answer.RunFault.{RunFault}
 use Rattle.cli_run.specs.Acts.{HasAnsweredLine}
 use Rattle.cli_run.specs.ActsLaw.{acts_lines, AreAsked, HasRunActs}
 use Rattle.cli_run.specs.Asked.{asked_after}
-use Rattle.cli_run.specs.Ends.{Keeping}
+use Rattle.station_core.specs.Keeping.{Keeping}
 use Rattle.cli_run.specs.InTurn.{AreAnswered, Come}
 
 module _ {K E : Type 0} (k : Keeping K) (at : LocalMinute) (taken : E → Given) where

@@ -3,9 +3,8 @@ use Rattle.std.proofs.Common.{arith, ◌≡◌, ◌∙◌, ap, sym, ℕ, ◌+◌
 use Rattle.std.proofs.Math.Seq.{take-append-add}
 use Rattle.std.proofs.lemmas.List.{take-append-le}
 use Rattle.station_core.specs.Given.{Given}
-use Rattle.station_core.specs.Ends.{HasCause}
+use Rattle.station_core.specs.Ends.{HasCause, HasSent}
 use Rattle.stock_list.specs.Ended.{IsUntroubled}
-use Rattle.cli_run.specs.Sent.{HasSent}
 
 -- a beginning of its first part
 pub first_part : (a b : List ℕ) (old new : Given) → HasSent a old new → HasSent (a ++ b) old new

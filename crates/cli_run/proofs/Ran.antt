@@ -9,7 +9,8 @@ use Rattle.stock_list.specs.Ended.{IsReadersFault, IsShutAfter}
 use Rattle.cli_run.specs.declared.asked.Asked.{Asked}
 use Rattle.cli_run.specs.Came.{HasCome}
 use Rattle.cli_run.specs.Ended.{IsAnswered, IsStopped, HasRun}
-use Rattle.cli_run.specs.Ends.{kept_by, Keeping}
+use Rattle.station_core.specs.Keeping.{Keeping}
+use Rattle.cli_run.specs.Ends.{kept_by}
 use Rattle.cli_run.specs.InTurn.{Come}
 use Rattle.cli_run.specs.Shut.{IsAnsweredShut, HasRunShut}
 use Rattle.cli_run.proofs.Unanswered.{works_unread}

@@ -7,7 +7,7 @@ use Rattle.stock_list.specs.declared.answer.RunFault.{RunFault}
 use Rattle.stock_list.specs.declared.answer.RunFault.TheVariants as fault
 use Rattle.stock_list.specs.Ended.{told_by}
 use Rattle.cli_run.specs.Acts.{HasAnsweredLine, HasSkipped, HasNotHeard}
-use Rattle.cli_run.specs.Ends.{Keeping}
+use Rattle.station_core.specs.Keeping.{Keeping}
 use Rattle.cli_run.specs.InTurn.{Come, AreFirstLines, HasEndedAt, HaveBeenAnswered, lines_of}
 
 append_none : (lines : List (List ℕ)) → lines ≡ lines ++ []

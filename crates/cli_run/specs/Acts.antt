@@ -11,7 +11,8 @@ use Rattle.stock_list.specs.Ended.{IsShutAfter, IsUntroubled}
 use Rattle.cli_run.specs.declared.asked.Asked.{Asked}
 use Rattle.cli_run.specs.ActLine.{IsActAsked}
 use Rattle.cli_run.specs.Ended.{IsAnswered, IsStopped}
-use Rattle.cli_run.specs.Ends.{Keeping, kept_by}
+use Rattle.station_core.specs.Keeping.{Keeping}
+use Rattle.cli_run.specs.Ends.{kept_by}
 use Rattle.cli_run.specs.Explained.{HasExplained}
 use Rattle.cli_run.specs.Shut.{IsAnsweredShut}
 use Rattle.cli_run.specs.InTurn.{Come}

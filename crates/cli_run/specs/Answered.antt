@@ -10,7 +10,7 @@ use Rattle.stock_list.specs.Ended.{IsShutAfter, IsUntroubled}
 use Rattle.cli_run.specs.declared.asked.Asked.{Asked}
 use Rattle.cli_run.specs.Came.{HasFailed}
 use Rattle.cli_run.specs.Ended.{HasRun}
-use Rattle.cli_run.specs.Ends.{Keeping}
+use Rattle.station_core.specs.Keeping.{Keeping}
 use Rattle.cli_run.specs.InTurn.{Come}
 use Rattle.cli_run.specs.Shut.{HasRunShut}
 

@@ -1,7 +1,7 @@
 -- What a run of a command leaves, by the command.
 use Rattle.std.specs.Prelude.{◌≡◌, ◌<◌, ◌⊎◌, ℕ, Bool, true, false, Option, Result, Ok, Err, OnOk, OnErr, IfOk, IfErr, IfSome, List, length, ◌++◌, codes}
 use Rattle.station_days.specs.Date.{LocalMinute}
-use Rattle.station_core.specs.Ends.{HasCause}
+use Rattle.station_core.specs.Ends.{HasCause, HasSent}
 use Rattle.station_core.specs.Given.{Given}
 use Rattle.station_core.specs.Step.{State}
 use Rattle.reports.specs.Listings.{IsListing}
@@ -17,14 +17,14 @@ use Rattle.cli_run.specs.Asked.{IsCommandAsked}
 use Rattle.cli_run.specs.Answered.{HasAnsweredAsked}
 use Rattle.cli_run.specs.Acts.{HasAnsweredLine}
 use Rattle.cli_run.specs.Takes.{HasTakenNext}
-use Rattle.cli_run.specs.Ends.{come_to, kept_by, told_to, Ends, Keeping, Reached, Told}
+use Rattle.station_core.specs.Keeping.{Keeping}
+use Rattle.cli_run.specs.Ends.{come_to, kept_by, told_to, Ends, Reached, Told}
 use Rattle.cli_run.specs.InTurn.{Come, HaveBeenAnswered, HaveBeenMade}
 use Rattle.cli_run.specs.History.{HasToldHistory}
 use Rattle.cli_run.specs.Reported.{HasReportedGood}
 use Rattle.cli_words.specs.declared.line.LineCommand.{LineCommand}
 use Rattle.cli_words.specs.declared.line.LineCommand.TheVariants as command
 use Rattle.cli_run.specs.Looked.{holder_found, waybill_found, HasLookedUp}
-use Rattle.cli_run.specs.Sent.{HasSent}
 
 -- what `init` prints
 abbrev pub made_line : List ℕ → List ℕ

@@ -10,7 +10,8 @@ use Rattle.stock_list.specs.Ended.{IsReadersFault, Kept}
 use Rattle.cli_run.specs.declared.asked.Asked.{Asked}
 use Rattle.cli_run.specs.Asked.{asked_line, asked_good, asked_after}
 use Rattle.cli_run.specs.Came.{HasCome}
-use Rattle.cli_run.specs.Ends.{Keeping, kept_by}
+use Rattle.station_core.specs.Keeping.{Keeping}
+use Rattle.cli_run.specs.Ends.{kept_by}
 use Rattle.cli_run.specs.InTurn.{Come}
 
 -- A beginning of a line went out: the writer failed or took no byte, or memory for the line ran

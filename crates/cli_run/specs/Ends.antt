@@ -1,23 +1,10 @@
--- What contracts see of a call: its keeper, and the ends that it reads and writes.
-use Rattle.std.specs.Prelude.{Bool, Option, List, ℕ}
+-- What contracts see of a call: what its keeper keeps, and the ends that it reads and writes.
+use Rattle.std.specs.Prelude.{Option, List, ℕ}
 use Rattle.station_core.specs.Given.{Given}
+use Rattle.station_core.specs.Keeping.{Keeping}
 use Rattle.station_core.specs.Step.{State}
 use Rattle.stock_list.specs.Ended.{Kept, kept}
 use Rattle.cli_run.specs.InTurn.{Come, come}
-
--- What is said of a keeper: the state that it keeps, whether the disk was true to it, whether what
--- is kept is sound, whether it has to be opened again, and what a reopening may find.
-pub record Keeping (K : Type 0) : Type 1 where
-  pub keeps : K → State → Type 0
-  pub is_clean : K → Type 0
-  pub is_sound : K → Type 0
-  pub is_broken : K → Bool
-  pub may_find : K → Option State → Type 0
-
-abbrev pub keeping : {K : Type 0} → (K → State → Type 0) → (K → Type 0) → (K → Type 0) → (K → Bool)
-    → (K → Option State → Type 0) → Keeping K
-keeping keeps is_clean is_sound is_broken may_find =
-    record { keeps = keeps; is_clean = is_clean; is_sound = is_sound; is_broken = is_broken; may_find = may_find }
 
 -- what is kept where the keeper is this one
 abbrev pub kept_by : {K : Type 0} → Keeping K → K → Kept

@@ -12,7 +12,7 @@ use Rattle.stock_list.specs.declared.answer.RunFault.{RunFault}
 use Rattle.cli_run.specs.declared.asked.Asked.{Asked}
 use Rattle.cli_run.specs.declared.asked.Asked.TheVariants as asked
 use Rattle.cli_run.specs.Came.{HasCome}
-use Rattle.cli_run.specs.Ends.{Keeping}
+use Rattle.station_core.specs.Keeping.{Keeping}
 use Rattle.cli_run.specs.InTurn.{Come}
 
 -- whether an answer says that a telegram can't be read

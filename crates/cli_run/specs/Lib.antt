@@ -13,7 +13,6 @@ pub mod Looked
 pub mod Place
 pub mod Reasons
 pub mod Report
-pub mod Sent
 pub mod Shut
 pub mod Takes
 pub mod InTurn

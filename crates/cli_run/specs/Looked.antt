@@ -4,13 +4,13 @@ use Rattle.serde_json.specs.Data.{Data}
 use Rattle.serde_json.specs.Written.{compact_text}
 use Rattle.station_core.specs.Ends.{HasCause}
 use Rattle.station_core.specs.Given.{Given}
-use Rattle.station_core.specs.Keeping.{OnlyReads}
+use Rattle.station_core.specs.Keeping.{OnlyReads, Keeping}
 use Rattle.station_core.specs.Readers.{waybill_of}
 use Rattle.station_core.specs.Step.{State}
 use Rattle.http_desk.specs.Reply.{holder_data, waybill_data}
 use Rattle.stock_list.specs.declared.answer.RunFault.{RunFault}
 use Rattle.stock_list.specs.declared.answer.RunFault.TheVariants as fault
-use Rattle.cli_run.specs.Ends.{Keeping, Told}
+use Rattle.cli_run.specs.Ends.{Told}
 
 -- the object that GET /v1/waybills/AWB is answered by: nothing of a waybill that isn't declared
 abbrev pub waybill_found : ℕ → State → Option Data
@@ -41,7 +41,7 @@ HasToldFound found old new (Err fault.Store) = new ≡ old
 -- that has to be opened again returns nothing.
 pub record HasLookedUp {K : Type 0} (found : State → Option Data) (k : Keeping K) (old new : Told K)
     (result : Result Bool RunFault) : Type 0 where
-  pub reads : OnlyReads k.keeps k.is_clean k.is_sound k.is_broken k.may_find old.0 new.0
+  pub reads : OnlyReads k old.0 new.0
   pub reopen :
       k.is_broken old.0 ≡ true → (result ≡ Err fault.Store) × (new.0 ≡ old.0) × (new.1 ≡ old.1)
   pub told :

@@ -5,7 +5,8 @@ use Rattle.station_core.specs.Given.{Given}
 use Rattle.stock_list.specs.declared.answer.RunFault.{RunFault}
 use Rattle.stock_list.specs.Reasons.{HasToldRows}
 use Rattle.cli_run.specs.Asked.{IsCommandAsked}
-use Rattle.cli_run.specs.Ends.{come_to, Ends, Keeping, Reached}
+use Rattle.station_core.specs.Keeping.{Keeping}
+use Rattle.cli_run.specs.Ends.{come_to, Ends, Reached}
 use Rattle.cli_run.specs.Explained.{HasExplainedAsked}
 use Rattle.cli_words.specs.declared.line.LineCommand.{LineCommand}
 use Rattle.cli_words.specs.declared.line.LineCommand.TheVariants as command

@@ -1,10 +1,10 @@
 -- What a report leaves, where the run returns whether all was accepted.
 use Rattle.std.specs.Prelude.{◌≡◌, Bool, true, Result, Ok, Err, OnOk, List, ℕ}
-use Rattle.station_core.specs.Keeping.{OnlyReads}
+use Rattle.station_core.specs.Keeping.{OnlyReads, Keeping}
 use Rattle.station_core.specs.Step.{State}
 use Rattle.stock_list.specs.declared.answer.RunFault.{RunFault}
 use Rattle.stock_list.specs.declared.answer.RunFault.TheVariants as fault
-use Rattle.cli_run.specs.Ends.{Keeping, Told}
+use Rattle.cli_run.specs.Ends.{Told}
 use Rattle.cli_run.specs.Report.{HasReported, StopsReport}
 
 -- what went out is no refusal
@@ -16,7 +16,7 @@ good_of (Err e) = Err e
 -- again returns nothing.
 pub record HasToldReport {K : Type 0} (IsText : State → List ℕ → Type 0) (k : Keeping K) (old new : Told K)
     (ended : Result (Unit {0}) RunFault) : Type 0 where
-  pub reads : OnlyReads k.keeps k.is_clean k.is_sound k.is_broken k.may_find old.0 new.0
+  pub reads : OnlyReads k old.0 new.0
   pub reopen : k.is_broken old.0 ≡ true → (ended ≡ Err fault.Store) × (new.0 ≡ old.0)
       × (new.1 ≡ old.1)
   pub writes : StopsReport old.1 new.1 ended

@@ -5,7 +5,7 @@ use Rattle.station_core.specs.Given.{Given}
 use Rattle.stock_list.specs.declared.answer.RunFault.{RunFault}
 use Rattle.cli_run.specs.Asked.{IsTelegramAsked}
 use Rattle.cli_run.specs.Answered.{HasAnsweredAsked}
-use Rattle.cli_run.specs.Ends.{Keeping}
+use Rattle.station_core.specs.Keeping.{Keeping}
 use Rattle.cli_run.specs.Explained.{HasExplainedAsked}
 use Rattle.cli_run.specs.InTurn.{Come}
 

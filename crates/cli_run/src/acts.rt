@@ -3,7 +3,7 @@ ghost use Rattle.std.specs.Prelude.{◌≡◌, ◌<◌, false, Err, IfOk, OnOk};
 ghost use Rattle.std.specs.Io.Buffered.{reader_remaining};
 ghost use Rattle.stock_list.specs.Ended.{IsReadersFault};
 ghost use Rattle.cli_run.specs.Acts.{is_blank, HasAnsweredLine};
-ghost use Rattle.cli_run.specs.Ends.{keeping};
+ghost use Rattle.station_core.specs.Keeping.{KeepsWorking, KeepsPremise, keeping};
 ghost use Rattle.cli_run.specs.InTurn.{come, HaveBeenAnswered};
 
 use crate::act_line::{line_asked, line_value};
@@ -33,10 +33,8 @@ fn answer_line<K: Keeper, W: ByteOut, E: ByteOut>(
     line: &[u8],
     at: Moment,
 ) -> Result<bool, RunFault>
-    ensures clean { K.is_clean keeper.new → K.is_clean keeper.old }
-    ensures still { K.is_sound keeper.old → K.is_clean keeper.new → K.is_sound keeper.new }
-    ensures sound { K.is_sound keeper.new → K.is_sound keeper.old }
-    ensures works { K.is_broken keeper.old ≡ false → OnOk result (K.is_broken keeper.new ≡ false) }
+    ensures premise { KeepsPremise K.is_clean K.is_sound keeper.old keeper.new }
+    ensures works { KeepsWorking (K.is_broken keeper.old) (K.is_broken keeper.new) result }
     ensures answered { HasAnsweredLine
         (keeping K.keeps K.is_clean K.is_sound K.is_broken K.may_find) at E.taken number line.now
         (come keeper.old (W.taken writer.old) errors.old)
@@ -85,10 +83,8 @@ fn run_lines<K: Keeper, R: BufRead + Drop, W: ByteOut, E: ByteOut>(
     errors: &mut E,
     at: Moment,
 ) -> Result<bool, RunFault>
-    ensures clean { K.is_clean keeper.new → K.is_clean keeper.old }
-    ensures still { K.is_sound keeper.old → K.is_clean keeper.new → K.is_sound keeper.new }
-    ensures sound { K.is_sound keeper.new → K.is_sound keeper.old }
-    ensures works { K.is_broken keeper.old ≡ false → OnOk result (K.is_broken keeper.new ≡ false) }
+    ensures premise { KeepsPremise K.is_clean K.is_sound keeper.old keeper.new }
+    ensures works { KeepsWorking (K.is_broken keeper.old) (K.is_broken keeper.new) result }
     ensures answered { HaveBeenAnswered
         (HasAnsweredLine (keeping K.keeps K.is_clean K.is_sound K.is_broken K.may_find) at E.taken)
         (R.remaining reader) (come keeper.old (W.taken writer.old) errors.old)
@@ -127,10 +123,8 @@ pub fn run_acts<K: Keeper, R: Watched + Read, W: ByteOut, E: ByteOut>(
     errors: &mut E,
     at: Moment,
 ) -> Result<bool, RunFault>
-    ensures clean { K.is_clean keeper.new → K.is_clean keeper.old }
-    ensures still { K.is_sound keeper.old → K.is_clean keeper.new → K.is_sound keeper.new }
-    ensures sound { K.is_sound keeper.new → K.is_sound keeper.old }
-    ensures works { K.is_broken keeper.old ≡ false → OnOk result (K.is_broken keeper.new ≡ false) }
+    ensures premise { KeepsPremise K.is_clean K.is_sound keeper.old keeper.new }
+    ensures works { KeepsWorking (K.is_broken keeper.old) (K.is_broken keeper.new) result }
 
     // Every line that was read, and of a known reader that is every line of its text, was answered,
     // in their order; at a fault every line before the last that was read.

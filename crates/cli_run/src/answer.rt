@@ -3,12 +3,12 @@ ghost use Rattle.std.specs.Prelude.{◌≡◌, ◌⊎◌, ◌++◌, ◌∷◌, [
 ghost use Rattle.station_core.specs.Ends.{HasCause};
 ghost use Rattle.station_core.specs.Step.{State};
 ghost use Rattle.station_core.specs.Texts.{refusal_text};
-ghost use Rattle.stock_list.specs.Ended.{kept, IsShutAfter, IsUntroubled};
+ghost use Rattle.stock_list.specs.Ended.{IsShutAfter, IsUntroubled, IsWriteOrUntroubled, kept};
 ghost use Rattle.stock_list.specs.Lines.{answer_text};
 ghost use Rattle.input_reasons.specs.Reason.{is_unread};
 ghost use Rattle.cli_run.specs.Asked.{keyed, named, numbered};
 ghost use Rattle.cli_run.specs.Ended.{HasToldPart, IsAnswered, IsStopped};
-ghost use Rattle.cli_run.specs.Ends.{keeping};
+ghost use Rattle.station_core.specs.Keeping.{KeepsPremise, KeepsWorking, StaysIfBroken, keeping};
 ghost use Rattle.cli_run.specs.Explained.{reason_head, HasExplained, HasGivenReason};
 ghost use Rattle.cli_run.specs.InTurn.{come};
 ghost use Rattle.cli_run.specs.Shut.{HasToldLine, IsAnsweredShut};
@@ -131,10 +131,8 @@ fn answer_input<K: Keeper, O: ByteOut, E: ByteOut>(
     input: &Input<'_>,
     at: Moment,
 ) -> Result<bool, RunFault>
-    ensures clean { K.is_clean keeper.new → K.is_clean keeper.old }
-    ensures still { K.is_sound keeper.old → K.is_clean keeper.new → K.is_sound keeper.new }
-    ensures sound { K.is_sound keeper.new → K.is_sound keeper.old }
-    ensures works { K.is_broken keeper.old ≡ false → OnOk result (K.is_broken keeper.new ≡ false) }
+    ensures premise { KeepsPremise K.is_clean K.is_sound keeper.old keeper.new }
+    ensures works { KeepsWorking (K.is_broken keeper.old) (K.is_broken keeper.new) result }
     ensures breaks { K.is_broken keeper.old ≡ false
         → IfErr result (λ e. IsShutAfter e (K.is_broken keeper.new)) }
     ensures answered { (s : State) → K.keeps keeper.old s → K.is_broken keeper.old ≡ false
@@ -149,12 +147,12 @@ fn answer_input<K: Keeper, O: ByteOut, E: ByteOut>(
     ensures read { result ≡ Err RunFault.Read → ⊥ }
     ensures write { result ≡ Err RunFault.Write
         → HasCause (O.taken writer.old) (O.taken writer.new) }
-    ensures write_told { IfErr result (λ e. (e ≡ RunFault.Write)
-        ⊎ IsUntroubled (O.taken writer.old) (O.taken writer.new)) }
+    ensures write_told { IfErr result (λ e. IsWriteOrUntroubled e (O.taken writer.old)
+        (O.taken writer.new)) }
     ensures untroubled { OnOk result (IsUntroubled (O.taken writer.old) (O.taken writer.new)) }
     ensures unwritten { IfErr result (λ e. (e ≡ RunFault.Write)
         ⊎ (O.taken writer.new ≡ O.taken writer.old)) }
-    ensures same { K.is_broken keeper.old ≡ true → keeper.new ≡ keeper.old }
+    ensures same { StaysIfBroken (K.is_broken keeper.old) keeper.old keeper.new }
     ensures reopen { K.is_broken keeper.old ≡ true
         → IsAnsweredShut number (Asked.Input input.now) (O.taken writer.old) (O.taken writer.new)
         result }
@@ -194,8 +192,8 @@ pub fn answer_refusal<O: ByteOut, E: ByteOut>(
         (O.taken writer.new)) }
     ensures told { HasToldLine (numbered number (refusal_text refusal.now ++ 10 ∷ []))
         (O.taken writer.old) (O.taken writer.new) result }
-    ensures write_told { IfErr result (λ e. (e ≡ RunFault.Write)
-        ⊎ IsUntroubled (O.taken writer.old) (O.taken writer.new)) }
+    ensures write_told { IfErr result (λ e. IsWriteOrUntroubled e (O.taken writer.old)
+        (O.taken writer.new)) }
     ensures untroubled { OnOk result (IsUntroubled (O.taken writer.old) (O.taken writer.new)) }
     ensures unwritten { IfErr result (λ e. (e ≡ RunFault.Write)
         ⊎ (O.taken writer.new ≡ O.taken writer.old)) }
@@ -226,8 +224,8 @@ pub fn answer_bad<O: ByteOut, E: ByteOut>(
         (HasToldPart (codes "body bad\n") (O.taken writer.old) (O.taken writer.new)) }
     ensures told { HasToldLine (codes "body bad\n") (O.taken writer.old) (O.taken writer.new)
         result }
-    ensures write_told { IfErr result (λ e. (e ≡ RunFault.Write)
-        ⊎ IsUntroubled (O.taken writer.old) (O.taken writer.new)) }
+    ensures write_told { IfErr result (λ e. IsWriteOrUntroubled e (O.taken writer.old)
+        (O.taken writer.new)) }
     ensures untroubled { OnOk result (IsUntroubled (O.taken writer.old) (O.taken writer.new)) }
     ensures unwritten { IfErr result (λ e. (e ≡ RunFault.Write)
         ⊎ (O.taken writer.new ≡ O.taken writer.old)) }
@@ -255,8 +253,8 @@ pub fn answer_bad_line<O: ByteOut, E: ByteOut>(
         (O.taken writer.old) (O.taken writer.new)) }
     ensures told { HasToldLine (numbered number (codes "bad\n")) (O.taken writer.old)
         (O.taken writer.new) result }
-    ensures write_told { IfErr result (λ e. (e ≡ RunFault.Write)
-        ⊎ IsUntroubled (O.taken writer.old) (O.taken writer.new)) }
+    ensures write_told { IfErr result (λ e. IsWriteOrUntroubled e (O.taken writer.old)
+        (O.taken writer.new)) }
     ensures untroubled { OnOk result (IsUntroubled (O.taken writer.old) (O.taken writer.new)) }
     ensures unwritten { IfErr result (λ e. (e ≡ RunFault.Write)
         ⊎ (O.taken writer.new ≡ O.taken writer.old)) }
@@ -281,10 +279,8 @@ pub(crate) fn answer_asked<K: Keeper, O: ByteOut, E: ByteOut>(
     asked: &Asked<'_>,
     at: Moment,
 ) -> Result<bool, RunFault>
-    ensures clean { K.is_clean keeper.new → K.is_clean keeper.old }
-    ensures still { K.is_sound keeper.old → K.is_clean keeper.new → K.is_sound keeper.new }
-    ensures sound { K.is_sound keeper.new → K.is_sound keeper.old }
-    ensures works { K.is_broken keeper.old ≡ false → OnOk result (K.is_broken keeper.new ≡ false) }
+    ensures premise { KeepsPremise K.is_clean K.is_sound keeper.old keeper.new }
+    ensures works { KeepsWorking (K.is_broken keeper.old) (K.is_broken keeper.new) result }
     ensures breaks { K.is_broken keeper.old ≡ false
         → IfErr result (λ e. IsShutAfter e (K.is_broken keeper.new)) }
     ensures answered { (s : State) → K.keeps keeper.old s → K.is_broken keeper.old ≡ false
@@ -298,12 +294,12 @@ pub(crate) fn answer_asked<K: Keeper, O: ByteOut, E: ByteOut>(
     ensures read { result ≡ Err RunFault.Read → ⊥ }
     ensures write { result ≡ Err RunFault.Write
         → HasCause (O.taken writer.old) (O.taken writer.new) }
-    ensures write_told { IfErr result (λ e. (e ≡ RunFault.Write)
-        ⊎ IsUntroubled (O.taken writer.old) (O.taken writer.new)) }
+    ensures write_told { IfErr result (λ e. IsWriteOrUntroubled e (O.taken writer.old)
+        (O.taken writer.new)) }
     ensures untroubled { OnOk result (IsUntroubled (O.taken writer.old) (O.taken writer.new)) }
     ensures unwritten { IfErr result (λ e. (e ≡ RunFault.Write)
         ⊎ (O.taken writer.new ≡ O.taken writer.old)) }
-    ensures same { K.is_broken keeper.old ≡ true → keeper.new ≡ keeper.old }
+    ensures same { StaysIfBroken (K.is_broken keeper.old) keeper.old keeper.new }
     ensures reopen { K.is_broken keeper.old ≡ true
         → IsAnsweredShut number asked.now (O.taken writer.old) (O.taken writer.new) result }
     ensures reasons { HasExplained number

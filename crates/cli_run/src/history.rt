@@ -1,6 +1,6 @@
 //! The history of a waybill.
 ghost use Rattle.std.specs.Prelude.{◌≡◌, false, OnOk};
-ghost use Rattle.cli_run.specs.Ends.{keeping};
+ghost use Rattle.station_core.specs.Keeping.{KeepsWorking, KeepsPremise, keeping};
 ghost use Rattle.cli_run.specs.History.{HasToldHistory, HasToldRows, by_listing};
 
 use crate::look::do_waybill;
@@ -18,10 +18,8 @@ fn tell_rows<K: Keeper, W: ByteOut>(
     number: &Awb,
     output: &mut W,
 ) -> Result<bool, RunFault>
-    ensures clean { K.is_clean keeper.new → K.is_clean keeper.old }
-    ensures still { K.is_sound keeper.old → K.is_clean keeper.new → K.is_sound keeper.new }
-    ensures sound { K.is_sound keeper.new → K.is_sound keeper.old }
-    ensures works { K.is_broken keeper.old ≡ false → OnOk result (K.is_broken keeper.new ≡ false) }
+    ensures premise { KeepsPremise K.is_clean K.is_sound keeper.old keeper.new }
+    ensures works { KeepsWorking (K.is_broken keeper.old) (K.is_broken keeper.new) result }
     ensures rows { HasToldRows
         (by_listing (keeping K.keeps K.is_clean K.is_sound K.is_broken K.may_find))
         number.now (keeper.old, W.taken output.old) (keeper.new, W.taken output.new) result }
@@ -46,10 +44,8 @@ pub(crate) fn do_history<K: Keeper, W: ByteOut>(
     number: &Awb,
     output: &mut W,
 ) -> Result<bool, RunFault>
-    ensures clean { K.is_clean keeper.new → K.is_clean keeper.old }
-    ensures still { K.is_sound keeper.old → K.is_clean keeper.new → K.is_sound keeper.new }
-    ensures sound { K.is_sound keeper.new → K.is_sound keeper.old }
-    ensures works { K.is_broken keeper.old ≡ false → OnOk result (K.is_broken keeper.new ≡ false) }
+    ensures premise { KeepsPremise K.is_clean K.is_sound keeper.old keeper.new }
+    ensures works { KeepsWorking (K.is_broken keeper.old) (K.is_broken keeper.new) result }
     ensures history { HasToldHistory
         (keeping K.keeps K.is_clean K.is_sound K.is_broken K.may_find)
         number.now (keeper.old, W.taken output.old) (keeper.new, W.taken output.new) result }

@@ -4,7 +4,7 @@ ghost use Rattle.station_days.specs.Date.{LocalMinute};
 ghost use Rattle.station_core.specs.Step.{State};
 ghost use Rattle.cli_run.specs.Acts.{HasAnsweredLine};
 ghost use Rattle.cli_run.specs.ActsLaw.{HasRunActs};
-ghost use Rattle.cli_run.specs.Ends.{keeping};
+ghost use Rattle.station_core.specs.Keeping.{keeping};
 ghost use Rattle.cli_run.specs.InTurn.{AreAnswered, Come};
 
 use station_core::{ByteOut, Keeper};

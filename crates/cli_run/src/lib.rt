@@ -21,7 +21,6 @@ mod sent;
 mod take;
 mod takes;
 mod telling;
-mod tied;
 
 pub use act::run_act;
 pub use act_line::{frame, line_asked, line_value, wired};
@@ -39,4 +38,3 @@ pub use sent::{send_part, send_word};
 pub use take::run_take;
 pub use takes::run_takes;
 pub use telling::tell_refusal;
-pub use tied::{Tied, TiedErrors, TiedInput, TiedOutput, tie};

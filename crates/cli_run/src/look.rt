@@ -4,7 +4,7 @@ ghost use Rattle.std.specs.Prelude.{option_map, string_bytes};
 ghost use Rattle.serde_json.specs.Data.{Data};
 ghost use Rattle.serde_json.specs.Written.{compact_text};
 ghost use Rattle.http_desk.specs.Reply.{holder_data, waybill_data};
-ghost use Rattle.cli_run.specs.Ends.{keeping};
+ghost use Rattle.station_core.specs.Keeping.{KeepsWorking, KeepsPremise, keeping};
 ghost use Rattle.cli_run.specs.Looked.{holder_found, waybill_found, HasLookedUp, HasToldFound};
 
 use agent_stock::Holder;
@@ -90,10 +90,8 @@ pub(crate) fn do_waybill<K: Keeper, W: ByteOut>(
     number: &Awb,
     output: &mut W,
 ) -> Result<bool, RunFault>
-    ensures clean { K.is_clean keeper.new → K.is_clean keeper.old }
-    ensures still { K.is_sound keeper.old → K.is_clean keeper.new → K.is_sound keeper.new }
-    ensures sound { K.is_sound keeper.new → K.is_sound keeper.old }
-    ensures works { K.is_broken keeper.old ≡ false → OnOk result (K.is_broken keeper.new ≡ false) }
+    ensures premise { KeepsPremise K.is_clean K.is_sound keeper.old keeper.new }
+    ensures works { KeepsWorking (K.is_broken keeper.old) (K.is_broken keeper.new) result }
     ensures looked { HasLookedUp (waybill_found number.now)
         (keeping K.keeps K.is_clean K.is_sound K.is_broken K.may_find)
         (keeper.old, W.taken output.old) (keeper.new, W.taken output.new) result }
@@ -111,10 +109,8 @@ pub(crate) fn do_holder<K: Keeper, W: ByteOut>(
     number: &Awb,
     output: &mut W,
 ) -> Result<bool, RunFault>
-    ensures clean { K.is_clean keeper.new → K.is_clean keeper.old }
-    ensures still { K.is_sound keeper.old → K.is_clean keeper.new → K.is_sound keeper.new }
-    ensures sound { K.is_sound keeper.new → K.is_sound keeper.old }
-    ensures works { K.is_broken keeper.old ≡ false → OnOk result (K.is_broken keeper.new ≡ false) }
+    ensures premise { KeepsPremise K.is_clean K.is_sound keeper.old keeper.new }
+    ensures works { KeepsWorking (K.is_broken keeper.old) (K.is_broken keeper.new) result }
     ensures looked { HasLookedUp (holder_found number.now)
         (keeping K.keeps K.is_clean K.is_sound K.is_broken K.may_find)
         (keeper.old, W.taken output.old) (keeper.new, W.taken output.new) result }

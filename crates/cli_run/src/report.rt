@@ -1,9 +1,8 @@
 //! The commands that report what a station keeps.
 ghost use Rattle.std.specs.Prelude.{◌≡◌, true, false, Err, OnOk, List, ℕ};
-ghost use Rattle.station_core.specs.Keeping.{OnlyReads};
+ghost use Rattle.station_core.specs.Keeping.{KeepsWorking, KeepsPremise, OnlyReads, keeping};
 ghost use Rattle.station_core.specs.Step.{State};
 ghost use Rattle.reports.specs.Listings.{IsListing};
-ghost use Rattle.cli_run.specs.Ends.{keeping};
 ghost use Rattle.cli_run.specs.Reported.{good_of, HasReportedGood, HasToldReport};
 ghost use Rattle.cli_run.specs.Report.{cause_fault, run_ended, HasReported, StopsReport};
 
@@ -44,7 +43,7 @@ fn run_report<K: Keeper, W: ByteOut>(
     form: Form,
     writer: &mut W,
 ) -> Result<(), RunFault>
-    ensures reads { OnlyReads K.keeps K.is_clean K.is_sound K.is_broken K.may_find
+    ensures reads { OnlyReads (keeping K.keeps K.is_clean K.is_sound K.is_broken K.may_find)
         keeper.old keeper.new }
     ensures reopen { K.is_broken keeper.old ≡ true → (result ≡ Err RunFault.Store)
         × (keeper.new ≡ keeper.old) × (W.taken writer.new ≡ W.taken writer.old) }
@@ -95,10 +94,8 @@ pub(crate) fn do_report<K: Keeper, W: ByteOut>(
     form: Form,
     output: &mut W,
 ) -> Result<bool, RunFault>
-    ensures clean { K.is_clean keeper.new → K.is_clean keeper.old }
-    ensures still { K.is_sound keeper.old → K.is_clean keeper.new → K.is_sound keeper.new }
-    ensures sound { K.is_sound keeper.new → K.is_sound keeper.old }
-    ensures works { K.is_broken keeper.old ≡ false → OnOk result (K.is_broken keeper.new ≡ false) }
+    ensures premise { KeepsPremise K.is_clean K.is_sound keeper.old keeper.new }
+    ensures works { KeepsWorking (K.is_broken keeper.old) (K.is_broken keeper.new) result }
     ensures reported { HasReportedGood (λ s. IsListing form s listing.now)
         (keeping K.keeps K.is_clean K.is_sound K.is_broken K.may_find)
         (keeper.old, W.taken output.old) (keeper.new, W.taken output.new) result }

@@ -3,7 +3,8 @@ ghost use Rattle.std.specs.Prelude.{◌≡◌, false, length, OnOk};
 ghost use Rattle.cli_run.specs.Answered.{HasAnsweredAsked};
 ghost use Rattle.cli_run.specs.Asked.{IsCommandAsked};
 ghost use Rattle.cli_run.specs.Done.{HasAnsweredActs, HasAnsweredRows, HasDone, HasToldMade};
-ghost use Rattle.cli_run.specs.Ends.{ends, keeping, reached};
+ghost use Rattle.station_core.specs.Keeping.{KeepsWorking, KeepsPremise, keeping};
+ghost use Rattle.cli_run.specs.Ends.{ends, reached};
 ghost use Rattle.cli_run.specs.Explained.{HasExplainedAsked};
 ghost use Rattle.cli_run.specs.Place.{here_of};
 ghost use Rattle.cli_run.specs.Reasons.{HasExplainedRows, HasGivenReasons};
@@ -51,10 +52,8 @@ fn do_stock<K: Keeper, I: Watched + Read, W: ByteOut, E: ByteOut>(
     errors: &mut E,
     at: Moment,
 ) -> Result<bool, RunFault>
-    ensures clean { K.is_clean keeper.new → K.is_clean keeper.old }
-    ensures still { K.is_sound keeper.old → K.is_clean keeper.new → K.is_sound keeper.new }
-    ensures sound { K.is_sound keeper.new → K.is_sound keeper.old }
-    ensures works { K.is_broken keeper.old ≡ false → OnOk result (K.is_broken keeper.new ≡ false) }
+    ensures premise { KeepsPremise K.is_clean K.is_sound keeper.old keeper.new }
+    ensures works { KeepsWorking (K.is_broken keeper.old) (K.is_broken keeper.new) result }
     ensures answered { HasAnsweredRows
         (keeping K.keeps K.is_clean K.is_sound K.is_broken K.may_find) at
         (I.remaining reader.old) (I.given reader.new)
@@ -76,10 +75,8 @@ fn do_take<K: Keeper, I: Inputs, W: ByteOut, E: ByteOut>(
     errors: &mut E,
     at: Moment,
 ) -> Result<bool, RunFault>
-    ensures clean { K.is_clean keeper.new → K.is_clean keeper.old }
-    ensures still { K.is_sound keeper.old → K.is_clean keeper.new → K.is_sound keeper.new }
-    ensures sound { K.is_sound keeper.new → K.is_sound keeper.old }
-    ensures works { K.is_broken keeper.old ≡ false → OnOk result (K.is_broken keeper.new ≡ false) }
+    ensures premise { KeepsPremise K.is_clean K.is_sound keeper.old keeper.new }
+    ensures works { KeepsWorking (K.is_broken keeper.old) (K.is_broken keeper.new) result }
     ensures taken { HaveBeenMade
         (HasTakenNext (keeping K.keeps K.is_clean K.is_sound K.is_broken K.may_find) at
         I.given I.turned E.taken) (length paths.now)
@@ -98,10 +95,8 @@ fn do_acts<K: Keeper, I: Watched + Read, W: ByteOut, E: ByteOut>(
     errors: &mut E,
     at: Moment,
 ) -> Result<bool, RunFault>
-    ensures clean { K.is_clean keeper.new → K.is_clean keeper.old }
-    ensures still { K.is_sound keeper.old → K.is_clean keeper.new → K.is_sound keeper.new }
-    ensures sound { K.is_sound keeper.new → K.is_sound keeper.old }
-    ensures works { K.is_broken keeper.old ≡ false → OnOk result (K.is_broken keeper.new ≡ false) }
+    ensures premise { KeepsPremise K.is_clean K.is_sound keeper.old keeper.new }
+    ensures works { KeepsWorking (K.is_broken keeper.old) (K.is_broken keeper.new) result }
     ensures answered { HasAnsweredActs
         (keeping K.keeps K.is_clean K.is_sound K.is_broken K.may_find) at E.taken
         (I.remaining reader.old) (I.given reader.new)
@@ -122,10 +117,8 @@ fn do_act<K: Keeper, I: ByteIn, W: ByteOut, E: ByteOut>(
     errors: &mut E,
     at: Moment,
 ) -> Result<bool, RunFault>
-    ensures clean { K.is_clean keeper.new → K.is_clean keeper.old }
-    ensures still { K.is_sound keeper.old → K.is_clean keeper.new → K.is_sound keeper.new }
-    ensures sound { K.is_sound keeper.new → K.is_sound keeper.old }
-    ensures works { K.is_broken keeper.old ≡ false → OnOk result (K.is_broken keeper.new ≡ false) }
+    ensures premise { KeepsPremise K.is_clean K.is_sound keeper.old keeper.new }
+    ensures works { KeepsWorking (K.is_broken keeper.old) (K.is_broken keeper.new) result }
     ensures answered { HasAnsweredAsked (IsCommandAsked verb key)
         (keeping K.keeps K.is_clean K.is_sound K.is_broken K.may_find) at
         (come keeper.old (W.taken output.old) errors.old, I.given reader.old)
@@ -154,10 +147,8 @@ pub fn run_over<K: Keeper, I: Inputs + Read, W: ByteOut, E: ByteOut>(
     errors: &mut E,
     at: Moment,
 ) -> Result<bool, RunFault>
-    ensures clean { K.is_clean keeper.new → K.is_clean keeper.old }
-    ensures still { K.is_sound keeper.old → K.is_clean keeper.new → K.is_sound keeper.new }
-    ensures sound { K.is_sound keeper.new → K.is_sound keeper.old }
-    ensures works { K.is_broken keeper.old ≡ false → OnOk result (K.is_broken keeper.new ≡ false) }
+    ensures premise { KeepsPremise K.is_clean K.is_sound keeper.old keeper.new }
+    ensures works { KeepsWorking (K.is_broken keeper.old) (K.is_broken keeper.new) result }
     ensures done { HasDone line.now.command (here_of line.now.station)
         (keeping K.keeps K.is_clean K.is_sound K.is_broken K.may_find)
         (ends I.remaining I.given I.turned W.taken E.taken) at

@@ -2,7 +2,7 @@
 ghost use Rattle.std.specs.Prelude.{◌≡◌, ◌⊎◌, ◌++◌, ◌∷◌, [], None, Some, false, not, Err, IfOk, IfErr, OnOk, OnErr, string_bytes};
 ghost use Rattle.station_core.specs.Ends.{HasCause};
 ghost use Rattle.station_core.specs.Texts.{refusal_text};
-ghost use Rattle.stock_list.specs.Ended.{IsUntroubled};
+ghost use Rattle.stock_list.specs.Ended.{IsUntroubled, IsWriteOrUntroubled};
 ghost use Rattle.telegram_look.specs.Look.{has_doubt};
 ghost use Rattle.telegram_look.specs.LookText.{look_text};
 ghost use Rattle.cli_run.specs.Came.{HasFailed, IsWithin, most_bytes};
@@ -132,8 +132,8 @@ pub fn run_read<I: ByteIn, O: ByteOut, E: ByteOut>(
         ⊎ ((I.given reader.new).failures ≡ (I.given reader.old).failures)) }
     ensures write_cause { result ≡ Err RunFault.Write
         → HasCause (O.taken writer.old) (O.taken writer.new) }
-    ensures write_told { IfErr result (λ e. (e ≡ RunFault.Write)
-        ⊎ IsUntroubled (O.taken writer.old) (O.taken writer.new)) }
+    ensures write_told { IfErr result (λ e. IsWriteOrUntroubled e (O.taken writer.old)
+        (O.taken writer.new)) }
 
     // At any fault but the writer's nothing was written.
     ensures unwritten { IfErr result (λ e. (e ≡ RunFault.Write)

@@ -1,8 +1,7 @@
 //! Lines that go out in parts.
 ghost use Rattle.std.specs.Prelude.{◌≡◌, ◌++◌, ◌∷◌, [], IfErr, OnErr, OnOk};
-ghost use Rattle.station_core.specs.Ends.{HasCause};
+ghost use Rattle.station_core.specs.Ends.{HasCause, HasSent};
 ghost use Rattle.stock_list.specs.Ended.{IsUntroubled};
-ghost use Rattle.cli_run.specs.Sent.{HasSent};
 
 use station_core::{ByteOut, send};
 use stock_list::RunFault;

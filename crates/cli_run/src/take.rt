@@ -1,11 +1,11 @@
 ghost use Rattle.std.specs.Prelude.{◌≡◌, ◌⊎◌, true, false, Ok, Err, IfErr, OnOk};
 ghost use Rattle.station_core.specs.Ends.{HasCause};
 ghost use Rattle.station_core.specs.Step.{State};
-ghost use Rattle.stock_list.specs.Ended.{IsShutAfter, IsUntroubled};
+ghost use Rattle.stock_list.specs.Ended.{IsShutAfter, IsUntroubled, IsWriteOrUntroubled};
 ghost use Rattle.cli_run.specs.Asked.{IsTelegramAsked};
 ghost use Rattle.cli_run.specs.Came.{HasFailed, IsWithin, most_bytes};
 ghost use Rattle.cli_run.specs.Ended.{HasRun};
-ghost use Rattle.cli_run.specs.Ends.{keeping};
+ghost use Rattle.station_core.specs.Keeping.{KeepsPremise, KeepsWorking, StaysIfBroken, keeping};
 ghost use Rattle.cli_run.specs.Explained.{HasExplainedRun};
 ghost use Rattle.cli_run.specs.InTurn.{come};
 ghost use Rattle.cli_run.specs.Shut.{HasRunShut};
@@ -38,10 +38,8 @@ pub fn run_take<K: Keeper, I: ByteIn, O: ByteOut, E: ByteOut>(
     errors: &mut E,
     at: Moment,
 ) -> Result<bool, RunFault>
-    ensures clean { K.is_clean keeper.new → K.is_clean keeper.old }
-    ensures still { K.is_sound keeper.old → K.is_clean keeper.new → K.is_sound keeper.new }
-    ensures sound { K.is_sound keeper.new → K.is_sound keeper.old }
-    ensures works { K.is_broken keeper.old ≡ false → OnOk result (K.is_broken keeper.new ≡ false) }
+    ensures premise { KeepsPremise K.is_clean K.is_sound keeper.old keeper.new }
+    ensures works { KeepsWorking (K.is_broken keeper.old) (K.is_broken keeper.new) result }
     ensures breaks { K.is_broken keeper.old ≡ false
         → IfErr result (λ e. IsShutAfter e (K.is_broken keeper.new)) }
     ensures ran { (s : State) → K.keeps keeper.old s → K.is_broken keeper.old ≡ false
@@ -57,8 +55,8 @@ pub fn run_take<K: Keeper, I: ByteIn, O: ByteOut, E: ByteOut>(
         ⊎ ((I.given reader.new).failures ≡ (I.given reader.old).failures)) }
     ensures write_cause { result ≡ Err RunFault.Write
         → HasCause (O.taken writer.old) (O.taken writer.new) }
-    ensures write_told { IfErr result (λ e. (e ≡ RunFault.Write)
-        ⊎ IsUntroubled (O.taken writer.old) (O.taken writer.new)) }
+    ensures write_told { IfErr result (λ e. IsWriteOrUntroubled e (O.taken writer.old)
+        (O.taken writer.new)) }
     ensures untroubled { OnOk result (IsUntroubled (O.taken writer.old) (O.taken writer.new)) }
 
     // At any fault but the writer's nothing was written.
@@ -77,7 +75,7 @@ pub fn run_take<K: Keeper, I: ByteIn, O: ByteOut, E: ByteOut>(
         (come keeper.new (O.taken writer.new) errors.new, I.given reader.new) result }
 
     // A station that has to be opened again stays as it is, and nothing is asked of it.
-    ensures same { K.is_broken keeper.old ≡ true → keeper.new ≡ keeper.old }
+    ensures same { StaysIfBroken (K.is_broken keeper.old) keeper.old keeper.new }
     ensures reopen { K.is_broken keeper.old ≡ true
         → HasRunShut IsTelegramAsked (I.given reader.old) (I.given reader.new) (O.taken writer.old)
         (O.taken writer.new) result }

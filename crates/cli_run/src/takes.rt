@@ -1,6 +1,6 @@
 //! Telegrams that are taken one after another.
 ghost use Rattle.std.specs.Prelude.{◌≡◌, false, OnOk};
-ghost use Rattle.cli_run.specs.Ends.{keeping};
+ghost use Rattle.station_core.specs.Keeping.{KeepsWorking, KeepsPremise, keeping};
 ghost use Rattle.cli_run.specs.Takes.{HasTakenNext};
 ghost use Rattle.cli_run.specs.InTurn.{come, HaveBeenMade};
 
@@ -20,10 +20,8 @@ fn take_next<K: Keeper, I: Inputs, W: ByteOut, E: ByteOut>(
     errors: &mut E,
     at: Moment,
 ) -> Result<bool, RunFault>
-    ensures clean { K.is_clean keeper.new → K.is_clean keeper.old }
-    ensures still { K.is_sound keeper.old → K.is_clean keeper.new → K.is_sound keeper.new }
-    ensures sound { K.is_sound keeper.new → K.is_sound keeper.old }
-    ensures works { K.is_broken keeper.old ≡ false → OnOk result (K.is_broken keeper.new ≡ false) }
+    ensures premise { KeepsPremise K.is_clean K.is_sound keeper.old keeper.new }
+    ensures works { KeepsWorking (K.is_broken keeper.old) (K.is_broken keeper.new) result }
     ensures taken { HasTakenNext (keeping K.keeps K.is_clean K.is_sound K.is_broken K.may_find)
         at I.given I.turned E.taken (come keeper.old (W.taken writer.old) errors.old, reader.old)
         (come keeper.new (W.taken writer.new) errors.new, reader.new) result }
@@ -46,10 +44,8 @@ pub fn run_takes<K: Keeper, I: Inputs, W: ByteOut, E: ByteOut>(
     errors: &mut E,
     at: Moment,
 ) -> Result<bool, RunFault>
-    ensures clean { K.is_clean keeper.new → K.is_clean keeper.old }
-    ensures still { K.is_sound keeper.old → K.is_clean keeper.new → K.is_sound keeper.new }
-    ensures sound { K.is_sound keeper.new → K.is_sound keeper.old }
-    ensures works { K.is_broken keeper.old ≡ false → OnOk result (K.is_broken keeper.new ≡ false) }
+    ensures premise { KeepsPremise K.is_clean K.is_sound keeper.old keeper.new }
+    ensures works { KeepsWorking (K.is_broken keeper.old) (K.is_broken keeper.new) result }
     ensures taken { HaveBeenMade
         (HasTakenNext (keeping K.keeps K.is_clean K.is_sound K.is_broken K.may_find) at
         I.given I.turned E.taken) count

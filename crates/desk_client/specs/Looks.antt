@@ -4,11 +4,10 @@ use Rattle.std.specs.Str.{bytes_eq}
 use Rattle.reports.specs.declared.form.Form.{Form}
 use Rattle.reports.specs.declared.form.Form.TheVariants as form
 use Rattle.reports.specs.declared.listing.Listing.TheVariants as listing
-use Rattle.station_core.specs.Ends.{HasCause}
+use Rattle.station_core.specs.Ends.{HasCause, HasSent}
 use Rattle.station_core.specs.Given.{Given}
 use Rattle.stock_list.specs.declared.answer.RunFault.{RunFault}
 use Rattle.stock_list.specs.declared.answer.RunFault.TheVariants as fault
-use Rattle.cli_run.specs.Sent.{HasSent}
 use Rattle.desk_client.specs.Again.{Talk, IsAnswered, IsAskedUntil}
 use Rattle.desk_client.specs.Ended.{has_end}
 use Rattle.desk_client.specs.Front.{IsBegun}

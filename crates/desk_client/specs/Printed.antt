@@ -1,11 +1,10 @@
 -- A report that is printed as it comes.
 use Rattle.std.specs.Prelude.{◌≡◌, ◌⊎◌, ◌<◌, ◌≤◌, ℕ, Bool, true, false, List, [], ◌∷◌, ◌++◌, drop, length, Result, Ok, Err, ⊤}
-use Rattle.station_core.specs.Ends.{HasCause}
+use Rattle.station_core.specs.Ends.{HasCause, HasSent}
 use Rattle.station_core.specs.Given.{Given}
 use Rattle.stock_list.specs.Ended.{IsUntroubled}
 use Rattle.stock_list.specs.declared.answer.RunFault.{RunFault}
 use Rattle.stock_list.specs.declared.answer.RunFault.TheVariants as run
-use Rattle.cli_run.specs.Sent.{HasSent}
 use Rattle.reports.specs.declared.form.Form.{Form}
 use Rattle.desk_client.specs.Again.{Talk}
 use Rattle.desk_client.specs.Came.{HasFailed, HasGrown}

@@ -1,6 +1,6 @@
 //! How a call ends that asked a service.
 ghost use Rattle.std.specs.Prelude.{◌≡◌, ◌++◌, ◌∷◌, [], Some, decimal, IfErr, OnOk, option_map};
-ghost use Rattle.cli_run.specs.Sent.{SendsLine};
+ghost use Rattle.station_core.specs.Ends.{SendsLine};
 ghost use Rattle.desk_client.specs.Status.{fault_line, fault_text, fault_why, last_why, service_text, status_of};
 
 use crate::ask::AskFault;

@@ -1,6 +1,6 @@
 use Rattle.std.proofs.Common.{refl, inr, None}
 use Rattle.cli_run.specs.Asked.{IsCommandAsked}
-use Rattle.cli_run.specs.Ends.{keeping}
+use Rattle.station_core.specs.Keeping.{keeping}
 use Rattle.cli_run.specs.InTurn.{come}
 use Rattle.cli_run.proofs.Reasons.{explained_run, unexplained, quiet_run}
 use Rattle.cli_run.proofs.Ran.{has_run, has_run_shut, not_come, works_unheard, passed_on, each_heard}

@@ -1,6 +1,7 @@
 use Rattle.std.proofs.Common.{arith, ◌≡◌, ◌+◌, ◌<◌, refl, subst, ℕ, List, [], ◌∷◌, ◌++◌, length, Some, Ok, Err}
 use Rattle.cli_run.specs.Acts.{HasAnsweredLine}
-use Rattle.cli_run.specs.Ends.{keeping}
+use Rattle.station_core.specs.Keeping.{keeping}
+use Rattle.station_core.proofs.Premise.{kept_at, kept_on}
 use Rattle.cli_run.specs.InTurn.{come}
 use Rattle.cli_run.proofs.InTurn.{answered_more, length_more}
 use Rattle.cli_run.proofs.Lines.{known_start, known_more, known_first, front_of}
@@ -9,9 +10,7 @@ use Rattle.cli_run.proofs.acts.run_lines.Goals as goal
 
 pub loop-number-init : goal.loop-number-init
 loop-number-init g c = record {
-  clean = λ clean. clean;
-  still = λ sound clean. sound;
-  sound = λ sound. sound;
+  premise = kept_at c.args.keeper.now;
   works = λ works. works;
   lines = ([], refl, known_start (g.R.Read.remaining c.args.reader), (refl, refl));
 }
@@ -31,9 +30,7 @@ loop-number-preserved g c =
     let new = come c.answer_line.new.keeper (g.W.ByteOut.taken c.answer_line.new.writer) c.answer_line.new.errors in
     let step = subst (λ (k : ℕ). Step k line mid new (Ok c.in_ok-accepted-in-Ok.accepted)) inv.lines.1 one.answered in
     record {
-      clean = λ clean. inv.clean (one.clean clean);
-      still = λ sound clean. one.still (inv.still sound (one.clean clean)) clean;
-      sound = λ sound. inv.sound (one.sound sound);
+      premise = kept_on inv.premise one.premise;
       works = λ works. one.works (inv.works works);
       lines = (
         lines ++ line ∷ [],

@@ -1,6 +1,6 @@
 use Rattle.std.proofs.Common.{◌≡◌, ◌+◌, false, List, ℕ, length, IfSome}
 use Rattle.cli_run.specs.Acts.{HasAnsweredLine}
-use Rattle.cli_run.specs.Ends.{keeping}
+use Rattle.station_core.specs.Keeping.{KeepsPremise, keeping}
 use Rattle.cli_run.specs.InTurn.{come, AreAnswered}
 use Rattle.cli_run.proofs.Lines.{Known}
 use Rattle.cli_run.proofs.acts.run_lines.Given as goal
@@ -9,9 +9,7 @@ use Rattle.cli_run.proofs.acts.run_lines.Given as goal
 abbrev pub invariant-loop-number : goal.invariant-loop-number
 invariant-loop-number g l =
     record {
-      clean : g.K.Keeper.is_clean l.keeper → g.K.Keeper.is_clean l.fn.keeper;
-      still : g.K.Keeper.is_sound l.fn.keeper → g.K.Keeper.is_clean l.keeper → g.K.Keeper.is_sound l.keeper;
-      sound : g.K.Keeper.is_sound l.keeper → g.K.Keeper.is_sound l.fn.keeper;
+      premise : KeepsPremise g.K.Keeper.is_clean g.K.Keeper.is_sound l.fn.keeper l.keeper;
       works : g.K.Keeper.is_broken l.fn.keeper ≡ false → g.K.Keeper.is_broken l.keeper ≡ false;
       lines : (lines : List (List ℕ)) × (l.number ≡ 1 + length lines)
           × IfSome (g.R.Read.remaining l.fn.reader) (Known (g.R.Read.remaining l.reader) lines)

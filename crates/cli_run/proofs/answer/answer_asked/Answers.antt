@@ -2,7 +2,7 @@ use Rattle.std.proofs.Common.{refl, sym, subst}
 use Rattle.cli_run.specs.declared.asked.Asked.{Asked}
 use Rattle.cli_run.specs.declared.asked.Asked.TheVariants as asked
 use Rattle.cli_run.specs.Shut.{IsAnsweredShut}
-use Rattle.cli_run.specs.Ends.{keeping}
+use Rattle.station_core.specs.Keeping.{keeping}
 use Rattle.cli_run.specs.Explained.{HasExplained}
 use Rattle.cli_run.specs.InTurn.{come}
 use Rattle.cli_run.proofs.Reasons.{explained_unasked}

@@ -1,7 +1,7 @@
 use Rattle.std.proofs.Common.{refl, Err}
 use Rattle.stock_list.specs.declared.answer.RunFault.TheVariants as fault
 use Rattle.stock_list.specs.Ended.{kept}
-use Rattle.cli_run.specs.Ends.{keeping}
+use Rattle.station_core.specs.Keeping.{keeping}
 use Rattle.cli_run.specs.InTurn.{come}
 use Rattle.cli_run.proofs.Unanswered.{not_acted, shut_after}
 use Rattle.cli_run.specs.declared.asked.Asked.TheVariants as asked

@@ -1,4 +1,4 @@
-use Rattle.cli_run.specs.Ends.{keeping}
+use Rattle.station_core.specs.Keeping.{keeping}
 use Rattle.cli_run.proofs.ActsLaws.{run_of_lines}
 use Rattle.cli_run.proofs.law.acts_law.Goals as goal
 

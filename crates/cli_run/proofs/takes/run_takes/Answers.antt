@@ -1,5 +1,6 @@
 use Rattle.cli_run.specs.Takes.{HasTakenNext}
-use Rattle.cli_run.specs.Ends.{keeping}
+use Rattle.station_core.specs.Keeping.{keeping}
+use Rattle.station_core.proofs.Premise.{kept_on}
 use Rattle.cli_run.specs.InTurn.{come}
 use Rattle.cli_run.proofs.InTurn.{made_more, made_until}
 use Rattle.cli_run.proofs.takes.run_takes.Goals as goal
@@ -18,9 +19,7 @@ loop-turn-preserved g c =
     let one = c.in_ok-accepted.ensures in
     let Step = HasTakenNext (keeping g.K.Keeper.keeps g.K.Keeper.is_clean g.K.Keeper.is_sound g.K.Keeper.is_broken g.K.Keeper.may_find) c.args.at g.I.ByteIn.given g.I.Inputs.turned g.E.ByteOut.taken in
     record {
-      clean = λ clean. inv.clean (one.clean clean);
-      still = λ sound clean. one.still (inv.still sound (one.clean clean)) clean;
-      sound = λ sound. inv.sound (one.sound sound);
+      premise = kept_on inv.premise one.premise;
       works = λ works. one.works (inv.works works);
       made = made_more Step c.loop-turn._turn (come c.args.keeper.now (g.W.ByteOut.taken c.args.writer.now) c.args.errors.now, c.args.reader.now)
           (come c.loop-turn.keeper (g.W.ByteOut.taken c.loop-turn.writer) c.loop-turn.errors, c.loop-turn.reader)

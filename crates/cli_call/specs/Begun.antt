@@ -1,0 +1,40 @@
+-- A database that was begun in two files.
+use Rattle.std.specs.Prelude.{◌⊎◌, ℕ, IsTrue}
+use Rattle.sqlite_disk.specs.declared.Disk.{Ghosts}
+use Rattle.sqlite_disk.specs.declared.Files.{Files}
+use Rattle.sqlite_wal.specs.Files.{outcomes}
+use Rattle.sqlite_wal.specs.Reads.{AreClean}
+use Rattle.sqlite_wal.specs.Recovery.{Image}
+use Rattle.sqlite_pool.specs.Opening.{IsBlankFile}
+use Rattle.sqlite_trees.specs.Tree.{Trees}
+use Rattle.sqlite_store.specs.declared.store.FileStore.{FileStore}
+use Rattle.sqlite_store.specs.FileStore.{recovers, view}
+use Rattle.sqlite_store.specs.Unopened.{state_of}
+use Rattle.sqlite.specs.Steps.{IsFresh}
+use Rattle.sqlite.specs.Files.{image_of, HoldsDatabase, IsEmpty}
+use Rattle.sqlite.specs.declared.file.Leftover.{Leftover}
+use Rattle.sqlite.specs.declared.file.Leftover.TheVariants as left
+
+-- no database with pages of this size yet, or one with no table and no row
+abbrev pub IsUnstarted : ℕ → Image → Type 0
+IsUnstarted size image =
+    IsBlankFile size image ⊎ ∥ ((db : Trees) × HoldsDatabase image db × IsEmpty db) ∥₁
+
+module _ {D : Type 0} {g : Ghosts D} where
+  -- The store over the two files is open, and has no table and no row.
+  pub record IsBegun (files : Files D) (it : FileStore D g) : Type 0 where
+    pub honest : AreClean g files.log files.db
+    pub fresh : IsFresh (view it)
+    pub is_open : IsTrue (view it).is_open
+    pub empty : IsEmpty (view it).trees
+
+  -- Whatever a crash leaves of the files now, it might have left before, or they have no database,
+  -- or one with no table and no row. Where the files had something, they are as they were.
+  abbrev pub LeavesUnstarted : ℕ → Files D → Leftover D g → Type 0
+  LeavesUnstarted size files (left.Files now) =
+      (image : Image) → outcomes g now.log now.db image → outcomes g files.log files.db image
+  LeavesUnstarted size files (left.Unopened now) =
+      IsBlankFile size (image_of g files) × ((image : Image) → (state_of now).may_leave image
+      → outcomes g files.log files.db image ⊎ IsUnstarted size image)
+  LeavesUnstarted size files (left.Store now) =
+      IsBlankFile size (image_of g files) × ((db : Trees) → recovers now db → IsEmpty db)
