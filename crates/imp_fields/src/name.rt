@@ -26,8 +26,7 @@ impl Model for Name {
 
     ghost inverse = { λ text. record {
       bytes = text ++ replicate (35 - length text) 0;
-      len = length
-          text;
+      len = length text;
     } };
 
     ghost inverse_ok = { λ n h i. record {
@@ -53,8 +52,7 @@ impl Model for Goods {
 
     ghost inverse = { λ text. record {
       bytes = text ++ replicate (15 - length text) 0;
-      len = length
-          text;
+      len = length text;
     } };
 
     ghost inverse_ok = { λ g h i. record {
