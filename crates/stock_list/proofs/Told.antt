@@ -59,7 +59,7 @@ out_of_memory : (s : State) (rows : List Row) (next : Option Row) (at : LocalMin
     → HasStopped s rows next at fault.Read before after kept → HasStopped s rows next at fault.Memory before after kept
 out_of_memory s rows None at before after kept stopped = (inr refl, stopped.1, stopped.2)
 out_of_memory s rows (Some row) at before after kept stopped =
-    ⊎_elim (λ acted. ⊎_elim (no_write _) (no_memory _) acted.why) (λ none. ⊎_elim (no_memory _) (no_store _) none.why) stopped
+    ⊎_elim (λ acted. ⊎_elim (no_write _) (λ memory. no_memory _ memory.0) acted.why) (λ none. ⊎_elim (no_memory _) (no_store _) none.why) stopped
 
 pub told_stop : (s : State) (at : LocalMinute) (left : Option (List ℕ)) (before after : List ℕ) (kept : Kept)
     (ended : Result Bool RunFault) (failed : Bool)

@@ -45,11 +45,11 @@ pub record IsAnswered (number : ℕ) (s : State) (row : Row) (at : LocalMinute) 
   pub good_is : good ≡ row_good s row at
   pub state : keeps (row_after s row at)
 
--- The row has acted, and a beginning of its line was written: the writer failed or took no byte, or
--- memory for the line ran out.
+-- The row has acted, and a beginning of its line was written: the writer failed or took no byte. Or
+-- memory for the line ran out, and nothing of it was.
 pub record HasActed (number : ℕ) (s : State) (row : Row) (at : LocalMinute) (e : RunFault) (before after : List ℕ)
     (keeps : State → Type 0) : Type 0 where
-  pub why : (e ≡ fault.Write) ⊎ (e ≡ fault.Memory)
+  pub why : (e ≡ fault.Write) ⊎ ((e ≡ fault.Memory) × (after ≡ before))
   pub sent : ℕ
   pub line : after ≡ before ++ take sent (row_line number s row at)
   pub state : keeps (row_after s row at)

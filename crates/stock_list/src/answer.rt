@@ -118,7 +118,8 @@ pub fn answer_bad_row<W: ByteOut, E: ByteOut>(
 ) -> Result<bool, RunFault>
     ensures answered { IfOk result (λ good. (good ≡ false)
         × ((W.taken writer.new).bytes ≡ (W.taken writer.old).bytes ++ bad_line place.number)) }
-    ensures stopped { IfErr result (λ e. ((e ≡ RunFault.Write) ⊎ (e ≡ RunFault.Memory))
+    ensures stopped { IfErr result (λ e. ((e ≡ RunFault.Write) ⊎ ((e ≡ RunFault.Memory)
+        × ((W.taken writer.new).bytes ≡ (W.taken writer.old).bytes)))
         × ((sent : ℕ) × ((W.taken writer.new).bytes ≡ (W.taken writer.old).bytes ++ take sent
         (bad_line place.number)))) }
     ensures untroubled { OnOk result (IsUntroubled (W.taken writer.old) (W.taken writer.new)) }
