@@ -9,7 +9,7 @@ mod beside;
 mod columns;
 mod connection;
 mod creation;
-mod declarations;
+pub mod declarations;
 mod indexes;
 mod memory;
 mod names;
