@@ -2,7 +2,7 @@
 
 use crate::files::{make_file, open_file, tell_undeclared, tell_unopened};
 use crate::service::{Service, serve_keeper, serve_line};
-use cli_call::{DeskFault, close_file, end, run_file, run_kept};
+use cli_call::{DeskFault, close_file, end, run_file, run_gathered};
 use cli_run::{Feed, Turns, airport_of_line, is_opening};
 use cli_words::Line;
 use map_state::MapState;
@@ -37,7 +37,8 @@ pub fn faulted(rt: &HostRuntime, fault: RunFault) -> u8 {
     end_call(rt, Err(DeskFault::Run(fault)))
 }
 
-/// Runs a line over a station in memory. Each answer is written before the next input acts.
+/// Runs a line over a station in memory. Lines of a stock list are buffered while another row is at
+/// hand; all other output is written before the next input acts.
 fn run_keeper<K: Keeper, R: Read + Drop>(
     rt: &HostRuntime,
     line: &Line<'_>,
@@ -46,18 +47,18 @@ fn run_keeper<K: Keeper, R: Read + Drop>(
     turns: &Turns,
     at: Moment,
 ) -> u8 {
-    let mut output = Counted::new(rt.stdout());
     let mut errors = Counted::new(rt.stderr());
     let mut feed = Feed::new(reader, turns);
-    run_kept(
+    let (status, _output) = run_gathered(
         rt.alloc(),
         line,
         keeper,
         &mut feed,
-        &mut output,
+        Counted::new(rt.stdout()),
         &mut errors,
         at,
-    )
+    );
+    status
 }
 
 /// Does a line's task over a new station in memory.

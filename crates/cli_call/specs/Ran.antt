@@ -1,5 +1,5 @@
 -- What a call of the program leaves.
-use Rattle.std.specs.Prelude.{◌≡◌, ℕ, Bool, true, false, Result, Ok, Err}
+use Rattle.std.specs.Prelude.{◌≡◌, ◌⊎◌, ℕ, Bool, true, false, Result, Ok, Err}
 use Rattle.sqlite.specs.Held.{Held}
 use Rattle.sqlite_trees.specs.declared.store.Store.{Ghosts}
 use Rattle.station_days.specs.Date.{LocalMinute}
@@ -7,10 +7,14 @@ use Rattle.station_tables.specs.declared.fault.AttachFault.{AttachFault}
 use Rattle.station_tables.specs.declared.station.Station.{Station}
 use Rattle.station_tables.specs.Called.{HasReleased}
 use Rattle.stock_list.specs.declared.answer.RunFault.{RunFault}
+use Rattle.stock_list.specs.declared.answer.RunFault.TheVariants as fault
 use Rattle.cli_words.specs.declared.line.Line.{Line}
 use Rattle.cli_run.specs.Done.{HasDone}
+use Rattle.station_core.specs.Ends.{NoneFailed, OneFailed}
+use Rattle.station_core.specs.Gathered.{begun, BeginsWith}
+use Rattle.station_core.specs.Given.{Given}
 use Rattle.station_core.specs.Keeping.{Keeping, KeepsPremise, KeepsWorking}
-use Rattle.cli_run.specs.Ends.{reached, Ends, Reached}
+use Rattle.cli_run.specs.Ends.{ends, reached, Ends, Reached}
 use Rattle.cli_run.specs.Place.{here_of, is_migration, is_new}
 use Rattle.cli_run.specs.Reasons.{HasGivenReasons}
 use Rattle.cli_call.specs.Ended.{HasNoStation, HasToldEnd}
@@ -31,7 +35,39 @@ pub record HasRunKept {K I W E : Type 0} (line : Line) (k : Keeping K) (e : Ends
       (new.0, reached new.1.reader new.1.output between) ended
   pub told : HasToldEnd e.told ended between new.1.errors status
 
--- The same over a station, which then gave its connection back.
+-- What a run printed was flushed: all of it where the call doesn't end by Write, else a beginning.
+-- The call ends as its run did; or by Write, since a call of the output behind the run failed or
+-- took no byte. Behind a run that ended by Write none did.
+pub record HasFlushed (printed out : Given) (ran ended : Result Bool RunFault) : Type 0 where
+  pub all : (ended ≡ Err fault.Write → ⊥) → out.bytes ≡ printed.bytes
+  pub part : BeginsWith printed.bytes out.bytes
+  pub ends : ((ended ≡ ran) × NoneFailed printed out)
+      ⊎ ((ran ≡ Err fault.Write → ⊥) × (ended ≡ Err fault.Write) × OneFailed printed out)
+
+-- the same ends, by what the output took
+abbrev pub by_printed : {I W E : Type 0} → Ends I W E → Ends I Given E
+by_printed e = ends e.remaining e.given e.turned (λ printed. printed) e.told
+
+-- The line's command ran over a keeper, and told why an input can't be read. What it printed went
+-- to the output, behind what that had taken; behind that how the call ended was reported.
+pub record HasRunGathered {K I W E : Type 0} (line : Line) (k : Keeping K) (e : Ends I W E) (at : LocalMinute)
+    (old new : K × Reached I W E) (status : ℕ) : Type 0 where
+  pub printed : Given
+  pub between : E
+  pub ran : Result Bool RunFault
+  pub ended : Result Bool RunFault
+  pub premise : KeepsPremise k.is_clean k.is_sound old.0 new.0
+  pub works : KeepsWorking (k.is_broken old.0) (k.is_broken new.0) ran
+  pub done : HasDone line.command (here_of line.station) k (by_printed e) at
+      (old.0, reached old.1.reader (begun (e.printed old.1.output)) old.1.errors)
+      (new.0, reached new.1.reader printed between) ran
+  pub explained : HasGivenReasons line.command k (by_printed e) at
+      (old.0, reached old.1.reader (begun (e.printed old.1.output)) old.1.errors)
+      (new.0, reached new.1.reader printed between) ran
+  pub flushed : HasFlushed printed (e.printed new.1.output) ran ended
+  pub told : HasToldEnd e.told ended between new.1.errors status
+
+-- The same as `HasRunKept`, over a station, which then gave its connection back.
 pub record HasRunLine {S I W E : Type 0} {g : Ghosts S} (line : Line) (k : Keeping (Station S g)) (e : Ends I W E)
     (at : LocalMinute) (station : Station S g) (old new : Reached I W E) (result : ℕ × Held S) : Type 0 where
   pub last : Station S g

@@ -69,7 +69,8 @@ pub fn run_file<D: Disk + Drop, I: Inputs + Read, W: ByteOut, E: ByteOut>(
         ⟦<Station<FileStore<D>> as Keeper>⟧.is_clean
         ⟦<Station<FileStore<D>> as Keeper>⟧.is_sound
         ⟦<Station<FileStore<D>> as Keeper>⟧.is_broken
-        ⟦<Station<FileStore<D>> as Keeper>⟧.may_find)
+        ⟦<Station<FileStore<D>> as Keeper>⟧.may_find
+        ⟦<Station<FileStore<D>> as Keeper>⟧.may_fail)
         (ends I.remaining I.given I.turned W.taken E.taken) at conn
         (reached reader.old output.old errors.old)
         (reached reader.new output.new errors.new) result }

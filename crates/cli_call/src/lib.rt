@@ -19,5 +19,5 @@ pub use file_making::open_new;
 pub use file_opening::open_listed;
 pub use file_trees::station_trees;
 pub use opening::open_station;
-pub use run::{run_kept, run_line};
+pub use run::{run_gathered, run_kept, run_line};
 pub use version::version_line;

@@ -1,7 +1,8 @@
 //! A line over a connection, or over a keeper that has none.
 ghost use Rattle.station_core.specs.Keeping.{keeping};
 ghost use Rattle.cli_run.specs.Ends.{ends, reached};
-ghost use Rattle.cli_call.specs.Ran.{HasCalled, HasCalledStation, HasEndedCall, HasRunKept, HasRunLine};
+ghost use Rattle.station_core.specs.Gathered.{taken_of};
+ghost use Rattle.cli_call.specs.Ran.{HasCalled, HasCalledStation, HasEndedCall, HasFlushed, HasRunGathered, HasRunKept, HasRunLine};
 
 use crate::ended::{end_run, refuse_line};
 use crate::migrating::run_migrate;
@@ -9,12 +10,12 @@ use crate::opening::open_station;
 use cli_run::{Inputs, is_migration, run_over};
 use cli_words::Line;
 use sqlite::{Alter, Connection};
-use station_core::{ByteIn, ByteOut, Keeper};
+use station_core::{ByteIn, ByteOut, Gathered, Keeper};
 use station_days::Moment;
 use station_tables::{AttachFault, Station};
 use std::alloc::Global;
 use std::io::Read;
-use stock_list::Watched;
+use stock_list::{RunFault, Watched};
 
 /// Runs a line's command over a keeper, at a moment: every command but `migrate` and `serve`. It
 /// returns the exit status.
@@ -30,13 +31,56 @@ pub fn run_kept<K: Keeper, I: Inputs + Read, W: ByteOut, E: ByteOut>(
     at: Moment,
 ) -> u8
     ensures { HasRunKept line.now
-        (keeping K.keeps K.is_clean K.is_sound K.is_broken K.may_find)
+        (keeping K.keeps K.is_clean K.is_sound K.is_broken K.may_find K.may_fail)
         (ends I.remaining I.given I.turned W.taken E.taken) at
         (keeper.old, reached reader.old output.old errors.old)
         (keeper.new, reached reader.new output.new errors.new) result }
 {
     let ended = run_over(alloc, keeper, line, reader, output, errors, at);
     end_run(errors, ended)
+}
+
+/// Flushes the output of a run that has ended, if the output hasn't failed in it, and returns the
+/// output and how the call ends: by [`RunFault::Write`] if the rest can't be written, and otherwise
+/// as the run did.
+fn flush_output<W: ByteOut>(
+    gathered: Gathered<W>,
+    ran: Result<bool, RunFault>,
+) -> (W, Result<bool, RunFault>)
+    ensures { HasFlushed (taken_of W.taken gathered) (W.taken result.0) ran result.1 }
+{
+    if matches!(ran, Err(RunFault::Write)) {
+        return (gathered.give_up(), ran);
+    }
+    let (output, flushed) = gathered.end();
+    match flushed {
+        Ok(()) => (output, ran),
+        Err(_fault) => (output, Err(RunFault::Write)),
+    }
+}
+
+/// Runs a line's command over a keeper, as [`run_kept`] does, but buffers what the command writes
+/// while more of its input is at hand. The buffer is flushed before a fault is reported. It returns
+/// the exit status and the output.
+pub fn run_gathered<K: Keeper, I: Inputs + Read, W: ByteOut, E: ByteOut>(
+    alloc: Global,
+    line: &Line<'_>,
+    keeper: &mut K,
+    reader: &mut I,
+    output: W,
+    errors: &mut E,
+    at: Moment,
+) -> (u8, W)
+    ensures { HasRunGathered line.now
+        (keeping K.keeps K.is_clean K.is_sound K.is_broken K.may_find K.may_fail)
+        (ends I.remaining I.given I.turned W.taken E.taken) at
+        (keeper.old, reached reader.old output errors.old)
+        (keeper.new, reached reader.new result.1 errors.new) result.0 }
+{
+    let mut gathered = Gathered::new(alloc, output);
+    let ran = run_over(alloc, keeper, line, reader, &mut gathered, errors, at);
+    let (output, ended) = flush_output(gathered, ran);
+    (end_run(errors, ended), output)
 }
 
 /// Runs a line's command over its station, which tells why an input can't be read; reports how it
@@ -53,7 +97,7 @@ fn run_station<S: Alter, I: Inputs + Read, W: ByteOut, E: ByteOut>(
     ensures { HasRunLine line.now
         (keeping ⟦<Station<S> as Keeper>⟧.keeps ⟦<Station<S> as Keeper>⟧.is_clean
         ⟦<Station<S> as Keeper>⟧.is_sound ⟦<Station<S> as Keeper>⟧.is_broken
-        ⟦<Station<S> as Keeper>⟧.may_find)
+        ⟦<Station<S> as Keeper>⟧.may_find ⟦<Station<S> as Keeper>⟧.may_fail)
         (ends I.remaining I.given I.turned W.taken E.taken) at station
         (reached reader.old output.old errors.old)
         (reached reader.new output.new errors.new) result }
@@ -75,7 +119,7 @@ fn run_opened<S: Alter, I: Inputs + Read, W: ByteOut, E: ByteOut>(
     ensures { HasEndedCall line.now
         (keeping ⟦<Station<S> as Keeper>⟧.keeps ⟦<Station<S> as Keeper>⟧.is_clean
         ⟦<Station<S> as Keeper>⟧.is_sound ⟦<Station<S> as Keeper>⟧.is_broken
-        ⟦<Station<S> as Keeper>⟧.may_find)
+        ⟦<Station<S> as Keeper>⟧.may_find ⟦<Station<S> as Keeper>⟧.may_fail)
         (ends I.remaining I.given I.turned W.taken E.taken) at opened
         (reached reader.old output.old errors.old)
         (reached reader.new output.new errors.new) result }
@@ -99,7 +143,7 @@ fn call_station<S: Alter, I: Inputs + Read, W: ByteOut, E: ByteOut>(
     ensures { HasCalledStation line.now
         (keeping ⟦<Station<S> as Keeper>⟧.keeps ⟦<Station<S> as Keeper>⟧.is_clean
         ⟦<Station<S> as Keeper>⟧.is_sound ⟦<Station<S> as Keeper>⟧.is_broken
-        ⟦<Station<S> as Keeper>⟧.may_find)
+        ⟦<Station<S> as Keeper>⟧.may_find ⟦<Station<S> as Keeper>⟧.may_fail)
         (ends I.remaining I.given I.turned W.taken E.taken) at conn
         (reached reader.old output.old errors.old)
         (reached reader.new output.new errors.new) result }
@@ -126,7 +170,7 @@ pub fn run_line<S: Alter, I: Inputs + Read, W: ByteOut, E: ByteOut>(
     ensures { HasCalled line.now
         (keeping ⟦<Station<S> as Keeper>⟧.keeps ⟦<Station<S> as Keeper>⟧.is_clean
         ⟦<Station<S> as Keeper>⟧.is_sound ⟦<Station<S> as Keeper>⟧.is_broken
-        ⟦<Station<S> as Keeper>⟧.may_find)
+        ⟦<Station<S> as Keeper>⟧.may_find ⟦<Station<S> as Keeper>⟧.may_fail)
         (ends I.remaining I.given I.turned W.taken E.taken) at conn
         (reached reader.old output.old errors.old)
         (reached reader.new output.new errors.new) result }

@@ -17,22 +17,22 @@ by_listing k l old new r = HasReportedGood (λ s. IsListing form.Text s l) k old
 
 -- A call was made where the one before it ended well; else nothing was done behind that, and it
 -- ended so.
-abbrev pub KeepsWorking : {K : Type 0} → Result Bool RunFault → (Told K → Result Bool RunFault → Type 0)
+abbrev pub GoesOnWith : {K : Type 0} → Result Bool RunFault → (Told K → Result Bool RunFault → Type 0)
     → Told K → Told K → Result Bool RunFault → Type 0
-KeepsWorking (Ok true) Next mid new r = Next new r
-KeepsWorking (Ok false) Next mid new r = (new ≡ mid) × (r ≡ Ok false)
-KeepsWorking (Err e) Next mid new r = (new ≡ mid) × (r ≡ Err e)
+GoesOnWith (Ok true) Next mid new r = Next new r
+GoesOnWith (Ok false) Next mid new r = (new ≡ mid) × (r ≡ Ok false)
+GoesOnWith (Err e) Next mid new r = (new ≡ mid) × (r ≡ Err e)
 
 -- the moves of a waybill were written, and then its trail
 pub record HasToldRows {K : Type 0} (Lists : Listing → Told K → Told K → Result Bool RunFault → Type 0) (w : ℕ) (old new : Told K) (r : Result Bool RunFault) : Type 0 where
   pub mid : Told K
   pub moved : Result Bool RunFault
   pub moves : Lists (listing.Movements w) old mid moved
-  pub trail : KeepsWorking moved (λ new r. Lists (listing.Trail w) mid new r) mid new r
+  pub trail : GoesOnWith moved (λ new r. Lists (listing.Trail w) mid new r) mid new r
 
 -- what is known of a waybill was written, and where something is known, its moves and its trail
 pub record HasToldHistory {K : Type 0} (k : Keeping K) (w : ℕ) (old new : Told K) (r : Result Bool RunFault) : Type 0 where
   pub mid : Told K
   pub found : Result Bool RunFault
   pub known : HasLookedUp (waybill_found w) k old mid found
-  pub rows : KeepsWorking found (λ new r. HasToldRows (by_listing k) w mid new r) mid new r
+  pub rows : GoesOnWith found (λ new r. HasToldRows (by_listing k) w mid new r) mid new r

@@ -1,5 +1,5 @@
 -- What a look-up of a number leaves.
-use Rattle.std.specs.Prelude.{◌≡◌, ℕ, Bool, true, Option, Some, None, Result, Ok, Err, List, [], ◌∷◌, ◌++◌, take, codes, is_some, option_map}
+use Rattle.std.specs.Prelude.{◌≡◌, ℕ, Bool, true, false, Option, Some, None, Result, Ok, Err, List, [], ◌∷◌, ◌++◌, take, codes, is_some, option_map}
 use Rattle.serde_json.specs.Data.{Data}
 use Rattle.serde_json.specs.Written.{compact_text}
 use Rattle.station_core.specs.Ends.{HasCause}
@@ -38,11 +38,12 @@ HasToldFound found old new (Err fault.Memory) = new ≡ old
 HasToldFound found old new (Err fault.Store) = new ≡ old
 
 -- The line of what the station has went out, or a beginning of it, and nothing changed. A station
--- that has to be opened again returns nothing.
+-- that has to be opened again returns nothing; else it ends by Store only where one may fail.
 pub record HasLookedUp {K : Type 0} (found : State → Option Data) (k : Keeping K) (old new : Told K)
     (result : Result Bool RunFault) : Type 0 where
   pub reads : OnlyReads k old.0 new.0
   pub reopen :
       k.is_broken old.0 ≡ true → (result ≡ Err fault.Store) × (new.0 ≡ old.0) × (new.1 ≡ old.1)
+  pub fault : k.is_broken old.0 ≡ false → result ≡ Err fault.Store → k.may_fail
   pub told :
       (s : State) → k.keeps old.0 s → k.is_sound new.0 → HasToldFound (found s) old.1 new.1 result

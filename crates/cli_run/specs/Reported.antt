@@ -1,5 +1,5 @@
 -- What a report leaves, where the run returns whether all was accepted.
-use Rattle.std.specs.Prelude.{◌≡◌, Bool, true, Result, Ok, Err, OnOk, List, ℕ}
+use Rattle.std.specs.Prelude.{◌≡◌, Bool, true, false, Result, Ok, Err, OnOk, List, ℕ}
 use Rattle.station_core.specs.Keeping.{OnlyReads, Keeping}
 use Rattle.station_core.specs.Step.{State}
 use Rattle.stock_list.specs.declared.answer.RunFault.{RunFault}
@@ -13,12 +13,14 @@ good_of (Ok x) = Ok true
 good_of (Err e) = Err e
 
 -- The report went out, or a beginning of it, and nothing changed. A station that has to be opened
--- again returns nothing.
+-- again returns nothing; else it ends by Store only where one may fail.
 pub record HasToldReport {K : Type 0} (IsText : State → List ℕ → Type 0) (k : Keeping K) (old new : Told K)
     (ended : Result (Unit {0}) RunFault) : Type 0 where
   pub reads : OnlyReads k old.0 new.0
   pub reopen : k.is_broken old.0 ≡ true → (ended ≡ Err fault.Store) × (new.0 ≡ old.0)
       × (new.1 ≡ old.1)
+  pub fault : (s : State) → k.keeps old.0 s → k.is_sound new.0 → k.is_broken old.0 ≡ false
+      → ended ≡ Err fault.Store → k.may_fail
   pub writes : StopsReport old.1 new.1 ended
   -- one text is the report that went out
   pub told : (s : State) → k.keeps old.0 s → k.is_sound new.0

@@ -47,7 +47,7 @@ pub fn run_act<K: Keeper, I: ByteIn, O: ByteOut, E: ByteOut>(
     ensures ran { (s : State) → K.keeps keeper.old s → K.is_broken keeper.old ≡ false
         → K.is_sound keeper.new
         → HasRun (IsCommandAsked verb key)
-        (keeping K.keeps K.is_clean K.is_sound K.is_broken K.may_find) s at
+        (keeping K.keeps K.is_clean K.is_sound K.is_broken K.may_find K.may_fail) s at
         (come keeper.old (O.taken writer.old) errors.old, I.given reader.old)
         (come keeper.new (O.taken writer.new) errors.new, I.given reader.new) result }
     ensures unread { result ≡ Err RunFault.Read → (keeper.new ≡ keeper.old)
@@ -72,7 +72,7 @@ pub fn run_act<K: Keeper, I: ByteIn, O: ByteOut, E: ByteOut>(
     // Behind its line a bad body has its reason, or a beginning of it, and nothing else goes there.
     ensures quiet { result ≡ Ok true → errors.new ≡ errors.old }
     ensures reasons { HasExplainedRun (IsCommandAsked verb key)
-        (keeping K.keeps K.is_clean K.is_sound K.is_broken K.may_find) at E.taken
+        (keeping K.keeps K.is_clean K.is_sound K.is_broken K.may_find K.may_fail) at E.taken
         (come keeper.old (O.taken writer.old) errors.old, I.given reader.old)
         (come keeper.new (O.taken writer.new) errors.new, I.given reader.new) result }
 

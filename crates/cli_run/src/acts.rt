@@ -36,8 +36,8 @@ fn answer_line<K: Keeper, W: ByteOut, E: ByteOut>(
     ensures premise { KeepsPremise K.is_clean K.is_sound keeper.old keeper.new }
     ensures works { KeepsWorking (K.is_broken keeper.old) (K.is_broken keeper.new) result }
     ensures answered { HasAnsweredLine
-        (keeping K.keeps K.is_clean K.is_sound K.is_broken K.may_find) at E.taken number line.now
-        (come keeper.old (W.taken writer.old) errors.old)
+        (keeping K.keeps K.is_clean K.is_sound K.is_broken K.may_find K.may_fail) at E.taken number
+        line.now (come keeper.old (W.taken writer.old) errors.old)
         (come keeper.new (W.taken writer.new) errors.new) result }
 {
     if is_blank(line) {
@@ -86,8 +86,8 @@ fn run_lines<K: Keeper, R: BufRead + Drop, W: ByteOut, E: ByteOut>(
     ensures premise { KeepsPremise K.is_clean K.is_sound keeper.old keeper.new }
     ensures works { KeepsWorking (K.is_broken keeper.old) (K.is_broken keeper.new) result }
     ensures answered { HaveBeenAnswered
-        (HasAnsweredLine (keeping K.keeps K.is_clean K.is_sound K.is_broken K.may_find) at E.taken)
-        (R.remaining reader) (come keeper.old (W.taken writer.old) errors.old)
+        (HasAnsweredLine (keeping K.keeps K.is_clean K.is_sound K.is_broken K.may_find K.may_fail)
+        at E.taken) (R.remaining reader) (come keeper.old (W.taken writer.old) errors.old)
         (come keeper.new (W.taken writer.new) errors.new) result }
 {
     let mut good = true;
@@ -129,8 +129,8 @@ pub fn run_acts<K: Keeper, R: Watched + Read, W: ByteOut, E: ByteOut>(
     // Every line that was read, and of a known reader that is every line of its text, was answered,
     // in their order; at a fault every line before the last that was read.
     ensures answered { HaveBeenAnswered
-        (HasAnsweredLine (keeping K.keeps K.is_clean K.is_sound K.is_broken K.may_find) at E.taken)
-        (R.remaining reader.old) (come keeper.old (W.taken writer.old) errors.old)
+        (HasAnsweredLine (keeping K.keeps K.is_clean K.is_sound K.is_broken K.may_find K.may_fail)
+        at E.taken) (R.remaining reader.old) (come keeper.old (W.taken writer.old) errors.old)
         (come keeper.new (W.taken writer.new) errors.new) result }
 
     // `Read` comes only where the reader has failed, and lines that were read to their end only

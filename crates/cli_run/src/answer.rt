@@ -157,8 +157,8 @@ fn answer_input<K: Keeper, O: ByteOut, E: ByteOut>(
         → IsAnsweredShut number (Asked.Input input.now) (O.taken writer.old) (O.taken writer.new)
         result }
     ensures reasons { HasExplained number
-        (keeping K.keeps K.is_clean K.is_sound K.is_broken K.may_find) (Asked.Input input.now) at
-        E.taken (come keeper.old (O.taken writer.old) errors.old)
+        (keeping K.keeps K.is_clean K.is_sound K.is_broken K.may_find K.may_fail) (Asked.Input
+        input.now) at E.taken (come keeper.old (O.taken writer.old) errors.old)
         (come keeper.new (O.taken writer.new) errors.new) result }
 {
     let answer = match answer_one(keeper, input, at) {
@@ -303,7 +303,7 @@ pub(crate) fn answer_asked<K: Keeper, O: ByteOut, E: ByteOut>(
     ensures reopen { K.is_broken keeper.old ≡ true
         → IsAnsweredShut number asked.now (O.taken writer.old) (O.taken writer.new) result }
     ensures reasons { HasExplained number
-        (keeping K.keeps K.is_clean K.is_sound K.is_broken K.may_find) asked.now at
+        (keeping K.keeps K.is_clean K.is_sound K.is_broken K.may_find K.may_fail) asked.now at
         E.taken (come keeper.old (O.taken writer.old) errors.old)
         (come keeper.new (O.taken writer.new) errors.new) result }
 {

@@ -21,7 +21,7 @@ fn tell_rows<K: Keeper, W: ByteOut>(
     ensures premise { KeepsPremise K.is_clean K.is_sound keeper.old keeper.new }
     ensures works { KeepsWorking (K.is_broken keeper.old) (K.is_broken keeper.new) result }
     ensures rows { HasToldRows
-        (by_listing (keeping K.keeps K.is_clean K.is_sound K.is_broken K.may_find))
+        (by_listing (keeping K.keeps K.is_clean K.is_sound K.is_broken K.may_find K.may_fail))
         number.now (keeper.old, W.taken output.old) (keeper.new, W.taken output.new) result }
 {
     match do_report(
@@ -47,7 +47,7 @@ pub(crate) fn do_history<K: Keeper, W: ByteOut>(
     ensures premise { KeepsPremise K.is_clean K.is_sound keeper.old keeper.new }
     ensures works { KeepsWorking (K.is_broken keeper.old) (K.is_broken keeper.new) result }
     ensures history { HasToldHistory
-        (keeping K.keeps K.is_clean K.is_sound K.is_broken K.may_find)
+        (keeping K.keeps K.is_clean K.is_sound K.is_broken K.may_find K.may_fail)
         number.now (keeper.old, W.taken output.old) (keeper.new, W.taken output.new) result }
 {
     match do_waybill(alloc, keeper, number, output) {

@@ -15,8 +15,8 @@ use station_core::{ByteOut, Keeper};
 pub fn acts_law<K: Keeper, E: ByteOut>()
     ensures { (lines : List (List ℕ)) (at : LocalMinute) (old new : Come K E) (good : Bool)
         → AreAnswered
-        (HasAnsweredLine (keeping K.keeps K.is_clean K.is_sound K.is_broken K.may_find) at E.taken)
-        1 lines old new good
+        (HasAnsweredLine (keeping K.keeps K.is_clean K.is_sound K.is_broken K.may_find K.may_fail)
+        at E.taken) 1 lines old new good
         → (s : State) → K.keeps old.keeper s → K.is_broken old.keeper ≡ false
         → K.is_sound new.keeper
         → HasRunActs 1 s at lines old.sent.bytes new.sent.bytes (K.keeps new.keeper) good }

@@ -1,5 +1,5 @@
 //! The commands that look a number up.
-ghost use Rattle.std.specs.Prelude.{◌≡◌, ◌++◌, ◌∷◌, [], false, IfOk, OnOk, Some, None};
+ghost use Rattle.std.specs.Prelude.{◌≡◌, ◌++◌, ◌∷◌, [], false, Err, IfOk, OnOk, Some, None};
 ghost use Rattle.std.specs.Prelude.{option_map, string_bytes};
 ghost use Rattle.serde_json.specs.Data.{Data};
 ghost use Rattle.serde_json.specs.Written.{compact_text};
@@ -30,8 +30,9 @@ fn tell_object<W: ByteOut>(
     object: Result<String, AllocError>,
     output: &mut W,
 ) -> Result<bool, RunFault>
-    ensures { (d : Data) → IfOk object (λ text. string_bytes text ≡ compact_text d)
+    ensures told { (d : Data) → IfOk object (λ text. string_bytes text ≡ compact_text d)
         → HasToldFound (Some d) (W.taken output.old) (W.taken output.new) result }
+    ensures store { result ≡ Err RunFault.Store → ⊥ }
 {
     let Ok(object) = object else {
         return Err(RunFault::Memory);
@@ -45,7 +46,8 @@ fn tell_object<W: ByteOut>(
 
 /// Tells that nothing is known.
 fn tell_unknown<W: ByteOut>(output: &mut W) -> Result<bool, RunFault>
-    ensures { HasToldFound None (W.taken output.old) (W.taken output.new) result }
+    ensures told { HasToldFound None (W.taken output.old) (W.taken output.new) result }
+    ensures store { result ≡ Err RunFault.Store → ⊥ }
 {
     send_line(output, UNKNOWN)?;
     Ok(false)
@@ -58,8 +60,9 @@ fn tell_waybill<W: ByteOut>(
     known: &Option<Waybill>,
     output: &mut W,
 ) -> Result<bool, RunFault>
-    ensures { HasToldFound (option_map (waybill_data number.now) known.now)
+    ensures told { HasToldFound (option_map (waybill_data number.now) known.now)
         (W.taken output.old) (W.taken output.new) result }
+    ensures store { result ≡ Err RunFault.Store → ⊥ }
 {
     match known {
         Some(known) => tell_object(alloc, waybill_text(alloc, number, known), output),
@@ -74,8 +77,9 @@ fn tell_holder<W: ByteOut>(
     holder: &Option<Holder>,
     output: &mut W,
 ) -> Result<bool, RunFault>
-    ensures { HasToldFound (option_map (holder_data number.now) holder.now)
+    ensures told { HasToldFound (option_map (holder_data number.now) holder.now)
         (W.taken output.old) (W.taken output.new) result }
+    ensures store { result ≡ Err RunFault.Store → ⊥ }
 {
     match holder {
         Some(holder) => tell_object(alloc, holder_text(alloc, number, holder), output),
@@ -93,7 +97,7 @@ pub(crate) fn do_waybill<K: Keeper, W: ByteOut>(
     ensures premise { KeepsPremise K.is_clean K.is_sound keeper.old keeper.new }
     ensures works { KeepsWorking (K.is_broken keeper.old) (K.is_broken keeper.new) result }
     ensures looked { HasLookedUp (waybill_found number.now)
-        (keeping K.keeps K.is_clean K.is_sound K.is_broken K.may_find)
+        (keeping K.keeps K.is_clean K.is_sound K.is_broken K.may_find K.may_fail)
         (keeper.old, W.taken output.old) (keeper.new, W.taken output.new) result }
 {
     match keeper.waybill(number) {
@@ -112,7 +116,7 @@ pub(crate) fn do_holder<K: Keeper, W: ByteOut>(
     ensures premise { KeepsPremise K.is_clean K.is_sound keeper.old keeper.new }
     ensures works { KeepsWorking (K.is_broken keeper.old) (K.is_broken keeper.new) result }
     ensures looked { HasLookedUp (holder_found number.now)
-        (keeping K.keeps K.is_clean K.is_sound K.is_broken K.may_find)
+        (keeping K.keeps K.is_clean K.is_sound K.is_broken K.may_find K.may_fail)
         (keeper.old, W.taken output.old) (keeper.new, W.taken output.new) result }
 {
     match keeper.holder(number) {

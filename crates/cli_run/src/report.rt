@@ -43,10 +43,12 @@ fn run_report<K: Keeper, W: ByteOut>(
     form: Form,
     writer: &mut W,
 ) -> Result<(), RunFault>
-    ensures reads { OnlyReads (keeping K.keeps K.is_clean K.is_sound K.is_broken K.may_find)
-        keeper.old keeper.new }
+    ensures reads { OnlyReads (keeping K.keeps K.is_clean K.is_sound K.is_broken K.may_find
+        K.may_fail) keeper.old keeper.new }
     ensures reopen { K.is_broken keeper.old ≡ true → (result ≡ Err RunFault.Store)
         × (keeper.new ≡ keeper.old) × (W.taken writer.new ≡ W.taken writer.old) }
+    ensures fault { (s : State) → K.keeps keeper.old s → K.is_sound keeper.new
+        → K.is_broken keeper.old ≡ false → result ≡ Err RunFault.Store → K.may_fail }
     ensures writes { StopsReport (W.taken writer.old) (W.taken writer.new) result }
 
     // A text is the report that went out.
@@ -80,7 +82,7 @@ fn send_report<K: Keeper, W: ByteOut>(
     output: &mut W,
 ) -> Result<(), RunFault>
     ensures { HasToldReport (λ s. IsListing form s listing.now)
-        (keeping K.keeps K.is_clean K.is_sound K.is_broken K.may_find)
+        (keeping K.keeps K.is_clean K.is_sound K.is_broken K.may_find K.may_fail)
         (keeper.old, W.taken output.old) (keeper.new, W.taken output.new) result }
 {
     run_report(alloc, keeper, listing, form, output)
@@ -97,7 +99,7 @@ pub(crate) fn do_report<K: Keeper, W: ByteOut>(
     ensures premise { KeepsPremise K.is_clean K.is_sound keeper.old keeper.new }
     ensures works { KeepsWorking (K.is_broken keeper.old) (K.is_broken keeper.new) result }
     ensures reported { HasReportedGood (λ s. IsListing form s listing.now)
-        (keeping K.keeps K.is_clean K.is_sound K.is_broken K.may_find)
+        (keeping K.keeps K.is_clean K.is_sound K.is_broken K.may_find K.may_fail)
         (keeper.old, W.taken output.old) (keeper.new, W.taken output.new) result }
 {
     good_of(send_report(alloc, keeper, listing, form, output))

@@ -55,7 +55,7 @@ fn do_stock<K: Keeper, I: Watched + Read, W: ByteOut, E: ByteOut>(
     ensures premise { KeepsPremise K.is_clean K.is_sound keeper.old keeper.new }
     ensures works { KeepsWorking (K.is_broken keeper.old) (K.is_broken keeper.new) result }
     ensures answered { HasAnsweredRows
-        (keeping K.keeps K.is_clean K.is_sound K.is_broken K.may_find) at
+        (keeping K.keeps K.is_clean K.is_sound K.is_broken K.may_find K.may_fail) at
         (I.remaining reader.old) (I.given reader.new)
         (come keeper.old (W.taken output.old) errors.old)
         (come keeper.new (W.taken output.new) errors.new) result }
@@ -78,7 +78,7 @@ fn do_take<K: Keeper, I: Inputs, W: ByteOut, E: ByteOut>(
     ensures premise { KeepsPremise K.is_clean K.is_sound keeper.old keeper.new }
     ensures works { KeepsWorking (K.is_broken keeper.old) (K.is_broken keeper.new) result }
     ensures taken { HaveBeenMade
-        (HasTakenNext (keeping K.keeps K.is_clean K.is_sound K.is_broken K.may_find) at
+        (HasTakenNext (keeping K.keeps K.is_clean K.is_sound K.is_broken K.may_find K.may_fail) at
         I.given I.turned E.taken) (length paths.now)
         (come keeper.old (W.taken output.old) errors.old, reader.old)
         (come keeper.new (W.taken output.new) errors.new, reader.new) result }
@@ -98,7 +98,7 @@ fn do_acts<K: Keeper, I: Watched + Read, W: ByteOut, E: ByteOut>(
     ensures premise { KeepsPremise K.is_clean K.is_sound keeper.old keeper.new }
     ensures works { KeepsWorking (K.is_broken keeper.old) (K.is_broken keeper.new) result }
     ensures answered { HasAnsweredActs
-        (keeping K.keeps K.is_clean K.is_sound K.is_broken K.may_find) at E.taken
+        (keeping K.keeps K.is_clean K.is_sound K.is_broken K.may_find K.may_fail) at E.taken
         (I.remaining reader.old) (I.given reader.new)
         (come keeper.old (W.taken output.old) errors.old)
         (come keeper.new (W.taken output.new) errors.new) result }
@@ -120,11 +120,11 @@ fn do_act<K: Keeper, I: ByteIn, W: ByteOut, E: ByteOut>(
     ensures premise { KeepsPremise K.is_clean K.is_sound keeper.old keeper.new }
     ensures works { KeepsWorking (K.is_broken keeper.old) (K.is_broken keeper.new) result }
     ensures answered { HasAnsweredAsked (IsCommandAsked verb key)
-        (keeping K.keeps K.is_clean K.is_sound K.is_broken K.may_find) at
+        (keeping K.keeps K.is_clean K.is_sound K.is_broken K.may_find K.may_fail) at
         (come keeper.old (W.taken output.old) errors.old, I.given reader.old)
         (come keeper.new (W.taken output.new) errors.new, I.given reader.new) result }
     ensures explained { HasExplainedAsked (IsCommandAsked verb key)
-        (keeping K.keeps K.is_clean K.is_sound K.is_broken K.may_find) at E.taken
+        (keeping K.keeps K.is_clean K.is_sound K.is_broken K.may_find K.may_fail) at E.taken
         (come keeper.old (W.taken output.old) errors.old, I.given reader.old)
         (come keeper.new (W.taken output.new) errors.new, I.given reader.new) result }
 {
@@ -150,12 +150,12 @@ pub fn run_over<K: Keeper, I: Inputs + Read, W: ByteOut, E: ByteOut>(
     ensures premise { KeepsPremise K.is_clean K.is_sound keeper.old keeper.new }
     ensures works { KeepsWorking (K.is_broken keeper.old) (K.is_broken keeper.new) result }
     ensures done { HasDone line.now.command (here_of line.now.station)
-        (keeping K.keeps K.is_clean K.is_sound K.is_broken K.may_find)
+        (keeping K.keeps K.is_clean K.is_sound K.is_broken K.may_find K.may_fail)
         (ends I.remaining I.given I.turned W.taken E.taken) at
         (keeper.old, reached reader.old output.old errors.old)
         (keeper.new, reached reader.new output.new errors.new) result }
     ensures explained { HasGivenReasons line.now.command
-        (keeping K.keeps K.is_clean K.is_sound K.is_broken K.may_find)
+        (keeping K.keeps K.is_clean K.is_sound K.is_broken K.may_find K.may_fail)
         (ends I.remaining I.given I.turned W.taken E.taken) at
         (keeper.old, reached reader.old output.old errors.old)
         (keeper.new, reached reader.new output.new errors.new) result }

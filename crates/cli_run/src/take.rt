@@ -44,8 +44,8 @@ pub fn run_take<K: Keeper, I: ByteIn, O: ByteOut, E: ByteOut>(
         → IfErr result (λ e. IsShutAfter e (K.is_broken keeper.new)) }
     ensures ran { (s : State) → K.keeps keeper.old s → K.is_broken keeper.old ≡ false
         → K.is_sound keeper.new
-        → HasRun IsTelegramAsked (keeping K.keeps K.is_clean K.is_sound K.is_broken K.may_find) s
-        at (come keeper.old (O.taken writer.old) errors.old, I.given reader.old)
+        → HasRun IsTelegramAsked (keeping K.keeps K.is_clean K.is_sound K.is_broken K.may_find
+        K.may_fail) s at (come keeper.old (O.taken writer.old) errors.old, I.given reader.old)
         (come keeper.new (O.taken writer.new) errors.new, I.given reader.new) result }
     ensures unread { result ≡ Err RunFault.Read → (keeper.new ≡ keeper.old)
         × (O.taken writer.new ≡ O.taken writer.old) }
@@ -70,7 +70,7 @@ pub fn run_take<K: Keeper, I: ByteIn, O: ByteOut, E: ByteOut>(
     // nothing else goes there.
     ensures quiet { result ≡ Ok true → errors.new ≡ errors.old }
     ensures reasons { HasExplainedRun IsTelegramAsked
-        (keeping K.keeps K.is_clean K.is_sound K.is_broken K.may_find) at E.taken
+        (keeping K.keeps K.is_clean K.is_sound K.is_broken K.may_find K.may_fail) at E.taken
         (come keeper.old (O.taken writer.old) errors.old, I.given reader.old)
         (come keeper.new (O.taken writer.new) errors.new, I.given reader.new) result }
 

@@ -22,7 +22,8 @@ fn take_next<K: Keeper, I: Inputs, W: ByteOut, E: ByteOut>(
 ) -> Result<bool, RunFault>
     ensures premise { KeepsPremise K.is_clean K.is_sound keeper.old keeper.new }
     ensures works { KeepsWorking (K.is_broken keeper.old) (K.is_broken keeper.new) result }
-    ensures taken { HasTakenNext (keeping K.keeps K.is_clean K.is_sound K.is_broken K.may_find)
+    ensures taken { HasTakenNext (keeping K.keeps K.is_clean K.is_sound K.is_broken K.may_find
+        K.may_fail)
         at I.given I.turned E.taken (come keeper.old (W.taken writer.old) errors.old, reader.old)
         (come keeper.new (W.taken writer.new) errors.new, reader.new) result }
 {
@@ -47,7 +48,7 @@ pub fn run_takes<K: Keeper, I: Inputs, W: ByteOut, E: ByteOut>(
     ensures premise { KeepsPremise K.is_clean K.is_sound keeper.old keeper.new }
     ensures works { KeepsWorking (K.is_broken keeper.old) (K.is_broken keeper.new) result }
     ensures taken { HaveBeenMade
-        (HasTakenNext (keeping K.keeps K.is_clean K.is_sound K.is_broken K.may_find) at
+        (HasTakenNext (keeping K.keeps K.is_clean K.is_sound K.is_broken K.may_find K.may_fail) at
         I.given I.turned E.taken) count
         (come keeper.old (W.taken writer.old) errors.old, reader.old)
         (come keeper.new (W.taken writer.new) errors.new, reader.new) result }

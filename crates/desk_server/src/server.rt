@@ -90,8 +90,8 @@ fn answer<C: Clock, K: Keeper>(
     stream: &TcpStream,
     at: Moment,
 ) -> Result<Served, ServeFault>
-    ensures { HasServedOne (keeping K.keeps K.is_clean K.is_sound K.is_broken K.may_find) at
-        keeper.old keeper.new }
+    ensures { HasServedOne (keeping K.keeps K.is_clean K.is_sound K.is_broken K.may_find K.may_fail)
+        at keeper.old keeper.new }
 {
     let Ok(reader) = timed(clock, stream) else {
         return Err(ServeFault::Read);
@@ -116,8 +116,8 @@ fn serve_stream<C: Clock, K: Keeper>(
     keeper: &mut K,
     stream: &TcpStream,
 ) -> Result<(), ServerFault>
-    ensures { (n : ℕ) × HaveServed (keeping K.keeps K.is_clean K.is_sound K.is_broken K.may_find) n
-        keeper.old keeper.new × (n ≤ 1) }
+    ensures { (n : ℕ) × HaveServed (keeping K.keeps K.is_clean K.is_sound K.is_broken K.may_find
+        K.may_fail) n keeper.old keeper.new × (n ≤ 1) }
 {
     let Some(at) = moment_now(clock, zone) else {
         return Err(ServerFault::Clock);
@@ -152,8 +152,8 @@ pub fn serve<C: Clock, K: Keeper>(
     count: Option<u32>,
 ) -> Result<(), ServerFault>
     // The station changes by what its connections ask, at most so many, and by nothing else.
-    ensures { (n : ℕ) × HaveServed (keeping K.keeps K.is_clean K.is_sound K.is_broken K.may_find) n
-        keeper.old keeper.new × MatchOption count ⊤ (λ most. n ≤ most) }
+    ensures { (n : ℕ) × HaveServed (keeping K.keeps K.is_clean K.is_sound K.is_broken K.may_find
+        K.may_fail) n keeper.old keeper.new × MatchOption count ⊤ (λ most. n ≤ most) }
 {
     for _ in 0..most_of(count) {
         match listener.accept() {

@@ -18,6 +18,8 @@ use Rattle.http_desk.specs.declared.serve.Served.{Served}
 use Rattle.http_desk.specs.declared.serve.ServeFault.{ServeFault}
 use Rattle.http_desk.specs.declared.serve.ServeFault.TheVariants as serve
 use Rattle.station_core.specs.declared.answer.ActFault.{ActFault}
+use Rattle.station_core.specs.declared.answer.ActFault.TheVariants as act
+use Rattle.station_core.specs.Keeping.{IsReadersFault}
 
 -- a write that failed or took no byte
 pub cause_of : (old new : Given) → OneFailed old new → HasCause old new
@@ -43,14 +45,14 @@ module _ (front : List ℕ) (e : ReportFault) (fault : ActFault) (old new : Give
   some_of_report name is some = ⊎_elim (λ none. absurd (omega (arith, none, some))) (λ more. subst (λ f. length f < e.sent) is more) at_fault.1
 
 -- a report that ended before its end
-pub record EndedEarly (Open : Type 0) (s : State) (name : Printout) (old new : Given) (e : ReportFault) : Type 0 where
+pub record EndedEarly (Open May : Type 0) (s : State) (name : Printout) (old new : Given) (e : ReportFault) : Type 0 where
   pub part : SomeOrEach s name (λ whole. Sent old new whole e.sent)
   pub gone : HaveGone e.sent old new
   pub told : HasTold e.cause old new
-  pub fault : Open → IsCause e.cause
+  pub fault : Open → IsCause May e.cause
 
-module _ (Open : Type 0) (s : State) (old new : Given) (e : ReportFault) where
-  of_text : (name : Printout) (front text : List ℕ) → front ≡ report_head name → IsPrinted s name text → IsBegun (front ++ text) e old new → (Open → IsCause e.cause) → EndedEarly Open s name old new e
+module _ (Open May : Type 0) (s : State) (old new : Given) (e : ReportFault) where
+  of_text : (name : Printout) (front text : List ℕ) → front ≡ report_head name → IsPrinted s name text → IsBegun (front ++ text) e old new → (Open → IsCause May e.cause) → EndedEarly Open May s name old new e
   of_text name front text is are begun fault = record {
     part = inl (text, are, subst (λ f. Sent old new (f ++ text) e.sent) is begun.0);
     gone = (take e.sent (front ++ text), length-take-le e.sent (front ++ text) begun.0.0, begun.0.1);
@@ -59,7 +61,7 @@ module _ (Open : Type 0) (s : State) (old new : Given) (e : ReportFault) where
   }
 
   -- the same of a report that is known by what it is
-  pub ended_early : (name : Printout) (front : List ℕ) → front ≡ report_head name → HasEndedBy Open (IsPrinted s name) front old new (Err e) → EndedEarly Open s name old new e
+  pub ended_early : (name : Printout) (front : List ℕ) → front ≡ report_head name → HasEndedBy Open May (IsPrinted s name) front old new (Err e) → EndedEarly Open May s name old new e
   ended_early name front is (inl (text, are, begun), gone, told, fault) = of_text name front text is are begun fault
   ended_early name front is (inr each, gone, told, fault) = record {
     gone = gone;
@@ -72,6 +74,13 @@ append_none : (xs : List ℕ) → xs ++ [] ≡ xs
 append_none [] = refl
 append_none (x ∷ xs) = ap (λ ys. x ∷ ys) (append_none xs)
 
+-- a reader's fault, whether its store may fail or not
+pub readers_fault : (May : Type 0) (e : ActFault) → IsReadersFault May e → IsReadersFault (Unit {0}) e
+readers_fault May act.Memory is = tt
+readers_fault May act.Store is = tt
+readers_fault May (act.Refused refusal) is = absurd is
+readers_fault May act.Reopen is = absurd is
+
 -- what holds of some text, or of each, is weakened
 pub some_or_each : (s : State) (name : Printout) (P Q : List ℕ → Type 0) → ((whole : List ℕ) → P whole → Q whole) → SomeOrEach s name P → SomeOrEach s name Q
 some_or_each s name P Q more (inl (text, are, p)) = inl (text, are, more (report_head name ++ text) p)
@@ -79,24 +88,24 @@ some_or_each s name P Q more (inr each) = inr (λ text are. more (report_head na
 
 -- The answer with a report, by how the report ended.
 module _ (s : State) (name : Printout) (old mid : Given) where
-  pub after_write : (Open : Type 0) (e : ReportFault) → e.cause ≡ cause.Write → EndedEarly Open s name old mid e
+  pub after_write : (Open May : Type 0) (e : ReportFault) → e.cause ≡ cause.Write → EndedEarly Open May s name old mid e
       → (SomeOrEach s name (λ whole. Sent old mid whole e.sent) ⊎ Sent old mid unavailable e.sent) × HasCause old mid
-  after_write Open e is ended = (inl ended.part, subst (λ (why : ReportCause). HasTold why old mid) is ended.told)
+  after_write Open May e is ended = (inl ended.part, subst (λ (why : ReportCause). HasTold why old mid) is ended.told)
 
-  pub after_part : (Open : Type 0) (e : ReportFault) → length (report_head name) < e.sent → EndedEarly Open s name old mid e → HasReported s name old mid (Ok (record { status = 200; reopen = false }))
-  after_part Open e some ended = inr (inl (refl, some_or_each s name (λ whole. Sent old mid whole e.sent) (HasBegun name old mid) (λ whole sent. (e.sent, (some, sent.0, sent.1))) ended.part))
+  pub after_part : (Open May : Type 0) (e : ReportFault) → length (report_head name) < e.sent → EndedEarly Open May s name old mid e → HasReported s name old mid (Ok (record { status = 200; reopen = false }))
+  after_part Open May e some ended = inr (inl (refl, some_or_each s name (λ whole. Sent old mid whole e.sent) (HasBegun name old mid) (λ whole sent. (e.sent, (some, sent.0, sent.1))) ended.part))
 
   none_gone : HaveGone 0 old mid → mid.bytes ≡ old.bytes
   none_gone ([], empty, e) = e ∙ append_none old.bytes
   none_gone (x ∷ xs, empty, e) = absurd (omega (arith, empty))
 
-  pub after_none : (Open : Type 0) (e : ReportFault) (fault : ActFault) (reopen : Bool) (new : Given) (r : Result Served ServeFault)
-      → e.sent ≡ 0 → e.cause ≡ cause.Act fault → reopen ≡ false → EndedEarly Open s name old mid e → HasSent 503 reopen unavailable mid new r → HasReported s name old new r
-  after_none Open e fault reopen new (Ok served) none is open_station ended (told, bytes) =
+  pub after_none : (Open May : Type 0) (e : ReportFault) (fault : ActFault) (reopen : Bool) (new : Given) (r : Result Served ServeFault)
+      → e.sent ≡ 0 → e.cause ≡ cause.Act fault → reopen ≡ false → EndedEarly Open May s name old mid e → HasSent 503 reopen unavailable mid new r → HasReported s name old new r
+  after_none Open May e fault reopen new (Ok served) none is open_station ended (told, bytes) =
       let same : mid.bytes ≡ old.bytes = none_gone (subst (λ (n : ℕ). HaveGone n old mid) none ended.gone) in
       inr (inr (told ∙ (λ i. record { status = 503; reopen = open_station i }), bytes ∙ ap (λ b. b ++ unavailable) same))
-  after_none Open e fault reopen new (Err serve.Read) none is open_station ended sent = absurd sent
-  after_none Open e fault reopen new (Err (serve.Write n)) none is open_station ended (part, why) =
+  after_none Open May e fault reopen new (Err serve.Read) none is open_station ended sent = absurd sent
+  after_none Open May e fault reopen new (Err (serve.Write n)) none is open_station ended (part, why) =
       let same : mid.bytes ≡ old.bytes = none_gone (subst (λ (n : ℕ). HaveGone n old mid) none ended.gone) in
       let still : (mid.failures ≡ old.failures) × (mid.idle ≡ old.idle) = subst (λ (why : ReportCause). HasTold why old mid) is ended.told in (
         inr (part.0, part.1 ∙ ap (λ b. b ++ take n unavailable) same),

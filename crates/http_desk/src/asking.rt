@@ -133,7 +133,7 @@ fn ask_holder<K: Keeper>(alloc: Global, keeper: &mut K, number: &Awb) -> Told
     ensures asked { (s : State) (at : LocalMinute) → K.keeps keeper.old s
         → K.is_broken keeper.old ≡ false → K.is_sound keeper.new
         → HasAsked s at (Wanted.Holder number.now) result (station_after
-        (keeping K.keeps K.is_clean K.is_sound K.is_broken K.may_find) keeper.new) }
+        (keeping K.keeps K.is_clean K.is_sound K.is_broken K.may_find K.may_fail) keeper.new) }
     ensures reopen { tells_reopen result ≡ K.is_broken keeper.new }
     ensures shut { K.is_broken keeper.old ≡ true → (keeper.new ≡ keeper.old)
         × IsUnavailable result }
@@ -151,7 +151,7 @@ fn ask_waybill<K: Keeper>(alloc: Global, keeper: &mut K, number: &Awb) -> Told
     ensures asked { (s : State) (at : LocalMinute) → K.keeps keeper.old s
         → K.is_broken keeper.old ≡ false → K.is_sound keeper.new
         → HasAsked s at (Wanted.Waybill number.now) result (station_after
-        (keeping K.keeps K.is_clean K.is_sound K.is_broken K.may_find) keeper.new) }
+        (keeping K.keeps K.is_clean K.is_sound K.is_broken K.may_find K.may_fail) keeper.new) }
     ensures reopen { tells_reopen result ≡ K.is_broken keeper.new }
     ensures shut { K.is_broken keeper.old ≡ true → (keeper.new ≡ keeper.old)
         × IsUnavailable result }
@@ -168,7 +168,7 @@ fn ask_input<K: Keeper>(alloc: Global, keeper: &mut K, input: &Input<'_>, at: Mo
     ensures asked { (s : State) → K.keeps keeper.old s → K.is_broken keeper.old ≡ false
         → K.is_sound keeper.new
         → HasAsked s at (Wanted.Input input.now) result (station_after
-        (keeping K.keeps K.is_clean K.is_sound K.is_broken K.may_find) keeper.new) }
+        (keeping K.keeps K.is_clean K.is_sound K.is_broken K.may_find K.may_fail) keeper.new) }
     ensures reopen { tells_reopen result ≡ K.is_broken keeper.new }
     ensures shut { K.is_broken keeper.old ≡ true → (keeper.new ≡ keeper.old)
         × IsUnavailable result }
@@ -186,7 +186,7 @@ pub(crate) fn ask<K: Keeper>(alloc: Global, keeper: &mut K, wanted: &Wanted<'_>,
     ensures asked { (s : State) → K.keeps keeper.old s → K.is_broken keeper.old ≡ false
         → K.is_sound keeper.new
         → HasAsked s at wanted.now result (station_after
-        (keeping K.keeps K.is_clean K.is_sound K.is_broken K.may_find) keeper.new) }
+        (keeping K.keeps K.is_clean K.is_sound K.is_broken K.may_find K.may_fail) keeper.new) }
     ensures told { K.is_broken keeper.old ≡ false → tells_reopen result ≡ K.is_broken keeper.new }
     ensures same { StaysIfBroken (K.is_broken keeper.old) keeper.old keeper.new }
     ensures shut { K.is_broken keeper.old ≡ true → HasAskedShut at wanted.now result }

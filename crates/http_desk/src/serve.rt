@@ -42,7 +42,7 @@ fn told_for<K: Keeper>(alloc: Global, keeper: &mut K, bytes: &[u8], came: Came, 
     ensures told { (s : State) → K.keeps keeper.old s → K.is_broken keeper.old ≡ false
         → K.is_sound keeper.new
         → IsToldFor bytes.now s at result (station_after
-        (keeping K.keeps K.is_clean K.is_sound K.is_broken K.may_find) keeper.new) }
+        (keeping K.keeps K.is_clean K.is_sound K.is_broken K.may_find K.may_fail) keeper.new) }
     ensures tells { K.is_broken keeper.old ≡ false → tells_reopen result ≡ K.is_broken keeper.new }
     ensures same { StaysIfBroken (K.is_broken keeper.old) keeper.old keeper.new }
     ensures shut { K.is_broken keeper.old ≡ true → IsToldShut bytes.now at result }
@@ -82,7 +82,8 @@ pub fn serve_one<K: Keeper, I: ByteIn, O: ByteOut>(
         → K.is_sound keeper.new
         → HasServed s at (added (I.given reader.old) (I.given reader.new))
         (O.taken writer.old) (O.taken writer.new) (station_after
-        (keeping K.keeps K.is_clean K.is_sound K.is_broken K.may_find) keeper.new) result }
+        (keeping K.keeps K.is_clean K.is_sound K.is_broken K.may_find K.may_fail) keeper.new)
+        result }
 
     // Once a 200 to a POST has begun, a reopening finds the state after that step, and no other.
     ensures begun { (s : State) → K.keeps keeper.old s → K.is_broken keeper.old ≡ false
@@ -98,7 +99,7 @@ pub fn serve_one<K: Keeper, I: ByteIn, O: ByteOut>(
         → K.is_sound keeper.new
         → BeginsAs503 (added (O.taken writer.old) (O.taken writer.new))
         → IsUnchangedOrBroken (added (I.given reader.old) (I.given reader.new)) s at (station_after
-        (keeping K.keeps K.is_clean K.is_sound K.is_broken K.may_find) keeper.new) }
+        (keeping K.keeps K.is_clean K.is_sound K.is_broken K.may_find K.may_fail) keeper.new) }
 
     // It asks to open the station again exactly where this connection broke it.
     ensures told { (s : State) → K.keeps keeper.old s → K.is_broken keeper.old ≡ false

@@ -58,7 +58,7 @@ fn send_accepted<O: ByteOut>(writer: &mut O, count: u32) -> Result<Served, Serve
 
 /// Whether the station has to be opened again.
 fn is_reopen(fault: &ActFault) -> bool
-    ensures { IsReadersFault fault.now → result ≡ false }
+    ensures { IsReadersFault (Unit {0}) fault.now → result ≡ false }
 {
     match fault {
         ActFault::Reopen => true,
@@ -73,8 +73,8 @@ fn answer_report<K: Keeper, O: ByteOut>(
     writer: &mut O,
     printout: Printout,
 ) -> Result<Served, ServeFault>
-    ensures reads { OnlyReads (keeping K.keeps K.is_clean K.is_sound K.is_broken K.may_find)
-        keeper.old keeper.new }
+    ensures reads { OnlyReads (keeping K.keeps K.is_clean K.is_sound K.is_broken K.may_find
+        K.may_fail) keeper.old keeper.new }
     ensures writes { StopsServing (O.taken writer.old) (O.taken writer.new) result }
     ensures reported { (s : State) → K.keeps keeper.old s → K.is_broken keeper.old ≡ false
         → K.is_sound keeper.new
@@ -122,8 +122,8 @@ pub(crate) fn write_told<K: Keeper, O: ByteOut>(
     writer: &mut O,
     told: &Told,
 ) -> Result<Served, ServeFault>
-    ensures reads { OnlyReads (keeping K.keeps K.is_clean K.is_sound K.is_broken K.may_find)
-        keeper.old keeper.new }
+    ensures reads { OnlyReads (keeping K.keeps K.is_clean K.is_sound K.is_broken K.may_find
+        K.may_fail) keeper.old keeper.new }
     ensures writes { StopsServing (O.taken writer.old) (O.taken writer.new) result }
     ensures written { (s : State)
         → ((name : AnyPrintout) → told.now ≡ Told.Report name → K.keeps keeper.old s

@@ -10,18 +10,20 @@ use Rattle.station_core.specs.declared.answer.ActFault.TheVariants as fault
 use Rattle.station_core.specs.Step.{State}
 
 -- that memory ran out is a reader's fault
-pub readers_fault : {A : Type 0} (r : Result A ActFault) → IfErr r (λ e. e ≡ fault.Memory) → IfErr r IsReadersFault
+pub readers_fault : {A : Type 0} (r : Result A ActFault) → IfErr r (λ e. e ≡ fault.Memory) → IfErr r (IsReadersFault ⊥)
 readers_fault (Ok a) is = tt
-readers_fault (Err e) is = subst IsReadersFault (sym is) tt
+readers_fault (Err e) is = subst (IsReadersFault ⊥) (sym is) tt
 
 -- what stays as it was was only read
-pub unchanged : {K : Type 0} (keeps : K → State → Type 0) (is_clean is_sound : K → Type 0) (is_broken : K → Bool) (may_find : K → Option State → Type 0) (old new : K)
-    → new ≡ old → OnlyReads (keeping keeps is_clean is_sound is_broken may_find) old new
-unchanged keeps is_clean is_sound is_broken may_find old new same = record {
+pub unchanged : {K : Type 0} (keeps : K → State → Type 0) (is_clean is_sound : K → Type 0) (is_broken : K → Bool) (may_find : K → Option State → Type 0) (may_fail : Type 0) (old new : K)
+    → new ≡ old → OnlyReads (keeping keeps is_clean is_sound is_broken may_find may_fail) old new
+unchanged keeps is_clean is_sound is_broken may_find may_fail old new same = record {
   breaks = ap is_broken same;
-  clean = subst is_clean same;
-  still = λ sound _. subst is_sound (sym same) sound;
-  sound = subst is_sound same;
+  premise = record {
+    clean = subst is_clean same;
+    still = λ sound _. subst is_sound (sym same) sound;
+    sound = subst is_sound same;
+  };
   same = λ s kept sound. subst (λ k. keeps k s) (sym same) kept;
   leaves = λ sound found finds. subst (λ k. may_find k found) same finds;
 }
@@ -41,11 +43,11 @@ module _ {S Row : Type 0} (takes : S → Row → Bool → S → Type 0) (AreRows
   pub hands_out : {K : Type 0} (state : K → State) (old new : K) (r : Result (Unit {0}) ActFault) (from to : S)
       → OnOk r (All (state old) from to) → OnErr r (Part (state old) from to)
       → IfErr r (λ e. e ≡ fault.Memory) → OnErr r (to ≡ from) → new ≡ old
-      → HandsOut (keeping (λ k s. state k ≡ s) (λ k. Unit {0}) (λ k. Unit {0}) (λ k. false) (λ k found. ⊥)) old new r takes AreRows from to
+      → HandsOut (keeping (λ k s. state k ≡ s) (λ k. Unit {0}) (λ k. Unit {0}) (λ k. false) (λ k found. ⊥) ⊥) old new r takes AreRows from to
   hands_out state old new r from to all part memory none same = record {
     reopen = λ broken. absurd (true≢false (sym broken));
     fault = λ works. readers_fault r memory;
-    reads = unchanged _ _ _ _ _ old new same;
+    reads = unchanged _ _ _ _ _ _ old new same;
     rows = λ s keeps sound. subst (λ (u : State). OnOk r (All u from to)) keeps all;
     beginning = λ s keeps sound. subst (λ (u : State). OnErr r (Part u from to)) keeps part;
     took = taken (state old) r from to all none;
@@ -68,6 +70,6 @@ module _ {S Row : Type 0} (takes : S → Row → Bool → S → Type 0) (rows_of
       → OnOk r (HandedOut takes (rows_of (state old).cargo) from to)
       → OnErr r ((n : ℕ) × HandedOut takes (take n (rows_of (state old).cargo)) from to)
       → IfErr r (λ e. e ≡ fault.Memory) → OnErr r (to ≡ from) → new ≡ old
-      → HandsOut (keeping (λ k s. state k ≡ s) (λ k. Unit {0}) (λ k. Unit {0}) (λ k. false) (λ k found. ⊥)) old new r takes AreThese from to
+      → HandsOut (keeping (λ k s. state k ≡ s) (λ k. Unit {0}) (λ k. Unit {0}) (λ k. false) (λ k found. ⊥) ⊥) old new r takes AreThese from to
   hands_out_these state old new r from to handed begun memory none same =
       hands_out takes AreThese state old new r from to (all r (state old) from to handed) (part r (state old) from to begun) memory none same

@@ -153,6 +153,8 @@ impl Keeper for PlainStation {
 
     ghost may_find = { λ k found. ⊥ };
 
+    ghost may_fail = { ⊥ };
+
     ghost settled = { λ k s keeps sound found finds. absurd finds };
 
     ghost lawful = { λ k s sound finds. absurd finds };

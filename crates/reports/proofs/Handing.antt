@@ -20,15 +20,15 @@ use Rattle.reports.proofs.Known.{IsText, reported_by, reported_each}
 use Rattle.reports.proofs.Stopping.{stops}
 
 -- what is said of texts that are a report is said where they are known otherwise
-pub known_as : (Open : Type 0) (Is Are : List ℕ → Type 0) (front : List ℕ) (old new : Given) (r : Result (Unit {0}) ReportFault)
-    → ((t : List ℕ) → Is t → Are t) → ((t : List ℕ) → Are t → Is t) → HasEndedBy Open Is front old new r → HasEndedBy Open Are front old new r
-known_as Open Is Are front old new (Ok x) to from (text, is, wrote) = (text, to text is, wrote)
-known_as Open Is Are front old new (Err e) to from (inl (text, is, begun), gone, told, fault) = (inl (text, to text is, begun), gone, told, fault)
-known_as Open Is Are front old new (Err e) to from (inr each, gone, told, fault) = (inr (λ t are. each t (from t are)), gone, told, fault)
+pub known_as : (Open May : Type 0) (Is Are : List ℕ → Type 0) (front : List ℕ) (old new : Given) (r : Result (Unit {0}) ReportFault)
+    → ((t : List ℕ) → Is t → Are t) → ((t : List ℕ) → Are t → Is t) → HasEndedBy Open May Is front old new r → HasEndedBy Open May Are front old new r
+known_as Open May Is Are front old new (Ok x) to from (text, is, wrote) = (text, to text is, wrote)
+known_as Open May Is Are front old new (Err e) to from (inl (text, is, begun), gone, told, fault) = (inl (text, to text is, begun), gone, told, fault)
+known_as Open May Is Are front old new (Err e) to from (inr each, gone, told, fault) = (inr (λ t are. each t (from t are)), gone, told, fault)
 
-pub each_known_as : (Open : Type 0) (Is Are : List ℕ → Type 0) (front : List ℕ) (old new : Given) (r : Result (Unit {0}) ReportFault)
-    → ((t : List ℕ) → Are t → Is t) → HasEndedEach Open Is front old new r → HasEndedEach Open Are front old new r
-each_known_as Open Is Are front old new r from each = record { text = λ t are. each.text t (from t are) }
+pub each_known_as : (Open May : Type 0) (Is Are : List ℕ → Type 0) (front : List ℕ) (old new : Given) (r : Result (Unit {0}) ReportFault)
+    → ((t : List ℕ) → Are t → Is t) → HasEndedEach Open May Is front old new r → HasEndedEach Open May Are front old new r
+each_known_as Open May Is Are front old new r from each = record { text = λ t are. each.text t (from t are) }
 
 module _ {S P Row N : Type 0} (progress : S → Progress) (name : S → N) (form_of : S → Form) (pick_of : S → P) (line : Row → List ℕ) (json : Row → Data) (wants : P → Row → Bool) where
   abbrev pub Passed : List Row → S → S → Type 0
@@ -103,27 +103,27 @@ module _ {S P Row N : Type 0} (progress : S → Progress) (name : S → N) (form
       at_form : ((rows : List Row) × Passed rows from to) → Done (form_of to) → Done (form_of from)
       at_form took done = subst Done (same_form progress name form_of pick_of (piece line json) wants took.0 from to took.1) done
 
-      pub ended_by : (Open : Type 0) → (progress from).rows ≡ 0 → (progress from).sent ≡ 0 → (progress from).cause ≡ None
+      pub ended_by : (Open May : Type 0) → (progress from).rows ≡ 0 → (progress from).sent ≡ 0 → (progress from).cause ≡ None
           → ((rows : List Row) × Passed rows from to)
           → OnOk read ((rows : List Row) × AreRows rows × Passed rows from to)
           → OnErr read ((rows : List Row) → AreRows rows → (n : ℕ) × Passed (take n rows) from to)
-          → (Open → IfErr read IsReadersFault) → Cut → Unread → Done (form_of to)
-          → HasEndedBy Open IsThisText (progress from).waiting (progress from).given (progress new).given r
-      ended_by Open no_rows none_sent no_cause took all part fault cut unread done =
-          known_as Open IsPickedText IsThisText (progress from).waiting (progress from).given (progress new).given r as_text as_picked
-          (reported_by (λ (q : Progress × N). q.0) (piece line json (form_of from)) (end_piece (form_of from)) (λ q. q.1) ArePicked read r Open (look from) (look to) (look new) no_rows none_sent no_cause
+          → (Open → IfErr read (IsReadersFault May)) → Cut → Unread → Done (form_of to)
+          → HasEndedBy Open May IsThisText (progress from).waiting (progress from).given (progress new).given r
+      ended_by Open May no_rows none_sent no_cause took all part fault cut unread done =
+          known_as Open May IsPickedText IsThisText (progress from).waiting (progress from).given (progress new).given r as_text as_picked
+          (reported_by (λ (q : Progress × N). q.0) (piece line json (form_of from)) (end_piece (form_of from)) (λ q. q.1) ArePicked read r Open May (look from) (look to) (look new) no_rows none_sent no_cause
           (took_picked took) (all_picked read all) (part_picked read part) fault (cut_seen cut) (unread_seen read unread) (at_form took done))
 
-      pub ended_each : (Open : Type 0) → ((xs ys : List Row) → AreRows xs → AreRows ys → xs ≡ ys)
+      pub ended_each : (Open May : Type 0) → ((xs ys : List Row) → AreRows xs → AreRows ys → xs ≡ ys)
           → (progress from).rows ≡ 0 → (progress from).sent ≡ 0 → (progress from).cause ≡ None
           → ((rows : List Row) × Passed rows from to)
           → OnOk read ((rows : List Row) × AreRows rows × Passed rows from to)
           → OnErr read ((rows : List Row) → AreRows rows → (n : ℕ) × Passed (take n rows) from to)
-          → (Open → IfErr read IsReadersFault) → Cut → Unread → Done (form_of to)
-          → HasEndedEach Open IsThisText (progress from).waiting (progress from).given (progress new).given r
-      ended_each Open one no_rows none_sent no_cause took all part fault cut unread done =
-          each_known_as Open IsPickedText IsThisText (progress from).waiting (progress from).given (progress new).given r as_picked
-          (reported_each (λ (q : Progress × N). q.0) (piece line json (form_of from)) (end_piece (form_of from)) (λ q. q.1) ArePicked (one_picked one) read r Open (look from) (look to) (look new) no_rows none_sent no_cause
+          → (Open → IfErr read (IsReadersFault May)) → Cut → Unread → Done (form_of to)
+          → HasEndedEach Open May IsThisText (progress from).waiting (progress from).given (progress new).given r
+      ended_each Open May one no_rows none_sent no_cause took all part fault cut unread done =
+          each_known_as Open May IsPickedText IsThisText (progress from).waiting (progress from).given (progress new).given r as_picked
+          (reported_each (λ (q : Progress × N). q.0) (piece line json (form_of from)) (end_piece (form_of from)) (λ q. q.1) ArePicked (one_picked one) read r Open May (look from) (look to) (look new) no_rows none_sent no_cause
           (all_picked read all) (part_picked read part) fault (cut_seen cut) (unread_seen read unread) (at_form took done))
 
       pub stops_writing : ((row : Row) → 0 < length (line row)) → (progress from).sent ≡ 0 → (progress from).cause ≡ None
@@ -135,15 +135,15 @@ module _ {S P Row N : Type 0} (progress : S → Progress) (name : S → N) (form
 
 -- a listing that was begun by a new sink
 module _ {P Row : Type 0} (line : Row → List ℕ) (json : Row → Data) (AreRows : List Row → Type 0) (wants : P → Row → Bool)
-    (Open : Type 0) {f g : Form} (form_is : f ≡ g) {p q : P} (pick_is : p ≡ q) {waiting front : List ℕ} (waiting_is : waiting ≡ front) {old given : Given} (given_is : old ≡ given) (new : Given) (r : Result (Unit {0}) ReportFault) where
-  pub new_ended : HasEndedBy Open (IsTextOf f line json AreRows (filter (wants p))) waiting old new r → HasEndedBy Open (IsTextOf g line json AreRows (filter (wants q))) front given new r
-  new_ended h = subst (λ (T : Type 0). T) (λ i. HasEndedBy Open (IsTextOf (form_is i) line json AreRows (filter (wants (pick_is i)))) (waiting_is i) (given_is i) new r) h
+    (Open May : Type 0) {f g : Form} (form_is : f ≡ g) {p q : P} (pick_is : p ≡ q) {waiting front : List ℕ} (waiting_is : waiting ≡ front) {old given : Given} (given_is : old ≡ given) (new : Given) (r : Result (Unit {0}) ReportFault) where
+  pub new_ended : HasEndedBy Open May (IsTextOf f line json AreRows (filter (wants p))) waiting old new r → HasEndedBy Open May (IsTextOf g line json AreRows (filter (wants q))) front given new r
+  new_ended h = subst (λ (T : Type 0). T) (λ i. HasEndedBy Open May (IsTextOf (form_is i) line json AreRows (filter (wants (pick_is i)))) (waiting_is i) (given_is i) new r) h
 
-  pub new_ended_each : HasEndedEach Open (IsTextOf f line json AreRows (filter (wants p))) waiting old new r → HasEndedEach Open (IsTextOf g line json AreRows (filter (wants q))) front given new r
-  new_ended_each h = subst (λ (T : Type 0). T) (λ i. HasEndedEach Open (IsTextOf (form_is i) line json AreRows (filter (wants (pick_is i)))) (waiting_is i) (given_is i) new r) h
+  pub new_ended_each : HasEndedEach Open May (IsTextOf f line json AreRows (filter (wants p))) waiting old new r → HasEndedEach Open May (IsTextOf g line json AreRows (filter (wants q))) front given new r
+  new_ended_each h = subst (λ (T : Type 0). T) (λ i. HasEndedEach Open May (IsTextOf (form_is i) line json AreRows (filter (wants (pick_is i)))) (waiting_is i) (given_is i) new r) h
 
 -- every row of a reader
-module _ {Row : Type 0} (line : Row → List ℕ) (json : Row → Data) (f : Form) (AreRows : List Row → Type 0) (Open : Type 0) (front : List ℕ) (old new : Given) (r : Result (Unit {0}) ReportFault) where
+module _ {Row : Type 0} (line : Row → List ℕ) (json : Row → Data) (f : Form) (AreRows : List Row → Type 0) (Open May : Type 0) (front : List ℕ) (old new : Given) (r : Result (Unit {0}) ReportFault) where
   abbrev Wanted : List ℕ → Type 0
   Wanted = IsTextOf f line json AreRows (filter (λ row. true))
 
@@ -156,14 +156,14 @@ module _ {Row : Type 0} (line : Row → List ℕ) (json : Row → Data) (f : For
   from_every : (t : List ℕ) → Every t → Wanted t
   from_every t (rows, are, text) = (rows, are, text ∙ sym (ap (rows_text f line json) (all_rows rows)))
 
-  pub every_ended : HasEndedBy Open Wanted front old new r → HasEndedBy Open Every front old new r
-  every_ended = known_as Open Wanted Every front old new r to_every from_every
+  pub every_ended : HasEndedBy Open May Wanted front old new r → HasEndedBy Open May Every front old new r
+  every_ended = known_as Open May Wanted Every front old new r to_every from_every
 
-  pub every_each : HasEndedEach Open Wanted front old new r → HasEndedEach Open Every front old new r
-  every_each = each_known_as Open Wanted Every front old new r from_every
+  pub every_each : HasEndedEach Open May Wanted front old new r → HasEndedEach Open May Every front old new r
+  every_each = each_known_as Open May Wanted Every front old new r from_every
 
 -- those that are picked of rows that are one list
-module _ {Row : Type 0} (line : Row → List ℕ) (json : Row → Data) (picked : List Row → List Row) (f : Form) (these : List Row) (Open : Type 0) (front : List ℕ) (old new : Given) (r : Result (Unit {0}) ReportFault) where
+module _ {Row : Type 0} (line : Row → List ℕ) (json : Row → Data) (picked : List Row → List Row) (f : Form) (these : List Row) (Open May : Type 0) (front : List ℕ) (old new : Given) (r : Result (Unit {0}) ReportFault) where
   abbrev These : List ℕ → Type 0
   These = IsTextOf f line json (λ rows. rows ≡ these) picked
 
@@ -176,25 +176,25 @@ module _ {Row : Type 0} (line : Row → List ℕ) (json : Row → Data) (picked 
   from_one : (t : List ℕ) → IsOne t → These t
   from_one t text = (these, refl, text)
 
-  pub picked_ended : HasEndedBy Open These front old new r → HasEndedBy Open IsOne front old new r
-  picked_ended = known_as Open These IsOne front old new r to_one from_one
+  pub picked_ended : HasEndedBy Open May These front old new r → HasEndedBy Open May IsOne front old new r
+  picked_ended = known_as Open May These IsOne front old new r to_one from_one
 
-  pub picked_each : HasEndedEach Open These front old new r → HasEndedEach Open IsOne front old new r
-  picked_each = each_known_as Open These IsOne front old new r from_one
+  pub picked_each : HasEndedEach Open May These front old new r → HasEndedEach Open May IsOne front old new r
+  picked_each = each_known_as Open May These IsOne front old new r from_one
 
 -- rows that are one list, all of them
-module _ {Row : Type 0} (line : Row → List ℕ) (json : Row → Data) (f : Form) (these : List Row) (Open : Type 0) (front : List ℕ) (old new : Given) (r : Result (Unit {0}) ReportFault) where
+module _ {Row : Type 0} (line : Row → List ℕ) (json : Row → Data) (f : Form) (these : List Row) (Open May : Type 0) (front : List ℕ) (old new : Given) (r : Result (Unit {0}) ReportFault) where
   abbrev AllThese : List ℕ → Type 0
   AllThese = IsTextOf f line json (λ rows. rows ≡ these) (λ rows. rows)
 
   abbrev AreAll : List ℕ → Type 0
   AreAll t = t ≡ rows_text f line json these
 
-  pub one_ended : HasEndedBy Open AllThese front old new r → HasEndedBy Open AreAll front old new r
-  one_ended = picked_ended line json (λ rows. rows) f these Open front old new r
+  pub one_ended : HasEndedBy Open May AllThese front old new r → HasEndedBy Open May AreAll front old new r
+  one_ended = picked_ended line json (λ rows. rows) f these Open May front old new r
 
-  pub one_each : HasEndedEach Open AllThese front old new r → HasEndedEach Open AreAll front old new r
-  one_each = picked_each line json (λ rows. rows) f these Open front old new r
+  pub one_each : HasEndedEach Open May AllThese front old new r → HasEndedEach Open May AreAll front old new r
+  one_each = picked_each line json (λ rows. rows) f these Open May front old new r
 
 pub only : {Row : Type 0} (list : List Row) (these others : List Row) → these ≡ list → others ≡ list → these ≡ others
 only list these others are are_too = are ∙ sym are_too

@@ -8,6 +8,7 @@ use Rattle.row_sinks.specs.Handed.{HandedOut}
 use Rattle.station_core.specs.declared.answer.ActFault.{ActFault}
 use Rattle.reports.specs.declared.fault.ReportCause.{ReportCause}
 use Rattle.reports.specs.declared.fault.ReportCause.TheVariants as cause
+use Rattle.station_core.specs.declared.answer.ActFault.TheVariants as act
 use Rattle.reports.specs.declared.fault.ReportFault.{ReportFault}
 use Rattle.reports.specs.Progress.{Progress, IsWhy, Waits, HasGone, HasStuck, Takes, Ends}
 use Rattle.reports.specs.Ended.{HasTold, IsBegun, IsCause, HasEnded}
@@ -28,7 +29,7 @@ pub record IsWhole (start : Given) (text : List ℕ) (rows : ℕ) (p : Progress)
 pub record IsCut (start : Given) (text : List ℕ) (p : Progress) : Type 0 where
   pub why : ReportCause
   pub cause : p.cause ≡ Some why
-  pub fault : IsCause why
+  pub fault : IsCause ⊥ why
   pub begun : IsBegun text (record { sent = p.sent; cause = why }) start p.given
 
 append_nil : (xs : List ℕ) → xs ++ [] ≡ xs
@@ -49,9 +50,17 @@ told_since cause.Write start old new failures idle (inl (failed, same)) = inl (o
 told_since cause.Write start old new failures idle (inr (same, none)) = inr (omega (arith, none, idle))
 told_since (cause.Act e) start old new failures idle (memory, same) = (ap (λ (g : Given). g.failures) same ∙ failures, ap (λ (g : Given). g.idle) same ∙ idle)
 
-why_cause : (why : ReportCause) (old new : Given) → IsWhy why old new → IsCause why
+why_cause : (why : ReportCause) (old new : Given) → IsWhy why old new → IsCause ⊥ why
 why_cause cause.Write old new has = tt
-why_cause (cause.Act e) old new (memory, same) = subst IsReadersFault (sym memory) tt
+why_cause (cause.Act e) old new (memory, same) = subst (IsReadersFault ⊥) (sym memory) tt
+
+-- where no store may fail none has
+more_causes : (May : Type 0) (why : ReportCause) → IsCause ⊥ why → IsCause May why
+more_causes May cause.Write is = tt
+more_causes May (cause.Act act.Memory) is = tt
+more_causes May (cause.Act (act.Refused refusal)) is = absurd is
+more_causes May (cause.Act act.Store) is = absurd is
+more_causes May (cause.Act act.Reopen) is = absurd is
 
 -- a line more
 pub gone : (start : Given) (text line : List ℕ) (n : ℕ) (p q : Progress) → IsWhole start text n p → HasGone line p q → q.rows ≡ p.rows + 1 → q.cause ≡ p.cause → IsWhole start (text ++ line) (n + 1) q
@@ -153,8 +162,8 @@ whole_begun start text n p e w =
     let part : w.out ≡ take p.sent text = sym (take-append_seam w.out p.waiting) ∙ ap (λ k. take k (w.out ++ p.waiting)) (sym w.sent) ∙ ap (λ t. take p.sent t) w.whole in
     ((fits, w.bytes ∙ ap (λ t. start.bytes ++ t) part), (w.failures, w.idle))
 
-module _ (start : Given) (text : List ℕ) (n : ℕ) (p q : Progress) (Open : Type 0) (end : ℕ → List ℕ) where
-  whole_ends : (r : Result (Unit {0}) ReportFault) → IsWhole start text n p → Ends end p q r → HasEnded Open (text ++ end n) start q.given r
+module _ (start : Given) (text : List ℕ) (n : ℕ) (p q : Progress) (Open May : Type 0) (end : ℕ → List ℕ) where
+  whole_ends : (r : Result (Unit {0}) ReportFault) → IsWhole start text n p → Ends end p q r → HasEnded Open May (text ++ end n) start q.given r
   whole_ends (Ok x) w g =
       g.bytes ∙ ap (λ k. p.given.bytes ++ (p.waiting ++ end k)) w.rows_are ∙ ap (λ t. t ++ (p.waiting ++ end n)) w.bytes
       ∙ append_assoc start.bytes w.out (p.waiting ++ end n)
@@ -162,18 +171,18 @@ module _ (start : Given) (text : List ℕ) (n : ℕ) (p q : Progress) (Open : Ty
   whole_ends (Err e) w s =
       let begun = stuck start text (end p.rows) n e.cause p q w s.0 in
       let sent = subst (λ k. IsBegun (text ++ end p.rows) (record { sent = k; cause = e.cause }) start q.given) (sym s.1) begun in
-      (subst (λ k. IsBegun (text ++ end k) e start q.given) w.rows_are sent, λ _. why_cause e.cause p.given q.given s.0.cause)
+      (subst (λ k. IsBegun (text ++ end k) e start q.given) w.rows_are sent, λ _. more_causes May e.cause (why_cause e.cause p.given q.given s.0.cause))
 
   -- a sink that takes no more
-  cut_ends : (more : List ℕ) (r : Result (Unit {0}) ReportFault) (c : IsCut start text p) → r ≡ Err (record { sent = p.sent; cause = c.why }) → q ≡ p → HasEnded Open (text ++ more) start q.given r
+  cut_ends : (more : List ℕ) (r : Result (Unit {0}) ReportFault) (c : IsCut start text p) → r ≡ Err (record { sent = p.sent; cause = c.why }) → q ≡ p → HasEnded Open May (text ++ more) start q.given r
   cut_ends more r c told same =
       let begun = longer text more (record { sent = p.sent; cause = c.why }) start p.given c.begun in
       let now = subst (λ (x : Progress). IsBegun (text ++ more) (record { sent = p.sent; cause = c.why }) start x.given) (sym same) begun in
-      subst (HasEnded Open (text ++ more) start q.given) (sym told) (now, λ _. c.fault)
+      subst (HasEnded Open May (text ++ more) start q.given) (sym told) (now, λ _. more_causes May c.why c.fault)
 
   pub finished : (r : Result (Unit {0}) ReportFault)
       → ((why : ReportCause) → p.cause ≡ Some why → (r ≡ Err (record { sent = p.sent; cause = why })) × (q ≡ p))
-      → (p.cause ≡ None → Ends end p q r) → Handed start text n p → HasEnded Open (text ++ end n) start q.given r
+      → (p.cause ≡ None → Ends end p q r) → Handed start text n p → HasEnded Open May (text ++ end n) start q.given r
   finished r cut ends (inl w) = whole_ends r w (ends w.cause)
   finished r cut ends (inr c) = let told = cut c.why c.cause in cut_ends (end n) r c told.0 told.1
 
@@ -181,12 +190,12 @@ module _ (start : Given) (text : List ℕ) (n : ℕ) (p q : Progress) (Open : Ty
   pub unfinished : (e : ActFault) (more : List ℕ) (r : Result (Unit {0}) ReportFault)
       → ((why : ReportCause) → p.cause ≡ Some why → (r ≡ Err (record { sent = p.sent; cause = why })) × (q ≡ p))
       → (p.cause ≡ None → (r ≡ Err (record { sent = p.sent; cause = cause.Act e })) × (q ≡ p))
-      → (Open → IsReadersFault e) → Handed start text n p → HasEnded Open (text ++ more) start q.given r
+      → (Open → IsReadersFault May e) → Handed start text n p → HasEnded Open May (text ++ more) start q.given r
   unfinished e more r cut unread fault (inl w) =
       let told = unread w.cause in
       let begun = longer text more (record { sent = p.sent; cause = cause.Act e }) start p.given (whole_begun start text n p e w) in
       let now = subst (λ (x : Progress). IsBegun (text ++ more) (record { sent = p.sent; cause = cause.Act e }) start x.given) (sym told.1) begun in
-      subst (HasEnded Open (text ++ more) start q.given) (sym told.0) (now, fault)
+      subst (HasEnded Open May (text ++ more) start q.given) (sym told.0) (now, fault)
   unfinished e more r cut unread fault (inr c) = let told = cut c.why c.cause in cut_ends more r c told.0 told.1
 
 zero_more : (n : ℕ) → 0 + n ≡ n
@@ -213,29 +222,29 @@ module _ {S Row N : Type 0} (P : S → Progress) (piece : ℕ → Row → List �
   handed_same (row ∷ rows) old new (false, mid, took, more) = ap name more ∙ took.0
 
   -- how a report ends, by how its rows were handed out and how the sink ended
-  pub reported : (end : ℕ → List ℕ) (read : Result (Unit {0}) ActFault) (r : Result (Unit {0}) ReportFault) (Open : Type 0) (rows : List Row) (old mid new : S)
+  pub reported : (end : ℕ → List ℕ) (read : Result (Unit {0}) ActFault) (r : Result (Unit {0}) ReportFault) (Open May : Type 0) (rows : List Row) (old mid new : S)
       → (P old).rows ≡ 0 → (P old).sent ≡ 0 → (P old).cause ≡ None
       → OnOk read (HandedOut (Took P piece SameName) rows old mid) → OnErr read ((n : ℕ) × HandedOut (Took P piece SameName) (take n rows) old mid)
-      → (Open → IfErr read IsReadersFault)
+      → (Open → IfErr read (IsReadersFault May))
       → ((why : ReportCause) → (P mid).cause ≡ Some why → (r ≡ Err (record { sent = (P mid).sent; cause = why })) × (new ≡ mid))
       → ((P mid).cause ≡ None → IfErr read (λ e. (r ≡ Err (record { sent = (P mid).sent; cause = cause.Act e })) × (new ≡ mid)))
       → ((P mid).cause ≡ None → OnOk read (Ends end (P mid) (P new) r))
-      → HasEnded Open ((P old).waiting ++ whole_text piece end rows) (P old).given (P new).given r
-  reported end (Ok x) r Open rows old mid new no_rows none_sent no_cause all part fault cut unread ends =
+      → HasEnded Open May ((P old).waiting ++ whole_text piece end rows) (P old).given (P new).given r
+  reported end (Ok x) r Open May rows old mid new no_rows none_sent no_cause all part fault cut unread ends =
       let start = start_whole (P old) no_rows none_sent no_cause in
       let told = handed P piece SameName rows (P old).given (P old).waiting 0 old mid all start in
-      let done = finished (P old).given ((P old).waiting ++ pieces_of piece 0 rows) (0 + length rows) (P mid) (P new) Open end r
+      let done = finished (P old).given ((P old).waiting ++ pieces_of piece 0 rows) (0 + length rows) (P mid) (P new) Open May end r
       (λ why is. let told = cut why is in (told.0, ap P told.1)) ends told in
-      let counted = subst (λ k. HasEnded Open (((P old).waiting ++ pieces_of piece 0 rows) ++ end k) (P old).given (P new).given r) (zero_more (length rows)) done in
-      subst (λ t. HasEnded Open t (P old).given (P new).given r) (append_assoc (P old).waiting (pieces_of piece 0 rows) (end (length rows))) counted
-  reported end (Err e) r Open rows old mid new no_rows none_sent no_cause all part fault cut unread ends =
+      let counted = subst (λ k. HasEnded Open May (((P old).waiting ++ pieces_of piece 0 rows) ++ end k) (P old).given (P new).given r) (zero_more (length rows)) done in
+      subst (λ t. HasEnded Open May t (P old).given (P new).given r) (append_assoc (P old).waiting (pieces_of piece 0 rows) (end (length rows))) counted
+  reported end (Err e) r Open May rows old mid new no_rows none_sent no_cause all part fault cut unread ends =
       let n : ℕ = part.0 in
       let front : List ℕ = (P old).waiting in
       let more : List ℕ = pieces_of piece (0 + length (take n rows)) (drop n rows) ++ end (length rows) in
       let start = start_whole (P old) no_rows none_sent no_cause in
       let told = handed P piece SameName (take n rows) (P old).given front 0 old mid part.1 start in
-      let done = unfinished (P old).given (front ++ pieces_of piece 0 (take n rows)) (0 + length (take n rows)) (P mid) (P new) Open end e more r
+      let done = unfinished (P old).given (front ++ pieces_of piece 0 (take n rows)) (0 + length (take n rows)) (P mid) (P new) Open May end e more r
       (λ why is. let told = cut why is in (told.0, ap P told.1)) (λ none. let told = unread none in (told.0, ap P told.1)) fault told in
       let lines : pieces_of piece 0 (take n rows) ++ pieces_of piece (0 + length (take n rows)) (drop n rows) ≡ pieces_of piece 0 rows = sym (pieces_append piece 0 (take n rows) (drop n rows)) ∙ ap (pieces_of piece 0) (take-append-drop n rows) in
       let whole = append_assoc front (pieces_of piece 0 (take n rows)) more ∙ ap (λ t. front ++ t) (sym (append_assoc (pieces_of piece 0 (take n rows)) (pieces_of piece (0 + length (take n rows)) (drop n rows)) (end (length rows))) ∙ ap (λ t. t ++ end (length rows)) lines) in
-      subst (λ t. HasEnded Open t (P old).given (P new).given r) whole done
+      subst (λ t. HasEnded Open May t (P old).given (P new).given r) whole done

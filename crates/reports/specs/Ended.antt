@@ -16,13 +16,10 @@ IsReopen result = result ≡ Err (record { sent = 0; cause = cause.Act act.Reope
 abbrev pub OnlyReopens : {K : Type 0} → Bool → Result (Unit {0}) ReportFault → K → K → Given → Given → Type 0
 OnlyReopens is_broken result old new from to = is_broken ≡ true → IsReopen result × (new ≡ old) × (to ≡ from)
 
--- of a station that is open: the writer's fault, out of memory, or the store's
-abbrev pub IsCause : ReportCause → Type 0
-IsCause cause.Write = Unit {0}
-IsCause (cause.Act e) = IsReadersFault e
-
-abbrev pub IsFault : ReportFault → Type 0
-IsFault e = IsCause e.cause
+-- of a station that is open: the writer's fault, out of memory, or the store's, where it may fail
+abbrev pub IsCause : Type 0 → ReportCause → Type 0
+IsCause may_fail cause.Write = Unit {0}
+IsCause may_fail (cause.Act e) = IsReadersFault may_fail e
 
 -- at a fault of the writer it failed or took no byte; at another it did neither
 abbrev pub HasTold : ReportCause → Given → Given → Type 0
@@ -57,17 +54,22 @@ IsBegunBy Is front e old new =
 
 -- A report ended: its text went out, or a beginning of it. A fault is no refusal, nor Reopen of a
 -- station that is open.
-abbrev pub HasEnded : Type 0 → List ℕ → Given → Given → Result (Unit {0}) ReportFault → Type 0
-HasEnded open_station text old new (Ok x) = new.bytes ≡ old.bytes ++ text
-HasEnded open_station text old new (Err e) = IsBegun text e old new × (open_station → IsCause e.cause)
+abbrev pub HasEnded : Type 0 → Type 0 → List ℕ → Given → Given
+    → Result (Unit {0}) ReportFault → Type 0
+HasEnded open_station may_fail text old new (Ok x) = new.bytes ≡ old.bytes ++ text
+HasEnded open_station may_fail text old new (Err e) =
+    IsBegun text e old new × (open_station → IsCause may_fail e.cause)
 
 -- the same of a report that is known by what it is, behind what stands in front
-abbrev pub HasEndedBy : Type 0 → (List ℕ → Type 0) → List ℕ → Given → Given
+abbrev pub HasEndedBy : Type 0 → Type 0 → (List ℕ → Type 0) → List ℕ → Given → Given
     → Result (Unit {0}) ReportFault → Type 0
-HasEndedBy open_station Is front old new (Ok x) = (text : List ℕ) × Is text × (new.bytes ≡ old.bytes ++ (front ++ text))
-HasEndedBy open_station Is front old new (Err e) = IsBegunBy Is front e old new × HaveGone e.sent old new × HasTold e.cause old new × (open_station → IsCause e.cause)
+HasEndedBy open_station may_fail Is front old new (Ok x) =
+    (text : List ℕ) × Is text × (new.bytes ≡ old.bytes ++ (front ++ text))
+HasEndedBy open_station may_fail Is front old new (Err e) =
+    IsBegunBy Is front e old new × HaveGone e.sent old new × HasTold e.cause old new
+    × (open_station → IsCause may_fail e.cause)
 
 -- the same of each text that is the report: there is one at most
-pub record HasEndedEach (open_station : Type 0) (Is : List ℕ → Type 0) (front : List ℕ) (old new : Given) (result : Result (Unit {0}) ReportFault) : Type 0 where
+pub record HasEndedEach (open_station may_fail : Type 0) (Is : List ℕ → Type 0) (front : List ℕ) (old new : Given) (result : Result (Unit {0}) ReportFault) : Type 0 where
   pub text : (text : List ℕ) → Is text
-      → HasEnded open_station (front ++ text) old new result
+      → HasEnded open_station may_fail (front ++ text) old new result

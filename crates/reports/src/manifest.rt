@@ -38,9 +38,9 @@ fn manifest_of<K: Keeper>(
 ) -> Result<Vec<ManifestRow>, ActFault>
     ensures reopen { K.is_broken keeper.old ≡ true
         → (result ≡ Err ActFault.Reopen) × (keeper.new ≡ keeper.old) }
-    ensures fault { K.is_broken keeper.old ≡ false → IfErr result IsReadersFault }
-    ensures reads { OnlyReads (keeping K.keeps K.is_clean K.is_sound K.is_broken K.may_find)
-        keeper.old keeper.new }
+    ensures fault { K.is_broken keeper.old ≡ false → IfErr result (IsReadersFault K.may_fail) }
+    ensures reads { OnlyReads (keeping K.keeps K.is_clean K.is_sound K.is_broken K.may_find
+        K.may_fail) keeper.old keeper.new }
     ensures rows { (s : State) → K.keeps keeper.old s → K.is_sound keeper.new
         → IfOk result (λ rows. rows.items ≡ manifest_rows s.cargo flight.now) }
 {

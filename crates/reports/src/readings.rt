@@ -24,7 +24,7 @@ pub(crate) trait Reading<Row> {
         keeper: &mut K,
         sink: &mut S,
     ) -> Result<(), ActFault>
-        ensures { HandsOut (keeping K.keeps K.is_clean K.is_sound K.is_broken K.may_find)
+        ensures { HandsOut (keeping K.keeps K.is_clean K.is_sound K.is_broken K.may_find K.may_fail)
             keeper.old keeper.new result S.takes (rows self.now) sink.old sink.new };
 }
 

@@ -73,11 +73,11 @@ IsMemoryOrReopen _ = ⊥
 abbrev pub IsMemory : ActFault → Type 0
 IsMemory e = e ≡ fault.Memory
 
--- a reader never refuses
-abbrev pub IsReadersFault : ActFault → Type 0
-IsReadersFault fault.Memory = Unit {0}
-IsReadersFault fault.Store = Unit {0}
-IsReadersFault _ = ⊥
+-- a reader never refuses, and its store fails only where one may fail
+abbrev pub IsReadersFault : Type 0 → ActFault → Type 0
+IsReadersFault may_fail fault.Memory = Unit {0}
+IsReadersFault may_fail fault.Store = may_fail
+IsReadersFault may_fail _ = ⊥
 
 -- The state after the inputs that were answered, or where they ended by Store, after one more.
 abbrev pub IsAfterAnswered : State → List (Input × LocalMinute) → ℕ → Option ActFault → Option State
@@ -87,18 +87,26 @@ IsAfterAnswered s inputs answered ended found =
     ⊎ ((ended ≡ Some fault.Store) × (answered < length inputs) × (found ≡ Some (after_all s (take (answered + 1) inputs))))
 
 -- What is said of a keeper: the state that it keeps, whether the disk was true to it, whether what
--- is kept is sound, whether it has to be opened again, and what a reopening may find.
+-- is kept is sound, whether it has to be opened again, what a reopening may find, and what has to
+-- hold where its store fails: what lies in memory alone has none that may fail.
 pub record Keeping (K : Type 0) : Type 1 where
   pub keeps : K → State → Type 0
   pub is_clean : K → Type 0
   pub is_sound : K → Type 0
   pub is_broken : K → Bool
   pub may_find : K → Option State → Type 0
+  pub may_fail : Type 0
 
 abbrev pub keeping : {K : Type 0} → (K → State → Type 0) → (K → Type 0) → (K → Type 0) → (K → Bool)
-    → (K → Option State → Type 0) → Keeping K
-keeping keeps is_clean is_sound is_broken may_find =
-    record { keeps = keeps; is_clean = is_clean; is_sound = is_sound; is_broken = is_broken; may_find = may_find }
+    → (K → Option State → Type 0) → Type 0 → Keeping K
+keeping keeps is_clean is_sound is_broken may_find may_fail = record {
+  keeps = keeps;
+  is_clean = is_clean;
+  is_sound = is_sound;
+  is_broken = is_broken;
+  may_find = may_find;
+  may_fail = may_fail;
+}
 
 -- A call changes whether the disk was true and what is kept is sound only where the disk fails.
 pub record KeepsPremise {K : Type 0} (is_clean is_sound : K → Type 0) (old new : K) : Type 0 where
@@ -118,9 +126,7 @@ StaysIfBroken is_broken old new = is_broken ≡ true → new ≡ old
 -- other call returns anything else.
 pub record OnlyReads {K : Type 0} (k : Keeping K) (old new : K) : Type 0 where
   pub breaks : k.is_broken new ≡ k.is_broken old
-  pub clean : k.is_clean new → k.is_clean old
-  pub still : k.is_sound old → k.is_clean new → k.is_sound new
-  pub sound : k.is_sound new → k.is_sound old
+  pub premise : KeepsPremise k.is_clean k.is_sound old new
   pub same : (s : State) → k.keeps old s → k.is_sound new → k.keeps new s
   pub leaves :
       k.is_sound new → (found : Option State) → k.may_find new found → k.may_find old found
@@ -131,7 +137,7 @@ pub record OnlyReads {K : Type 0} (k : Keeping K) (old new : K) : Type 0 where
 pub record HandsOut {K S Row : Type 0} (k : Keeping K) (old new : K) (result : Result (Unit {0}) ActFault)
     (takes : S → Row → Bool → S → Type 0) (AreRows : Cargo → List Row → Type 0) (from to : S) : Type 0 where
   pub reopen : k.is_broken old ≡ true → (result ≡ Err fault.Reopen) × (new ≡ old) × (to ≡ from)
-  pub fault : k.is_broken old ≡ false → IfErr result IsReadersFault
+  pub fault : k.is_broken old ≡ false → IfErr result (IsReadersFault k.may_fail)
   pub reads : OnlyReads k old new
   pub rows : (s : State) → k.keeps old s → k.is_sound new
       → OnOk result ((rows : List Row) × AreRows s.cargo rows × HandedOut takes rows from to)

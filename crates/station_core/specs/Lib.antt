@@ -1,5 +1,6 @@
 pub mod Counted
 pub mod Ends
+pub mod Gathered
 pub mod Given
 pub mod Keeping
 pub mod Key

@@ -87,8 +87,8 @@ abbrev pub started : State → World
 started start = record { state = start; is_up = true; told = [] }
 
 -- the reply that a request got before, which the station has kept
-abbrev pub IsKept : State → Input → Reply → Type 0
-IsKept start i reply = repeated start i ≡ Some (Done reply)
+abbrev pub WasKept : State → Input → Reply → Type 0
+WasKept start i reply = repeated start i ≡ Some (Done reply)
 
 -- Whatever is sent, cut off and repeated from a state on: the state is that of the committed
 -- inputs, each once, in their order; and each reply that was given is the run's, or one that was
@@ -96,5 +96,7 @@ IsKept start i reply = repeated start i ≡ Some (Done reply)
 pub record ActsOnce (start : State) (events : List RetryEvent) : Type 0 where
   pub state : (after_events (started start) events).state ≡ after_all start (committed (started start) events)
   pub once : EachOnce (committed (started start) events)
-  pub told : AllByRecursion (λ (t : Input × Answer). IfDone t.1 (λ reply. IsKept start t.0 reply
-      ⊎ StandsIn (committed (started start) events) (answers_of start (committed (started start) events)) t.0 reply)) (after_events (started start) events).told
+  pub told : AllByRecursion (λ (t : Input × Answer). IfDone t.1 (λ reply. WasKept start t.0 reply
+      ⊎ StandsIn (committed (started start) events)
+      (answers_of start (committed (started start) events)) t.0 reply))
+      (after_events (started start) events).told

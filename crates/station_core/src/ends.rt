@@ -39,6 +39,12 @@ pub trait ByteOut {
     /// One write. Interrupted is a failure like any other.
     fn write(&mut self, buf: &[u8]) -> Result<usize, WriteFault>
         ensures { WriteStep (taken self.old) (taken self.new) result buf.now };
+
+    /// Says whether more input is at hand. If it is, what the writer takes next needn't go out
+    /// before the next read of the input.
+    fn expect_more(&mut self, _more: bool)
+        ensures { taken self.new ≡ taken self.old }
+    {}
 }
 
 /// A reader or a writer of std, with a count of what it did that contracts alone see.

@@ -37,6 +37,10 @@ pub trait Keeper {
     /// What a reopening after a crash at this moment may find: a state, or what means none.
     ghost may_find: { Self → Option State → Type 0 };
 
+    /// What holds if a call returns `Store` while it isn't broken. It is absurd of a keeper that
+    /// lies in memory alone, and always holds of one over a store that may fail.
+    ghost may_fail: { Type 0 };
+
     /// One input, at a moment.
     fn act(&mut self, input: &Input<'_>, at: Moment) -> Result<Reply, ActFault>
         // After a failure of the store nothing happens until the station is opened again.
@@ -56,8 +60,8 @@ pub trait Keeper {
     fn holder(&mut self, number: &Awb) -> Result<Option<Holder>, ActFault>
         ensures reopen { is_broken self.old ≡ true → (result ≡ Err ActFault.Reopen)
             × (self.new ≡ self.old) }
-        ensures fault { is_broken self.old ≡ false → IfErr result IsReadersFault }
-        ensures reads { OnlyReads (keeping keeps is_clean is_sound is_broken may_find)
+        ensures fault { is_broken self.old ≡ false → IfErr result (IsReadersFault may_fail) }
+        ensures reads { OnlyReads (keeping keeps is_clean is_sound is_broken may_find may_fail)
             self.old self.new }
         ensures holder { (s : State) → keeps self.old s → is_sound self.new
             → IfOk result (λ holder. holder ≡ s.cargo.holders number.now) };
@@ -66,31 +70,32 @@ pub trait Keeper {
     fn waybill(&mut self, number: &Awb) -> Result<Option<Waybill>, ActFault>
         ensures reopen { is_broken self.old ≡ true → (result ≡ Err ActFault.Reopen)
             × (self.new ≡ self.old) }
-        ensures fault { is_broken self.old ≡ false → IfErr result IsReadersFault }
-        ensures reads { OnlyReads (keeping keeps is_clean is_sound is_broken may_find)
+        ensures fault { is_broken self.old ≡ false → IfErr result (IsReadersFault may_fail) }
+        ensures reads { OnlyReads (keeping keeps is_clean is_sound is_broken may_find may_fail)
             self.old self.new }
         ensures waybill { (s : State) → keeps self.old s → is_sound self.new
             → IfOk result (λ waybill. waybill ≡ waybill_of s.cargo number.now) };
 
     /// The stock, as its maximal runs of one holder, ascending.
     fn stock<S: Sink<StockRun>>(&mut self, sink: &mut S) -> Result<(), ActFault>
-        ensures { HandsOut (keeping keeps is_clean is_sound is_broken may_find)
-            self.old self.new result S.takes (λ s rows. AreStockRuns s.holders rows) sink.old sink.new };
+        ensures { HandsOut (keeping keeps is_clean is_sound is_broken may_find may_fail)
+            self.old self.new result S.takes (λ s rows. AreStockRuns s.holders rows)
+            sink.old sink.new };
 
     /// The waybills with pieces in store, ascending.
     fn shed<S: Sink<ShedRow>>(&mut self, sink: &mut S) -> Result<(), ActFault>
-        ensures { HandsOut (keeping keeps is_clean is_sound is_broken may_find)
+        ensures { HandsOut (keeping keeps is_clean is_sound is_broken may_find may_fail)
             self.old self.new result S.takes (λ s rows. rows ≡ shed_rows s) sink.old sink.new };
 
     /// The flights that are noted, with what is built on each, by their written form and then by
     /// the day.
     fn flights<S: Sink<FlightRow>>(&mut self, sink: &mut S) -> Result<(), ActFault>
-        ensures { HandsOut (keeping keeps is_clean is_sound is_broken may_find)
+        ensures { HandsOut (keeping keeps is_clean is_sound is_broken may_find may_fail)
             self.old self.new result S.takes (λ s rows. AreFlightRows s rows) sink.old sink.new };
 
     /// What flights are to bring, by flight as `flights` has them and then by waybill.
     fn expected<S: Sink<ExpectedRow>>(&mut self, sink: &mut S) -> Result<(), ActFault>
-        ensures { HandsOut (keeping keeps is_clean is_sound is_broken may_find)
+        ensures { HandsOut (keeping keeps is_clean is_sound is_broken may_find may_fail)
             self.old self.new result S.takes (λ s rows. AreExpectedRows s rows) sink.old sink.new }
     {
         self.expected_by(&ExpectedQuery::All, sink)
@@ -102,18 +107,19 @@ pub trait Keeper {
         query: &ExpectedQuery,
         sink: &mut S,
     ) -> Result<(), ActFault>
-        ensures { HandsOut (keeping keeps is_clean is_sound is_broken may_find)
+        ensures { HandsOut (keeping keeps is_clean is_sound is_broken may_find may_fail)
             self.old self.new result S.takes (λ s rows. AreExpectedBy query.now s rows)
             sink.old sink.new };
 
     /// The waybills of which pieces are missing or were found, ascending.
     fn irregular<S: Sink<IrregularRow>>(&mut self, sink: &mut S) -> Result<(), ActFault>
-        ensures { HandsOut (keeping keeps is_clean is_sound is_broken may_find)
-            self.old self.new result S.takes (λ s rows. rows ≡ irregular_rows s) sink.old sink.new };
+        ensures { HandsOut (keeping keeps is_clean is_sound is_broken may_find may_fail)
+            self.old self.new result S.takes (λ s rows. rows ≡ irregular_rows s)
+            sink.old sink.new };
 
     /// The movement book, in order.
     fn book<S: Sink<BookRow>>(&mut self, sink: &mut S) -> Result<(), ActFault>
-        ensures { HandsOut (keeping keeps is_clean is_sound is_broken may_find)
+        ensures { HandsOut (keeping keeps is_clean is_sound is_broken may_find may_fail)
             self.old self.new result S.takes (λ s rows. rows ≡ book_rows s) sink.old sink.new }
     {
         self.book_by(&BookQuery::All, sink)
@@ -121,17 +127,19 @@ pub trait Keeper {
 
     /// The movements that are asked for, in order, with their numbers in the movement book.
     fn book_by<S: Sink<BookRow>>(&mut self, query: &BookQuery, sink: &mut S) -> Result<(), ActFault>
-        ensures { HandsOut (keeping keeps is_clean is_sound is_broken may_find)
-            self.old self.new result S.takes (λ s rows. rows ≡ book_by query.now s) sink.old sink.new };
+        ensures { HandsOut (keeping keeps is_clean is_sound is_broken may_find may_fail)
+            self.old self.new result S.takes (λ s rows. rows ≡ book_by query.now s)
+            sink.old sink.new };
 
     /// The messages that weren't confirmed yet, in order.
     fn pending<S: Sink<Message>>(&mut self, sink: &mut S) -> Result<(), ActFault>
-        ensures { HandsOut (keeping keeps is_clean is_sound is_broken may_find)
-            self.old self.new result S.takes (λ s rows. rows ≡ pending_messages s) sink.old sink.new };
+        ensures { HandsOut (keeping keeps is_clean is_sound is_broken may_find may_fail)
+            self.old self.new result S.takes (λ s rows. rows ≡ pending_messages s)
+            sink.old sink.new };
 
     /// The trail, in order.
     fn trail<S: Sink<TrailRow>>(&mut self, sink: &mut S) -> Result<(), ActFault>
-        ensures { HandsOut (keeping keeps is_clean is_sound is_broken may_find)
+        ensures { HandsOut (keeping keeps is_clean is_sound is_broken may_find may_fail)
             self.old self.new result S.takes (λ s rows. rows ≡ trail_rows s) sink.old sink.new }
     {
         self.trail_by(&TrailQuery::All, sink)
@@ -143,8 +151,9 @@ pub trait Keeper {
         query: &TrailQuery,
         sink: &mut S,
     ) -> Result<(), ActFault>
-        ensures { HandsOut (keeping keeps is_clean is_sound is_broken may_find)
-            self.old self.new result S.takes (λ s rows. rows ≡ trail_by query.now s) sink.old sink.new };
+        ensures { HandsOut (keeping keeps is_clean is_sound is_broken may_find may_fail)
+            self.old self.new result S.takes (λ s rows. rows ≡ trail_by query.now s)
+            sink.old sink.new };
 
     /// A reopening finds the state that it keeps.
     ghost settled: { (k : Self) (s : State) → keeps k s → is_sound k → (found : Option State)

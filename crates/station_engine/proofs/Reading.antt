@@ -27,22 +27,20 @@ finds_on is_clean is_sound may_find old new survives sound (Some t) finds = (sur
 -- a reader changes nothing
 pub reads_only : {K St : Type 0} (store : K → St) (is_broken : K → Bool) (shows : St → Seen → Type 0) (is_clean is_sound : St → Type 0) (may_find : St → Option State → Type 0) (old new : K) → is_broken new ≡ is_broken old
     → ((s : State) → shows (store old) (at_rest s) → shows (store new) (at_rest s)) → Survives is_clean is_sound may_find (store old) (store new)
-    → OnlyReads (keeping (λ k s. IsLawfulState s × shows (store k) (at_rest s)) (λ k. is_clean (store k)) (λ k. is_sound (store k)) is_broken (λ k found. Finds (may_find (store k)) found)) old new
+    → OnlyReads (keeping (λ k s. IsLawfulState s × shows (store k) (at_rest s)) (λ k. is_clean (store k)) (λ k. is_sound (store k)) is_broken (λ k found. Finds (may_find (store k)) found) (Unit {0})) old new
 reads_only store is_broken shows is_clean is_sound may_find old new broken rests survives = record {
   breaks = broken;
-  clean = survives.clean;
-  still = survives.still;
-  sound = survives.sound;
+  premise = record { clean = survives.clean; still = survives.still; sound = survives.sound };
   same = λ s keeps sound. (keeps.0, rests s keeps.1);
   leaves = λ sound found finds. finds_on is_clean is_sound may_find (store old) (store new) survives sound found finds;
 }
 
 -- a reader of rows changes nothing, and its sink takes them
 pub hands_out : {K St S Row : Type 0} (store : K → St) (is_broken : K → Bool) (shows : St → Seen → Type 0) (is_clean is_sound : St → Type 0) (may_find : St → Option State → Type 0) (old new : K)
-    (r : Result (Unit {0}) ActFault) (takes : S → Row → Bool → S → Type 0) (rows_of : Cargo → List Row) (from to : S) → is_broken old ≡ false → is_broken new ≡ is_broken old → IfErr r IsReadersFault
+    (r : Result (Unit {0}) ActFault) (takes : S → Row → Bool → S → Type 0) (rows_of : Cargo → List Row) (from to : S) → is_broken old ≡ false → is_broken new ≡ is_broken old → IfErr r (IsReadersFault (Unit {0}))
     → ((s : State) → shows (store old) (at_rest s) → shows (store new) (at_rest s)) → Survives is_clean is_sound may_find (store old) (store new)
     → ((s : State) → shows (store old) (at_rest s) → is_sound (store new) → Hands takes (rows_of s.cargo) from to r) → (rows : List Row) × HandedOut takes rows from to
-    → HandsOut (keeping (λ k s. IsLawfulState s × shows (store k) (at_rest s)) (λ k. is_clean (store k)) (λ k. is_sound (store k)) is_broken (λ k found. Finds (may_find (store k)) found)) old new r takes (λ s rows. rows ≡ rows_of s) from to
+    → HandsOut (keeping (λ k s. IsLawfulState s × shows (store k) (at_rest s)) (λ k. is_clean (store k)) (λ k. is_sound (store k)) is_broken (λ k found. Finds (may_find (store k)) found) (Unit {0})) old new r takes (λ s rows. rows ≡ rows_of s) from to
 hands_out {Row = Row} store is_broken shows is_clean is_sound may_find old new r takes rows_of from to works broken fault rests survives hands took = record {
   reopen = λ is. absurd (let no = sym works ∙ is in cc);
   fault = λ _. fault;

@@ -112,12 +112,12 @@ impl<S: StateStore> StoredStation<S> {
     fn runs(&mut self) -> Result<Vec<StockRun>, ActFault>
         ensures reopen { self.old.broken ≡ true → (result ≡ Err ActFault.Reopen)
             × (self.new ≡ self.old) }
-        ensures fault { self.old.broken ≡ false → IfErr result IsReadersFault }
+        ensures fault { self.old.broken ≡ false → IfErr result (IsReadersFault (Unit {0})) }
         ensures reads { OnlyReads (keeping ⟦<StoredStation<S> as Keeper>⟧.keeps
             ⟦<StoredStation<S> as Keeper>⟧.is_clean
             ⟦<StoredStation<S> as Keeper>⟧.is_sound
-            ⟦<StoredStation<S> as Keeper>⟧.is_broken ⟦<StoredStation<S> as Keeper>⟧.may_find)
-            self.old self.new }
+            ⟦<StoredStation<S> as Keeper>⟧.is_broken ⟦<StoredStation<S> as Keeper>⟧.may_find
+            ⟦<StoredStation<S> as Keeper>⟧.may_fail) self.old self.new }
         ensures rows { (s : State) → ⟦<StoredStation<S> as Keeper>⟧.keeps self.old s
             → ⟦<StoredStation<S> as Keeper>⟧.is_sound self.new
             → IfOk result (λ rows. AreStockRuns s.cargo.holders rows.items) }
@@ -136,12 +136,12 @@ impl<S: StateStore> StoredStation<S> {
     fn shed_rows(&mut self) -> Result<Vec<ShedRow>, ActFault>
         ensures reopen { self.old.broken ≡ true → (result ≡ Err ActFault.Reopen)
             × (self.new ≡ self.old) }
-        ensures fault { self.old.broken ≡ false → IfErr result IsReadersFault }
+        ensures fault { self.old.broken ≡ false → IfErr result (IsReadersFault (Unit {0})) }
         ensures reads { OnlyReads (keeping ⟦<StoredStation<S> as Keeper>⟧.keeps
             ⟦<StoredStation<S> as Keeper>⟧.is_clean
             ⟦<StoredStation<S> as Keeper>⟧.is_sound
-            ⟦<StoredStation<S> as Keeper>⟧.is_broken ⟦<StoredStation<S> as Keeper>⟧.may_find)
-            self.old self.new }
+            ⟦<StoredStation<S> as Keeper>⟧.is_broken ⟦<StoredStation<S> as Keeper>⟧.may_find
+            ⟦<StoredStation<S> as Keeper>⟧.may_fail) self.old self.new }
         ensures rows { (s : State) → ⟦<StoredStation<S> as Keeper>⟧.keeps self.old s
             → ⟦<StoredStation<S> as Keeper>⟧.is_sound self.new
             → IfOk result (λ rows. rows.items ≡ shed_rows s.cargo) }
@@ -160,12 +160,12 @@ impl<S: StateStore> StoredStation<S> {
     fn flight_rows(&mut self) -> Result<Vec<FlightRow>, ActFault>
         ensures reopen { self.old.broken ≡ true → (result ≡ Err ActFault.Reopen)
             × (self.new ≡ self.old) }
-        ensures fault { self.old.broken ≡ false → IfErr result IsReadersFault }
+        ensures fault { self.old.broken ≡ false → IfErr result (IsReadersFault (Unit {0})) }
         ensures reads { OnlyReads (keeping ⟦<StoredStation<S> as Keeper>⟧.keeps
             ⟦<StoredStation<S> as Keeper>⟧.is_clean
             ⟦<StoredStation<S> as Keeper>⟧.is_sound
-            ⟦<StoredStation<S> as Keeper>⟧.is_broken ⟦<StoredStation<S> as Keeper>⟧.may_find)
-            self.old self.new }
+            ⟦<StoredStation<S> as Keeper>⟧.is_broken ⟦<StoredStation<S> as Keeper>⟧.may_find
+            ⟦<StoredStation<S> as Keeper>⟧.may_fail) self.old self.new }
         ensures rows { (s : State) → ⟦<StoredStation<S> as Keeper>⟧.keeps self.old s
             → ⟦<StoredStation<S> as Keeper>⟧.is_sound self.new
             → IfOk result (λ rows. AreFlightRows s.cargo rows.items) }
@@ -184,12 +184,12 @@ impl<S: StateStore> StoredStation<S> {
     fn expected_rows(&mut self, query: &ExpectedQuery) -> Result<Vec<ExpectedRow>, ActFault>
         ensures reopen { self.old.broken ≡ true → (result ≡ Err ActFault.Reopen)
             × (self.new ≡ self.old) }
-        ensures fault { self.old.broken ≡ false → IfErr result IsReadersFault }
+        ensures fault { self.old.broken ≡ false → IfErr result (IsReadersFault (Unit {0})) }
         ensures reads { OnlyReads (keeping ⟦<StoredStation<S> as Keeper>⟧.keeps
             ⟦<StoredStation<S> as Keeper>⟧.is_clean
             ⟦<StoredStation<S> as Keeper>⟧.is_sound
-            ⟦<StoredStation<S> as Keeper>⟧.is_broken ⟦<StoredStation<S> as Keeper>⟧.may_find)
-            self.old self.new }
+            ⟦<StoredStation<S> as Keeper>⟧.is_broken ⟦<StoredStation<S> as Keeper>⟧.may_find
+            ⟦<StoredStation<S> as Keeper>⟧.may_fail) self.old self.new }
         ensures rows { (s : State) → ⟦<StoredStation<S> as Keeper>⟧.keeps self.old s
             → ⟦<StoredStation<S> as Keeper>⟧.is_sound self.new
             → IfOk result (λ rows. AreExpectedBy query.now s.cargo rows.items) }
@@ -208,12 +208,12 @@ impl<S: StateStore> StoredStation<S> {
     fn irregular_rows(&mut self) -> Result<Vec<IrregularRow>, ActFault>
         ensures reopen { self.old.broken ≡ true → (result ≡ Err ActFault.Reopen)
             × (self.new ≡ self.old) }
-        ensures fault { self.old.broken ≡ false → IfErr result IsReadersFault }
+        ensures fault { self.old.broken ≡ false → IfErr result (IsReadersFault (Unit {0})) }
         ensures reads { OnlyReads (keeping ⟦<StoredStation<S> as Keeper>⟧.keeps
             ⟦<StoredStation<S> as Keeper>⟧.is_clean
             ⟦<StoredStation<S> as Keeper>⟧.is_sound
-            ⟦<StoredStation<S> as Keeper>⟧.is_broken ⟦<StoredStation<S> as Keeper>⟧.may_find)
-            self.old self.new }
+            ⟦<StoredStation<S> as Keeper>⟧.is_broken ⟦<StoredStation<S> as Keeper>⟧.may_find
+            ⟦<StoredStation<S> as Keeper>⟧.may_fail) self.old self.new }
         ensures rows { (s : State) → ⟦<StoredStation<S> as Keeper>⟧.keeps self.old s
             → ⟦<StoredStation<S> as Keeper>⟧.is_sound self.new
             → IfOk result (λ rows. rows.items ≡ irregular_rows s.cargo) }
@@ -240,6 +240,8 @@ impl<S: StateStore> Keeper for StoredStation<S> {
     ghost is_broken = { λ k. k.broken };
 
     ghost may_find = { λ k found. Finds (S.may_find k.store) found };
+
+    ghost may_fail = { Unit {0} };
 
     ghost settled = { λ k s keeps sound found finds. found_is (S.may_find k.store) s keeps.0
         (S.settled k.store s keeps.1 sound) found finds };

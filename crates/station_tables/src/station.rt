@@ -128,6 +128,8 @@ impl<S: Alter> Keeper for Station<S> {
     ghost may_find = { λ k found. ⟦<StoredStation<TableState<Rows<S>>> as Keeper>⟧.may_find k.stored
         found };
 
+    ghost may_fail = { ⟦<StoredStation<TableState<Rows<S>>> as Keeper>⟧.may_fail };
+
     ghost settled = { λ k s keeps sound found finds. found_is _ s keeps.0
         (λ f left. finds_what_it_shows _ s (keeps.1 sound).holds f left) found finds };
 

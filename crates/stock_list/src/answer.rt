@@ -132,6 +132,8 @@ pub fn answer_bad_row<W: ByteOut, E: ByteOut>(
     let Ok(line) = bad_line(alloc, place.number) else {
         return Err(RunFault::Memory);
     };
+    // The line goes out before its reason does.
+    writer.expect_more(false);
     send_line(writer, &line)?;
     tell_row(alloc, errors, row, place.line);
     Ok(false)

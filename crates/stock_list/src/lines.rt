@@ -15,6 +15,8 @@ pub struct LineCount {
     ended: Cell<u64>,
     /// The line of the last byte, from 1; the one behind it where the list has ended.
     line: Cell<u64>,
+    /// Whether another row is at hand.
+    more: Cell<bool>,
 }
 
 /// How many ends of lines the fields of a record have.
@@ -29,6 +31,7 @@ impl LineCount {
         LineCount {
             ended: Cell::new(0),
             line: Cell::new(1),
+            more: Cell::new(false),
         }
     }
 
@@ -40,6 +43,16 @@ impl LineCount {
         if part.last() == Some(&b'\n') {
             self.ended.set(next);
         }
+    }
+
+    /// Notes what was read ahead.
+    fn note_ahead(&self, ahead: &[u8]) {
+        self.more.set(begins_with_row(ahead));
+    }
+
+    /// Whether another row is at hand: reading it takes no read of the list's own reader.
+    pub fn has_more(&self) -> bool {
+        self.more.get()
     }
 
     /// The line on which the record begins that was read last.
@@ -65,6 +78,17 @@ fn line_len(ahead: &[u8]) -> usize
     }
 }
 
+/// Whether a text begins with a whole line that is a row by itself: it isn't blank, and each quote
+/// in it has its match.
+fn begins_with_row(ahead: &[u8]) -> bool {
+    let Some(end) = ahead.iter().position(|b| *b == b'\n') else {
+        return false;
+    };
+    let line = &ahead[..end];
+    let quotes = line.iter().filter(|b| **b == b'"').count();
+    quotes % 2 == 0 && line.iter().any(|b| *b != b'\r')
+}
+
 impl<R: Read> Read for LineByLine<'_, R> {
     ghost remaining = { λ l. reader_remaining R.remaining l.reader };
 
@@ -73,6 +97,7 @@ impl<R: Read> Read for LineByLine<'_, R> {
         let most = line_len(self.reader.buffer()).min(buf.len());
         let n = self.reader.read(&mut buf[..most])?;
         self.count.pass(&buf[..n]);
+        self.count.note_ahead(self.reader.buffer());
         Ok(n)
     }
 }

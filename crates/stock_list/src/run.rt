@@ -1,17 +1,19 @@
 ghost use Rattle.std.specs.Prelude.{◌≡◌, ◌<◌, ◌⊎◌, true, false, Ok, Err, List, Option, OnOk, IfOk, IfErr, IfSome};
 ghost use Rattle.csv.specs.Reading.{error_kind};
+ghost use Rattle.csv.specs.Records.{fields_of};
 ghost use Rattle.station_core.specs.Keeping.{KeepsPremise, KeepsWorking, StaysIfBroken};
 ghost use Rattle.station_core.specs.Ends.{HasCause};
 ghost use Rattle.station_core.specs.Step.{State};
-ghost use Rattle.stock_list.specs.Ended.{AreFirst, HasRun, HasStopped, IsShutAfter, IsUntroubled, IsWriteOrUntroubled, kept, reader_fault, rows_read, told_by};
+ghost use Rattle.stock_list.specs.Ended.{AreFirst, HasRun, HasStopped, IsAnswered, IsShutAfter, IsStopped, IsUntroubled, IsWriteOrUntroubled, kept, reader_fault, rows_read, told_by};
 ghost use Rattle.stock_list.specs.Lines.{Row, stock_rows};
-ghost use Rattle.stock_list.specs.Reasons.{HasToldRows};
-ghost use Rattle.stock_list.specs.Shut.{HasRunShut};
+ghost use Rattle.stock_list.specs.Reasons.{HasToldRow, HasToldRows};
+ghost use Rattle.stock_list.specs.Row.{row_asks};
+ghost use Rattle.stock_list.specs.Shut.{HasRunShut, IsAnsweredShut};
 
 use crate::answer::{RowPlace, RunFault, answer_row};
 use crate::lines::{LineCount, line_by_line};
 use crate::watched::Watched;
-use csv::{Error, ErrorKind, ReaderBuilder};
+use csv::{ByteRecord, Error, ErrorKind, ReaderBuilder};
 use station_core::{ByteOut, Keeper};
 use station_days::Moment;
 use std::alloc::Global;
@@ -25,6 +27,49 @@ pub fn list_fault(e: Error) -> RunFault
         ErrorKind::Io(_) => RunFault::Read,
         _ => RunFault::Memory,
     }
+}
+
+/// Answers a row of a list. If another row is at hand, what is written of this one needn't go out
+/// before that one is read.
+fn answer_listed<K: Keeper, W: ByteOut, E: ByteOut>(
+    alloc: Global,
+    keeper: &mut K,
+    writer: &mut W,
+    errors: &mut E,
+    number: u64,
+    lines: &LineCount,
+    row: &ByteRecord,
+    at: Moment,
+) -> Result<bool, RunFault>
+    ensures premise { KeepsPremise K.is_clean K.is_sound keeper.old keeper.new }
+    ensures works { KeepsWorking (K.is_broken keeper.old) (K.is_broken keeper.new) result }
+    ensures breaks { K.is_broken keeper.old ≡ false
+        → IfErr result (λ e. IsShutAfter e (K.is_broken keeper.new)) }
+    ensures answered { (s : State) → K.keeps keeper.old s → K.is_broken keeper.old ≡ false
+        → K.is_sound keeper.new
+        → IfOk result (λ good. IsAnswered number s (fields_of row.now) at good
+        (W.taken writer.old).bytes (W.taken writer.new).bytes (K.keeps keeper.new)) }
+    ensures stopped { (s : State) → K.keeps keeper.old s → K.is_broken keeper.old ≡ false
+        → K.is_sound keeper.new
+        → IfErr result (λ e. IsStopped number s (fields_of row.now) at e
+        (W.taken writer.old).bytes (W.taken writer.new).bytes
+        (kept (K.keeps keeper.new) (K.may_find keeper.new))) }
+    ensures untroubled { OnOk result (IsUntroubled (W.taken writer.old) (W.taken writer.new)) }
+    ensures write_cause { result ≡ Err RunFault.Write
+        → HasCause (W.taken writer.old) (W.taken writer.new) }
+    ensures write_told { IfErr result (λ e. IsWriteOrUntroubled e (W.taken writer.old)
+        (W.taken writer.new)) }
+    ensures reasons { HasToldRow E.taken result (row_asks (fields_of row.now)) errors.old
+        errors.new }
+    ensures same { StaysIfBroken (K.is_broken keeper.old) keeper.old keeper.new }
+    ensures reopen { K.is_broken keeper.old ≡ true
+        → IsAnsweredShut number (row_asks (fields_of row.now)) (W.taken writer.old)
+        (W.taken writer.new) result }
+{
+    let line = lines.first_line(row);
+    let place = RowPlace { number, line };
+    writer.expect_more(lines.has_more());
+    answer_row(alloc, keeper, writer, errors, place, row, at)
 }
 
 /// Answers the rows that a reader gives up to its end, or up to an error.
@@ -76,9 +121,9 @@ fn run_rows<K: Keeper, R: Read + Drop, W: ByteOut, E: ByteOut>(
         number += 1;
         match row {
             Ok(row) => {
-                let line = lines.first_line(&row);
-                let place = RowPlace { number, line };
-                let accepted = answer_row(alloc, keeper, writer, errors, place, &row, at)?;
+                let accepted = answer_listed(
+                    alloc, keeper, writer, errors, number, lines, &row, at,
+                )?;
                 good &= accepted;
             }
             Err(e) => return Err(list_fault(e)),

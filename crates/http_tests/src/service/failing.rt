@@ -41,6 +41,8 @@ impl Keeper for Failing {
 
     ghost may_find = { λ k found. ⊥ };
 
+    ghost may_fail = { Unit {0} };
+
     ghost settled = { λ k s keeps sound found finds. absurd finds };
 
     ghost lawful = { λ k s sound finds. absurd finds };

@@ -10,8 +10,8 @@ returns-in_default-clause-answered g c = ([], (None, none_first (g.R.Read.remain
 
 pub returns-clause-answered : goal.returns-clause-answered
 returns-clause-answered g c =
-    let Step = HasAnsweredLine (keeping g.K.Keeper.keeps g.K.Keeper.is_clean g.K.Keeper.is_sound g.K.Keeper.is_broken g.K.Keeper.may_find) c.args.at g.E.ByteOut.taken in
-    rw c.told_by.ensures (told_lines Step (never_reads (keeping g.K.Keeper.keeps g.K.Keeper.is_clean g.K.Keeper.is_sound g.K.Keeper.is_broken g.K.Keeper.may_find) c.args.at g.E.ByteOut.taken)
+    let Step = HasAnsweredLine (keeping g.K.Keeper.keeps g.K.Keeper.is_clean g.K.Keeper.is_sound g.K.Keeper.is_broken g.K.Keeper.may_find g.K.Keeper.may_fail) c.args.at g.E.ByteOut.taken in
+    rw c.told_by.ensures (told_lines Step (never_reads (keeping g.K.Keeper.keeps g.K.Keeper.is_clean g.K.Keeper.is_sound g.K.Keeper.is_broken g.K.Keeper.may_find g.K.Keeper.may_fail) c.args.at g.E.ByteOut.taken)
     (g.R.Read.remaining c.args.reader.now) (come c.args.keeper.now (g.W.ByteOut.taken c.args.writer.now) c.args.errors.now)
     (come c.run_lines-ended.new.keeper (g.W.ByteOut.taken c.run_lines-ended.new.writer) c.run_lines-ended.new.errors) c.run_lines-ended.result c.has_failed.result (rw c.in-Ok.ensures at c.run_lines-ended.ensures.answered))
 

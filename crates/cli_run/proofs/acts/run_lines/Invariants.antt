@@ -13,6 +13,6 @@ invariant-loop-number g l =
       works : g.K.Keeper.is_broken l.fn.keeper ≡ false → g.K.Keeper.is_broken l.keeper ≡ false;
       lines : (lines : List (List ℕ)) × (l.number ≡ 1 + length lines)
           × IfSome (g.R.Read.remaining l.fn.reader) (Known (g.R.Read.remaining l.reader) lines)
-          × AreAnswered (HasAnsweredLine (keeping g.K.Keeper.keeps g.K.Keeper.is_clean g.K.Keeper.is_sound g.K.Keeper.is_broken g.K.Keeper.may_find) l.fn.at g.E.ByteOut.taken)
+          × AreAnswered (HasAnsweredLine (keeping g.K.Keeper.keeps g.K.Keeper.is_clean g.K.Keeper.is_sound g.K.Keeper.is_broken g.K.Keeper.may_find g.K.Keeper.may_fail) l.fn.at g.E.ByteOut.taken)
           1 lines (come l.fn.keeper (g.W.ByteOut.taken l.fn.writer) l.fn.errors) (come l.keeper (g.W.ByteOut.taken l.writer) l.errors) l.good;
     }

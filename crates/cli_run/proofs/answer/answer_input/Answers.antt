@@ -20,14 +20,14 @@ returns-in-Err-clause-breaks g c = λ works.
 
 pub returns-in-Err-clause-reasons : goal.returns-in-Err-clause-reasons
 returns-in-Err-clause-reasons g c =
-    let k = (keeping g.K.Keeper.keeps g.K.Keeper.is_clean g.K.Keeper.is_sound g.K.Keeper.is_broken g.K.Keeper.may_find) in
+    let k = (keeping g.K.Keeper.keeps g.K.Keeper.is_clean g.K.Keeper.is_sound g.K.Keeper.is_broken g.K.Keeper.may_find g.K.Keeper.may_fail) in
     let sent = g.O.ByteOut.taken c.args.writer.now in
     explained_stop c.args.number k (asked.Input c.args.input.now) c.args.at g.E.ByteOut.taken
     (come c.args.keeper.now sent c.args.errors.now) (come c.answer_one.new.keeper sent c.args.errors.now) _ c.keeper_fault.result refl refl
 
 pub returns-in_default-clause-reasons : goal.returns-in_default-clause-reasons
 returns-in_default-clause-reasons g c =
-    let k = (keeping g.K.Keeper.keeps g.K.Keeper.is_clean g.K.Keeper.is_sound g.K.Keeper.is_broken g.K.Keeper.may_find) in
+    let k = (keeping g.K.Keeper.keeps g.K.Keeper.is_clean g.K.Keeper.is_sound g.K.Keeper.is_broken g.K.Keeper.may_find g.K.Keeper.may_fail) in
     let sent = g.O.ByteOut.taken c.args.writer.now in
     explained_stop c.args.number k (asked.Input c.args.input.now) c.args.at g.E.ByteOut.taken
     (come c.args.keeper.now sent c.args.errors.now) (come c.answer_one.new.keeper sent c.args.errors.now) (Err fault.Memory) fault.Memory refl refl

@@ -10,6 +10,6 @@ invariant-loop-turn g l =
     record {
       premise : KeepsPremise g.K.Keeper.is_clean g.K.Keeper.is_sound l.fn.keeper l.keeper;
       works : g.K.Keeper.is_broken l.fn.keeper ≡ false → g.K.Keeper.is_broken l.keeper ≡ false;
-      made : AreMade (HasTakenNext (keeping g.K.Keeper.keeps g.K.Keeper.is_clean g.K.Keeper.is_sound g.K.Keeper.is_broken g.K.Keeper.may_find) l.fn.at g.I.ByteIn.given g.I.Inputs.turned g.E.ByteOut.taken)
+      made : AreMade (HasTakenNext (keeping g.K.Keeper.keeps g.K.Keeper.is_clean g.K.Keeper.is_sound g.K.Keeper.is_broken g.K.Keeper.may_find g.K.Keeper.may_fail) l.fn.at g.I.ByteIn.given g.I.Inputs.turned g.E.ByteOut.taken)
           l._turn (come l.fn.keeper (g.W.ByteOut.taken l.fn.writer) l.fn.errors, l.fn.reader) (come l.keeper (g.W.ByteOut.taken l.writer) l.errors, l.reader) l.good;
     }

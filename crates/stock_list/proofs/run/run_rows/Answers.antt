@@ -50,7 +50,7 @@ overflow_add-number g c =
     omega (arith, bound, left)
 
 pub returns-in_err-accepted-in-Ok-clause-premise : goal.returns-in_err-accepted-in-Ok-clause-premise
-returns-in_err-accepted-in-Ok-clause-premise g c = kept_on c.loop-row.invariant.premise c.answer_row.ensures.premise
+returns-in_err-accepted-in-Ok-clause-premise g c = kept_on c.loop-row.invariant.premise c.answer_listed.ensures.premise
 
 pub loop-row-preserved : goal.loop-row-preserved
 loop-row-preserved g c =
@@ -67,25 +67,25 @@ loop-row-preserved g c =
       left = step.2;
       config = step.0.2 ∙ inv.config;
       counted = omega (arith, bound, fewer);
-      premise = kept_on inv.premise c.answer_row.ensures.premise;
+      premise = kept_on inv.premise c.answer_listed.ensures.premise;
       works = λ works. c.in_ok-accepted-in-Ok.ensures.works (inv.works works);
-      untroubled = untroubled_more (g.W.ByteOut.taken c.args.writer.now) (g.W.ByteOut.taken c.loop-row.writer) (g.W.ByteOut.taken c.answer_row.new.writer)
+      untroubled = untroubled_more (g.W.ByteOut.taken c.args.writer.now) (g.W.ByteOut.taken c.loop-row.writer) (g.W.ByteOut.taken c.answer_listed.new.writer)
           inv.untroubled c.in_ok-accepted-in-Ok.ensures.untroubled;
-      quiet = quiet_more g.E.ByteOut.taken (row_asks f) c.loop-row.good c.in_ok-accepted-in-Ok.accepted c.args.errors.now c.loop-row.errors c.answer_row.new.errors
+      quiet = quiet_more g.E.ByteOut.taken (row_asks f) c.loop-row.good c.in_ok-accepted-in-Ok.accepted c.args.errors.now c.loop-row.errors c.answer_listed.new.errors
           inv.quiet c.in_ok-accepted-in-Ok.ensures.reasons;
-      same = λ broken. c.answer_row.ensures.same (ap g.K.Keeper.is_broken (inv.same broken) ∙ broken) ∙ inv.same broken;
+      same = λ broken. c.answer_listed.ensures.same (ap g.K.Keeper.is_broken (inv.same broken) ∙ broken) ∙ inv.same broken;
       rows = (
         rows ++ f ∷ [],
         counted_more c.loop-row.number rows f inv.rows.1,
         known_more g.R.Read.remaining c.loop-row.row-iterator.rdr c.next.new.self.rdr f rows (g.R.Read.remaining c.args.reader) inv.config step.0 inv.rows.2,
         λ s keeps works sound.
-            let run = inv.rows.3 s keeps works (c.answer_row.ensures.premise.sound sound) in
+            let run = inv.rows.3 s keeps works (c.answer_listed.ensures.premise.sound sound) in
             run_more s rows f c.args.at c.loop-row.number c.loop-row.good c.in_ok-accepted-in-Ok.accepted _ _ _ _ _ inv.rows.1 run
             (c.in_ok-accepted-in-Ok.ensures.answered (rows_after s rows c.args.at) run.state (inv.works works) sound),
         λ broken. shut_more rows f c.loop-row.number c.loop-row.good c.in_ok-accepted-in-Ok.accepted (g.W.ByteOut.taken c.args.writer.now).bytes
-            (g.W.ByteOut.taken c.loop-row.writer) (g.W.ByteOut.taken c.answer_row.new.writer) inv.rows.1 (inv.rows.4 broken)
+            (g.W.ByteOut.taken c.loop-row.writer) (g.W.ByteOut.taken c.answer_listed.new.writer) inv.rows.1 (inv.rows.4 broken)
             (c.in_ok-accepted-in-Ok.ensures.reopen (ap g.K.Keeper.is_broken (inv.same broken) ∙ broken)),
-        told_more g.E.ByteOut.taken rows f c.in_ok-accepted-in-Ok.accepted (g.E.ByteOut.taken c.args.errors.now).bytes c.loop-row.errors c.answer_row.new.errors
+        told_more g.E.ByteOut.taken rows f c.in_ok-accepted-in-Ok.accepted (g.E.ByteOut.taken c.args.errors.now).bytes c.loop-row.errors c.answer_listed.new.errors
             inv.rows.5 c.in_ok-accepted-in-Ok.ensures.reasons,
       );
     }
@@ -134,7 +134,7 @@ returns-in_err-accepted-in-Ok-clause-stopped g c = λ s keeps works sound.
     let rows : List Row = inv.rows.0 in
     let f : Row = fields_of c.in-Ok.row in
     let step = rw (c.in-Some.is, c.in-Ok.is) at ((c.next.ensures.steps inv.left inv.trim).0 inv.ready) in
-    let run = inv.rows.3 s keeps works (c.answer_row.ensures.premise.sound sound) in
+    let run = inv.rows.3 s keeps works (c.answer_listed.ensures.premise.sound sound) in
     let known = known_more g.R.Read.remaining c.loop-row.row-iterator.rdr c.next.new.self.rdr f rows (g.R.Read.remaining c.args.reader) inv.config step.0 inv.rows.2 in
     let stopped = c.in_err-accepted-in-Ok.ensures.stopped (rows_after s rows c.args.at) run.state (inv.works works) sound in
     passed_on c.from_residual.result c.in_err-accepted-in-Ok.field-0.0 _ c.from_residual.ensures.1 (
@@ -144,7 +144,7 @@ returns-in_err-accepted-in-Ok-clause-stopped g c = λ s keeps works sound.
         (
           known_first g.R.Read.remaining c.next.new.self.rdr (rows ++ f ∷ []) (g.R.Read.remaining c.args.reader) known,
           stops_more s rows f c.args.at c.loop-row.number c.loop-row.good _ _ _ _ _
-              (kept (g.K.Keeper.keeps c.answer_row.new.keeper) (g.K.Keeper.may_find c.answer_row.new.keeper)) inv.rows.1 run stopped,
+              (kept (g.K.Keeper.keeps c.answer_listed.new.keeper) (g.K.Keeper.may_find c.answer_listed.new.keeper)) inv.rows.1 run stopped,
         ),
       ),
     )
@@ -155,7 +155,7 @@ returns-in-Err-clause-write_cause g c = λ is. no_write _ c.list_fault.result _ 
 pub returns-in_err-accepted-in-Ok-clause-write_cause : goal.returns-in_err-accepted-in-Ok-clause-write_cause
 returns-in_err-accepted-in-Ok-clause-write_cause g c = λ is.
     let old = g.W.ByteOut.taken c.args.writer.now in
-    let new = g.W.ByteOut.taken c.answer_row.new.writer in
+    let new = g.W.ByteOut.taken c.answer_listed.new.writer in
     passed_cause c.from_residual.result c.in_err-accepted-in-Ok.field-0.0 (HasCause old new) c.from_residual.ensures.1
     (λ write. cause_behind old (g.W.ByteOut.taken c.loop-row.writer) new c.loop-row.invariant.untroubled (c.in_err-accepted-in-Ok.ensures.write_cause (ap Err write))) is
 
@@ -166,7 +166,7 @@ pub returns-in_err-accepted-in-Ok-clause-write_told : goal.returns-in_err-accept
 returns-in_err-accepted-in-Ok-clause-write_told g c =
     let old = g.W.ByteOut.taken c.args.writer.now in
     let mid = g.W.ByteOut.taken c.loop-row.writer in
-    let new = g.W.ByteOut.taken c.answer_row.new.writer in
+    let new = g.W.ByteOut.taken c.answer_listed.new.writer in
     passed_on c.from_residual.result c.in_err-accepted-in-Ok.field-0.0 _ c.from_residual.ensures.1
     (told_behind c.in_err-accepted-in-Ok.field-0.0 old mid new c.loop-row.invariant.untroubled c.in_err-accepted-in-Ok.ensures.write_told)
 
@@ -182,7 +182,7 @@ returns-clause-same g c = c.loop-row.invariant.same
 pub returns-in_err-accepted-in-Ok-clause-same : goal.returns-in_err-accepted-in-Ok-clause-same
 returns-in_err-accepted-in-Ok-clause-same g c = λ broken.
     let same = c.loop-row.invariant.same broken in
-    c.answer_row.ensures.same (ap g.K.Keeper.is_broken same ∙ broken) ∙ same
+    c.answer_listed.ensures.same (ap g.K.Keeper.is_broken same ∙ broken) ∙ same
 
 pub returns-clause-reopen : goal.returns-clause-reopen
 returns-clause-reopen g c = λ broken.
@@ -215,7 +215,7 @@ returns-in_err-accepted-in-Ok-clause-reopen g c = λ broken.
     let known = known_more g.R.Read.remaining c.loop-row.row-iterator.rdr c.next.new.self.rdr f rows (g.R.Read.remaining c.args.reader) inv.config step.0 inv.rows.2 in
     let old = g.W.ByteOut.taken c.args.writer.now in
     let mid = g.W.ByteOut.taken c.loop-row.writer in
-    let new = g.W.ByteOut.taken c.answer_row.new.writer in
+    let new = g.W.ByteOut.taken c.answer_listed.new.writer in
     let shut = inv.rows.4 broken in
     let told = c.in_err-accepted-in-Ok.ensures.reopen (ap g.K.Keeper.is_broken (inv.same broken) ∙ broken) in
     passed_shut (g.R.Read.remaining c.args.reader) old.bytes new.bytes c.from_residual.result c.in_err-accepted-in-Ok.field-0.0 c.from_residual.ensures.1 (
@@ -251,9 +251,9 @@ returns-in-Err-clause-reasons g c =
 pub returns-in_err-accepted-in-Ok-clause-reasons : goal.returns-in_err-accepted-in-Ok-clause-reasons
 returns-in_err-accepted-in-Ok-clause-reasons g c =
     let inv = c.loop-row.invariant in
-    passed_told (g.R.Read.remaining c.args.reader) (g.E.ByteOut.taken c.args.errors.now).bytes (g.E.ByteOut.taken c.answer_row.new.errors).bytes
+    passed_told (g.R.Read.remaining c.args.reader) (g.E.ByteOut.taken c.args.errors.now).bytes (g.E.ByteOut.taken c.answer_listed.new.errors).bytes
     c.from_residual.result c.in_err-accepted-in-Ok.field-0.0 c.from_residual.ensures.1 (
       inv.rows.0,
       known_first g.R.Read.remaining c.loop-row.row-iterator.rdr inv.rows.0 (g.R.Read.remaining c.args.reader) inv.rows.2,
-      told_stop g.E.ByteOut.taken inv.rows.0 (g.E.ByteOut.taken c.args.errors.now).bytes c.loop-row.errors c.answer_row.new.errors inv.rows.5 c.in_err-accepted-in-Ok.ensures.reasons,
+      told_stop g.E.ByteOut.taken inv.rows.0 (g.E.ByteOut.taken c.args.errors.now).bytes c.loop-row.errors c.answer_listed.new.errors inv.rows.5 c.in_err-accepted-in-Ok.ensures.reasons,
     )
