@@ -13,25 +13,25 @@ use Rattle.http_desk.specs.declared.asking.Told.TheVariants as told
 use Rattle.http_desk.specs.declared.wanted.Wanted.{Wanted}
 use Rattle.http_desk.specs.declared.wanted.Wanted.TheVariants as wanted
 use Rattle.http_desk.specs.Reply.{Reply, answer_reply, refusal_reply}
-use Rattle.http_desk.specs.StationAfter.{StationAfter, station_at, IsKept}
+use Rattle.http_desk.specs.StationAfter.{StationAfter, station_at, WorksAt}
 use Rattle.http_desk.specs.Told.{IsToldAs, HasAsked, HasAskedShut, IsUnavailable}
 use Rattle.http_desk.specs.Wanted.{wanted_reply, wanted_state}
 use Rattle.http_desk.proofs.Refusals.{refused_stays}
 
 -- a reply of JSON, where the state after it is the one before
 pub asked_json : (s : State) (at : LocalMinute) (w : Wanted) (t : Told) (left : StationAfter)
-    → IsToldAs (wanted_reply s at w) t → wanted_state s at w ≡ s → IsKept left s → HasAsked s at w t left
-asked_json s at w (told.Accepted count) left is same kept = (is, subst (IsKept left) (sym same) kept)
+    → IsToldAs (wanted_reply s at w) t → wanted_state s at w ≡ s → WorksAt left s → HasAsked s at w t left
+asked_json s at w (told.Accepted count) left is same kept = (is, subst (WorksAt left) (sym same) kept)
 asked_json s at w (told.Json status text) left is same kept = (is.0, is.1 s, same, kept)
 asked_json s at w (told.Report name) left is same kept = absurd is
 asked_json s at w (told.Unavailable reopen) left is same kept = inl kept
 
 -- an input that was refused
 pub asked_refused : (s : State) (at : LocalMinute) (i : Input) (refusal : Refusal) (t : Told) (left : StationAfter)
-    → (step s i at).answer ≡ answer.Refused refusal → IsToldAs (refusal_reply refusal) t → IsKept left (step s i at).state → HasAsked s at (wanted.Input i) t left
+    → (step s i at).answer ≡ answer.Refused refusal → IsToldAs (refusal_reply refusal) t → WorksAt left (step s i at).state → HasAsked s at (wanted.Input i) t left
 asked_refused s at i refusal t left is told kept =
     let same : (step s i at).state ≡ s = refused_stays s i at refusal is in
-    asked_json s at (wanted.Input i) t left (subst (λ (r : Reply). IsToldAs r t) (sym (ap answer_reply is)) told) same (subst (IsKept left) same kept)
+    asked_json s at (wanted.Input i) t left (subst (λ (r : Reply). IsToldAs r t) (sym (ap answer_reply is)) told) same (subst (WorksAt left) same kept)
 
 -- an input that wasn't answered
 pub asked_fault : (s : State) (at : LocalMinute) (i : Input) (e : ActFault) (reopen : Bool) (left : StationAfter)

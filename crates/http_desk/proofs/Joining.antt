@@ -17,7 +17,7 @@ use Rattle.http_desk.specs.declared.serve.ServeFault.{ServeFault}
 use Rattle.http_desk.specs.declared.serve.ServeFault.TheVariants as serve
 use Rattle.http_desk.specs.Answer.{Replied}
 use Rattle.http_desk.specs.Reply.{Reply, json_reply, ok_data, ok_answer, report_head}
-use Rattle.http_desk.specs.StationAfter.{StationAfter, station_at, IsKept}
+use Rattle.http_desk.specs.StationAfter.{StationAfter, station_at, WorksAt}
 use Rattle.http_desk.specs.Serving.{added, unavailable, SomeOrEach, IsBeginning, IsUnchangedOrBroken, BeginsAs503, IsAnswer, IsPartOut, HasServed, HasServedShut}
 use Rattle.http_desk.specs.Writing.{IsToldFor, IsToldShut, HasSent, HasBegun, HasReported, HasWritten, HasWrittenShut}
 use Rattle.http_desk.proofs.Beginnings.{ok_no_503, begins_as_503}
@@ -38,7 +38,7 @@ module _ (s : State) (at : LocalMinute) (bytes : List ℕ) (old new : Given) (wa
   abbrev Gives : ℕ → List ℕ → Type 0
   Gives status out = IsAnswer s at bytes status out left
 
-  kept_on : (t : State) → IsKept was t → IsKept left t
+  kept_on : (t : State) → WorksAt was t → WorksAt left t
   kept_on t (works, kept) = (breaks ∙ works, same t kept)
 
   told_on : IsUnchangedOrBroken bytes s at was → IsUnchangedOrBroken bytes s at left

@@ -17,7 +17,7 @@ use Rattle.http_desk.specs.Routes.{Posted, posted_look, got_report}
 use Rattle.http_desk.specs.Request.{looks_up, sends, head_asks, for_station}
 use Rattle.http_desk.specs.Answer.{head_of, HasHead, SendsWhole, Answers}
 use Rattle.http_desk.specs.Reading.{HasNoHeadYet}
-use Rattle.http_desk.specs.StationAfter.{StationAfter, station_at, IsKept}
+use Rattle.http_desk.specs.StationAfter.{StationAfter, station_at, WorksAt}
 
 -- the bytes that were moved since
 abbrev pub added : Given → Given → List ℕ
@@ -73,7 +73,7 @@ IsBrokenAt bytes s at left =
 -- what 503 says of the station: it works and nothing has changed, or it broke at the request's
 -- input
 abbrev pub IsUnchangedOrBroken : List ℕ → State → LocalMinute → StationAfter → Type 0
-IsUnchangedOrBroken bytes s at left = IsKept left s ⊎ IsBrokenAt bytes s at left
+IsUnchangedOrBroken bytes s at left = WorksAt left s ⊎ IsBrokenAt bytes s at left
 
 -- the bytes are a beginning of an answer with a report: all of its head, and a byte of the report
 -- or more
@@ -87,12 +87,12 @@ abbrev pub IsExcuse : List ℕ → State → LocalMinute → List ℕ → ℕ �
 IsExcuse bytes s at out status left =
     ((out ≡ unavailable) × (status ≡ 503) × IsUnchangedOrBroken bytes s at left)
     ⊎ ((name : Printout) × GetsReport bytes name × SomeOrEach s name (IsBeginning name out)
-    × (status ≡ 200) × IsKept left s)
+    × (status ≡ 200) × WorksAt left s)
 
 -- the answer to the bytes of a request, and what is kept after it
 abbrev pub IsAnswer : State → LocalMinute → List ℕ → ℕ → List ℕ → StationAfter → Type 0
 IsAnswer s at bytes status out left =
-    ((after : State) × Answers bytes s at status out after × IsKept left after)
+    ((after : State) × Answers bytes s at status out after × WorksAt left after)
     ⊎ IsExcuse bytes s at out status left
 
 -- so many bytes of an answer went out, since the writer failed or took none
@@ -100,7 +100,7 @@ abbrev pub IsPartOut : State → LocalMinute → List ℕ → ℕ → Given → 
 IsPartOut s at bytes sent before after left =
     ((status : ℕ) × (out : List ℕ) × IsAnswer s at bytes status out left
     × Sent before after out sent)
-    ⊎ ((name : Printout) × GetsReport bytes name × IsKept left s
+    ⊎ ((name : Printout) × GetsReport bytes name × WorksAt left s
     × SomeOrEach s name (λ whole. Sent before after whole sent))
 
 -- The answer to what came on a connection was written whole, with its status returned; or its first
@@ -111,7 +111,7 @@ abbrev pub HasServed : State → LocalMinute → List ℕ → Given → Given �
     → Result Served ServeFault → Type 0
 HasServed s at came before after left (Ok served) =
     IsAnswer s at came served.status (added before after) left
-HasServed s at came before after left (Err serve.Read) = IsKept left s
+HasServed s at came before after left (Err serve.Read) = WorksAt left s
 HasServed s at came before after left (Err (serve.Write sent)) =
     IsPartOut s at came sent before after left × HasCause before after
 

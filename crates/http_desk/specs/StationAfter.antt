@@ -20,5 +20,5 @@ station_at s =
     record { is_broken = false; keeps = λ next. next ≡ s; may_find = λ found. found ≡ Some s }
 
 -- the station works, and keeps this state
-abbrev pub IsKept : StationAfter → State → Type 0
-IsKept left s = (left.is_broken ≡ false) × left.keeps s
+abbrev pub WorksAt : StationAfter → State → Type 0
+WorksAt left s = (left.is_broken ≡ false) × left.keeps s

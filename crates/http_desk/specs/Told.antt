@@ -8,7 +8,7 @@ use Rattle.http_desk.specs.declared.asking.Told.TheVariants as told
 use Rattle.http_desk.specs.declared.wanted.Wanted.{Wanted}
 use Rattle.http_desk.specs.declared.wanted.Wanted.TheVariants as wanted
 use Rattle.http_desk.specs.Reply.{Reply, json_reply, ok_data, status_of, IsWritten}
-use Rattle.http_desk.specs.StationAfter.{StationAfter, station_at, IsKept}
+use Rattle.http_desk.specs.StationAfter.{StationAfter, station_at, WorksAt}
 use Rattle.http_desk.specs.Wanted.{wanted_reply, wanted_state}
 
 -- the bytes of a reply of JSON, with its status; or memory ran out for them
@@ -25,14 +25,14 @@ IsToldAs reply (told.Unavailable reopen) = reopen ≡ false
 -- or the one after.
 abbrev pub HasAsked : State → LocalMinute → Wanted → Told → StationAfter → Type 0
 HasAsked s at w (told.Accepted count) left =
-    (wanted_reply s at w ≡ json_reply 200 None (ok_data count)) × IsKept left (wanted_state s at w)
+    (wanted_reply s at w ≡ json_reply 200 None (ok_data count)) × WorksAt left (wanted_state s at w)
 HasAsked s at w (told.Json status text) left =
     (status ≡ status_of (wanted_reply s at w))
     × IsWritten s (wanted_reply s at w) (string_bytes text)
-    × (wanted_state s at w ≡ s) × IsKept left s
-HasAsked s at w (told.Report name) left = (w ≡ wanted.Report name) × IsKept left s
+    × (wanted_state s at w ≡ s) × WorksAt left s
+HasAsked s at w (told.Report name) left = (w ≡ wanted.Report name) × WorksAt left s
 HasAsked s at w (told.Unavailable reopen) left =
-    IsKept left s
+    WorksAt left s
     ⊎ ((left.is_broken ≡ true) × ((i : Input) × (w ≡ wanted.Input i)
     × ((found : Option State) → left.may_find found
     → (found ≡ Some s) ⊎ (found ≡ Some (step s i at).state))))

@@ -13,21 +13,21 @@ use Rattle.http_desk.specs.declared.serve.ServeFault.TheVariants as serve
 use Rattle.http_desk.specs.Reply.{ok_answer, report_head}
 use Rattle.http_desk.specs.Printouts.{IsPrinted}
 use Rattle.http_desk.specs.Answer.{Answers}
-use Rattle.http_desk.specs.StationAfter.{StationAfter, station_at, IsKept}
+use Rattle.http_desk.specs.StationAfter.{StationAfter, station_at, WorksAt}
 use Rattle.http_desk.specs.Serving.{unavailable, GetsReport, SomeOrEach, IsUnchangedOrBroken}
 
 -- What the request with these bytes is answered with is its answer, and the state after it is kept.
 -- It is another only where an input was accepted.
 abbrev pub IsToldFor : List ℕ → State → LocalMinute → Told → StationAfter → Type 0
 IsToldFor bytes s at (told.Accepted count) left =
-    (after : State) × Answers bytes s at 200 (ok_answer count) after × IsKept left after
+    (after : State) × Answers bytes s at 200 (ok_answer count) after × WorksAt left after
 IsToldFor bytes s at (told.Json status text) left =
-    Answers bytes s at status (string_bytes text) s × IsKept left s
+    Answers bytes s at status (string_bytes text) s × WorksAt left s
 IsToldFor bytes s at (told.Report name) left =
     GetsReport bytes name
     × ((text : List ℕ) → IsPrinted s name text
     → Answers bytes s at 200 (report_head name ++ text) s)
-    × IsKept left s
+    × WorksAt left s
 IsToldFor bytes s at (told.Unavailable reopen) left = IsUnchangedOrBroken bytes s at left
 
 -- the bytes went out, or their beginning

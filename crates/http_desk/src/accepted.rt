@@ -4,6 +4,8 @@ ghost use Rattle.std.specs.Prelude.{◌≡◌, ◌+◌, ◌≤◌, ◌<◌, ◌+
 ghost use Rattle.serde_json.specs.Written.{compact_text};
 ghost use Rattle.http_desk.specs.Reply.{ok_data, ok_answer};
 
+use imp_fields::put_decimal;
+
 /// The room of the body: `{"count":4294967295,"reply":"ok"}` is the longest.
 const BODY_ROOM: usize = 33;
 
@@ -25,21 +27,6 @@ fn put(out: &mut [u8], at: usize, bytes: &[u8]) -> usize
     let end = at + bytes.len();
     out[at..end].copy_from_slice(bytes);
     end
-}
-
-/// Writes a number without leading zeros at a place, and returns the place behind it.
-#[tactic(auto, using(std::proofs::lemmas::Fmt::decimal_digit))]
-fn put_decimal(out: &mut [u8], at: usize, number: u32) -> usize
-    requires { at + length (decimal number) ≤ length out.old }
-    ensures place { result ≡ at + length (decimal number) }
-    ensures text { take result out.new ≡ take at out.old ++ decimal number }
-{
-    let last = [b'0' + (number % 10) as u8];
-    if number < 10 {
-        return put(out, at, &last);
-    }
-    let at = put_decimal(out, at, number / 10);
-    put(out, at, &last)
 }
 
 /// Writes the body to the front of a buffer, and returns how many bytes it has.

@@ -32,6 +32,7 @@ pub use laws::{flight_law, quantity_law, share_law};
 pub use line::{Consignment, Lines, MessageKind};
 pub use name::{Goods, Name};
 pub use normal::{MOST_BYTES, is_head, normal_text};
+pub use put::put_decimal;
 pub use quantity::{put_quantity, read_quantity, weight_of};
 pub use token::Token;
 pub use waybill_summary::WaybillSummary;

@@ -12,9 +12,9 @@ pub(crate) fn put(out: &mut [u8], at: usize, byte: u8) -> usize
     at + 1
 }
 
-/// Writes a number without leading zeros at a place.
+/// Writes a number without leading zeros at a place, and returns the place behind it.
 #[tactic(auto, using(std::proofs::lemmas::Fmt::decimal_digit))]
-pub(crate) fn put_decimal(out: &mut [u8], at: usize, number: u32) -> usize
+pub fn put_decimal(out: &mut [u8], at: usize, number: u32) -> usize
     requires { at + length (decimal number) ≤ length out.old }
     ensures place { result ≡ at + length (decimal number) }
     ensures text { take result out.new ≡ take at out.old ++ decimal number }

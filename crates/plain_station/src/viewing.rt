@@ -3,10 +3,9 @@ ghost use Rattle.std.specs.Prelude.{Some, None, true, false, [], IfSome, ◌≡�
 ghost use Rattle.std.specs.List.{filter};
 ghost use Rattle.shipment_machine.specs.declared.command.ShipmentCommand.TheVariants as order;
 ghost use Rattle.shipment_machine.specs.declared.view.Rows.TheVariants as rows;
-ghost use Rattle.station_days.specs.Date.{resolved};
 ghost use Rattle.shipment_machine.specs.Agreement.{rows_for, view_of};
 ghost use Rattle.shipment_machine.specs.Book.{built, waybills_on};
-ghost use Rattle.shipment_machine.specs.Effect.{lines_for, is_day};
+ghost use Rattle.shipment_machine.specs.Effect.{lines_for};
 ghost use Rattle.shipment_machine.specs.Views.{declaration_view, waybill_view, loads_of, flight_view, line_view_of, rows_of};
 ghost use Rattle.plain_station.specs.Aboard.{is_built_on, is_onto, aboard_of};
 ghost use Rattle.plain_station.specs.Lists.{cargo_of};
@@ -17,9 +16,9 @@ use awb_number::Awb;
 use shipment_machine::{
     Amount, DeclarationView, Declared, FlightDate, FlightLoad, FlightView, InboundLine,
     InboundPart, LineView, LineViews, Loads, Move, Part, Place, Rows, RowsKey, ShipmentCommand,
-    View, WaybillView, waybills_of,
+    View, WaybillView, day_meant, waybills_of,
 };
-use station_days::{DayMonth, LocalDay, Moment, resolve};
+use station_days::Moment;
 use std::alloc::AllocError;
 
 /// Whether a move goes onto a flight.
@@ -30,16 +29,6 @@ fn is_onto(flight: &FlightDate, movement: &Move) -> bool
         Place::Built(other) => flight.is_same(&other),
         _ => false,
     }
-}
-
-/// The day that a date means, where it is one of a Moment.
-fn day_meant(date: DayMonth, at: Moment) -> Option<LocalDay>
-    ensures some { IfSome result (λ day. (resolved date at.day ≡ Some day)
-        × (is_day (resolved date at.day) ≡ true)) }
-    ensures none { result ≡ None → is_day (resolved date at.day) ≡ false }
-{
-    let number = resolve(date, at.day)?;
-    LocalDay::new(number)
 }
 
 impl PlainCargo {

@@ -11,7 +11,6 @@ mod manifests;
 mod moves;
 mod queries;
 mod replies;
-mod station;
 mod stock;
 mod texts;
 mod waybills;
@@ -25,7 +24,6 @@ pub use manifests::{expectation_by, expectation_of, expected_by, expected_row, p
 pub use moves::{book_row_by, move_by, move_row, place_code};
 pub use queries::{line_query, move_query};
 pub use replies::kept_by;
-pub use station::airport_by;
 pub use stock::run_by;
 pub use texts::text;
 pub use waybills::{waybill_by, waybill_row};

@@ -29,3 +29,4 @@ pub mod KeepsAll
 pub mod FromView
 pub mod Opening
 mod AmountTexts
+mod Meant

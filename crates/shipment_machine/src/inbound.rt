@@ -1,6 +1,7 @@
 //! What a part of a manifest announces.
-ghost use Rattle.std.specs.Prelude.{◌≡◌, ◌≤◌, ℕ, [], ◌∷◌, ◌++◌, Some, None, Ok, nat_eq, OnOk, IfOk, IfErr, if◌then◌else◌, length, not, true, All};
+ghost use Rattle.std.specs.Prelude.{◌≡◌, ◌≤◌, ℕ, [], ◌∷◌, ◌++◌, Some, None, Ok, nat_eq, OnOk, IfOk, IfErr, IfSome, if◌then◌else◌, length, not, true, All};
 ghost use Rattle.std.specs.HashMap.{get};
+ghost use Rattle.station_days.specs.Date.{resolved};
 ghost use Rattle.shipment_machine.specs.Amount.{amount, fits};
 ghost use Rattle.shipment_machine.specs.Effect.{dated, declared_by, expected_after, lines_for, is_day};
 ghost use Rattle.shipment_machine.specs.Lawful.{HasPieces};
@@ -24,7 +25,7 @@ use crate::view::{LineView, LineViews};
 use agent_stock::Holder;
 use awb_number::Awb;
 use imp_fields::{Airport, Why, book_weight};
-use station_days::{LocalDay, Moment};
+use station_days::{DayMonth, LocalDay, Moment, resolve};
 use std::alloc::{AllocError, Global};
 use std::collections::HashMap;
 
@@ -274,4 +275,14 @@ pub(crate) fn announce<'a>(
     )?;
     plan.changes.push(Change::NotePart { part: *key })?;
     Ok(plan)
+}
+
+/// The day that a date means, where it is one of a Moment.
+pub fn day_meant(date: DayMonth, at: Moment) -> Option<LocalDay>
+    ensures some { IfSome result (λ day. (resolved date at.day ≡ Some day)
+        × (is_day (resolved date at.day) ≡ true)) }
+    ensures none { result ≡ None → is_day (resolved date at.day) ≡ false }
+{
+    let number = resolve(date, at.day)?;
+    LocalDay::new(number)
 }

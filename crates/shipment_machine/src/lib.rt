@@ -30,6 +30,7 @@ pub use command::{
     InboundStatus, PieceCount, ShipmentCommand,
 };
 pub use flight::{FlightDate, MOST_WAYBILLS};
+pub use inbound::day_meant;
 pub use moves::{Balances, Declared, Expected, Move, Outbound, Part, Place};
 pub use notice::{Event, ManifestLine, ManifestLines, Notice};
 pub use planning::plan;

@@ -278,7 +278,7 @@ fn plan_from<'a>(
 }
 
 /// The day that a command's date means: a manifest has one.
-fn day_meant(command: &ShipmentCommand<'_>, at: Moment) -> Option<u32>
+fn meant_by(command: &ShipmentCommand<'_>, at: Moment) -> Option<u32>
     ensures { result ≡ meant_by command.now at }
 {
     match command {
@@ -309,7 +309,7 @@ pub fn plan<'a>(
     ensures stays_lawful { (s : Cargo) → IsViewOf s command.now at view.now
         → IfOk result (StaysLawful s) }
 {
-    let meant = day_meant(command, at);
+    let meant = meant_by(command, at);
     if !fits(view, command, meant) {
         return Err(PlanFault::Unfit);
     }

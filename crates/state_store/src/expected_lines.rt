@@ -4,8 +4,8 @@ ghost use Rattle.station_core.specs.Readers.{AreExpectations};
 ghost use Rattle.state_store.specs.ExpectedLines.{Lines, lines_in, no_lines, with_line};
 
 use crate::flight_key::FlightKey;
-use crate::store::StoreFault;
 use awb_number::Awb;
+use row_sinks::StoreFault;
 use shipment_machine::{Expected, FlightDate};
 use station_core::Expectation;
 use std::alloc::Global;

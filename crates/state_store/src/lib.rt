@@ -14,6 +14,7 @@ mod viewing;
 pub use expected_lines::ExpectedLines;
 pub use flight_key::FlightKey;
 pub use query::WaybillQuery;
-pub use store::{StateStore, StoreFault};
+pub use row_sinks::StoreFault;
+pub use store::StateStore;
 pub use telling::{expected_rows, flight_rows, irregular_rows, shed_rows, waybill_in};
 pub use viewing::view;

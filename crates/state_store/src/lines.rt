@@ -1,23 +1,24 @@
 //! The rows of a flight: what is built on it, and what is kept of each line of its manifest.
 ghost use Rattle.std.specs.Prelude.{◌≡◌, ◌++◌, ◌∷◌, [], true, false, None, Some, OnOk, IfOk, IfSome, map, if◌then◌else◌};
 ghost use Rattle.std.specs.Str.{bytes_eq};
-ghost use Rattle.station_days.specs.Date.{resolved};
 ghost use Rattle.shipment_machine.specs.Agreement.{rows_for};
-ghost use Rattle.shipment_machine.specs.Effect.{is_day, lines_for};
+ghost use Rattle.shipment_machine.specs.Effect.{lines_for};
 ghost use Rattle.shipment_machine.specs.Views.{loads_of, line_view_of};
 ghost use Rattle.shipment_machine.specs.declared.command.ShipmentCommand.TheVariants as order;
 ghost use Rattle.shipment_machine.specs.declared.view.Rows.TheVariants as rows;
 ghost use Rattle.state_store.specs.Lines.{aboard_of, part_rows_on};
 ghost use Rattle.state_store.specs.Store.{Seen, GoesOnShowing, Survives};
 
-use crate::store::{StateStore, StoreFault};
+use crate::store::StateStore;
 use awb_number::Awb;
 use imp_fields::Airport;
+use row_sinks::StoreFault;
 use shipment_machine::{
     FlightDate, FlightLoad, InboundLine, InboundPart, LineView, LineViews, Loads, Part, Rows,
+    day_meant,
 };
 use station_core::Load;
-use station_days::{DayMonth, LocalDay, Moment, resolve};
+use station_days::{LocalDay, Moment};
 use std::alloc::Global;
 
 /// A waybill that is built on a flight, with what is declared of it.
@@ -136,16 +137,6 @@ fn line_rows<S: StateStore>(
         put_line(store, &mut rows, here, flight, line)?;
     }
     Ok(LineViews::new(rows))
-}
-
-/// The day that a date means, where it is one of a Moment.
-fn day_meant(date: DayMonth, at: Moment) -> Option<LocalDay>
-    ensures some { IfSome result (λ day. (resolved date at.day ≡ Some day)
-        × (is_day (resolved date at.day) ≡ true)) }
-    ensures none { result ≡ None → is_day (resolved date at.day) ≡ false }
-{
-    let number = resolve(date, at.day)?;
-    LocalDay::new(number)
 }
 
 /// What a part of a manifest is planned from whose date names no day.

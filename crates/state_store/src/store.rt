@@ -2,6 +2,7 @@ use crate::query::WaybillQuery;
 use agent_stock::{Holder, Order, StockFault, StockRun};
 use awb_number::Awb;
 use imp_fields::Airport;
+use row_sinks::StoreFault;
 use shipment_machine::{
     Amount, Balances, Change, Declared, Expected, FlightDate, Move, Outbound, Part,
 };
@@ -9,23 +10,6 @@ use station_core::{
     BookQuery, BookRow, Expectation, ExpectedQuery, KeptReply, Key, Load, Message, NotedFlight,
     Sink, Sizes, TrailQuery, TrailRow, WaybillBalances,
 };
-use std::alloc::{AllocError, AllocFailed};
-
-/// A call of the store failed: the store itself, or memory ran out once it had been asked.
-#[derive(Clone, Copy, Debug, PartialEq, Eq)]
-pub struct StoreFault;
-
-impl From<AllocError> for StoreFault {
-    fn from(_: AllocError) -> StoreFault {
-        StoreFault
-    }
-}
-
-impl<T: Drop> From<AllocFailed<T>> for StoreFault {
-    fn from(_: AllocFailed<T>) -> StoreFault {
-        StoreFault
-    }
-}
 
 /// The state of a station in a store, by what short calls read of it and do to it.
 ///

@@ -11,8 +11,9 @@ ghost use Rattle.state_store.specs.Store.{StaysAtRest, Survives, at_rest};
 ghost use Rattle.station_core.specs.Told.{stored_of, irregular_by, shed_by};
 
 use crate::query::WaybillQuery;
-use crate::store::{StateStore, StoreFault};
+use crate::store::StateStore;
 use awb_number::Awb;
+use row_sinks::StoreFault;
 use shipment_machine::laws::conservation_law;
 use shipment_machine::{Amount, Balances, Declared};
 use station_core::{

@@ -8,8 +8,9 @@ ghost use Rattle.shipment_machine.specs.declared.view.Rows.TheVariants as rows;
 ghost use Rattle.state_store.specs.Store.{Seen, GoesOnShowing, Survives};
 
 use crate::lines::{loads_of, part_rows};
-use crate::store::{StateStore, StoreFault};
+use crate::store::StateStore;
 use awb_number::Awb;
+use row_sinks::StoreFault;
 use shipment_machine::{
     DeclarationView, FlightDate, FlightView, Rows, RowsKey, ShipmentCommand, View, WaybillView,
 };

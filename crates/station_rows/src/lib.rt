@@ -13,11 +13,12 @@ mod store;
 mod writes;
 
 pub use memory::{files_are_sound, memory_is_sound};
+pub use row_sinks::StoreFault;
 pub use rows::{CreateFault, Rows, crash_leaves_station};
 pub use station::StationRow;
 pub use station_schema::open_memory;
 pub use stock::StockRow;
-pub use store::{StoreFault, TableStore};
+pub use store::TableStore;
 pub use table_rows::{
     BuildRow, CountRow, ExpectedRow, FlightRow, KeptRow, LineQuery, ListedWaybillRow, MessageRow,
     MoveQuery, MoveRow, NotedFlightRow, TrailRow, WaybillRow,

@@ -3,6 +3,7 @@ ghost use Rattle.std.specs.Prelude.{◌≡◌, ◌+◌, ◌≤◌, ◌<◌, ◌�
 ghost use Rattle.agent_stock.specs.Stock.{Holders, is_run, passes, covers, lowest_failing};
 ghost use Rattle.stock_tables.specs.Rows.{StandFrom, holders_by};
 
+use crate::row::end_key;
 use agent_stock::{Holder, Run, StockRun, Test};
 use awb_number::Awb;
 
@@ -22,13 +23,6 @@ fn fails(test: &Test, holder: &Option<Holder>, from: u64, to: u64, end: u64) -> 
         ↔ ((from < to) × ((from < end) × (passes test.now holder.now ≡ false))) }
 {
     from < to && from < end && !test.passes(holder)
-}
-
-/// The number behind a row.
-fn end_key(row: &StockRun) -> u64
-    ensures { result ≡ row.now.first + row.now.count }
-{
-    row.first.key() + u64::from(row.count)
 }
 
 /// The lowest number of a run that fails a test, by rows that are in ascending order and have all

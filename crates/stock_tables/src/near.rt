@@ -2,13 +2,14 @@
 ghost use Rattle.std.specs.Prelude.{◌≡◌, ◌++◌, map, filter, option_map, IfSome, IfOk};
 ghost use Rattle.std.specs.FinMap.{entries};
 ghost use Rattle.station_schema.specs.Store.{Survives};
-ghost use Rattle.stock_tables.specs.Rows.{rows_near, end_of};
+ghost use Rattle.stock_tables.specs.Rows.{rows_near};
 ghost use Rattle.station_rows.specs.Clauses.{TellsOf, ShowsStill, WasOpen};
 ghost use Rattle.station_rows.specs.Meant.{stock_meant};
 ghost use Rattle.stock_tables.specs.Reads.{reaches, reaching, are_enough};
 ghost use Rattle.row_codec.specs.Stock.{run_in};
 ghost use Rattle.stock_tables.specs.Stocked.{Stocked, IsCut, EndsBehind, BeginsAhead};
 
+use crate::row::end_key;
 use agent_stock::{Holder, Run, StockRun};
 use row_codec::run_by;
 use station_rows::{StockRow, StoreFault, TableStore};
@@ -155,13 +156,6 @@ pub(crate) fn near_of<S: TableStore>(
         Some(near) => Ok(near),
         None => near_by_two(alloc, store, run),
     }
-}
-
-/// The number behind a row.
-fn end_key(row: &StockRun) -> u64
-    ensures { result ≡ end_of row.now }
-{
-    row.first.key() + u64::from(row.count)
 }
 
 /// Rows without the first, where it ends before a run and has another holder than the run gets.

@@ -2,11 +2,19 @@
 ghost use Rattle.std.specs.Prelude.{◌≡◌, ℤ, Some, IfOk, OnOk};
 ghost use Rattle.row_codec.specs.Stock.{holder_by};
 ghost use Rattle.station_rows.specs.Meant.{stock_meant};
+ghost use Rattle.stock_tables.specs.Rows.{end_of};
 ghost use Rattle.stock_tables.specs.Runs.{holder_number, code_of, entry_of, IsWritable};
 
 use agent_stock::{Holder, StockRun};
 use station_rows::{StockRow, StoreFault};
 use std::alloc::Global;
+
+/// The number behind a row.
+pub(crate) fn end_key(row: &StockRun) -> u64
+    ensures { result ≡ end_of row.now }
+{
+    row.first.key() + u64::from(row.count)
+}
 
 /// What stands in a row for a holder: its number, and the agent's code.
 fn stored(holder: &Holder) -> (i64, &str)

@@ -63,22 +63,6 @@ fn text_place(texts: &[KeptTextEntry], text: &str) -> Result<usize, usize>
     texts.binary_search_by(|row| row.body.as_str().cmp(text))
 }
 
-/// The row of a flight and a day, if there is one. The rows are all of `flight`, in the order of
-/// their keys.
-pub fn find_flight<'a>(
-    flights: &'a [FlightEntry],
-    flight: &str,
-    day: i64,
-) -> Option<&'a FlightEntry>
-    ensures { (rows : FinMap flight_cmp Flight) → entries rows ≡ map flight_entry flights.now
-        → option_map (λ row. (flight_entry row.now).1) result ≡ get rows (flight.now, day) }
-{
-    match flight_place(flights, flight, &day) {
-        Ok(at) => Some(&flights[at]),
-        Err(_) => None,
-    }
-}
-
 /// Whether a text was accepted. The rows are all of `kept_text`, in the order of their keys.
 pub fn is_kept(texts: &[KeptTextEntry], text: &str) -> bool
     ensures { (rows : FinMap kept_text_cmp ℤ) → entries rows ≡ map kept_text_entry texts.now

@@ -1,7 +1,7 @@
 use Rattle.std.proofs.Common.{sym, ap, ◌∙◌}
 use Rattle.station_days.specs.Date.{resolved}
-use Rattle.plain_station.proofs.Meant.{meant, not_meant}
-use Rattle.plain_station.proofs.viewing.day_meant.Goals as goal
+use Rattle.shipment_machine.proofs.Meant.{meant, not_meant}
+use Rattle.shipment_machine.proofs.inbound.day_meant.Goals as goal
 
 pub returns-clause-some : goal.returns-clause-some
 returns-clause-some c =
