@@ -1,6 +1,7 @@
 //! The words of a call, read to what they ask.
 #![tactic(auto)]
 
+mod commands;
 mod fault;
 mod help;
 mod line;

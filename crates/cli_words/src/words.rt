@@ -1,5 +1,6 @@
 //! The words as `clap` sorts them. No value is read here but by its place.
 
+use crate::commands::{COMMANDS, CommandWords, Given, KEY, OPTIONS, Takes, Word};
 use crate::fault::{WordsFault, usage_fault};
 use crate::help;
 use crate::version::program_version;
@@ -60,165 +61,85 @@ pub(crate) struct Words<'a> {
     pub(crate) request: Request<'a>,
 }
 
-/// An option with a value, given once at most.
-fn option<'a>(alloc: Global, name: &'a str, value: &'a str, help: &'a str) -> Arg<'a> {
-    Arg::new(alloc, name)
-        .long(name)
-        .value_name(value)
-        .action(ArgAction::Set)
-        .help(help)
+/// A word of a command as `clap` takes it.
+fn arg_of<'a>(alloc: Global, word: &Word) -> Arg<'a> {
+    let arg = Arg::new(alloc, word.name).help(word.help);
+    match word.given {
+        Given::Always => arg.action(ArgAction::Set).required(true),
+        Given::Repeatedly => arg.action(ArgAction::Set).required(true).num_args(1..),
+        Given::Optionally => arg.action(ArgAction::Set),
+        Given::Option(value) => arg.long(word.name).value_name(value).action(ArgAction::Set),
+        Given::NeededOption(value) => arg
+            .long(word.name)
+            .value_name(value)
+            .action(ArgAction::Set)
+            .required(true),
+        Given::Flag => arg.long(word.name).action(ArgAction::SetTrue),
+    }
 }
 
-/// An option without a value.
-fn flag<'a>(alloc: Global, name: &'a str, help: &'a str) -> Arg<'a> {
-    Arg::new(alloc, name)
-        .long(name)
-        .action(ArgAction::SetTrue)
-        .help(help)
-}
-
-/// A word that must stand there.
-fn word<'a>(alloc: Global, name: &'a str, help: &'a str) -> Arg<'a> {
-    Arg::new(alloc, name)
-        .required(true)
-        .action(ArgAction::Set)
-        .help(help)
+/// A command with these words behind it.
+fn with_words<'a>(
+    alloc: Global,
+    mut command: Command<'a>,
+    words: &[Word],
+) -> Result<Command<'a>, AllocError> {
+    for word in words {
+        command = command.arg(arg_of(alloc, word))?;
+    }
+    Ok(command)
 }
 
 /// A command without words of its own.
-fn command<'a>(alloc: Global, name: &'a str, about: &'a str, examples: &'a str) -> Command<'a> {
+fn bare<'a>(
+    alloc: Global,
+    name: &'static str,
+    about: &'static str,
+    examples: &'static str,
+) -> Command<'a> {
     Command::new(alloc, name).about(about).after_help(examples)
 }
 
-/// The command that takes telegrams.
-fn take<'a>(alloc: Global) -> Result<Command<'a>, AllocError> {
-    let files = word(alloc, "FILE", help::FILES).num_args(1..);
-    command(alloc, "take", help::TAKE, help::TAKE_EXAMPLES).arg(files)
+/// The command of a verb.
+fn verb_command<'a>(alloc: Global, verb: Verb) -> Result<Command<'a>, AllocError> {
+    let command = bare(alloc, verb.word(), verb.about(), help::FIELDS);
+    with_words(alloc, command, &KEY)
 }
 
-/// A verb, which stands behind `act`.
-fn verb<'a>(alloc: Global, name: &'a str, about: &'a str) -> Result<Command<'a>, AllocError> {
-    command(alloc, name, about, help::FIELDS).arg(word(alloc, "KEY", help::KEY))
-}
-
-/// The word of a verb.
-fn name_of<'a>(verb: Verb) -> &'a str {
-    verb.word()
-}
-
-/// What is told of a verb.
-fn about<'a>(verb: Verb) -> &'a str {
-    verb.about()
-}
-
-/// The command that acts.
-fn act<'a>(alloc: Global) -> Result<Command<'a>, AllocError> {
-    let mut act = command(alloc, "act", help::ACT, help::ACT_EXAMPLES)
+/// A command with a verb behind it.
+fn with_verbs<'a>(alloc: Global, command: Command<'a>) -> Result<Command<'a>, AllocError> {
+    let mut command = command
         .override_usage("cargo_desk act <VERB> <KEY>")
         .subcommand_help_heading("Verbs")
         .subcommand_required(true)
         .disable_help_subcommand(true);
-    for each in VERBS {
-        act = below(act, verb(alloc, name_of(each), about(each)))?;
+    for verb in VERBS {
+        let below = verb_command(alloc, verb)?;
+        command = command.subcommand(below)?;
     }
-    Ok(act)
+    Ok(command)
 }
 
-/// The command that looks at a telegram.
-fn read<'a>(alloc: Global) -> Result<Command<'a>, AllocError> {
-    let file = word(alloc, "FILE", help::READ_FILE);
-    command(alloc, "read", help::READ, help::READ_EXAMPLES).arg(file)
-}
-
-/// The command that prints the pending messages.
-fn outbox<'a>(alloc: Global) -> Result<Command<'a>, AllocError> {
-    let outbox = command(alloc, "outbox", help::OUTBOX, help::OUTBOX_EXAMPLES);
-    let outbox = outbox.arg(option(alloc, "after", "N", help::MESSAGES_AFTER))?;
-    outbox.arg(flag(alloc, "json", help::JSON))
-}
-
-/// The command that reports.
-fn report<'a>(alloc: Global) -> Result<Command<'a>, AllocError> {
-    let report = command(alloc, "report", help::REPORT, help::REPORT_EXAMPLES);
-    let report = report.arg(word(alloc, "NAME", help::REPORT_NAMES))?;
-    let flight = Arg::new(alloc, "FLIGHT")
-        .action(ArgAction::Set)
-        .help(help::FLIGHT);
-    let report = report.arg(flight)?;
-    let report = report.arg(flag(alloc, "open", help::OPEN))?;
-    let report = report.arg(option(alloc, "agent", "CODE", help::AGENT))?;
-    let report = report.arg(option(alloc, "awb", "AWB", help::OF_AWB))?;
-    let report = report.arg(option(alloc, "after", "N", help::AFTER))?;
-    let report = report.arg(option(alloc, "last", "N", help::LAST))?;
-    report.arg(flag(alloc, "json", help::JSON))
-}
-
-/// A command that looks a number up.
-fn look_up<'a>(
-    alloc: Global,
-    name: &'a str,
-    about: &'a str,
-    examples: &'a str,
-) -> Result<Command<'a>, AllocError> {
-    command(alloc, name, about, examples).arg(word(alloc, "AWB", help::AWB))
-}
-
-/// The commands that look a number up.
-fn looking<'a>(alloc: Global, top: Command<'a>) -> Result<Command<'a>, AllocError> {
-    let waybill = look_up(alloc, "waybill", help::WAYBILL, help::WAYBILL_EXAMPLES);
-    let holder = look_up(alloc, "holder", help::HOLDER, help::HOLDER_EXAMPLES);
-    let history = look_up(alloc, "history", help::HISTORY, help::HISTORY_EXAMPLES);
-    below(below(below(top, waybill)?, holder)?, history)
-}
-
-/// The command that serves.
-fn serve<'a>(alloc: Global) -> Result<Command<'a>, AllocError> {
-    let serve = command(alloc, "serve", help::SERVE, help::SERVE_EXAMPLES);
-    let serve = serve.arg(option(alloc, "port", "N", help::PORT).required(true))?;
-    serve.arg(option(alloc, "count", "K", help::COUNT))
-}
-
-/// A command below another, where memory allowed it.
-fn below<'a>(
-    top: Command<'a>,
-    sub: Result<Command<'a>, AllocError>,
-) -> Result<Command<'a>, AllocError> {
-    match sub {
-        Ok(sub) => top.subcommand(sub),
-        Err(error) => Err(error),
+/// A command of the program as `clap` takes it.
+fn command_of<'a>(alloc: Global, words: &CommandWords) -> Result<Command<'a>, AllocError> {
+    let command = bare(alloc, words.name, words.about, words.examples);
+    match words.takes {
+        Takes::Words(words) => with_words(alloc, command, words),
+        Takes::Verb => with_verbs(alloc, command),
     }
-}
-
-/// The commands that change a station.
-fn changing<'a>(alloc: Global, top: Command<'a>) -> Result<Command<'a>, AllocError> {
-    let top = top.subcommand(command(alloc, "init", help::INIT, help::INIT_EXAMPLES))?;
-    let top = top.subcommand(command(alloc, "migrate", help::MIGRATE, help::MIGRATE_EXAMPLES))?;
-    let top = top.subcommand(command(alloc, "stock", help::STOCK, help::STOCK_EXAMPLES))?;
-    let top = below(top, take(alloc))?;
-    let top = below(top, read(alloc))?;
-    let top = below(top, act(alloc))?;
-    top.subcommand(command(alloc, "acts", help::ACTS, help::ACTS_EXAMPLES))
-}
-
-/// The commands that report on a station, and the one that serves.
-fn telling<'a>(alloc: Global, top: Command<'a>) -> Result<Command<'a>, AllocError> {
-    let top = below(top, outbox(alloc))?;
-    let top = below(top, report(alloc))?;
-    let top = looking(alloc, top)?;
-    below(top, serve(alloc))
 }
 
 /// The whole command line.
 fn desk<'a>(alloc: Global) -> Result<Command<'a>, AllocError> {
-    let top = command(alloc, "cargo_desk", help::DESK, help::DESK_EXAMPLES)
-        .arg(option(alloc, "db", "FILE", help::DB))?
-        .arg(option(alloc, "at", "PORT", help::AT))?
-        .arg(option(alloc, "station", "AAA", help::STATION))?
-        .arg(option(alloc, "zone", "RULE", help::ZONE))?
+    let desk = bare(alloc, "cargo_desk", help::DESK, help::DESK_EXAMPLES)
         .version(program_version())
         .subcommand_required(true);
-    let top = changing(alloc, top)?;
-    telling(alloc, top)
+    let mut desk = with_words(alloc, desk, &OPTIONS)?;
+    for words in COMMANDS {
+        let below = command_of(alloc, &words)?;
+        desk = desk.subcommand(below)?;
+    }
+    Ok(desk)
 }
 
 /// The paths of the telegrams' files.

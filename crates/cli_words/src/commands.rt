@@ -1,0 +1,240 @@
+//! The commands of the program, and the words that each takes.
+
+use crate::help;
+
+/// How a word is given.
+#[derive(Clone, Copy)]
+pub(crate) enum Given {
+    /// By its place, and it must be there.
+    Always,
+    /// By its place, once or more.
+    Repeatedly,
+    /// By its place, if at all.
+    Optionally,
+    /// As an option with a value, at most once; the help names the value so.
+    Option(&'static str),
+    /// As such an option that must be there.
+    NeededOption(&'static str),
+    /// As an option without a value.
+    Flag,
+}
+
+/// A word of a command.
+#[derive(Clone, Copy)]
+pub(crate) struct Word {
+    pub(crate) name: &'static str,
+    pub(crate) given: Given,
+    pub(crate) help: &'static str,
+}
+
+/// What stands behind a command.
+#[derive(Clone, Copy)]
+pub(crate) enum Takes {
+    /// These words.
+    Words(&'static [Word]),
+    /// A verb and a key.
+    Verb,
+}
+
+/// A command, with what the help says of it.
+#[derive(Clone, Copy)]
+pub(crate) struct CommandWords {
+    pub(crate) name: &'static str,
+    pub(crate) about: &'static str,
+    pub(crate) examples: &'static str,
+    pub(crate) takes: Takes,
+}
+
+/// The options before a command.
+pub(crate) const OPTIONS: [Word; 4] = [
+    Word {
+        name: "db",
+        given: Given::Option("FILE"),
+        help: help::DB,
+    },
+    Word {
+        name: "at",
+        given: Given::Option("PORT"),
+        help: help::AT,
+    },
+    Word {
+        name: "station",
+        given: Given::Option("AAA"),
+        help: help::STATION,
+    },
+    Word {
+        name: "zone",
+        given: Given::Option("RULE"),
+        help: help::ZONE,
+    },
+];
+
+/// The word behind a verb.
+pub(crate) const KEY: [Word; 1] = [Word {
+    name: "KEY",
+    given: Given::Always,
+    help: help::KEY,
+}];
+
+/// The word of a command that looks a number up.
+const LOOK_UP: [Word; 1] = [Word {
+    name: "AWB",
+    given: Given::Always,
+    help: help::AWB,
+}];
+
+/// The words of `report`.
+const REPORT: [Word; 8] = [
+    Word {
+        name: "NAME",
+        given: Given::Always,
+        help: help::REPORT_NAMES,
+    },
+    Word {
+        name: "FLIGHT",
+        given: Given::Optionally,
+        help: help::FLIGHT,
+    },
+    Word {
+        name: "open",
+        given: Given::Flag,
+        help: help::OPEN,
+    },
+    Word {
+        name: "agent",
+        given: Given::Option("CODE"),
+        help: help::AGENT,
+    },
+    Word {
+        name: "awb",
+        given: Given::Option("AWB"),
+        help: help::OF_AWB,
+    },
+    Word {
+        name: "after",
+        given: Given::Option("N"),
+        help: help::AFTER,
+    },
+    Word {
+        name: "last",
+        given: Given::Option("N"),
+        help: help::LAST,
+    },
+    Word {
+        name: "json",
+        given: Given::Flag,
+        help: help::JSON,
+    },
+];
+
+/// The commands, in the order of the help.
+pub(crate) const COMMANDS: [CommandWords; 13] = [
+    CommandWords {
+        name: "init",
+        about: help::INIT,
+        examples: help::INIT_EXAMPLES,
+        takes: Takes::Words(&[]),
+    },
+    CommandWords {
+        name: "migrate",
+        about: help::MIGRATE,
+        examples: help::MIGRATE_EXAMPLES,
+        takes: Takes::Words(&[]),
+    },
+    CommandWords {
+        name: "stock",
+        about: help::STOCK,
+        examples: help::STOCK_EXAMPLES,
+        takes: Takes::Words(&[]),
+    },
+    CommandWords {
+        name: "take",
+        about: help::TAKE,
+        examples: help::TAKE_EXAMPLES,
+        takes: Takes::Words(&[Word {
+            name: "FILE",
+            given: Given::Repeatedly,
+            help: help::FILES,
+        }]),
+    },
+    CommandWords {
+        name: "read",
+        about: help::READ,
+        examples: help::READ_EXAMPLES,
+        takes: Takes::Words(&[Word {
+            name: "FILE",
+            given: Given::Always,
+            help: help::READ_FILE,
+        }]),
+    },
+    CommandWords {
+        name: "act",
+        about: help::ACT,
+        examples: help::ACT_EXAMPLES,
+        takes: Takes::Verb,
+    },
+    CommandWords {
+        name: "acts",
+        about: help::ACTS,
+        examples: help::ACTS_EXAMPLES,
+        takes: Takes::Words(&[]),
+    },
+    CommandWords {
+        name: "outbox",
+        about: help::OUTBOX,
+        examples: help::OUTBOX_EXAMPLES,
+        takes: Takes::Words(&[
+            Word {
+                name: "after",
+                given: Given::Option("N"),
+                help: help::MESSAGES_AFTER,
+            },
+            Word {
+                name: "json",
+                given: Given::Flag,
+                help: help::JSON,
+            },
+        ]),
+    },
+    CommandWords {
+        name: "report",
+        about: help::REPORT,
+        examples: help::REPORT_EXAMPLES,
+        takes: Takes::Words(&REPORT),
+    },
+    CommandWords {
+        name: "waybill",
+        about: help::WAYBILL,
+        examples: help::WAYBILL_EXAMPLES,
+        takes: Takes::Words(&LOOK_UP),
+    },
+    CommandWords {
+        name: "holder",
+        about: help::HOLDER,
+        examples: help::HOLDER_EXAMPLES,
+        takes: Takes::Words(&LOOK_UP),
+    },
+    CommandWords {
+        name: "history",
+        about: help::HISTORY,
+        examples: help::HISTORY_EXAMPLES,
+        takes: Takes::Words(&LOOK_UP),
+    },
+    CommandWords {
+        name: "serve",
+        about: help::SERVE,
+        examples: help::SERVE_EXAMPLES,
+        takes: Takes::Words(&[
+            Word {
+                name: "port",
+                given: Given::NeededOption("N"),
+                help: help::PORT,
+            },
+            Word {
+                name: "count",
+                given: Given::Option("K"),
+                help: help::COUNT,
+            },
+        ]),
+    },
+];
