@@ -1,6 +1,6 @@
 -- A run over lines that is told once it is known whether its reader has failed.
 use Rattle.std.specs.Result.{IsErrAnd}
-use Rattle.std.proofs.Common.{◌≡◌, ◌∙◌, sym, refl, ap, arith, subst, ℕ, zero, suc, ◌<◌, ◌+◌, Bool, true, false, List, [], ◌∷◌, ◌++◌, length, inl, inr, ⊎_elim, Option, Some, None, IfSome, Result, Ok, Err, OnOk}
+use Rattle.std.proofs.Common.{◌≡◌, ◌∙◌, sym, refl, ap, subst, ℕ, ◌+◌, Bool, true, false, List, [], ◌∷◌, ◌++◌, length, inl, inr, ⊎_elim, Option, Some, None, IfSome, Result, Ok, Err}
 use Rattle.station_days.specs.Date.{LocalMinute}
 use Rattle.station_core.specs.Given.{Given}
 use Rattle.stock_list.specs.declared.answer.RunFault.{RunFault}
@@ -54,36 +54,3 @@ pub passed_lines : {C : Type 0} (Step : ℕ → List ℕ → C → C → Result 
     → IsErrAnd r (λ x. x ≡ e) → HaveBeenAnswered Step left old new (Err e) → HaveBeenAnswered Step left old new r
 passed_lines Step left old new (Ok x) e same run = absurd same
 passed_lines Step left old new (Err x) e same run = subst (λ (f : RunFault). HaveBeenAnswered Step left old new (Err f)) (sym same) run
-
--- what holds of a run that came to its end holds of one that is told so
-pub told_works : (P : Type 0) (ended : Result Bool RunFault) (failed : Bool) → OnOk ended P → OnOk (told_by ended failed) P
-told_works P (Ok good) true run = tt
-told_works P (Ok good) false run = run
-told_works P (Err fault.Read) true run = tt
-told_works P (Err fault.Read) false run = tt
-told_works P (Err fault.Write) failed run = tt
-told_works P (Err fault.Memory) failed run = tt
-told_works P (Err fault.Store) failed run = tt
-
--- `Read` is told only where the reader has failed
-pub told_read : (P : Type 0) (ended : Result Bool RunFault) (failed : Bool) → (failed ≡ true → P) → told_by ended failed ≡ Err fault.Read → P
-told_read P (Ok good) true told is = told refl
-told_read P (Ok good) false told is = cc
-told_read P (Err fault.Read) true told is = told refl
-told_read P (Err fault.Read) false told is = cc
-told_read P (Err fault.Write) failed told is = cc
-told_read P (Err fault.Memory) failed told is = cc
-told_read P (Err fault.Store) failed told is = cc
-
-none_failed : (failures : ℕ) → (0 < failures → false ≡ true) → failures ≡ 0
-none_failed zero told = refl
-none_failed (suc n) told = let never : false ≡ true = told (omega arith) in cc
-
-pub told_whole : (failures : ℕ) (ended : Result Bool RunFault) (failed : Bool) → (0 < failures → failed ≡ true) → OnOk (told_by ended failed) (failures ≡ 0)
-told_whole failures (Ok good) true told = tt
-told_whole failures (Ok good) false told = none_failed failures told
-told_whole failures (Err fault.Read) true told = tt
-told_whole failures (Err fault.Read) false told = tt
-told_whole failures (Err fault.Write) failed told = tt
-told_whole failures (Err fault.Memory) failed told = tt
-told_whole failures (Err fault.Store) failed told = tt

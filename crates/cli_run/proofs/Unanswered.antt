@@ -9,6 +9,7 @@ use Rattle.station_core.specs.Step.{State}
 use Rattle.stock_list.specs.declared.answer.RunFault.{RunFault}
 use Rattle.stock_list.specs.declared.answer.RunFault.TheVariants as fault
 use Rattle.stock_list.specs.Ended.{run_fault, IsShutAfter, IsReadersFault, Kept}
+use Rattle.stock_list.proofs.Unanswered.{still_kept}
 use Rattle.cli_run.specs.declared.asked.Asked.TheVariants as asked
 use Rattle.station_core.specs.Given.{Given}
 use Rattle.cli_run.specs.Ended.{HasToldPart, IsStopped}
@@ -18,12 +19,6 @@ why_stops act.Memory = inl refl
 why_stops (act.Refused refusal) = inr refl
 why_stops act.Store = inr refl
 why_stops act.Reopen = inr refl
-
-still_kept : (s : State) (i : Input) (at : LocalMinute) (e : ActFault) (keeps : State → Type 0) → Answers s i at (Err e) keeps → run_fault e ≡ fault.Memory → keeps s
-still_kept s i at act.Memory keeps answers is = answers
-still_kept s i at (act.Refused refusal) keeps answers is = cc
-still_kept s i at act.Store keeps answers is = cc
-still_kept s i at act.Reopen keeps answers is = cc
 
 -- it stops the command, whatever the fault is reported as
 pub not_acted : (number : Option ℕ) (s : State) (i : Input) (at : LocalMinute) (e : ActFault) (told : RunFault) (before : List ℕ) (left : Kept)

@@ -16,7 +16,7 @@ use Rattle.http_desk.specs.Reply.{Reply, answer_reply, refusal_reply}
 use Rattle.http_desk.specs.StationAfter.{StationAfter, station_at, WorksAt}
 use Rattle.http_desk.specs.Told.{IsToldAs, HasAsked, HasAskedShut, IsUnavailable}
 use Rattle.http_desk.specs.Wanted.{wanted_reply, wanted_state}
-use Rattle.http_desk.proofs.Refusals.{refused_stays}
+use Rattle.station_core.proofs.Refusals.{refused_stays}
 
 -- a reply of JSON, where the state after it is the one before
 pub asked_json : (s : State) (at : LocalMinute) (w : Wanted) (t : Told) (left : StationAfter)

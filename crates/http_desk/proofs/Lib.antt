@@ -12,7 +12,6 @@ mod Joining
 mod NoVerb
 mod Pages
 mod Paths
-mod Refusals
 mod Reporting
 mod Wanting
 mod WholeWaybill

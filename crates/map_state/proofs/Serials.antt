@@ -1,23 +1,7 @@
 -- Numbers of a run, one further.
-use Rattle.std.proofs.Common.{◌≡◌, ℕ, zero, suc, ◌+◌, ◌-◌, ◌≤◌, ◌<◌, Bool, true, false, cond, ◌&&◌, nat_le, nat_lt, ◌%◌, Option, Some, None, IsSome, IfSome, ◌∙◌, ap, arith}
+use Rattle.std.proofs.Common.{◌≡◌, ℕ, zero, suc, ◌+◌, ◌-◌, ◌≤◌, ◌<◌, Bool, true, false, cond, ◌&&◌, nat_le, nat_lt, ◌%◌, Some, ◌∙◌, ap, arith}
 use Rattle.std.specs.List.{find, range_with_len}
 use Rattle.std.proofs.lemmas.Bool.Decides.{nat_tests}
-use Rattle.awb_number.specs.Number.{IsNumber}
-
-module _ (p : ℕ → Bool) (from n k : ℕ) (more : n ≡ suc k) where
-  pub find_next : p from ≡ false → find p (range_with_len from n) ≡ find p (range_with_len (from + 1) k)
-  find_next passes = ap (λ m. find p (range_with_len from m)) more ∙ ap (λ b. cond b (Some from) (find p (range_with_len (from + 1) k))) passes
-
-  pub find_here : p from ≡ true → find p (range_with_len from n) ≡ Some from
-  find_here fails = ap (λ m. find p (range_with_len from m)) more ∙ ap (λ b. cond b (Some from) (find p (range_with_len (from + 1) k))) fails
-
-pub given_as : (o : Option ℕ) (k : ℕ) → IsSome o → IfSome o (λ j. j ≡ k) → o ≡ Some k
-given_as (Some j) k there is = ap Some is
-given_as None k there is = cc
-
--- a run ends among the numbers
-pub IsNumber-covered : (first count k : ℕ) → IsNumber first → (nat_lt 0 count && nat_le count 1_000_000 && nat_le (first % 10_000_000 + count) 10_000_000) ≡ true → k < first + count → IsNumber k
-IsNumber-covered first count k number run within = grind (arith, nat_tests)
 
 pub not_empty : (first count : ℕ) → (nat_lt 0 count && nat_le count 1_000_000 && nat_le (first % 10_000_000 + count) 10_000_000) ≡ true → first < first + count
 not_empty first count run = grind (arith, nat_tests)

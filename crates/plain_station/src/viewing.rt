@@ -1,5 +1,5 @@
 //! What a command is planned from.
-ghost use Rattle.std.specs.Prelude.{Some, None, true, false, [], IfSome, ◌≡◌, ◌≤◌, length, map, IfOk, IsSome};
+ghost use Rattle.std.specs.Prelude.{Some, false, [], ◌≡◌, map, IfOk};
 ghost use Rattle.std.specs.List.{filter};
 ghost use Rattle.shipment_machine.specs.declared.command.ShipmentCommand.TheVariants as order;
 ghost use Rattle.shipment_machine.specs.declared.view.Rows.TheVariants as rows;

@@ -1,6 +1,5 @@
 //! The rows of a flight: what is built on it, and what is kept of each line of its manifest.
-ghost use Rattle.std.specs.Prelude.{◌≡◌, ◌++◌, ◌∷◌, [], true, false, None, Some, OnOk, IfOk, IfSome, map, if◌then◌else◌};
-ghost use Rattle.std.specs.Str.{bytes_eq};
+ghost use Rattle.std.specs.Prelude.{◌≡◌, ◌++◌, ◌∷◌, [], false, None, Some, OnOk, IfOk, map};
 ghost use Rattle.shipment_machine.specs.Agreement.{rows_for};
 ghost use Rattle.shipment_machine.specs.Effect.{lines_for};
 ghost use Rattle.shipment_machine.specs.Views.{loads_of, line_view_of};

@@ -4,7 +4,7 @@ mod Keys
 pub mod Premise
 mod RangeLaws
 mod Reading
-mod Refusals
+pub mod Refusals
 mod RetryLaw
 pub mod Rising
 mod RunLaw

@@ -115,7 +115,7 @@ ordered_lawful s order law = still_lawful s (after_order s.holders order) s.outb
 
 -- The parts of manifests: what a telegram notes is its own text, and the desk notes none.
 
-abbrev AreKept : Cargo → (List ℕ → Option ℕ) → Type 0
+abbrev pub AreKept : Cargo → (List ℕ → Option ℕ) → Type 0
 AreKept s kept = (part : Part) → IfSome (s.parts part) (λ text. IsSome (kept text))
 
 written_kept : (text : List ℕ) (kept : List ℕ → Option ℕ) (change : Change) (s : Cargo) → IsSome (kept text) → AreKept s kept → AreKept (written text change s) kept
@@ -128,7 +128,7 @@ written_kept text kept (NotePart part) s here all =
 written_kept text kept (Trail w line) s here all = all
 written_kept text kept (Confirm upto) s here all = all
 
-all_written_kept : (text : List ℕ) (kept : List ℕ → Option ℕ) (changes : List Change) (s : Cargo) → IsSome (kept text) → AreKept s kept → AreKept (written_all text changes s) kept
+pub all_written_kept : (text : List ℕ) (kept : List ℕ → Option ℕ) (changes : List Change) (s : Cargo) → IsSome (kept text) → AreKept s kept → AreKept (written_all text changes s) kept
 all_written_kept text kept [] s here all = all
 all_written_kept text kept (change ∷ changes) s here all = all_written_kept text kept changes (written text change s) here (written_kept text kept change s here all)
 
@@ -138,10 +138,10 @@ kept_more kept text count other some = elim (bytes_eq other text) as (λ b. IsSo
 eq_itself : (a : List ℕ) → bytes_eq a a ≡ true
 eq_itself a = bytes_eq_refl a
 
-kept_now : (kept : List ℕ → Option ℕ) (text : List ℕ) (count : ℕ) → IsSome (keeping_text kept text count text)
+pub kept_now : (kept : List ℕ → Option ℕ) (text : List ℕ) (count : ℕ) → IsSome (keeping_text kept text count text)
 kept_now kept text count = rw (eq_itself text) refl
 
-if_more : (o : Option (List ℕ)) (kept : List ℕ → Option ℕ) (text : List ℕ) (count : ℕ) → IfSome o (λ t. IsSome (kept t)) → IfSome o (λ t. IsSome (keeping_text kept text count t))
+pub if_more : (o : Option (List ℕ)) (kept : List ℕ → Option ℕ) (text : List ℕ) (count : ℕ) → IfSome o (λ t. IsSome (kept t)) → IfSome o (λ t. IsSome (keeping_text kept text count t))
 if_more None kept text count h = h
 if_more (Some t) kept text count h = kept_more kept text count t h
 
@@ -150,7 +150,7 @@ NotesNone [] = ⊤
 NotesNone (NotePart part ∷ changes) = ⊥
 NotesNone (_ ∷ changes) = NotesNone changes
 
-same_parts : (text : List ℕ) (kept : List ℕ → Option ℕ) (changes : List Change) (s : Cargo) → NotesNone changes → AreKept s kept → AreKept (written_all text changes s) kept
+pub same_parts : (text : List ℕ) (kept : List ℕ → Option ℕ) (changes : List Change) (s : Cargo) → NotesNone changes → AreKept s kept → AreKept (written_all text changes s) kept
 same_parts text kept [] s none all = all
 same_parts text kept (Declare w declared ∷ changes) s none all = same_parts text kept changes (written text (Declare w declared) s) none all
 same_parts text kept (UseUp w ∷ changes) s none all = same_parts text kept changes (written text (UseUp w) s) none all
@@ -160,7 +160,7 @@ same_parts text kept (NotePart part ∷ changes) s none all = absurd none
 same_parts text kept (Trail w line ∷ changes) s none all = same_parts text kept changes (written text (Trail w line) s) none all
 same_parts text kept (Confirm upto ∷ changes) s none all = same_parts text kept changes (written text (Confirm upto) s) none all
 
-abbrev Quiet : Result Outcome Refusal → Type 0
+abbrev pub Quiet : Result Outcome Refusal → Type 0
 Quiet r = IfOk r (λ done. NotesNone done.changes)
 
 unless : (o : Option Refusal) (r : Result Outcome Refusal) → Quiet r → Quiet (unless_refused o r)
@@ -183,7 +183,7 @@ outcome_quiet s (desk.Book w origin destination p t goods) at = used_quiet (s.ho
 outcome_quiet s (desk.Manifest w flight unload p) at = noted_quiet _ _ tt
 outcome_quiet s c at = tt
 
-desk_quiet : (s : Cargo) (c : DeskCommand) (at : LocalMinute) → Quiet (effect s (shipment.Desk c) at)
+pub desk_quiet : (s : Cargo) (c : DeskCommand) (at : LocalMinute) → Quiet (effect s (shipment.Desk c) at)
 desk_quiet s c at = unless (first_refusal (rule s (shipment.Desk c) at).refusals) (rule s (shipment.Desk c) at).outcome (outcome_quiet s c at)
 
 -- The types of inputs give each declared and each announced line a piece.
@@ -203,7 +203,7 @@ content_proper (content.Fsu update) range = range.1
 
 -- One step.
 
-abbrev texts_after : State → Input → ℕ → List ℕ → Option ℕ
+abbrev pub texts_after : State → Input → ℕ → List ℕ → Option ℕ
 texts_after s (Keyed key command) count = s.kept_texts
 texts_after s (Wire telegram) count = keeping_text s.kept_texts telegram.text count
 

@@ -1,24 +1,17 @@
 -- What a step comes to.
-use Rattle.std.proofs.Common.{◌≡◌, ◌∙◌, ℕ, Bool, true, false, Option, Some, None, IsSome, IfSome, IfOk, Result, Ok, Err, List, [], ◌∷◌, ◌++◌, map, inl, inr, refl, sym, ap, subst, append-nil}
-use Rattle.std.specs.Prelude.{⊤, ◌⊎◌}
+use Rattle.std.proofs.Common.{◌≡◌, ◌∙◌, ℕ, Bool, true, false, Option, Some, None, IfOk, Result, Ok, Err, List, [], ◌++◌, map, inl, inr, sym, ap, subst, append-nil}
+use Rattle.std.specs.Prelude.{◌⊎◌}
 use Rattle.std.specs.Bool.{if◌then◌else◌}
-use Rattle.std.specs.Str.{bytes_eq}
 use Rattle.station_days.specs.Date.{LocalMinute}
 use Rattle.agent_stock.specs.Stock.{run_of, order_refusal, after_order}
-use Rattle.agent_stock.specs.declared.stock.Holder.{Holder}
-use Rattle.agent_stock.specs.declared.stock.Holder.TheVariants as holder
 use Rattle.agent_stock.specs.declared.stock.Order.{Order}
-use Rattle.shipment_machine.specs.declared.moves.Part.{Part}
 use Rattle.shipment_machine.specs.declared.command.DeskCommand.{DeskCommand}
-use Rattle.shipment_machine.specs.declared.command.DeskCommand.TheVariants as desk
 use Rattle.shipment_machine.specs.declared.command.ShipmentCommand.TheVariants as shipment
-use Rattle.shipment_machine.specs.declared.plans.Change.{Change}
-use Rattle.shipment_machine.specs.declared.plans.Change.TheVariants.{Declare, UseUp, NoteFlight, Expect, NotePart, Trail, Confirm}
 use Rattle.shipment_machine.specs.declared.plans.Plan.{Plan}
 use Rattle.shipment_machine.specs.declared.plans.Refusal.{Refusal}
 use Rattle.shipment_machine.specs.Agreement.{outcome_of}
-use Rattle.shipment_machine.specs.Cargo.{Cargo, same_part, written, written_all}
-use Rattle.shipment_machine.specs.Effect.{Outcome, used_up, unless_refused, first_refusal, rule, effect, carried_out}
+use Rattle.shipment_machine.specs.Cargo.{Cargo}
+use Rattle.shipment_machine.specs.Effect.{Outcome, effect, carried_out}
 use Rattle.shipment_machine.specs.Lawful.{IsLawful}
 use Rattle.telegrams.specs.NoticeText.{notice_text}
 use Rattle.desk_commands.specs.declared.command.Command.TheVariants as command
@@ -26,8 +19,7 @@ use Rattle.station_core.specs.declared.answer.Answer.{Answer}
 use Rattle.station_core.specs.declared.answer.Answer.TheVariants.{Refused}
 use Rattle.station_core.specs.declared.input.Input.{Input}
 use Rattle.station_core.specs.declared.input.Input.TheVariants.{Keyed, Wire}
-use Rattle.imp_fields.proofs.SameFlight.{bytes_eq-refl}
-use Rattle.station_core.proofs.StepLaw.{sent_lawful, ordered_lawful}
+use Rattle.station_core.proofs.StepLaw.{AreKept, Quiet, all_written_kept, desk_quiet, if_more, kept_now, ordered_lawful, same_parts, sent_lawful, texts_after}
 use Rattle.station_core.specs.Step.{State, IsLawfulState, Stepped, stepped, accepted, refused, waybill_or_nothing, Acted, stock_acted, cargo_acted, shipment_of, acted, sent, with_notices, has_room, keeping_text, kept_with, first_time, answered, repeated, step}
 use Rattle.station_engine.specs.Serving.{IsAfter, IsPlanned, Serves}
 use Rattle.station_core.specs.Told.{with_order}
@@ -66,79 +58,7 @@ found_after s i at a t found is law before (inr e) =
     let same : (step s i at).state ≡ t = ap (λ (d : Stepped). d.state) is in
     inr (record { lawful = subst IsLawfulState (sym same) law; is = e ∙ ap Some (sym same) })
 
--- The texts of parts of manifests stay kept: what a telegram notes is its own text, and the desk notes none.
-
-abbrev AreKept : Cargo → (List ℕ → Option ℕ) → Type 0
-AreKept s kept = (part : Part) → IfSome (s.parts part) (λ text. IsSome (kept text))
-
-written_kept : (text : List ℕ) (kept : List ℕ → Option ℕ) (change : Change) (s : Cargo) → IsSome (kept text) → AreKept s kept → AreKept (written text change s) kept
-written_kept text kept (Declare w declared) s here all = all
-written_kept text kept (UseUp w) s here all = all
-written_kept text kept (NoteFlight flight outbound) s here all = all
-written_kept text kept (Expect flight w expected) s here all = all
-written_kept text kept (NotePart part) s here all =
-    λ k. elim (same_part k part) as (λ b. IfSome (if b then Some text else s.parts k) (λ text. IsSome (kept text))) [ true ↦ here | false ↦ all k ]
-written_kept text kept (Trail w line) s here all = all
-written_kept text kept (Confirm upto) s here all = all
-
-all_written_kept : (text : List ℕ) (kept : List ℕ → Option ℕ) (changes : List Change) (s : Cargo) → IsSome (kept text) → AreKept s kept → AreKept (written_all text changes s) kept
-all_written_kept text kept [] s here all = all
-all_written_kept text kept (change ∷ changes) s here all = all_written_kept text kept changes (written text change s) here (written_kept text kept change s here all)
-
-kept_more : (kept : List ℕ → Option ℕ) (text : List ℕ) (count : ℕ) (other : List ℕ) → IsSome (kept other) → IsSome (keeping_text kept text count other)
-kept_more kept text count other some = elim (bytes_eq other text) as (λ b. IsSome (if b then Some count else kept other)) [ true ↦ refl | false ↦ some ]
-
-kept_now : (kept : List ℕ → Option ℕ) (text : List ℕ) (count : ℕ) → IsSome (keeping_text kept text count text)
-kept_now kept text count = rw (bytes_eq-refl text) refl
-
-if_more : (o : Option (List ℕ)) (kept : List ℕ → Option ℕ) (text : List ℕ) (count : ℕ) → IfSome o (λ t. IsSome (kept t)) → IfSome o (λ t. IsSome (keeping_text kept text count t))
-if_more None kept text count h = h
-if_more (Some t) kept text count h = kept_more kept text count t h
-
-abbrev NotesNone : List Change → Type 0
-NotesNone [] = ⊤
-NotesNone (NotePart part ∷ changes) = ⊥
-NotesNone (_ ∷ changes) = NotesNone changes
-
-same_parts : (text : List ℕ) (kept : List ℕ → Option ℕ) (changes : List Change) (s : Cargo) → NotesNone changes → AreKept s kept → AreKept (written_all text changes s) kept
-same_parts text kept [] s none all = all
-same_parts text kept (Declare w declared ∷ changes) s none all = same_parts text kept changes (written text (Declare w declared) s) none all
-same_parts text kept (UseUp w ∷ changes) s none all = same_parts text kept changes (written text (UseUp w) s) none all
-same_parts text kept (NoteFlight flight outbound ∷ changes) s none all = same_parts text kept changes (written text (NoteFlight flight outbound) s) none all
-same_parts text kept (Expect flight w expected ∷ changes) s none all = same_parts text kept changes (written text (Expect flight w expected) s) none all
-same_parts text kept (NotePart part ∷ changes) s none all = absurd none
-same_parts text kept (Trail w line ∷ changes) s none all = same_parts text kept changes (written text (Trail w line) s) none all
-same_parts text kept (Confirm upto ∷ changes) s none all = same_parts text kept changes (written text (Confirm upto) s) none all
-
-abbrev Quiet : Result Outcome Refusal → Type 0
-Quiet r = IfOk r (λ done. NotesNone done.changes)
-
-unless : (o : Option Refusal) (r : Result Outcome Refusal) → Quiet r → Quiet (unless_refused o r)
-unless None r quiet = quiet
-unless (Some refusal) r quiet = tt
-
-used_quiet : (who : Option Holder) (w : ℕ) → NotesNone (used_up who w)
-used_quiet None w = tt
-used_quiet (Some holder.Desk) w = tt
-used_quiet (Some (holder.Agent code)) w = tt
-used_quiet (Some holder.Used) w = tt
-used_quiet (Some holder.Void) w = tt
-
-noted_quiet : (b : Bool) (change : Change) → NotesNone (change ∷ []) → NotesNone (if b then change ∷ [] else [])
-noted_quiet true change quiet = quiet
-noted_quiet false change quiet = tt
-
-outcome_quiet : (s : Cargo) (c : DeskCommand) (at : LocalMinute) → Quiet (rule s (shipment.Desk c) at).outcome
-outcome_quiet s (desk.Book w origin destination p t goods) at = used_quiet (s.holders w) w
-outcome_quiet s (desk.Manifest w flight unload p) at = noted_quiet _ _ tt
-outcome_quiet s c at = tt
-
-desk_quiet : (s : Cargo) (c : DeskCommand) (at : LocalMinute) → Quiet (effect s (shipment.Desk c) at)
-desk_quiet s c at = unless (first_refusal (rule s (shipment.Desk c) at).refusals) (rule s (shipment.Desk c) at).outcome (outcome_quiet s c at)
-
-abbrev texts_after : State → Input → ℕ → List ℕ → Option ℕ
-texts_after s (Keyed key command) count = s.kept_texts
-texts_after s (Wire telegram) count = keeping_text s.kept_texts telegram.text count
+-- The texts of parts of manifests stay kept.
 
 abbrev PartsKept : State → Input → Acted → Type 0
 PartsKept s i a = AreKept a.cargo (texts_after s i a.count)
@@ -223,22 +143,3 @@ module _ (s : State) (i : Input) (at : LocalMinute) (order : Order) (law : IsLaw
 
   pub order_lawful : (n : ℕ) → n ≡ (run_of order).count → order_refusal s.cargo.holders order ≡ None → IsLawfulState (after_it n)
   order_lawful n count none = subst IsLawfulState (unsent ∙ ap after_it (sym count)) (lawful_after s i at orders law (accepts none) (ordered_lawful s.cargo order law.cargo))
-
--- A refusal changes nothing.
-
-module _ (s : State) (refusal : Refusal) (i : Input) (at : LocalMinute) where
-  by_answer : (b : Bool) (count : ℕ) (t : State) → (if b then stepped (accepted count) t else stepped (refused 402) s).answer ≡ Refused refusal
-      → (if b then stepped (accepted count) t else stepped (refused 402) s).state ≡ s
-  by_answer true count t e = cc
-  by_answer false count t e = refl
-
-  by_effect : (o : Result Acted Refusal) → (first_time s i o).answer ≡ Refused refusal → (first_time s i o).state ≡ s
-  by_effect (Err other) e = refl
-  by_effect (Ok a) e = by_answer (has_room (with_notices a)) a.count (after s i a) e
-
-  by_known : (o : Option Answer) → (answered s i at o).answer ≡ Refused refusal → (answered s i at o).state ≡ s
-  by_known (Some answer) e = refl
-  by_known None e = by_effect (acted s.cargo i at) e
-
-  pub refused_same : (step s i at).answer ≡ Refused refusal → (step s i at).state ≡ s
-  refused_same e = by_known (repeated s i) e

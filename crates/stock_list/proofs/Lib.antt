@@ -4,7 +4,7 @@ mod ListLaw
 pub mod More
 mod Reasons
 mod Records
-mod Told
-mod Unanswered
+pub mod Told
+pub mod Unanswered
 mod Written
 pub mod Shut

@@ -2,7 +2,8 @@ use Rattle.std.proofs.Common.{◌∙◌, refl, sym, inr, true, None, []}
 use Rattle.cli_run.specs.Acts.{HasAnsweredLine}
 use Rattle.station_core.specs.Keeping.{keeping}
 use Rattle.cli_run.specs.InTurn.{come}
-use Rattle.cli_run.proofs.Told.{told_lines, told_works, told_read, told_whole, none_first, never_reads}
+use Rattle.stock_list.proofs.Told.{told_works, told_read, told_whole}
+use Rattle.cli_run.proofs.Told.{told_lines, none_first, never_reads}
 use Rattle.cli_run.proofs.acts.run_acts.Goals as goal
 
 pub returns-in_default-clause-answered : goal.returns-in_default-clause-answered

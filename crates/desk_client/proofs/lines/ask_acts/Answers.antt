@@ -1,6 +1,7 @@
 use Rattle.std.proofs.Common.{◌∙◌, refl, sym, inr, true, None, []}
 use Rattle.cli_run.specs.InTurn.{come}
-use Rattle.cli_run.proofs.Told.{told_lines, told_read, told_whole, none_first}
+use Rattle.stock_list.proofs.Told.{told_read, told_whole}
+use Rattle.cli_run.proofs.Told.{told_lines, none_first}
 use Rattle.desk_client.specs.Posted.{HasAnsweredLine}
 use Rattle.desk_client.proofs.Unread.{line_reads}
 use Rattle.desk_client.proofs.lines.ask_acts.Goals as goal

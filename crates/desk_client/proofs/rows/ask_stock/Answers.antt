@@ -1,6 +1,6 @@
 use Rattle.std.proofs.Common.{◌∙◌, refl, sym, inr, true, None, []}
 use Rattle.cli_run.specs.InTurn.{come}
-use Rattle.cli_run.proofs.Told.{told_read, told_whole}
+use Rattle.stock_list.proofs.Told.{told_read, told_whole}
 use Rattle.desk_client.specs.ListRows.{HasAnsweredRow}
 use Rattle.desk_client.proofs.ListRows.{none_first, told_rows}
 use Rattle.desk_client.proofs.Unread.{row_reads}

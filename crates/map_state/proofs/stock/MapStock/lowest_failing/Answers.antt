@@ -5,7 +5,8 @@ use Rattle.awb_number.specs.Number.{IsNumber}
 use Rattle.map_state.specs.Stock.{holders_of}
 use Rattle.map_state.proofs.Ahead.{named_alike}
 use Rattle.map_state.proofs.Named.{rises}
-use Rattle.map_state.proofs.Serials.{find_further, find_here, given_as, IsNumber-covered}
+use Rattle.agent_stock.proofs.Serials.{find_here, given_as, IsNumber-covered}
+use Rattle.map_state.proofs.Serials.{find_further}
 use Rattle.map_state.proofs.stock.MapStock.lowest_failing.Goals as goal
 
 pub loop-key-init : goal.loop-key-init

@@ -3,7 +3,7 @@ use Rattle.station_core.specs.Step.{State, IsLawfulState}
 use Rattle.station_engine.specs.Laws.{found_is}
 use Rattle.state_store.specs.Store.{at_rest}
 use Rattle.station_engine.proofs.Reading.{one_of_two}
-use Rattle.station_engine.proofs.Steps.{refused_same}
+use Rattle.station_core.proofs.Refusals.{refused_stays}
 use Rattle.station_engine.proofs.station.StoredStation.act_on.Goals as goal
 
 pub returns-in-Err-clause-leaves : goal.returns-in-Err-clause-leaves
@@ -16,7 +16,7 @@ returns-clause-acts g c = λ s keeps works sound.
     let served = c.in-Ok-serve.ensures.serves s keeps.1 keeps.0 sound in
     let is = served.answer ∙ c.in-Refused.is in (
       is,
-      subst (λ (t : State). IsLawfulState t × g.S.StateStore.shows c.serve.new.store (at_rest t)) (refused_same s c.in-Refused.refusal c.args.input.now c.args.at is) served.state,
+      subst (λ (t : State). IsLawfulState t × g.S.StateStore.shows c.serve.new.store (at_rest t)) (refused_stays s c.args.input.now c.args.at c.in-Refused.refusal is) served.state,
     )
 
 pub returns-clause-leaves : goal.returns-clause-leaves
