@@ -9,7 +9,8 @@ use Rattle.stock_list.specs.Ended.{IsUntroubled}
 use Rattle.cli_run.proofs.Parts.{cause_behind, first_part, next_part}
 use Rattle.reports.specs.declared.form.Form.{Form}
 use Rattle.reports.specs.declared.form.Form.TheVariants as form
-use Rattle.desk_client.specs.Came.{HasFailed, HasGiven, HasGrown, IsReadersFault}
+use Rattle.desk_client.specs.Came.{HasGiven, IsReadersFault}
+use Rattle.cli_run.specs.Came.{HasFailed, HasGrown}
 use Rattle.desk_client.specs.Ended.{has_end}
 use Rattle.desk_client.specs.Front.{mark_of, IsFront, IsFrontEnd}
 use Rattle.desk_client.specs.Printed.{HasPrintedBody, HasPrintedFront, HasPrintedLast, HasPrintedMore, HasPrintedSome, HasStopped, HasTurned, IsHeld}
@@ -17,7 +18,7 @@ use Rattle.desk_client.specs.declared.ask.AskFault.{AskFault}
 use Rattle.desk_client.specs.declared.ask.AskFault.TheVariants as fault
 use Rattle.desk_client.specs.declared.printing.PrintFault.{PrintFault}
 use Rattle.desk_client.specs.declared.printing.PrintFault.TheVariants as print
-use Rattle.desk_client.proofs.Grown.{grown_more}
+use Rattle.cli_run.proofs.Grown.{grown_more}
 use Rattle.desk_client.proofs.Tails.{first_taken, tail_decides}
 
 smooth_more : (a b d : Given) → IsUntroubled a b → IsUntroubled b d → IsUntroubled a d

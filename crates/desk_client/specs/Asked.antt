@@ -3,7 +3,8 @@ use Rattle.std.specs.Prelude.{◌≡◌, ◌≤◌, ◌<◌, ℕ, Bool, true, Li
 use Rattle.reports.specs.declared.form.Form.{Form}
 use Rattle.station_core.specs.Given.{Given}
 use Rattle.station_core.specs.Ends.{HasCause}
-use Rattle.desk_client.specs.Came.{HasCome, HasFailed, HasGrown}
+use Rattle.desk_client.specs.Came.{HasCome}
+use Rattle.cli_run.specs.Came.{HasFailed, HasGrown}
 use Rattle.desk_client.specs.Front.{IsBegun}
 use Rattle.desk_client.specs.Request.{most_rows}
 use Rattle.desk_client.specs.Whole.{IsCutShort, IsNeverWhole, IsNotWhole, IsWhole}

@@ -1,16 +1,8 @@
 -- What has come of an answer.
-use Rattle.std.specs.Prelude.{◌≡◌, ◌⊎◌, ℕ, ◌+◌, ◌<◌, ◌≤◌, List, ◌++◌, length, Result, Ok, Err, ⊤}
+use Rattle.std.specs.Prelude.{◌≡◌, ◌⊎◌, ℕ, ◌+◌, ◌<◌, List, ◌++◌, length, Result, Ok, Err, ⊤}
 use Rattle.station_core.specs.Given.{Given}
 use Rattle.desk_client.specs.declared.ask.AskFault.{AskFault}
 use Rattle.desk_client.specs.declared.ask.AskFault.TheVariants as fault
-
--- some reads more, whose bytes stand behind those that had come; no read failed
-pub record HasGrown (old new : Given) (before after : List ℕ) : Type 0 where
-  pub part : List ℕ
-  pub bytes : after ≡ before ++ part
-  pub given : new.bytes ≡ old.bytes ++ part
-  pub failures : new.failures ≡ old.failures
-  pub idle : old.idle ≤ new.idle
 
 -- some bytes were read, or none
 abbrev pub HasGiven : Given → Given → Type 0
@@ -22,14 +14,6 @@ pub record HasCome (most : ℕ) (old new : Given) (bytes : List ℕ) : Type 0 wh
   pub given : new.bytes ≡ old.bytes ++ bytes
   pub failures : new.failures ≡ old.failures
   pub ended : (old.idle < new.idle) ⊎ (most < length bytes)
-
--- the most reads of an answer
-abbrev pub most_reads : ℕ
-most_reads = 18_446_744_073_709_551_615
-
--- a read failed, or so many reads didn't come to the end
-abbrev pub HasFailed : Given → Given → Type 0
-HasFailed old new = (old.failures < new.failures) ⊎ (old.calls + most_reads ≤ new.calls)
 
 -- a reader stops where it fails, or where memory runs out
 abbrev pub IsReadersFault : {T : Type 0} → Result T AskFault → Type 0

@@ -7,7 +7,7 @@ use Rattle.stock_list.specs.declared.answer.RunFault.{RunFault}
 use Rattle.stock_list.specs.declared.answer.RunFault.TheVariants as run
 use Rattle.reports.specs.declared.form.Form.{Form}
 use Rattle.desk_client.specs.Again.{Talk}
-use Rattle.desk_client.specs.Came.{HasFailed, HasGrown}
+use Rattle.cli_run.specs.Came.{HasFailed, HasGrown}
 use Rattle.desk_client.specs.Ended.{has_end}
 use Rattle.desk_client.specs.Front.{mark_of, IsFront}
 use Rattle.desk_client.specs.Heard.{body_of, service_fault}

@@ -100,7 +100,7 @@ fn read_whole<I: ByteIn>(alloc: Global, reader: &mut I, most: usize) -> Result<A
 }
 
 /// Reads an answer until rows have come that may be printed, or else to the end of its connection.
-#[tactic(auto, using(crate::proofs::Grown::grown_more, crate::proofs::Grown::come_more))]
+#[tactic(auto, using(cli_run::proofs::Grown::grown_more, crate::proofs::Grown::come_more))]
 fn read_rows<I: ByteIn>(alloc: Global, reader: &mut I, form: Form) -> Result<Answer, AskFault>
     ensures { HasRead (Until.Rows form) (I.given reader.old) (I.given reader.new) result }
 {

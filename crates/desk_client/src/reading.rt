@@ -1,6 +1,7 @@
 //! Reading an answer to its end.
 ghost use Rattle.std.specs.Prelude.{◌≡◌, ◌<◌, ◌+◌, true, Err, IfOk, OnOk};
-ghost use Rattle.desk_client.specs.Came.{HasCome, HasFailed, HasGiven, HasGrown, IsReadersFault};
+ghost use Rattle.desk_client.specs.Came.{HasCome, HasGiven, IsReadersFault};
+ghost use Rattle.cli_run.specs.Came.{HasFailed, HasGrown};
 
 use crate::ask::AskFault;
 use station_core::{ByteIn, ReadFault};
@@ -35,7 +36,7 @@ pub(crate) fn read_more<I: ByteIn>(reader: &mut I, bytes: &mut Vec<u8>) -> Resul
 }
 
 /// Reads an input to its end, or until more than so many bytes have come.
-#[tactic(auto, using(crate::proofs::Grown::grown_more, crate::proofs::Grown::come_more, crate::proofs::Grown::come_over))]
+#[tactic(auto, using(cli_run::proofs::Grown::grown_more, crate::proofs::Grown::come_more, crate::proofs::Grown::come_over))]
 pub(crate) fn read_all<I: ByteIn>(
     alloc: Global,
     reader: &mut I,

@@ -3,7 +3,8 @@ ghost use Rattle.std.specs.Prelude.{◌≡◌, IfOk, string_bytes, option_map};
 ghost use Rattle.http.specs.StatusCode.{IsStatusCode};
 ghost use Rattle.serde_json.specs.View.{view};
 ghost use Rattle.serde_json.specs.Written.{compact_text};
-ghost use Rattle.http_desk.specs.Reply.{status_line, allow_line, json_fields, json_answer, media_type, report_head, refused_data, pair_data, holding_data, holder_data, holder_word, holder_name, since_text, waybill_data};
+ghost use Rattle.http_desk.specs.Reply.{status_line, allow_line, json_fields, json_answer, media_type, report_head, refused_data, pair_data, holding_data, holder_data, since_text, waybill_data};
+ghost use Rattle.reports.specs.Objects.{holder_word, holder_name};
 ghost use Rattle.serde_json.specs.Data.{boolean, string};
 ghost use Rattle.http_desk.specs.Members.{first_members, second_members, third_members, stored_members, last_members};
 

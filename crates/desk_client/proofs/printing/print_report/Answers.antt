@@ -1,5 +1,5 @@
 use Rattle.std.proofs.Common.{arith, ◌+◌, ◌-◌, ◌≤◌, inr, refl, subst, List, ℕ, Bool, drop}
-use Rattle.desk_client.specs.Came.{most_reads}
+use Rattle.cli_run.specs.Came.{most_reads}
 use Rattle.desk_client.specs.Printed.{HasPrintedLast}
 use Rattle.desk_client.proofs.AsItComes.{begun, begun_by, ended, idle_behind, out_of_memory, out_of_turns, read_stopped, reads, turn_ended, turns, unbegun}
 use Rattle.desk_client.proofs.printing.print_report.Goals as goal
