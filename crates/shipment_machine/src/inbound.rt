@@ -1,5 +1,5 @@
 //! What a part of a manifest announces.
-ghost use Rattle.std.specs.Prelude.{◌≡◌, ◌≤◌, ℕ, [], ◌∷◌, ◌++◌, Some, None, Ok, nat_eq, OnOk, IfOk, IfErr, IfSome, if◌then◌else◌, length, not, true, All};
+ghost use Rattle.std.specs.Prelude.{◌≡◌, ◌≤◌, ℕ, [], ◌∷◌, ◌++◌, Some, None, Ok, nat_eq, OnOk, IfOk, IfErr, IfSome, if◌then◌else◌, length, not, true, false, All};
 ghost use Rattle.std.specs.HashMap.{get};
 ghost use Rattle.station_days.specs.Date.{resolved};
 ghost use Rattle.shipment_machine.specs.Amount.{amount, fits};
