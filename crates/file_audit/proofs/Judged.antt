@@ -20,7 +20,7 @@ use Rattle.table_audits.specs.Lawful.{IsLawfulTable}
 use Rattle.file_audit.specs.declared.unfit.Unfit.{Unfit}
 use Rattle.file_audit.specs.declared.unfit.Unfit.TheVariants as unfit
 use Rattle.file_audit.specs.Good.{HoldsStation, IsHeld, before, AreGood, IsStationOf, IsFirstBad}
-use Rattle.file_audit.specs.Judged.{HasBefore, IsJudged, IsJudgedKeeping, JudgesOn}
+use Rattle.file_audit.specs.Judged.{HasBefore, IsJudged, HasJudged, JudgesOn}
 use Rattle.file_audit.specs.Verdict.{is_ours, IsUnfit}
 
 -- what a test of a table says, whatever the tables are that are good so far
@@ -45,7 +45,7 @@ judged db t u name true so_far exact so held = (u, goes_past db u name true so e
 judged db t u name false so_far exact so held = stops_at db t name false so_far exact refl
 
 -- what is kept of a table that is good
-pub kept_as : {X : Type 0} (name : TableName) (Has : X → Reading → Type 0) (db : Reading) (o : Option X) → IsJudged name db (is_some o) → IfSome o (λ x. Has x db) → IsJudgedKeeping name Has db o
+pub kept_as : {X : Type 0} (name : TableName) (Has : X → Reading → Type 0) (db : Reading) (o : Option X) → IsJudged name db (is_some o) → IfSome o (λ x. Has x db) → HasJudged name Has db o
 kept_as name Has db None judged has = judged
 kept_as name Has db (Some x) judged has = (judged, has)
 

@@ -67,9 +67,9 @@ IsJudged name db true = (t : Tables) × AreGood db t (name ∷ before name)
 IsJudged name db false = IsFirstBad db name
 
 -- the table is good too, and this is kept of it; or it is the first that isn't
-abbrev pub IsJudgedKeeping : {X : Type 0} → TableName → (X → Reading → Type 0) → Reading → Option X → Type 0
-IsJudgedKeeping name Has db None = IsFirstBad db name
-IsJudgedKeeping name Has db (Some x) = ((t : Tables) × AreGood db t (name ∷ before name)) × Has x db
+abbrev pub HasJudged : {X : Type 0} → TableName → (X → Reading → Type 0) → Reading → Option X → Type 0
+HasJudged name Has db None = IsFirstBad db name
+HasJudged name Has db (Some x) = ((t : Tables) × AreGood db t (name ∷ before name)) × Has x db
 
 -- how many rows the tables have
 pub record AreSizes (sizes : Sizes) (t : Tables) : Type 0 where

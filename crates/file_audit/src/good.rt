@@ -4,7 +4,7 @@ ghost use Rattle.sqlite.specs.Held.{state};
 ghost use Rattle.table_rows.specs.Meant.{waybill_meant};
 ghost use Rattle.table_load.specs.Held.{flight_entry, part_entry};
 ghost use Rattle.table_audits.specs.declared.name.TableName.TheVariants as table;
-ghost use Rattle.file_audit.specs.Judged.{HasAirport, HasMark, HasWaybills, HasFlights, HasParts, HasSums, HasLines, HasMessages, IsJudged, IsJudgedKeeping, JudgesOn};
+ghost use Rattle.file_audit.specs.Judged.{HasAirport, HasMark, HasWaybills, HasFlights, HasParts, HasSums, HasLines, HasMessages, IsJudged, HasJudged, JudgesOn};
 
 use crate::versions::{read_old_waybills, read_waybills};
 use sqlite::{Alter, Connection, Error};
@@ -44,7 +44,7 @@ pub(crate) fn good_waybills<S: Alter>(
 ) -> Result<Option<Vec<WaybillRow>>, Error>
     ensures read { JudgesOn S.Store conn.old conn.new result table.Waybill2
         (λ db. db.version ≡ version)
-        (IsJudgedKeeping table.Waybill2 (λ kept db. HasWaybills (map waybill_meant kept.items) db)) }
+        (HasJudged table.Waybill2 (λ kept db. HasWaybills (map waybill_meant kept.items) db)) }
     ensures survives { Survives (state S.Store conn.old) (state S.Store conn.new) (λ _. ⊥) }
 {
     let Some(rows) = read_waybills(alloc, conn, version)? else {
@@ -80,7 +80,7 @@ pub(crate) fn good_flights<S: Alter>(
 ) -> Result<Option<Vec<FlightEntry>>, Error>
     ensures read { JudgesOn S.Store conn.old conn.new result table.Flight
         (λ db. HasAirport airport.now db)
-        (IsJudgedKeeping table.Flight (λ kept db. HasFlights (map flight_entry kept.items) db)) }
+        (HasJudged table.Flight (λ kept db. HasFlights (map flight_entry kept.items) db)) }
     ensures survives { Survives (state S.Store conn.old) (state S.Store conn.new) (λ _. ⊥) }
 {
     let Some(rows) = found_flights(alloc, conn)? else {
@@ -115,7 +115,7 @@ pub(crate) fn good_parts<S: Alter>(
 ) -> Result<Option<Vec<PartEntry>>, Error>
     ensures read { JudgesOn S.Store conn.old conn.new result table.Part
         (λ _. ⊤)
-        (IsJudgedKeeping table.Part (λ kept db. HasParts (map part_entry kept.items) db)) }
+        (HasJudged table.Part (λ kept db. HasParts (map part_entry kept.items) db)) }
     ensures survives { Survives (state S.Store conn.old) (state S.Store conn.new) (λ _. ⊥) }
 {
     let Some(rows) = found_parts(alloc, conn)? else {
@@ -135,7 +135,7 @@ pub(crate) fn good_trail<S: Alter>(
 ) -> Result<Option<u32>, Error>
     ensures read { JudgesOn S.Store conn.old conn.new result table.Trail
         (λ db. HasWaybills (map waybill_meant waybills.items) db)
-        (IsJudgedKeeping table.Trail (λ kept db. HasLines kept db)) }
+        (HasJudged table.Trail (λ kept db. HasLines kept db)) }
     ensures survives { Survives (state S.Store conn.old) (state S.Store conn.new) (λ _. ⊥) }
 {
     let none = NumberedRows::new();
@@ -153,7 +153,7 @@ pub(crate) fn good_outbox<S: Alter>(
 ) -> Result<Option<u32>, Error>
     ensures read { JudgesOn S.Store conn.old conn.new result table.Outbox
         (λ db. HasMark confirmed db)
-        (IsJudgedKeeping table.Outbox (λ kept db. HasMessages kept db)) }
+        (HasJudged table.Outbox (λ kept db. HasMessages kept db)) }
     ensures survives { Survives (state S.Store conn.old) (state S.Store conn.new) (λ _. ⊥) }
 {
     let none = NumberedRows::new();
