@@ -1,13 +1,16 @@
 -- What a row that was written makes of the state that is shown.
-use Rattle.std.proofs.Common.{◌≡◌, ℕ, ◌+◌, ◌<◌, ℤ, pos, Bool, true, false, IsTrue, List, [], ◌∷◌, ◌++◌, length, Option, Some, None, refl, sym, ap, subst, ◌∙◌}
-use Rattle.std.specs.Prelude.{if◌then◌else◌}
+use Rattle.std.proofs.Common.{◌≡◌, ℕ, ◌+◌, ◌<◌, ℤ, pos, Bool, true, false, IsTrue, List, [], ◌∷◌, ◌++◌, length, Option, Some, None, Result, Ok, Err, refl, sym, ap, subst, ◌∙◌}
+use Rattle.std.specs.Prelude.{IfErr, if◌then◌else◌}
 use Rattle.std.proofs.lemmas.List.{length-append}
 use Rattle.std.specs.Str.{is_utf8}
 use Rattle.std.specs.FinMap.{FinMap}
 use Rattle.sqlite_keyed.specs.Keyed.{get_by}
 use Rattle.imp_fields.specs.Flight.{flight_text}
 use Rattle.agent_stock.specs.Stock.{Holders, is_run, run_of, test_of, refusal_number, lowest_failing, refused_by, order_refusal, after_order}
+use Rattle.agent_stock.specs.Refusing.{OnRefused, RefusesBy}
 use Rattle.agent_stock.specs.declared.stock.Order.{Order}
+use Rattle.agent_stock.specs.declared.stock.StockFault.{StockFault}
+use Rattle.agent_stock.specs.declared.stock.StockFault.TheVariants as fault
 use Rattle.shipment_machine.specs.Cargo.{written}
 use Rattle.shipment_machine.specs.declared.flight.FlightDate.{FlightDate}
 use Rattle.std.specs.List.{list_all}
@@ -300,6 +303,17 @@ module _ (old new : View) (here : List ℕ) (counted : Counted) (confirmed : ℕ
         knows = record { here_is = k.knows.here_is; sizes_are = k.knows.sizes_are; confirmed_is = k.knows.confirmed_is };
         kept = k.kept;
       }
+
+-- what is said of each refusal is said of the result
+pub of_refusal : {A E : Type 0} (due : Option (ℕ × Option ℕ)) (r : Result A (StockFault E)) → ((number : ℕ) (lowest : Option ℕ) → r ≡ Err (fault.Refused number lowest) → due ≡ Some (number, lowest)) → IfErr r (RefusesBy due)
+of_refusal due (Ok x) so = tt
+of_refusal due (Err (fault.Refused number lowest)) so = so number lowest refl
+of_refusal due (Err (fault.Rows e)) so = tt
+
+pub on_refusal : {A E : Type 0} (P : Type 0) (r : Result A (StockFault E)) → ((number : ℕ) (lowest : Option ℕ) → r ≡ Err (fault.Refused number lowest) → P) → OnRefused r P
+on_refusal P (Ok x) so = tt
+on_refusal P (Err (fault.Refused number lowest)) so = so number lowest refl
+on_refusal P (Err (fault.Rows e)) so = tt
 
 size_refused : (h : Holders) (order : Order) → is_run (run_of order) ≡ false → order_refusal h order ≡ Some (105, None)
 size_refused h order wrong = ap (λ b. if b then refused_by (lowest_failing h (run_of order) (test_of order)) (refusal_number order) else Some (105, None)) wrong

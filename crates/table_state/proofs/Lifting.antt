@@ -1,14 +1,31 @@
 -- From what the tables of a store show to the state that they mean.
-use Rattle.std.proofs.Common.{◌≡◌, ◌⊎◌, inl, inr, ⊎_elim, ℕ, true, false, List, Option, Some, refl, sym, subst, ◌∙◌}
+use Rattle.std.proofs.Common.{◌≡◌, ◌⊎◌, inl, inr, ⊎_elim, ℕ, true, false, List, Option, Some, Result, Ok, Err, refl, sym, subst, ◌∙◌}
+use Rattle.std.specs.Prelude.{IfOk, OnOk}
 use Rattle.station_core.specs.Step.{State}
 use Rattle.station_schema.specs.Tables.{Tables}
 use Rattle.station_schema.specs.Store as row
 use Rattle.station_schema.specs.Store.{View, Displays, IsShowing, MayCommit}
 use Rattle.row_codec.specs.Meaning.{Means}
+use Rattle.station_rows.specs.Clauses.{ShowsStill, WasOpen}
 use Rattle.state_store.specs.Store.{Seen, at_rest, inside, Survives}
 use Rattle.table_state.specs.declared.counted.Counted.{Counted}
 use Rattle.table_state.specs.Laws.{same_meaning}
 use Rattle.table_state.specs.Shown.{Stands, Knows, IsCounted, Shows, Finds, IfGivenBack}
+
+-- what is said of each answer of a call is said of its result
+pub of_answer : {X E : Type 0} (Q : X → Type 0) (r : Result X E) → ((x : X) → r ≡ Ok x → Q x) → IfOk r Q
+of_answer Q (Ok x) so = so x refl
+of_answer Q (Err e) so = tt
+
+-- what follows from an answer follows if the call is answered
+pub on_answer : {X E A B C : Type 0} (r : Result X E) → ((A → B) → C) → (A → OnOk r B) → OnOk r C
+on_answer (Ok x) so done = so done
+on_answer (Err e) so done = tt
+
+-- what follows from an answer and from a fault
+pub either_way : {X E P : Type 0} (r : Result X E) → ((x : X) → r ≡ Ok x → P) → ((e : E) → r ≡ Err e → P) → P
+either_way (Ok x) so or_so = so x refl
+either_way (Err e) so or_so = or_so e refl
 
 -- what a view shows
 abbrev pub seen_in : View → row.Seen
@@ -77,10 +94,10 @@ module _ (old new : View) (here : List ℕ) (counted : Counted) (confirmed : ℕ
   }
 
   -- a read that was answered
-  pub reads_on : (x : Seen) → Shows old here counted confirmed x → row.Survives old new → (IsShowing old (seen_in old) → IsShowing new (seen_in old)) → (new.IsSound → old.is_open ≡ true) → Shows new here counted confirmed x
+  pub reads_on : (x : Seen) → Shows old here counted confirmed x → row.Survives old new → ((seen : row.Seen) → IsShowing old seen → IsShowing new seen) → (new.IsSound → old.is_open ≡ true) → Shows new here counted confirmed x
   reads_on x was survives same up sound =
       let k = was (survives.sound sound) in
-      let d : Displays new (seen_in old) = same (λ _. displays old (up sound)) sound in
+      let d : Displays new (seen_in old) = same (seen_in old) (λ _. displays old (up sound)) sound in
       record {
         holds = record {
           inside = λ _. d.is_open;
@@ -90,6 +107,11 @@ module _ (old new : View) (here : List ℕ) (counted : Counted) (confirmed : ℕ
         knows = k.knows;
         kept = k.kept;
       }
+
+  -- the same of what it returned
+  pub reads_so : {X E : Type 0} (r : Result X E) (x : Seen) → Shows old here counted confirmed x → row.Survives old new → ShowsStill old new r → WasOpen old new r → OnOk r (Shows new here counted confirmed x)
+  reads_so (Ok a) x was survives same up = reads_on x was survives same up
+  reads_so (Err e) x was survives same up = tt
 
   -- a read that was answered, and left all as it was
   pub reads_unchanged : (x : Seen) → Shows old here counted confirmed x → row.Survives old new → (new.IsSound → row.IsUnchanged old new) → Shows new here counted confirmed x
@@ -127,8 +149,8 @@ module _ (old new : View) (here : List ℕ) (counted : Counted) (confirmed : ℕ
         kept = k.kept;
       }
 
-  pub begins : (s : State) → Shows old here counted confirmed (at_rest s) → row.Survives old new → (new.IsSound → row.Shows old new old.now old.committed true) → Shows new here counted confirmed (inside s s)
-  begins s was survives ok sound =
+  pub begins : {X E : Type 0} (r : Result X E) (s : State) → Shows old here counted confirmed (at_rest s) → row.Survives old new → OnOk r (new.IsSound → row.Shows old new old.now old.committed true) → OnOk r (Shows new here counted confirmed (inside s s))
+  begins (Ok a) s was survives ok = λ sound.
       let k = was (survives.sound sound) in
       let step = ok sound in
       let m = k.holds.stands step.was_open in
@@ -146,6 +168,7 @@ module _ (old new : View) (here : List ℕ) (counted : Counted) (confirmed : ℕ
         knows = record { here_is = k.knows.here_is; sizes_are = k.knows.sizes_are; confirmed_is = k.knows.confirmed_is };
         kept = k.kept;
       }
+  begins (Err e) s was survives ok = tt
 
   pub commits : (before s : State) → Shows old here counted confirmed (inside before s) → (new.IsSound → old.IsSound) → (new.IsSound → row.Shows old new old.now old.now false)
       → ((t : Tables) → new.is_open ≡ true → new.IsSound → new.may_leave t → t ≡ new.committed) → Shows new here counted confirmed (at_rest s)

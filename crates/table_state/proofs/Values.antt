@@ -87,16 +87,6 @@ module _ (old new : View) (here : List ℕ) (counted : Counted) (confirmed : ℕ
         let r = told old new here counted confirmed (λ t. option_map bytes found ≡ get t.parts (name, (day, (airport, number)))) x was survives tells up sound in
         by ∙ part_read old.now x.now r.1 bytes p found may (r.0 ∙ (λ i. get old.now.parts (is_name i, (is_day i, (is_airport i, is_number i)))))
 
-    pub none_kept_text : (text name : List ℕ) → name ≡ text → (IsShowing old (seen_in old) → new.IsSound → None ≡ get old.now.kept_texts name) → None ≡ x.now.kept_texts text
-    none_kept_text text name is tells =
-        let r = told old new here counted confirmed (λ t. ◌≡◌ {A = Option ℤ} None (get t.kept_texts name)) x was survives tells up sound in
-        kept_text_read old.now x.now r.1 text None (r.0 ∙ ap (get old.now.kept_texts) is)
-
-    pub some_kept_text : (text name : List ℕ) (number : ℤ) (count : ℕ) → name ≡ text → count ≡ natural number → (IsShowing old (seen_in old) → new.IsSound → Some number ≡ get old.now.kept_texts name) → Some count ≡ x.now.kept_texts text
-    some_kept_text text name number count is by tells =
-        let r = told old new here counted confirmed (λ t. Some number ≡ get t.kept_texts name) x was survives tells up sound in
-        ap Some by ∙ kept_text_read old.now x.now r.1 text (Some number) (r.0 ∙ ap (get old.now.kept_texts) is)
-
     pub holder_is : (w : ℕ) (holder : Option Holder) → (IsShowing old (seen_in old) → new.IsSound → Stocked old.now → holder ≡ holders_in old.now.stock w) → holder ≡ x.now.cargo.holders w
     holder_is w holder tells =
         let r = told old new here counted confirmed (λ t. Stocked t → holder ≡ holders_in t.stock w) x was survives tells up sound in

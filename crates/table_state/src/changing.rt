@@ -29,14 +29,9 @@ impl<S: TableStore> TableState<S> {
             (on_cargo (written [] (Declare awb.now declared.now)) s))) }
         ensures survives { Survives (S.view self.old.store) (S.view self.new.store) }
     {
-        let Ok(row) = waybill_row(self.alloc, awb, declared) else {
-            return Err(StoreFault);
-        };
+        let row = waybill_row(self.alloc, awb, declared)?;
         let is_missing = self.missed.take_waybill(awb);
-        match put_waybill(&mut self.store, is_missing, &row) {
-            Err(_) => Err(StoreFault),
-            Ok(()) => Ok(()),
-        }
+        put_waybill(&mut self.store, is_missing, &row)
     }
 
     /// An agent's number is used up.
@@ -48,10 +43,7 @@ impl<S: TableStore> TableState<S> {
             self.new.confirmed (inside before (on_cargo (written [] (UseUp awb.now)) s))) }
         ensures survives { Survives (S.view self.old.store) (S.view self.new.store) }
     {
-        match stock_tables::use_up(self.alloc, &mut self.store, awb) {
-            Err(_) => Err(StoreFault),
-            Ok(()) => Ok(()),
-        }
+        stock_tables::use_up(self.alloc, &mut self.store, awb)
     }
 
     /// What is noted of an outbound flight from now on.
@@ -68,23 +60,16 @@ impl<S: TableStore> TableState<S> {
             (on_cargo (written [] (NoteFlight flight.now outbound.now)) s))) }
         ensures survives { Survives (S.view self.old.store) (S.view self.new.store) }
     {
-        let Ok(name) = flight_text(self.alloc, &flight.flight) else {
-            return Err(StoreFault);
-        };
-        let Ok(row) = outbound_row(self.alloc, outbound) else {
-            return Err(StoreFault);
-        };
+        let name = flight_text(self.alloc, &flight.flight)?;
+        let row = outbound_row(self.alloc, outbound)?;
         let is_missing = self.missed.take_flight(flight);
-        match put_flight(
+        put_flight(
             &mut self.store,
             is_missing,
             &name,
             day_number(flight.day),
             &row,
-        ) {
-            Err(_) => Err(StoreFault),
-            Ok(()) => Ok(()),
-        }
+        )
     }
 
     /// What is expected of a waybill on a flight from now on.
@@ -102,25 +87,19 @@ impl<S: TableStore> TableState<S> {
             (on_cargo (written [] (Expect flight.now awb.now expected.now)) s))) }
         ensures survives { Survives (S.view self.old.store) (S.view self.new.store) }
     {
-        let Ok(name) = flight_text(self.alloc, &flight.flight) else {
-            return Err(StoreFault);
-        };
+        let name = flight_text(self.alloc, &flight.flight)?;
         let row = expected_row(expected);
         let is_missing = self.missed.take_expected(flight, awb);
-        match put_expected(
+        put_expected(
             &mut self.store,
             is_missing,
             &name,
             day_number(flight.day),
             awb_key(awb),
             &row,
-        ) {
-            Err(_) => Err(StoreFault),
-            Ok(()) => {
-                self.counted.open_lines.post(flight, awb, expected);
-                Ok(())
-            }
-        }
+        )?;
+        self.counted.open_lines.post(flight, awb, expected);
+        Ok(())
     }
 
     /// The telegram in work, which has this text, is this part.
@@ -133,20 +112,13 @@ impl<S: TableStore> TableState<S> {
             (on_cargo (written telegram.now (NotePart part.now)) s))) }
         ensures survives { Survives (S.view self.old.store) (S.view self.new.store) }
     {
-        let Ok(name) = flight_text(self.alloc, &part.flight.flight) else {
-            return Err(StoreFault);
-        };
-        let Ok(airport) = text(self.alloc, &part.airport.letters()) else {
-            return Err(StoreFault);
-        };
+        let name = flight_text(self.alloc, &part.flight.flight)?;
+        let airport = text(self.alloc, &part.airport.letters())?;
         let Ok(body) = std::str::from_utf8(telegram) else {
             return Err(StoreFault);
         };
         let (day, number) = (day_number(part.flight.day), i64::from(part.number.number()));
-        match self.store.insert_part(&name, day, &airport, number, body) {
-            Err(_) => Err(StoreFault),
-            Ok(()) => Ok(()),
-        }
+        self.store.insert_part(&name, day, &airport, number, body)
     }
 
     /// A line joins the trail of a waybill.
@@ -158,19 +130,11 @@ impl<S: TableStore> TableState<S> {
             self.new.confirmed (inside before (on_cargo (written [] (Trail awb.now line.now)) s))) }
         ensures survives { Survives (S.view self.old.store) (S.view self.new.store) }
     {
-        let Some(number) = self.counted.sizes.lines.checked_add(1) else {
-            return Err(StoreFault);
-        };
-        let Ok(row) = trail_row(self.alloc, number, awb, line) else {
-            return Err(StoreFault);
-        };
-        match self.store.insert_trail_line(&row) {
-            Err(_) => Err(StoreFault),
-            Ok(()) => {
-                self.counted.sizes.lines = number;
-                Ok(())
-            }
-        }
+        let number = self.counted.sizes.lines.checked_add(1).ok_or(StoreFault)?;
+        let row = trail_row(self.alloc, number, awb, line)?;
+        self.store.insert_trail_line(&row)?;
+        self.counted.sizes.lines = number;
+        Ok(())
     }
 
     /// The messages up to this one are confirmed.
@@ -182,12 +146,8 @@ impl<S: TableStore> TableState<S> {
             self.new.confirmed (inside before (on_cargo (written [] (Confirm upto)) s))) }
         ensures survives { Survives (S.view self.old.store) (S.view self.new.store) }
     {
-        match self.store.update_confirmed(i64::from(upto)) {
-            Err(_) => Err(StoreFault),
-            Ok(()) => {
-                self.confirmed = upto;
-                Ok(())
-            }
-        }
+        self.store.update_confirmed(i64::from(upto))?;
+        self.confirmed = upto;
+        Ok(())
     }
 }

@@ -28,10 +28,8 @@ impl<S: TableStore> TableState<S> {
             self.new.confirmed (at_rest s) }
         ensures survives { Survives (S.view self.old.store) (S.view self.new.store) }
     {
-        match self.store.all_expected() {
-            Err(_) => Err(StoreFault),
-            Ok(rows) => waybills_expected(self.alloc, &rows),
-        }
+        let rows = self.store.all_expected()?;
+        waybills_expected(self.alloc, &rows)
     }
 
     /// What is open of it, from one pass over all rows. It is kept, unless memory runs out.

@@ -12,13 +12,11 @@ use station_core::{BookRow, Message, Sink, TrailRow as ReaderLine};
 use station_rows::{MessageRow, MoveRow, TrailRow};
 
 /// How a reader ends whose rows were handed on, by how they were read.
-pub(crate) fn ended<E: Drop>(read: Result<(), E>, stuck: bool) -> Result<(), StoreFault>
+pub(crate) fn ended(read: Result<(), StoreFault>, stuck: bool) -> Result<(), StoreFault>
     ensures { OnOk result (IsOk read × (stuck ≡ false)) }
 {
-    match read {
-        Ok(()) if !stuck => Ok(()),
-        _ => Err(StoreFault),
-    }
+    read?;
+    if stuck { Err(StoreFault) } else { Ok(()) }
 }
 
 /// A row of a table that readers are given in another form.

@@ -32,19 +32,13 @@ impl<S: TableStore> TableState<S> {
             self.new.confirmed (at_rest s) }
         ensures survives { Survives (S.view self.old.store) (S.view self.new.store) }
     {
-        let Some(awb) = Awb::of_key(number) else {
-            return Err(StoreFault);
-        };
-        match running_totals::balances(&mut self.store, &mut self.counted.known, &awb) {
-            Err(_) => Err(StoreFault),
-            Ok(balances) => {
-                if !query.asks_for(&balances) {
-                    return Ok(());
-                }
-                rows.push(WaybillBalances { awb, balances })?;
-                Ok(())
-            }
+        let awb = Awb::of_key(number).ok_or(StoreFault)?;
+        let balances = running_totals::balances(&mut self.store, &mut self.counted.known, &awb)?;
+        if !query.asks_for(&balances) {
+            return Ok(());
         }
+        rows.push(WaybillBalances { awb, balances })?;
+        Ok(())
     }
 
     /// The waybills of the book that are asked for, ascending, each with its balances, where all of
@@ -85,10 +79,8 @@ impl<S: TableStore> TableState<S> {
             self.new.confirmed (at_rest s) }
         ensures survives { Survives (S.view self.old.store) (S.view self.new.store) }
     {
-        match running_totals::all_balances(self.alloc, &mut self.store) {
-            Err(_) => Err(StoreFault),
-            Ok(all) => asked_among(self.alloc, query, &all),
-        }
+        let all = running_totals::all_balances(self.alloc, &mut self.store)?;
+        asked_among(self.alloc, query, &all)
     }
 
     /// The waybills of the book that are asked for, ascending, each with its balances: one read for

@@ -20,9 +20,7 @@ pub(crate) fn flights_noted(
 {
     let mut all = Vec::new(alloc);
     for row in rows {
-        let Some(noted) = noted_by(row) else {
-            return Err(StoreFault);
-        };
+        let noted = noted_by(row).ok_or(StoreFault)?;
         all.push(noted)?;
     }
     Ok(all)
@@ -38,9 +36,7 @@ pub(crate) fn waybills_expected(
 {
     let mut all = Vec::new(alloc);
     for row in rows {
-        let Some(expectation) = expectation_by(row) else {
-            return Err(StoreFault);
-        };
+        let expectation = expectation_by(row).ok_or(StoreFault)?;
         all.push(expectation)?;
     }
     Ok(all)

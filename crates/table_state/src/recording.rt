@@ -39,6 +39,5 @@ pub(crate) fn record_move<S: TableStore>(
 {
     let row = move_row(alloc, number, movement)?;
     store.insert_move(&row)?;
-    let pieces = post_move(alloc, store, known, movement)?;
-    Ok(pieces)
+    post_move(alloc, store, known, movement)
 }

@@ -121,29 +121,18 @@ impl<S: TableStore> StateStore for TableState<S> {
 
     #[tactic(auto, using(crate::proofs::Lifting::begins, crate::proofs::Lifting::survives_so))]
     fn begin(&mut self) -> Result<(), StoreFault> {
-        match self.store.begin() {
-            Err(_) => Err(StoreFault),
-            Ok(()) => Ok(()),
-        }
+        self.store.begin()
     }
 
-    #[tactic(auto, using(crate::proofs::Lifting::commits, crate::proofs::Lifting::may_find_on))]
     fn commit(&mut self) -> Result<(), StoreFault> {
-        match self.store.commit() {
-            Err(_) => Err(StoreFault),
-            Ok(()) => Ok(()),
-        }
+        self.store.commit()
     }
 
     #[tactic(auto, using(crate::proofs::Lifting::reads_unchanged, crate::proofs::Lifting::survives_so, crate::proofs::Values::none_kept, crate::proofs::Values::some_kept))]
     fn kept_key(&mut self, key: &Key) -> Result<Option<KeptReply>, StoreFault> {
-        match self.store.kept_row(key.as_str()) {
-            Err(_) => Err(StoreFault),
-            Ok(None) => Ok(None),
-            Ok(Some(row)) => match kept_by(row) {
-                None => Err(StoreFault),
-                Some(kept) => Ok(Some(kept)),
-            },
+        match self.store.kept_row(key.as_str())? {
+            None => Ok(None),
+            Some(row) => Ok(Some(kept_by(row).ok_or(StoreFault)?)),
         }
     }
 
@@ -152,75 +141,52 @@ impl<S: TableStore> StateStore for TableState<S> {
         let Ok(text) = std::str::from_utf8(text) else {
             return Err(StoreFault);
         };
-        match self.store.kept_text_count(text) {
-            Err(_) => Err(StoreFault),
-            Ok(None) => Ok(None),
-            Ok(Some(count)) => match count_of(count) {
-                None => Err(StoreFault),
-                Some(count) => Ok(Some(count)),
-            },
+        match self.store.kept_text_count(text)? {
+            None => Ok(None),
+            Some(count) => Ok(Some(count_of(count).ok_or(StoreFault)?)),
         }
     }
 
     #[tactic(auto, using(crate::proofs::Lifting::rests_on, crate::proofs::Lifting::survives_so))]
     fn declared(&mut self, awb: &Awb) -> Result<Option<Declared>, StoreFault> {
-        match self.store.waybill_row(awb_key(awb)) {
-            Err(_) => Err(StoreFault),
-            Ok(None) => {
+        match self.store.waybill_row(awb_key(awb))? {
+            None => {
                 self.missed.note_waybill(awb);
                 Ok(None)
             }
-            Ok(Some(row)) => match waybill_by(&row) {
-                None => Err(StoreFault),
-                Some(waybill) => Ok(Some(waybill.1)),
-            },
+            Some(row) => Ok(Some(waybill_by(&row).ok_or(StoreFault)?.1)),
         }
     }
 
-    #[tactic(auto, using(crate::proofs::Lifting::rests_on, crate::proofs::Lifting::survives_so))]
+    #[tactic(auto, using(crate::proofs::Lifting::reads_so, crate::proofs::Lifting::rests_on, crate::proofs::Lifting::survives_so))]
     fn holder(&mut self, awb: &Awb) -> Result<Option<Holder>, StoreFault> {
-        match stock_tables::holder(&mut self.store, awb) {
-            Err(_) => Err(StoreFault),
-            Ok(holder) => Ok(holder),
-        }
+        stock_tables::holder(&mut self.store, awb)
     }
 
     #[tactic(auto, using(crate::proofs::Lifting::rests_on, crate::proofs::Lifting::survives_so))]
     fn has_moves(&mut self, awb: &Awb) -> Result<bool, StoreFault> {
-        match self.store.moves_of(awb_key(awb)) {
-            Err(_) => Err(StoreFault),
-            Ok(rows) => Ok(!rows.is_empty()),
-        }
+        Ok(!self.store.moves_of(awb_key(awb))?.is_empty())
     }
 
     #[tactic(auto, using(crate::proofs::Lifting::rests_on, crate::proofs::Lifting::survives_so))]
     fn balances(&mut self, awb: &Awb) -> Result<Balances, StoreFault> {
-        match running_totals::balances(&mut self.store, &mut self.counted.known, awb) {
-            Err(_) => Err(StoreFault),
-            Ok(balances) => Ok(balances),
-        }
+        running_totals::balances(&mut self.store, &mut self.counted.known, awb)
     }
 
     #[tactic(auto, using(crate::proofs::Lifting::rests_on, crate::proofs::Lifting::survives_so))]
     fn load(&mut self, awb: &Awb, flight: &FlightDate) -> Result<Amount, StoreFault> {
-        match running_totals::load(
+        running_totals::load(
             self.alloc,
             &mut self.store,
             &mut self.counted.known,
             awb,
             flight,
-        ) {
-            Err(_) => Err(StoreFault),
-            Ok(load) => Ok(load),
-        }
+        )
     }
 
-    #[tactic(auto, using(crate::proofs::Lifting::rests_on, crate::proofs::Lifting::survives_so))]
+    #[tactic(auto, using(crate::proofs::Lifting::reads_so, crate::proofs::Lifting::rests_on, crate::proofs::Lifting::survives_so))]
     fn aboard(&mut self, flight: &FlightDate) -> Result<Vec<Load>, StoreFault> {
-        match running_totals::aboard(self.alloc, &mut self.store, flight) {
-            Err(_) => Err(StoreFault),
-            Ok(loads) => Ok(loads),
-        }
+        running_totals::aboard(self.alloc, &mut self.store, flight)
     }
 
     #[tactic(auto, using(crate::proofs::Lifting::rests_on, crate::proofs::Lifting::survives_so))]
@@ -228,72 +194,52 @@ impl<S: TableStore> StateStore for TableState<S> {
         if let Some(number) = self.counted.boarded.number_on(flight) {
             return Ok(number);
         }
-        match running_totals::waybills_on(self.alloc, &mut self.store, flight) {
-            Err(_) => Err(StoreFault),
-            Ok(waybills) => {
-                self.counted.boarded.keep(Boarded {
-                    flight: *flight,
-                    waybills,
-                });
-                Ok(waybills)
-            }
-        }
+        let waybills = running_totals::waybills_on(self.alloc, &mut self.store, flight)?;
+        self.counted.boarded.keep(Boarded {
+            flight: *flight,
+            waybills,
+        });
+        Ok(waybills)
     }
 
     #[tactic(auto, using(crate::proofs::Lifting::rests_on, crate::proofs::Lifting::survives_so))]
     fn outbound(&mut self, flight: &FlightDate) -> Result<Option<Outbound>, StoreFault> {
-        let Ok(text) = flight_text(self.alloc, &flight.flight) else {
-            return Err(StoreFault);
-        };
-        match self.store.flight_row(&text, day_number(flight.day)) {
-            Err(_) => Err(StoreFault),
-            Ok(None) => {
+        let text = flight_text(self.alloc, &flight.flight)?;
+        match self.store.flight_row(&text, day_number(flight.day))? {
+            None => {
                 self.missed.note_flight(flight);
                 Ok(None)
             }
-            Ok(Some(row)) => match outbound_by(&row) {
-                None => Err(StoreFault),
-                Some(outbound) => Ok(Some(outbound)),
-            },
+            Some(row) => Ok(Some(outbound_by(&row).ok_or(StoreFault)?)),
         }
     }
 
     #[tactic(auto, using(crate::proofs::Lifting::rests_on, crate::proofs::Lifting::survives_so))]
     fn expected(&mut self, flight: &FlightDate, awb: &Awb) -> Result<Option<Expected>, StoreFault> {
-        let Ok(text) = flight_text(self.alloc, &flight.flight) else {
-            return Err(StoreFault);
-        };
+        let text = flight_text(self.alloc, &flight.flight)?;
         match self
             .store
-            .expected_row(&text, day_number(flight.day), awb_key(awb))
+            .expected_row(&text, day_number(flight.day), awb_key(awb))?
         {
-            Err(_) => Err(StoreFault),
-            Ok(None) => {
+            None => {
                 self.missed.note_expected(flight, awb);
                 Ok(None)
             }
-            Ok(Some(row)) => match expected_by(&row) {
-                None => Err(StoreFault),
-                Some(expected) => Ok(Some(expected)),
-            },
+            Some(row) => Ok(Some(expected_by(&row).ok_or(StoreFault)?)),
         }
     }
 
     #[tactic(auto, using(crate::proofs::Lifting::rests_on, crate::proofs::Lifting::survives_so))]
     fn has_part(&mut self, part: &Part) -> Result<bool, StoreFault> {
-        let Ok(flight) = flight_text(self.alloc, &part.flight.flight) else {
-            return Err(StoreFault);
-        };
+        let flight = flight_text(self.alloc, &part.flight.flight)?;
         let airport = part.airport.letters();
         let Ok(airport) = std::str::from_utf8(&airport) else {
             return Err(StoreFault);
         };
         let day = day_number(part.flight.day);
         let seq = i64::from(part.number.number());
-        match self.store.part_body(&flight, day, airport, seq) {
-            Err(_) => Err(StoreFault),
-            Ok(body) => Ok(body.is_some()),
-        }
+        let body = self.store.part_body(&flight, day, airport, seq)?;
+        Ok(body.is_some())
     }
 
     fn here(&self) -> Airport {
@@ -310,24 +256,18 @@ impl<S: TableStore> StateStore for TableState<S> {
 
     #[tactic(auto, using(crate::proofs::Lifting::survives_so))]
     fn add_move(&mut self, movement: &Move) -> Result<(), StoreFault> {
-        let Some(number) = self.counted.sizes.moves.checked_add(1) else {
-            return Err(StoreFault);
-        };
-        match record_move(
+        let number = self.counted.sizes.moves.checked_add(1).ok_or(StoreFault)?;
+        let were = record_move(
             self.alloc,
             &mut self.store,
             &mut self.counted.known,
             number,
             movement,
-        ) {
-            Err(_) => Err(StoreFault),
-            Ok(were) => {
-                self.counted.sizes.moves = number;
-                self.counted.boarded.post(movement, were);
-                self.counted.waybills.post(movement);
-                Ok(())
-            }
-        }
+        )?;
+        self.counted.sizes.moves = number;
+        self.counted.boarded.post(movement, were);
+        self.counted.waybills.post(movement);
+        Ok(())
     }
 
     #[tactic(auto, using(crate::proofs::Lifting::survives_so))]
@@ -349,31 +289,23 @@ impl<S: TableStore> StateStore for TableState<S> {
 
     #[tactic(auto, using(crate::proofs::Lifting::survives_so))]
     fn add_message(&mut self, text: &[u8]) -> Result<(), StoreFault> {
-        let Some(number) = self.counted.sizes.messages.checked_add(1) else {
-            return Err(StoreFault);
-        };
-        let Ok(row) = message_row(self.alloc, number, text) else {
-            return Err(StoreFault);
-        };
-        match self.store.insert_message(&row) {
-            Err(_) => Err(StoreFault),
-            Ok(()) => {
-                self.counted.sizes.messages = number;
-                Ok(())
-            }
-        }
+        let number = self
+            .counted
+            .sizes
+            .messages
+            .checked_add(1)
+            .ok_or(StoreFault)?;
+        let row = message_row(self.alloc, number, text)?;
+        self.store.insert_message(&row)?;
+        self.counted.sizes.messages = number;
+        Ok(())
     }
 
     #[tactic(auto, using(crate::proofs::Lifting::survives_so))]
     fn keep_key(&mut self, key: &Key, request: &str, count: u32) -> Result<(), StoreFault> {
         let _text = request.as_bytes();
-        match self
-            .store
+        self.store
             .insert_kept(key.as_str(), request, i64::from(count))
-        {
-            Err(_) => Err(StoreFault),
-            Ok(()) => Ok(()),
-        }
     }
 
     #[tactic(auto, using(crate::proofs::Lifting::survives_so))]
@@ -381,27 +313,17 @@ impl<S: TableStore> StateStore for TableState<S> {
         let Ok(text) = std::str::from_utf8(text) else {
             return Err(StoreFault);
         };
-        match self.store.insert_kept_text(text, i64::from(count)) {
-            Err(_) => Err(StoreFault),
-            Ok(()) => Ok(()),
-        }
+        self.store.insert_kept_text(text, i64::from(count))
     }
 
     #[tactic(auto, using(crate::proofs::Lifting::survives_so))]
     fn carry_out_order(&mut self, order: &Order) -> Result<(), StockFault<StoreFault>> {
-        match stock_tables::carry_out_order(self.alloc, &mut self.store, order) {
-            Ok(()) => Ok(()),
-            Err(StockFault::Refused(number, lowest)) => Err(StockFault::Refused(number, lowest)),
-            Err(StockFault::Rows(_)) => Err(StockFault::Rows(StoreFault)),
-        }
+        stock_tables::carry_out_order(self.alloc, &mut self.store, order)
     }
 
     #[tactic(auto, using(crate::proofs::Lifting::rests_on, crate::proofs::Lifting::survives_so))]
     fn runs(&mut self) -> Result<Vec<StockRun>, StoreFault> {
-        match stock_tables::runs(self.alloc, &mut self.store) {
-            Err(_) => Err(StoreFault),
-            Ok(runs) => Ok(runs),
-        }
+        stock_tables::runs(self.alloc, &mut self.store)
     }
 
     #[tactic(auto, using(crate::proofs::Lifting::survives_so))]
@@ -414,13 +336,8 @@ impl<S: TableStore> StateStore for TableState<S> {
 
     #[tactic(auto, using(crate::proofs::Lifting::rests_on, crate::proofs::Lifting::survives_so))]
     fn noted(&mut self) -> Result<Vec<NotedFlight>, StoreFault> {
-        match self.store.all_flights() {
-            Err(_) => Err(StoreFault),
-            Ok(rows) => match flights_noted(self.alloc, &rows) {
-                Err(_) => Err(StoreFault),
-                Ok(flights) => Ok(flights),
-            },
-        }
+        let rows = self.store.all_flights()?;
+        flights_noted(self.alloc, &rows)
     }
 
     #[tactic(auto, using(crate::proofs::Lifting::survives_so))]
@@ -437,9 +354,7 @@ impl<S: TableStore> StateStore for TableState<S> {
         query: &BookQuery,
         sink: &mut K,
     ) -> Result<(), StoreFault> {
-        let Ok(asked) = move_query(self.alloc, *query, self.counted.sizes.moves) else {
-            return Err(StoreFault);
-        };
+        let asked = move_query(self.alloc, *query, self.counted.sizes.moves)?;
         let mut telling = Telling::new(sink);
         let read = self.store.hand_out_moves(&asked, &mut telling);
         ended(read, telling.is_stuck())

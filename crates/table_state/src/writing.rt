@@ -20,13 +20,10 @@ pub(crate) fn put_waybill<S: TableStore>(
     if is_missing {
         return store.insert_waybill(row);
     }
-    let there = store.waybill_row(row.awb)?.is_some();
-    if there {
-        store.update_waybill(row)?;
-        Ok(())
+    if store.waybill_row(row.awb)?.is_some() {
+        store.update_waybill(row)
     } else {
-        store.insert_waybill(row)?;
-        Ok(())
+        store.insert_waybill(row)
     }
 }
 
@@ -45,13 +42,10 @@ pub(crate) fn put_flight<S: TableStore>(
     if is_missing {
         return store.insert_flight(flight, day, row);
     }
-    let there = store.flight_row(flight, day)?.is_some();
-    if there {
-        store.update_flight(flight, day, row)?;
-        Ok(())
+    if store.flight_row(flight, day)?.is_some() {
+        store.update_flight(flight, day, row)
     } else {
-        store.insert_flight(flight, day, row)?;
-        Ok(())
+        store.insert_flight(flight, day, row)
     }
 }
 
@@ -72,12 +66,9 @@ pub(crate) fn put_expected<S: TableStore>(
     if is_missing {
         return store.insert_expected(flight, day, awb, row);
     }
-    let there = store.expected_row(flight, day, awb)?.is_some();
-    if there {
-        store.update_expected(flight, day, awb, row)?;
-        Ok(())
+    if store.expected_row(flight, day, awb)?.is_some() {
+        store.update_expected(flight, day, awb, row)
     } else {
-        store.insert_expected(flight, day, awb, row)?;
-        Ok(())
+        store.insert_expected(flight, day, awb, row)
     }
 }

@@ -2,19 +2,20 @@ use Rattle.std.proofs.Common.{sym, ◌∙◌, w64}
 use Rattle.std.proofs.lemmas.Int.{to_z-of_z}
 use Rattle.station_schema.specs.Store.{inside}
 use Rattle.table_rows.specs.Meant.{expected_meant}
+use Rattle.table_state.proofs.Lifting.{of_answer}
 use Rattle.table_state.proofs.Putting.{over_expected}
 use Rattle.table_state.proofs.writing.put_expected.Goals as goal
 
-pub returns-in_ok-update_expected-clause-done : goal.returns-in_ok-update_expected-clause-done
-returns-in_ok-update_expected-clause-done g c = λ before now shown.
-    over_expected (g.S.TableStore.view c.update_expected.new.self) before now (c.args.flight.now, (c.args.day, c.args.awb)) c.in_ok-expected_row.field-0 (expected_meant c.args.row.now)
-    (sym c.is_some-there.ensures ∙ c.if-there.true)
+pub returns-then-is_some-clause-done : goal.returns-then-is_some-clause-done
+returns-then-is_some-clause-done g c = λ before now shown.
+    of_answer _ c.update_expected.result (λ _ is. over_expected (g.S.TableStore.view c.update_expected.new.self) before now (c.args.flight.now, (c.args.day, c.args.awb)) c.in_ok-expected_row.field-0 (expected_meant c.args.row.now)
+    (sym c.is_some.ensures ∙ c.if-is_some.true)
     (λ sound. rw (to_z-of_z w64 c.args.day c.ranges.day, to_z-of_z w64 c.args.awb c.ranges.awb) at (c.in_ok-expected_row.ensures.read (inside before now) shown (c.update_expected.ensures.survives.sound sound)))
-    (rw (to_z-of_z w64 c.args.day c.ranges.day, to_z-of_z w64 c.args.awb c.ranges.awb) at (c.in_ok-update_expected.ensures.done before now (c.in_ok-expected_row.ensures.same (inside before now) shown)))
+    (rw (is, to_z-of_z w64 c.args.day c.ranges.day, to_z-of_z w64 c.args.awb c.ranges.awb) at (c.update_expected.ensures.done before now (c.in_ok-expected_row.ensures.same (inside before now) shown))))
 
-pub returns-in_ok-insert_expected-clause-done : goal.returns-in_ok-insert_expected-clause-done
-returns-in_ok-insert_expected-clause-done g c = λ before now shown.
-    rw (to_z-of_z w64 c.args.day c.ranges.day, to_z-of_z w64 c.args.awb c.ranges.awb) at (c.in_ok-insert_expected.ensures.done before now (c.in_ok-expected_row.ensures.same (inside before now) shown))
+pub returns-else-is_some-clause-done : goal.returns-else-is_some-clause-done
+returns-else-is_some-clause-done g c = λ before now shown.
+    rw (to_z-of_z w64 c.args.day c.ranges.day, to_z-of_z w64 c.args.awb c.ranges.awb) at (c.insert_expected-else-is_some.ensures.done before now (c.in_ok-expected_row.ensures.same (inside before now) shown))
 
 pub returns-then-is_missing-clause-done : goal.returns-then-is_missing-clause-done
 returns-then-is_missing-clause-done g c = λ before now shown.

@@ -2,19 +2,20 @@ use Rattle.std.proofs.Common.{sym, ◌∙◌, w64}
 use Rattle.std.proofs.lemmas.Int.{to_z-of_z}
 use Rattle.station_schema.specs.Store.{inside}
 use Rattle.table_rows.specs.Meant.{flight_meant}
+use Rattle.table_state.proofs.Lifting.{of_answer}
 use Rattle.table_state.proofs.Putting.{over_flight}
 use Rattle.table_state.proofs.writing.put_flight.Goals as goal
 
-pub returns-in_ok-update_flight-clause-done : goal.returns-in_ok-update_flight-clause-done
-returns-in_ok-update_flight-clause-done g c = λ before now shown.
-    over_flight (g.S.TableStore.view c.update_flight.new.self) before now (c.args.flight.now, c.args.day) c.in_ok-flight_row.field-0 (flight_meant c.args.row.now)
-    (sym c.is_some-there.ensures ∙ c.if-there.true)
+pub returns-then-is_some-clause-done : goal.returns-then-is_some-clause-done
+returns-then-is_some-clause-done g c = λ before now shown.
+    of_answer _ c.update_flight.result (λ _ is. over_flight (g.S.TableStore.view c.update_flight.new.self) before now (c.args.flight.now, c.args.day) c.in_ok-flight_row.field-0 (flight_meant c.args.row.now)
+    (sym c.is_some.ensures ∙ c.if-is_some.true)
     (λ sound. rw (to_z-of_z w64 c.args.day c.ranges.day) at (c.in_ok-flight_row.ensures.read (inside before now) shown (c.update_flight.ensures.survives.sound sound)))
-    (rw (to_z-of_z w64 c.args.day c.ranges.day) at (c.in_ok-update_flight.ensures.done before now (c.in_ok-flight_row.ensures.same (inside before now) shown)))
+    (rw (is, to_z-of_z w64 c.args.day c.ranges.day) at (c.update_flight.ensures.done before now (c.in_ok-flight_row.ensures.same (inside before now) shown))))
 
-pub returns-in_ok-insert_flight-clause-done : goal.returns-in_ok-insert_flight-clause-done
-returns-in_ok-insert_flight-clause-done g c = λ before now shown.
-    rw (to_z-of_z w64 c.args.day c.ranges.day) at (c.in_ok-insert_flight.ensures.done before now (c.in_ok-flight_row.ensures.same (inside before now) shown))
+pub returns-else-is_some-clause-done : goal.returns-else-is_some-clause-done
+returns-else-is_some-clause-done g c = λ before now shown.
+    rw (to_z-of_z w64 c.args.day c.ranges.day) at (c.insert_flight-else-is_some.ensures.done before now (c.in_ok-flight_row.ensures.same (inside before now) shown))
 
 pub returns-then-is_missing-clause-done : goal.returns-then-is_missing-clause-done
 returns-then-is_missing-clause-done g c = λ before now shown.

@@ -3,8 +3,8 @@ use Rattle.std.proofs.lemmas.Int.{to_z-of_z}
 use Rattle.table_state.proofs.Changes.{confirms_on, mark_fits}
 use Rattle.table_state.proofs.state.TableState.confirm.Goals as goal
 
-pub returns-in-Ok-clause-done : goal.returns-in-Ok-clause-done
-returns-in-Ok-clause-done g c = λ before s shown.
+pub returns-clause-done : goal.returns-clause-done
+returns-clause-done g c = λ before s shown.
     let fits : SFits w64 c.from.result = search rules in
     let small : c.args.upto < 4_294_967_296 = search rules in
-    confirms_on _ _ _ _ _ before s shown c.in-Ok.ensures.survives [] _ c.args.upto (to_z-of_z w64 c.from.result fits ∙ c.from.ensures) (mark_fits c.args.upto small) (c.in-Ok.ensures.done _ _)
+    confirms_on _ _ _ _ _ before s shown c.in_ok-update_confirmed.ensures.survives [] _ c.args.upto (to_z-of_z w64 c.from.result fits ∙ c.from.ensures) (mark_fits c.args.upto small) (c.in_ok-update_confirmed.ensures.done _ _)

@@ -6,6 +6,7 @@ use Rattle.imp_fields.specs.Airport.{is_airport}
 use Rattle.imp_fields.specs.Amount.{IsPartNumber}
 use Rattle.row_codec.proofs.Fits.{part_fits}
 use Rattle.table_state.proofs.Changes.{notes_part_on}
+use Rattle.table_state.proofs.Lifting.{on_answer}
 use Rattle.table_state.proofs.state.TableState.note_part.Goals as goal
 
 pub returns-clause-done : goal.returns-clause-done
@@ -13,11 +14,11 @@ returns-clause-done g c = λ before s shown.
     let day_fits : SFits w64 c.day_number-day.result = search rules in
     let number_fits : SFits w64 c.from-number.result = search rules in
     let airport : c.deref-2.result.now ≡ c.args.part.now.airport = search rules in
-    let body : c.in-Ok-from_utf8.body.now ≡ c.args.telegram.now = search rules in
+    let body : c.in-Ok.body.now ≡ c.args.telegram.now = search rules in
     let valid : IsUtf8 c.args.telegram.now = search rules in
     let text : IsTrue (is_utf8 c.args.telegram.now) = is_utf8-from_IsUtf8 _ valid in
-    notes_part_on _ _ _ _ _ before s shown c.in-Ok-insert_part.ensures.survives c.args.telegram.now _ _ _ _ _ c.args.part.now (c.deref.ensures ∙ c.in-Ok.ensures.text)
+    on_answer c.insert_part.result (notes_part_on _ _ _ _ _ before s shown c.insert_part.ensures.survives c.args.telegram.now _ _ _ _ _ c.args.part.now (c.deref.ensures ∙ c.in_ok-name.ensures.text)
     (to_z-of_z w64 c.day_number-day.result day_fits ∙ c.day_number-day.ensures.value) airport (to_z-of_z w64 c.from-number.result number_fits ∙ c.from-number.ensures ∙ ap pos c.number.ensures.value) body
     c.flight_text.ensures.designator
     (part_fits c.args.part.now c.flight_text.ensures.designator c.day_number-day.ensures.in_range (subst (λ (l : List ℕ). IsTrue (is_airport l)) c.letters.ensures.value c.letters.ensures.letters)
-    (subst IsPartNumber c.number.ensures.value c.number.ensures.in_range) c.args.telegram.now text) (c.in-Ok-insert_part.ensures.done _ _)
+    (subst IsPartNumber c.number.ensures.value c.number.ensures.in_range) c.args.telegram.now text)) (c.insert_part.ensures.done _ _)

@@ -1,7 +1,8 @@
 use Rattle.std.proofs.Common.{[]}
 use Rattle.table_state.proofs.Changes.{uses_up_on}
+use Rattle.table_state.proofs.Lifting.{of_answer}
 use Rattle.table_state.proofs.state.TableState.use_up.Goals as goal
 
-pub returns-in-Ok-clause-done : goal.returns-in-Ok-clause-done
-returns-in-Ok-clause-done g c = λ before s shown.
-    uses_up_on _ _ _ _ _ before s shown c.in-Ok.ensures.survives [] c.args.awb.now (c.in-Ok.ensures.done _ _)
+pub returns-clause-done : goal.returns-clause-done
+returns-clause-done g c = λ before s shown.
+    of_answer _ c.use_up.result (λ _ is. uses_up_on _ _ _ _ _ before s shown c.use_up.ensures.survives [] c.args.awb.now (rw is at (c.use_up.ensures.done (g.S.TableStore.view c.args.self.now.store).committed (g.S.TableStore.view c.args.self.now.store).now)))

@@ -2,9 +2,9 @@ use Rattle.std.proofs.Common.{rules, refl, ◌≡◌, ◌+◌, ◌∙◌, FitsSi
 use Rattle.table_state.proofs.Changes.{moves_on}
 use Rattle.table_state.proofs.state.TableStateStateStore.add_move.Goals as goal
 
-pub returns-in-Ok-clause-done : goal.returns-in-Ok-clause-done
-returns-in-Ok-clause-done g c = λ before s shown.
-    let next : c.in-Some.number ≡ c.args.self.now.counted.sizes.moves + 1 = search rules in
-    let fits : FitsSigned w64 c.in-Ok.were = search rules in
-    moves_on _ _ _ _ _ before s shown c.in-Ok.ensures.survives c.in-Some.number c.args.movement.now next _ refl c.in-Ok.were
-    (λ book known there. c.post.ensures book known (λ other. to_z-of_z fits ∙ there other)) c.in-Ok.ensures.known c.post-in-Ok.ensures refl (c.in-Ok.ensures.before _ _) (c.in-Ok.ensures.done _ _)
+pub returns-clause-done : goal.returns-clause-done
+returns-clause-done g c = λ before s shown.
+    let next : c.in_ok-number.number ≡ c.args.self.now.counted.sizes.moves + 1 = search rules in
+    let fits : FitsSigned w64 c.in_ok-were.were = search rules in
+    moves_on _ _ _ _ _ before s shown c.in_ok-were.ensures.survives c.in_ok-number.number c.args.movement.now next _ refl c.in_ok-were.were
+    (λ book known there. c.post.ensures book known (λ other. to_z-of_z fits ∙ there other)) c.in_ok-were.ensures.known c.post-2.ensures refl (c.in_ok-were.ensures.before _ _) (c.in_ok-were.ensures.done _ _)

@@ -16,7 +16,7 @@ returns-clause-rows g c = λ s shown sound.
     let to = c.hand_out_moves-read.new.sink in
     let handed : Hands g.K.Sink.takes (book_by c.args.query.now s.cargo) from.sink.now to.sink.now c.ended.result =
     given_on g.K.Sink.takes book_row_by _ (λ old x go new h. subst (λ l. Tells g.K.Sink.takes (book_row_by l) old go new) h.1 h.2) _ _ _ _ _ s shown c.hand_out_moves-read.ensures.survives (λ t. moves_for _ t.moves) (book_by c.args.query.now s.cargo)
-    (λ means knows. c.in-Ok.ensures _ s means (sym (ap (λ (z : Sizes). z.moves) knows.sizes_are)))
+    (λ means knows. c.in_ok-asked.ensures _ s means (sym (ap (λ (z : Sizes). z.moves) knows.sizes_are)))
     from to c.hand_out_moves-read.result c.hand_out_moves-read.ensures.hands c.hand_out_moves-read.ensures.shut c.ended.result (rw c.is_stuck.ensures at c.ended.ensures) sound in
     let name = (some_told g.K.Sink.takes (λ (row : MoveRow). book_row_by (move_meant row)) _ (λ old x go new h. h) _ from to c.hand_out_moves-read.ensures.took.1).0 in
     subst₂ (λ a b. Hands g.K.Sink.takes (book_by c.args.query.now s.cargo) a b c.ended.result) c.new-telling.ensures.same (search rules) handed

@@ -1,22 +1,26 @@
 use Rattle.std.proofs.Common.{◌≡◌, ℕ, Option, None, Some, false, ap}
 use Rattle.agent_stock.specs.Stock.{is_run, run_of}
-use Rattle.table_state.proofs.Changes.{orders_on, due_on, refusal_on, stays_on}
+use Rattle.table_state.proofs.Changes.{orders_on, due_on, of_refusal, on_refusal, refusal_on, stays_on}
+use Rattle.table_state.proofs.Lifting.{of_answer}
 use Rattle.table_state.proofs.state.TableStateStateStore.carry_out_order.Goals as goal
 
-pub returns-in-Ok-clause-accepted : goal.returns-in-Ok-clause-accepted
-returns-in-Ok-clause-accepted g c = λ s shown sound. due_on _ _ _ _ _ s shown c.in-Ok.ensures.survives c.args.order.now None c.in-Ok.ensures.open (c.in-Ok.ensures.accepted _) sound
+pub returns-clause-accepted : goal.returns-clause-accepted
+returns-clause-accepted g c = λ s shown sound.
+    of_answer _ c.carry_out_order.result (λ _ is. due_on _ _ _ _ _ s shown c.carry_out_order.ensures.survives c.args.order.now None (rw is at c.carry_out_order.ensures.open) (rw is at (c.carry_out_order.ensures.accepted (g.S.TableStore.view c.args.self.now.store).now)) sound)
 
-pub returns-in-Ok-clause-done : goal.returns-in-Ok-clause-done
-returns-in-Ok-clause-done g c = λ s shown. orders_on _ _ _ _ _ s shown c.in-Ok.ensures.survives c.in-Ok.ensures.open c.args.order.now (c.in-Ok.ensures.done _)
+pub returns-clause-done : goal.returns-clause-done
+returns-clause-done g c = λ s shown.
+    of_answer _ c.carry_out_order.result (λ _ is. orders_on _ _ _ _ _ s shown c.carry_out_order.ensures.survives (rw is at c.carry_out_order.ensures.open) c.args.order.now (rw is at (c.carry_out_order.ensures.done (g.S.TableStore.view c.args.self.now.store).now)))
 
-pub returns-in-Err-Refused-clause-refused : goal.returns-in-Err-Refused-clause-refused
-returns-in-Err-Refused-clause-refused g c = λ s shown sound.
-    let order = c.args.order.now in
-    let size : is_run (run_of order) ≡ false → ◌≡◌ {A = Option (ℕ × Option ℕ)} (Some (105, None)) (Some (c.in-Err-Refused.number, c.in-Err-Refused.lowest)) = λ e. (let r = rw c.in-Err-Refused.field-0-is at ((c.in-Err-Refused.ensures.size e).0) in cc) in
-    refusal_on _ _ _ _ _ s shown c.in-Err-Refused.ensures.survives order (Some (c.in-Err-Refused.number, c.in-Err-Refused.lowest)) (λ e. rw c.in-Err-Refused.field-0-is at (c.in-Err-Refused.ensures.open_at_refusal e)) size
-    (λ showing stocked read. rw c.in-Err-Refused.field-0-is at (c.in-Err-Refused.ensures.refused (g.S.TableStore.view c.args.self.now.store).now showing stocked read)) sound
+pub returns-clause-refused : goal.returns-clause-refused
+returns-clause-refused g c = λ s shown sound.
+    of_refusal _ c.carry_out_order.result (λ number lowest is.
+    let size : is_run (run_of c.args.order.now) ≡ false → ◌≡◌ {A = Option (ℕ × Option ℕ)} (Some (105, None)) (Some (number, lowest)) = λ e. (let r = rw is at ((c.carry_out_order.ensures.size e).0) in cc) in
+    refusal_on _ _ _ _ _ s shown c.carry_out_order.ensures.survives c.args.order.now (Some (number, lowest)) (λ e. rw is at (c.carry_out_order.ensures.open_at_refusal e)) size
+    (rw is at (c.carry_out_order.ensures.refused (g.S.TableStore.view c.args.self.now.store).now)) sound)
 
-pub returns-in-Err-Refused-clause-same : goal.returns-in-Err-Refused-clause-same
-returns-in-Err-Refused-clause-same g c = λ s shown.
-    stays_on _ _ _ _ _ s shown c.in-Err-Refused.ensures.survives c.args.order.now (λ e. rw c.in-Err-Refused.field-0-is at (c.in-Err-Refused.ensures.open_at_refusal e)) (λ e. ap g.S.TableStore.view (c.in-Err-Refused.ensures.size e).1)
-    (λ showing. rw c.in-Err-Refused.field-0-is at (c.in-Err-Refused.ensures.same (g.S.TableStore.view c.args.self.now.store).now showing))
+pub returns-clause-same : goal.returns-clause-same
+returns-clause-same g c = λ s shown.
+    on_refusal _ c.carry_out_order.result (λ number lowest is.
+    stays_on _ _ _ _ _ s shown c.carry_out_order.ensures.survives c.args.order.now (λ e. rw is at (c.carry_out_order.ensures.open_at_refusal e)) (λ e. ap g.S.TableStore.view (c.carry_out_order.ensures.size e).1)
+    (rw is at (c.carry_out_order.ensures.same (g.S.TableStore.view c.args.self.now.store).now)))

@@ -7,26 +7,26 @@ use Rattle.table_state.proofs.Lifting.{seen_in, reads_on, rests_on}
 use Rattle.table_state.proofs.Values.{declared_is}
 use Rattle.table_state.proofs.state.TableStateStateStore.declared.Goals as goal
 
-pub returns-in-Ok-None-clause-value : goal.returns-in-Ok-None-clause-value
-returns-in-Ok-None-clause-value g c = λ x shown sound.
+pub returns-in-None-clause-value : goal.returns-in-None-clause-value
+returns-in-None-clause-value g c = λ x shown sound.
     let awb_fits : SFits w64 c.awb_key.result = search rules in
-    ap (option_map (λ (r : WaybillRow). declared_by (waybill_meant r))) (sym c.in-Ok-None.field-0-is)
-    ∙ declared_is _ _ _ _ _ x shown c.in-Ok-None.ensures.survives c.in-Ok-None.ensures.open sound c.args.awb.now _ c.in-Ok-None.field-0 (to_z-of_z w64 c.awb_key.result awb_fits ∙ c.awb_key.ensures.value) (c.in-Ok-None.ensures.read (seen_in (g.S.TableStore.view c.args.self.now.store)))
+    ap (option_map (λ (r : WaybillRow). declared_by (waybill_meant r))) (sym c.in-None.is)
+    ∙ declared_is _ _ _ _ _ x shown c.in_ok-waybill_row.ensures.survives c.in_ok-waybill_row.ensures.open sound c.args.awb.now _ c.in_ok-waybill_row.field-0 (to_z-of_z w64 c.awb_key.result awb_fits ∙ c.awb_key.ensures.value) (c.in_ok-waybill_row.ensures.read (seen_in (g.S.TableStore.view c.args.self.now.store)))
 
-pub returns-in-Ok-None-clause-same : goal.returns-in-Ok-None-clause-same
-returns-in-Ok-None-clause-same g c = λ x shown. reads_on _ _ _ _ _ x shown c.in-Ok-None.ensures.survives (c.in-Ok-None.ensures.same (seen_in (g.S.TableStore.view c.args.self.now.store))) c.in-Ok-None.ensures.open
+pub returns-in-None-clause-same : goal.returns-in-None-clause-same
+returns-in-None-clause-same g c = λ x shown. reads_on _ _ _ _ _ x shown c.in_ok-waybill_row.ensures.survives c.in_ok-waybill_row.ensures.same c.in_ok-waybill_row.ensures.open
 
-pub returns-clause-value : goal.returns-clause-value
-returns-clause-value g c = λ x shown sound.
+pub returns-in_ok-ok_or-in-Some-clause-value : goal.returns-in_ok-ok_or-in-Some-clause-value
+returns-in_ok-ok_or-in-Some-clause-value g c = λ x shown sound.
     let awb_fits : SFits w64 c.awb_key.result = search rules in
-    ap Some c.in-Some.ensures.declared ∙ ap (option_map (λ (r : WaybillRow). declared_by (waybill_meant r))) (sym c.in-Ok-Some.field-0-is)
-    ∙ declared_is _ _ _ _ _ x shown c.in-Ok-Some.ensures.survives c.in-Ok-Some.ensures.open sound c.args.awb.now _ c.in-Ok-Some.field-0 (to_z-of_z w64 c.awb_key.result awb_fits ∙ c.awb_key.ensures.value) (c.in-Ok-Some.ensures.read (seen_in (g.S.TableStore.view c.args.self.now.store)))
+    ap Some (rw c.in_ok-ok_or-in-Some.ensures.ok_part at c.waybill_by.ensures.declared) ∙ ap (option_map (λ (r : WaybillRow). declared_by (waybill_meant r))) (sym c.in-Some.is)
+    ∙ declared_is _ _ _ _ _ x shown c.in_ok-waybill_row.ensures.survives c.in_ok-waybill_row.ensures.open sound c.args.awb.now _ c.in_ok-waybill_row.field-0 (to_z-of_z w64 c.awb_key.result awb_fits ∙ c.awb_key.ensures.value) (c.in_ok-waybill_row.ensures.read (seen_in (g.S.TableStore.view c.args.self.now.store)))
 
-pub returns-clause-same : goal.returns-clause-same
-returns-clause-same g c = λ x shown. reads_on _ _ _ _ _ x shown c.in-Ok-Some.ensures.survives (c.in-Ok-Some.ensures.same (seen_in (g.S.TableStore.view c.args.self.now.store))) c.in-Ok-Some.ensures.open
+pub returns-in_ok-ok_or-in-Some-clause-same : goal.returns-in_ok-ok_or-in-Some-clause-same
+returns-in_ok-ok_or-in-Some-clause-same g c = λ x shown. reads_on _ _ _ _ _ x shown c.in_ok-waybill_row.ensures.survives c.in_ok-waybill_row.ensures.same c.in_ok-waybill_row.ensures.open
 
-pub returns-in-None-clause-rests : goal.returns-in-None-clause-rests
-returns-in-None-clause-rests g c = λ s shown. rests_on _ _ _ _ _ s shown c.in-Ok-Some.ensures.survives c.in-Ok-Some.ensures.rests
+pub returns-in_err-ok_or-in-Some-clause-rests : goal.returns-in_err-ok_or-in-Some-clause-rests
+returns-in_err-ok_or-in-Some-clause-rests g c = λ s shown. rests_on _ _ _ _ _ s shown c.in_ok-waybill_row.ensures.survives c.in_ok-waybill_row.ensures.rests
 
-pub returns-clause-rests : goal.returns-clause-rests
-returns-clause-rests g c = λ s shown. rests_on _ _ _ _ _ s shown c.in-Ok-Some.ensures.survives c.in-Ok-Some.ensures.rests
+pub returns-in_ok-ok_or-in-Some-clause-rests : goal.returns-in_ok-ok_or-in-Some-clause-rests
+returns-in_ok-ok_or-in-Some-clause-rests g c = λ s shown. rests_on _ _ _ _ _ s shown c.in_ok-waybill_row.ensures.survives c.in_ok-waybill_row.ensures.rests

@@ -1,9 +1,7 @@
-use Rattle.table_state.proofs.Lifting.{seen_in, reads_on}
+use Rattle.table_state.proofs.Lifting.{of_answer, seen_in}
 use Rattle.table_state.proofs.Values.{holder_is}
 use Rattle.table_state.proofs.state.TableStateStateStore.holder.Goals as goal
 
-pub returns-in-Ok-clause-value : goal.returns-in-Ok-clause-value
-returns-in-Ok-clause-value g c = λ x shown sound. holder_is _ _ _ _ _ x shown c.in-Ok.ensures.survives c.in-Ok.ensures.open sound c.args.awb.now c.in-Ok.holder (c.in-Ok.ensures.value (seen_in (g.S.TableStore.view c.args.self.now.store)))
-
-pub returns-in-Ok-clause-same : goal.returns-in-Ok-clause-same
-returns-in-Ok-clause-same g c = λ x shown. reads_on _ _ _ _ _ x shown c.in-Ok.ensures.survives (c.in-Ok.ensures.same (seen_in (g.S.TableStore.view c.args.self.now.store))) c.in-Ok.ensures.open
+pub returns-clause-value : goal.returns-clause-value
+returns-clause-value g c = λ x shown sound.
+    of_answer _ c.holder.result (λ holder is. holder_is _ _ _ _ _ x shown c.holder.ensures.survives (rw is at c.holder.ensures.open) sound c.args.awb.now holder (rw is at (c.holder.ensures.value (seen_in (g.S.TableStore.view c.args.self.now.store)))))

@@ -3,13 +3,14 @@ use Rattle.std.specs.Str.{IsUtf8}
 use Rattle.std.proofs.lemmas.Int.{to_z-of_z}
 use Rattle.std.proofs.lemmas.Str.{is_utf8-from_IsUtf8}
 use Rattle.table_state.proofs.Changes.{keeps_key_on, mark_fits}
+use Rattle.table_state.proofs.Lifting.{of_answer}
 use Rattle.table_state.proofs.state.TableStateStateStore.keep_key.Goals as goal
 
-pub returns-in-Ok-clause-done : goal.returns-in-Ok-clause-done
-returns-in-Ok-clause-done g c = λ before s shown asked.
+pub returns-clause-done : goal.returns-clause-done
+returns-clause-done g c = λ before s shown asked.
     let fits : SFits w64 c.from.result = search rules in
     let small : c.args.count < 4_294_967_296 = search rules in
     let valid : IsUtf8 c.args.request.now = search rules in
     let count = to_z-of_z w64 c.from.result fits ∙ c.from.ensures in
-    keeps_key_on _ _ _ _ _ before s shown c.in-Ok.ensures.survives _ c.args.key.now (record { request = c.args.request.now; count = c.args.count }) _ c.as_str.ensures.value
-    (λ i. record { command = c.args.request.now; count = count i }) c.as_str.ensures.valid (is_utf8-from_IsUtf8 _ valid) (mark_fits c.args.count small) asked c.in-Ok.ensures.ok
+    of_answer _ c.insert_kept.result (λ _ is. keeps_key_on _ _ _ _ _ before s shown c.insert_kept.ensures.survives _ c.args.key.now (record { request = c.args.request.now; count = c.args.count }) _ c.as_str.ensures.value
+    (λ i. record { command = c.args.request.now; count = count i }) c.as_str.ensures.valid (is_utf8-from_IsUtf8 _ valid) (mark_fits c.args.count small) asked (rw is at c.insert_kept.ensures.ok))

@@ -5,21 +5,21 @@ use Rattle.table_state.proofs.Lifting.{seen_in, reads_on}
 use Rattle.table_state.proofs.Values.{kept_text_is}
 use Rattle.table_state.proofs.state.TableStateStateStore.kept_text.Goals as goal
 
-pub returns-in-Ok-None-clause-value : goal.returns-in-Ok-None-clause-value
-returns-in-Ok-None-clause-value g c = λ x shown sound.
+pub returns-in-None-clause-value : goal.returns-in-None-clause-value
+returns-in-None-clause-value g c = λ x shown sound.
     let name : c.in-Ok.text.now ≡ c.args.text.now = search rules in
-    ap (option_map natural) (sym c.in-Ok-None.field-0-is)
-    ∙ kept_text_is _ _ _ _ _ x shown c.in-Ok-None.ensures.survives c.in-Ok-None.ensures.open sound c.args.text.now _ c.in-Ok-None.field-0 name (c.in-Ok-None.ensures.read (seen_in (g.S.TableStore.view c.args.self.now.store)))
+    ap (option_map natural) (sym c.in-None.is)
+    ∙ kept_text_is _ _ _ _ _ x shown c.in_ok-kept_text_count.ensures.survives c.in_ok-kept_text_count.ensures.open sound c.args.text.now _ c.in_ok-kept_text_count.field-0 name (c.in_ok-kept_text_count.ensures.read (seen_in (g.S.TableStore.view c.args.self.now.store)))
 
-pub returns-in-Ok-None-clause-same : goal.returns-in-Ok-None-clause-same
-returns-in-Ok-None-clause-same g c = λ x shown. reads_on _ _ _ _ _ x shown c.in-Ok-None.ensures.survives (c.in-Ok-None.ensures.same (seen_in (g.S.TableStore.view c.args.self.now.store))) c.in-Ok-None.ensures.open
+pub returns-in-None-clause-same : goal.returns-in-None-clause-same
+returns-in-None-clause-same g c = λ x shown. reads_on _ _ _ _ _ x shown c.in_ok-kept_text_count.ensures.survives c.in_ok-kept_text_count.ensures.same c.in_ok-kept_text_count.ensures.open
 
-pub returns-in-Some-clause-value : goal.returns-in-Some-clause-value
-returns-in-Some-clause-value g c = λ x shown sound.
+pub returns-in_ok-ok_or-in-Some-clause-value : goal.returns-in_ok-ok_or-in-Some-clause-value
+returns-in_ok-ok_or-in-Some-clause-value g c = λ x shown sound.
     let name : c.in-Ok.text.now ≡ c.args.text.now = search rules in
-    let fits : SFits w64 c.in-Ok-Some.count = search rules in
-    ap Some (c.in-Some.ensures.value ∙ ap natural (to_z-of_z w64 c.in-Ok-Some.count fits)) ∙ ap (option_map natural) (sym c.in-Ok-Some.field-0-is)
-    ∙ kept_text_is _ _ _ _ _ x shown c.in-Ok-Some.ensures.survives c.in-Ok-Some.ensures.open sound c.args.text.now _ c.in-Ok-Some.field-0 name (c.in-Ok-Some.ensures.read (seen_in (g.S.TableStore.view c.args.self.now.store)))
+    let fits : SFits w64 c.in-Some.count = search rules in
+    ap Some ((rw c.in_ok-ok_or-in-Some.ensures.ok_part at c.count_of.ensures.value) ∙ ap natural (to_z-of_z w64 c.in-Some.count fits)) ∙ ap (option_map natural) (sym c.in-Some.is)
+    ∙ kept_text_is _ _ _ _ _ x shown c.in_ok-kept_text_count.ensures.survives c.in_ok-kept_text_count.ensures.open sound c.args.text.now _ c.in_ok-kept_text_count.field-0 name (c.in_ok-kept_text_count.ensures.read (seen_in (g.S.TableStore.view c.args.self.now.store)))
 
-pub returns-in-Some-clause-same : goal.returns-in-Some-clause-same
-returns-in-Some-clause-same g c = λ x shown. reads_on _ _ _ _ _ x shown c.in-Ok-Some.ensures.survives (c.in-Ok-Some.ensures.same (seen_in (g.S.TableStore.view c.args.self.now.store))) c.in-Ok-Some.ensures.open
+pub returns-in_ok-ok_or-in-Some-clause-same : goal.returns-in_ok-ok_or-in-Some-clause-same
+returns-in_ok-ok_or-in-Some-clause-same g c = λ x shown. reads_on _ _ _ _ _ x shown c.in_ok-kept_text_count.ensures.survives c.in_ok-kept_text_count.ensures.same c.in_ok-kept_text_count.ensures.open
