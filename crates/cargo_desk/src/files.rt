@@ -159,7 +159,10 @@ fn options(rt: &HostRuntime) -> Result<Options, FileFault> {
 
 /// Opens a file, or makes it where it is missing or empty. Whatever stops it, the file has no
 /// database or the whole one, and the next call goes on from there.
-pub fn make_file(rt: &HostRuntime, path: &str) -> Result<Connection<ByName<FileStore<File>>>, FileFault> {
+pub fn make_file(
+    rt: &HostRuntime,
+    path: &str,
+) -> Result<Connection<ByName<FileStore<File>>>, FileFault> {
     if is_no_file(path) {
         return open_any(rt, path);
     }
@@ -181,7 +184,10 @@ pub fn make_file(rt: &HostRuntime, path: &str) -> Result<Connection<ByName<FileS
 }
 
 /// Opens a file that is there. A file that is missing or empty has no station, and stays as it is.
-pub fn open_file(rt: &HostRuntime, path: &str) -> Result<Connection<ByName<FileStore<File>>>, FileFault> {
+pub fn open_file(
+    rt: &HostRuntime,
+    path: &str,
+) -> Result<Connection<ByName<FileStore<File>>>, FileFault> {
     match is_blank(rt, path) {
         Ok(true) => Err(FileFault::NoStation),
         Ok(false) => open(rt, path),
@@ -207,7 +213,7 @@ pub fn tell_unopened(rt: &HostRuntime, path: &str, fault: FileFault) {
 }
 
 /// Whether a line runs over a file that was found and whose tables aren't declared as `init`
-/// declares them. `VACUUM` moves them, and a table of another program may stand beside them. A
+/// declares them: one of them has another text, or a table of another program is next to them. A
 /// station works in such a file, but what is proved of a power failure isn't proved of it.
 pub fn is_undeclared<S: Alter>(line: &Line<'_>, conn: &Connection<S>) -> bool {
     line.db.is_some() && !is_opening(line) && !has_station(conn)

@@ -87,11 +87,13 @@ impl<S: Store> Store for ByName<S> {
 
     ghost is_shielded = { λ it. S.Store.is_shielded it.store };
 
-    ghost is_step = { λ old new tree. S.Store.is_step old.store new.store tree ⊎ IsRefused old.is_in_order old.store new.store };
+    ghost is_step = { λ old new tree. S.Store.is_step old.store new.store tree
+        ⊎ IsRefused old.is_in_order old.store new.store };
 
     ghost blamed = { λ it. S.Store.blamed it.store };
 
-    ghost names = { λ old new e. S.Store.names old.store new.store e ⊎ ((e ≡ OutOfMemory) × IsRefused old.is_in_order old.store new.store) };
+    ghost names = { λ old new e. S.Store.names old.store new.store e
+        ⊎ ((e ≡ OutOfMemory) × IsRefused old.is_in_order old.store new.store) };
 
     ghost ordered = { λ it. S.Store.ordered it.store };
 
