@@ -1,6 +1,8 @@
 //! The file of a station.
 
-use cli_call::{DeskFault, open_listed, open_new, station_trees};
+use cli_call::{
+    ByName, DeskFault, connect_again, open_by_name, open_listed, open_new, station_trees,
+};
 use cli_run::is_opening;
 use cli_words::Line;
 use sqlite::{Alter, Connection, Error, ErrorCode, File, FileStore, Options, Unknown};
@@ -54,14 +56,31 @@ fn unopened(error: &sqlite_std_file::OpenError) -> FileFault {
     }
 }
 
+/// Why the library opens no database.
+fn refused(error: Error) -> FileFault {
+    match error {
+        Error::SqliteFailure(ErrorCode::OutOfMemory) => FileFault::Memory,
+        Error::SqliteFailure(ErrorCode::DatabaseBusy) => FileFault::Busy,
+        Error::SqliteFailure(code) => FileFault::Store(code),
+        _ => FileFault::Store(ErrorCode::NotADatabase),
+    }
+}
+
 /// Opens a file that has a database, whatever its tables.
-fn open_any(rt: &HostRuntime, path: &str) -> Result<Connection<FileStore<File>>, FileFault> {
-    match Connection::open(rt, path) {
-        Ok(conn) => Ok(conn),
-        Err(Error::SqliteFailure(ErrorCode::OutOfMemory)) => Err(FileFault::Memory),
-        Err(Error::SqliteFailure(ErrorCode::DatabaseBusy)) => Err(FileFault::Busy),
-        Err(Error::SqliteFailure(code)) => Err(FileFault::Store(code)),
-        Err(_) => Err(FileFault::Store(ErrorCode::NotADatabase)),
+fn open_any(
+    rt: &HostRuntime,
+    path: &str,
+) -> Result<Connection<ByName<FileStore<File>>>, FileFault> {
+    let conn = match Connection::open(rt, path) {
+        Ok(conn) => conn,
+        Err(error) => return Err(refused(error)),
+    };
+    match connect_again(rt.alloc(), conn) {
+        Ok(mut conn) => {
+            conn.set_clock(rt);
+            Ok(conn)
+        }
+        Err(error) => Err(refused(error)),
     }
 }
 
@@ -70,8 +89,13 @@ fn is_no_file(path: &str) -> bool {
     path == ":memory:" || path.starts_with("file:")
 }
 
-/// Opens a file whose tables are declared as `init` declares them, with one recovery of its log.
-fn open_declared(rt: &HostRuntime, path: &str) -> Option<Connection<FileStore<File>>> {
+/// Opens a file whose tables are declared as `init` declares them, with one recovery of its log:
+/// in the order of `init`, or in any.
+fn open_declared(
+    rt: &HostRuntime,
+    path: &str,
+    is_in_order: bool,
+) -> Option<Connection<ByName<FileStore<File>>>> {
     if is_no_file(path) {
         return None;
     }
@@ -80,7 +104,12 @@ fn open_declared(rt: &HostRuntime, path: &str) -> Option<Connection<FileStore<Fi
     let Ok(files) = sqlite_std_file::open(rt, path, Unknown) else {
         return None;
     };
-    match open_listed(rt.alloc(), files, options, &trees) {
+    let opened = if is_in_order {
+        open_listed(rt.alloc(), files, options, &trees)
+    } else {
+        open_by_name(rt.alloc(), files, options, &trees)
+    };
+    match opened {
         Ok(mut conn) => {
             conn.set_clock(rt);
             Some(conn)
@@ -89,10 +118,14 @@ fn open_declared(rt: &HostRuntime, path: &str) -> Option<Connection<FileStore<Fi
     }
 }
 
-/// Opens a file that has a database. One whose tables are declared otherwise than by `init` is
-/// opened as the library opens any file, with two recoveries of its log.
-fn open(rt: &HostRuntime, path: &str) -> Result<Connection<FileStore<File>>, FileFault> {
-    match open_declared(rt, path) {
+/// Opens a file that has a database: by the list of trees that `init` makes, in their order and
+/// then in any; and one whose tables are declared otherwise as the library opens any file, with two
+/// recoveries of its log.
+fn open(rt: &HostRuntime, path: &str) -> Result<Connection<ByName<FileStore<File>>>, FileFault> {
+    if let Some(conn) = open_declared(rt, path, true) {
+        return Ok(conn);
+    }
+    match open_declared(rt, path, false) {
         Some(conn) => Ok(conn),
         None => open_any(rt, path),
     }
@@ -126,7 +159,10 @@ fn options(rt: &HostRuntime) -> Result<Options, FileFault> {
 
 /// Opens a file, or makes it where it is missing or empty. Whatever stops it, the file has no
 /// database or the whole one, and the next call goes on from there.
-pub fn make_file(rt: &HostRuntime, path: &str) -> Result<Connection<FileStore<File>>, FileFault> {
+pub fn make_file(
+    rt: &HostRuntime,
+    path: &str,
+) -> Result<Connection<ByName<FileStore<File>>>, FileFault> {
     if is_no_file(path) {
         return open_any(rt, path);
     }
@@ -148,7 +184,10 @@ pub fn make_file(rt: &HostRuntime, path: &str) -> Result<Connection<FileStore<Fi
 }
 
 /// Opens a file that is there. A file that is missing or empty has no station, and stays as it is.
-pub fn open_file(rt: &HostRuntime, path: &str) -> Result<Connection<FileStore<File>>, FileFault> {
+pub fn open_file(
+    rt: &HostRuntime,
+    path: &str,
+) -> Result<Connection<ByName<FileStore<File>>>, FileFault> {
     match is_blank(rt, path) {
         Ok(true) => Err(FileFault::NoStation),
         Ok(false) => open(rt, path),
@@ -174,7 +213,7 @@ pub fn tell_unopened(rt: &HostRuntime, path: &str, fault: FileFault) {
 }
 
 /// Whether a line runs over a file that was found and whose tables aren't declared as `init`
-/// declares them. `VACUUM` moves them, and a table of another program may stand beside them. A
+/// declares them: one of them has another text, or a table of another program is next to them. A
 /// station works in such a file, but what is proved of a power failure isn't proved of it.
 pub fn is_undeclared<S: Alter>(line: &Line<'_>, conn: &Connection<S>) -> bool {
     line.db.is_some() && !is_opening(line) && !has_station(conn)

@@ -2,7 +2,7 @@
 
 use crate::files::{make_file, open_file, tell_undeclared, tell_unopened};
 use crate::service::{Service, serve_keeper, serve_line};
-use cli_call::{DeskFault, close_file, end, run_file, run_gathered};
+use cli_call::{ByName, DeskFault, close_file, end, run_file, run_gathered};
 use cli_run::{Feed, Turns, airport_of_line, is_opening};
 use cli_words::Line;
 use map_state::MapState;
@@ -76,7 +76,7 @@ fn run_in_memory<R: Read + Drop>(rt: &HostRuntime, line: &Line<'_>, task: Task<'
 fn run_direct<D: Disk + Drop, R: Read + Drop>(
     rt: &HostRuntime,
     line: &Line<'_>,
-    conn: Connection<FileStore<D>>,
+    conn: Connection<ByName<FileStore<D>>>,
     reader: R,
     turns: &Turns,
     at: Moment,
@@ -96,7 +96,7 @@ fn run_direct<D: Disk + Drop, R: Read + Drop>(
 fn serve_file<D: Disk + Drop>(
     rt: &HostRuntime,
     line: &Line<'_>,
-    conn: Connection<FileStore<D>>,
+    conn: Connection<ByName<FileStore<D>>>,
     service: Service<'_>,
 ) -> u8 {
     let (status, conn) = serve_line(rt, line, conn, service);

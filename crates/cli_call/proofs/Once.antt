@@ -19,6 +19,7 @@ use Rattle.sqlite.specs.Files.{image_of, HoldsDatabase}
 use Rattle.sqlite_store.specs.Catalog.{wanted_of}
 use Rattle.sqlite_trees.specs.declared.schema.Object.{Object}
 use Rattle.cli_call.specs.Listed.{IsReadByList}
+use Rattle.cli_call.proofs.ByList.{pages_of}
 use Rattle.sqlite_pages.specs.PageMap.{PageMap}
 use Rattle.sqlite_pool.specs.File.{in_use, version_in}
 use Rattle.sqlite_pool.specs.StoredLaws.{recovers_once}
@@ -119,8 +120,8 @@ holds_once size image mine db schema wanted pages found ours reads sound b =
     reads ∙ ap (λ p. file_trees size wanted p) same ∙ ap (λ x. with_version x (version_in b.pages)) r.1 ∙ sym b.reads
 
 module _ {D : Type 0} {g : Ghosts D} (files : Files D) (objects : List Object) (it : FileStore D g) (schema : Schema) where
-  pub held_by_list : IsReadByList files objects it → IsSound schema (view it).trees → (db : Trees) → HoldsDatabase (image_of g files) db → (view it).trees ≡ db
+  pub held_by_list : IsReadByList files objects true it → IsSound schema (view it).trees → (db : Trees) → HoldsDatabase (image_of g files) db → (view it).trees ≡ db
   held_by_list r sound db held =
-      let h = subst (λ n. HoldsIn n (image_of g files) db) (r.sized db held) held.2 in
+      let h = subst (λ n. HoldsIn n (image_of g files) db) (r.sized held.0 (pages_of (image_of g files) db held)) held.2 in
       holds_once r.size (image_of g files) (view it).trees db schema (map wanted_of objects) (state it).committed r.found r.ours r.reads sound
       (record { pages = h.pages; wanted = h.wanted; schema = h.schema; found = plain_adopts r.size (image_of g files) h.pages r.plain h.found; ours = h.ours; reads = h.reads; sound = h.sound })

@@ -1,6 +1,10 @@
 pub mod Begun
+pub mod ByList
+pub mod ByName
 pub mod Closed
+pub mod Copied
 pub mod Ended
+pub mod Inside
 pub mod Listed
 pub mod Migrated
 pub mod Opened

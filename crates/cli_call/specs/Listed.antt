@@ -1,27 +1,30 @@
 -- Files that are read by a list of their trees.
-use Rattle.std.specs.Prelude.{◌≡◌, ◌≢◌, ◌%◌, ℕ, List, map, IsTrue, true}
+use Rattle.std.specs.Prelude.{◌≡◌, ◌≢◌, ◌%◌, ℕ, Bool, List, map, IsTrue}
 use Rattle.sqlite_disk.specs.declared.Disk.{Ghosts}
 use Rattle.sqlite_disk.specs.declared.Files.{Files}
 use Rattle.sqlite_wal.specs.Reads.{AreClean}
 use Rattle.sqlite_pool.specs.Stored.{Recovers}
-use Rattle.sqlite_trees.specs.Tree.{Trees}
 use Rattle.sqlite_store.specs.declared.store.FileStore.{FileStore}
 use Rattle.sqlite_store.specs.FileStore.{state, view}
 use Rattle.sqlite_store.specs.Listing.{read_by, IsOurs}
 use Rattle.sqlite_store.specs.Catalog.{wanted_of}
 use Rattle.sqlite_trees.specs.declared.schema.Object.{Object}
 use Rattle.sqlite.specs.Steps.{IsFresh}
-use Rattle.sqlite.specs.Files.{image_of, HoldsDatabase}
+use Rattle.sqlite.specs.Files.{image_of}
+use Rattle.cli_call.specs.ByList.{HoldsPages}
+use Rattle.cli_call.specs.ByName.{shown_by_name}
 
--- The store shows what the files recover to, as a list of trees reads it.
+-- The store shows what the files recover to, as a list of trees reads it. The files list the trees
+-- in its order, or in any.
 pub record IsReadByList {D : Type 0} {g : Ghosts D} (files : Files D) (objects : List Object)
-    (it : FileStore D g) : Type 0 where
+    (is_in_order : Bool) (it : FileStore D g) : Type 0 where
   pub honest : AreClean g files.log files.db
-  pub fresh : IsFresh (view it)
+  pub fresh : IsFresh (shown_by_name (view it))
+  pub numbered : IsTrue is_in_order → IsTrue (view it).is_numbered
   pub is_open : IsTrue (view it).is_open
   pub size : ℕ
   pub plain : size % 16 ≢ 8
   pub found : Recovers size (image_of g files) (state it).committed
-  pub ours : ∥ IsOurs size true (map wanted_of objects) (state it).committed ∥₁
+  pub ours : ∥ IsOurs size is_in_order (map wanted_of objects) (state it).committed ∥₁
   pub reads : (view it).trees ≡ read_by size objects (state it).committed
-  pub sized : (db : Trees) (held : HoldsDatabase (image_of g files) db) → held.0 ≡ size
+  pub sized : (n : ℕ) → HoldsPages n (image_of g files) → n ≡ size

@@ -1,14 +1,17 @@
 //! A call over a file, from its command to the end of its file.
 ghost use Rattle.cli_call.specs.Closed.{HasCalledFile, HasClosed};
+ghost use Rattle.cli_call.specs.Inside.{inside};
 ghost use Rattle.station_core.specs.Keeping.{keeping};
 ghost use Rattle.cli_run.specs.Ends.{ends, reached};
 
+use crate::by_name::ByName;
 use crate::ended::{DeskFault, end};
+use crate::file_closing::{ClosedFiles, close_files};
 use crate::run::run_line;
 use cli_run::Inputs;
 use cli_words::Line;
 use sqlite::{Connection, FileStore};
-use sqlite_disk::{Disk, Files};
+use sqlite_disk::Disk;
 use station_core::{ByteOut, Keeper};
 use station_days::Moment;
 use station_schema::has_station;
@@ -26,7 +29,7 @@ pub struct FileEnd<D: Disk> {
     pub is_declared: bool,
     /// The closed files, with the log copied into the database file; `None` where a fault stopped
     /// the call, or the log couldn't be copied.
-    pub files: Option<Files<D>>,
+    pub files: Option<ClosedFiles<D>>,
 }
 
 /// Ends a call over a file that ended with this status. Behind a run that no fault stopped, the
@@ -35,18 +38,19 @@ pub struct FileEnd<D: Disk> {
 ///
 /// Returns status 3, and reports the fault on `errors`, if the log can't be copied.
 pub fn close_file<D: Disk + Drop, E: ByteOut>(
-    conn: Connection<FileStore<D>>,
+    conn: Connection<ByName<FileStore<D>>>,
     status: u8,
     errors: &mut E,
-) -> (u8, Option<Files<D>>)
-    ensures { HasClosed D.Disk E.taken conn status errors.old errors.new result.0 result.1 }
+) -> (u8, Option<ClosedFiles<D>>)
+    ensures { HasClosed D.Disk E.taken (inside conn) status errors.old errors.new
+        result.0 result.1 }
 {
     if status > 1 {
         return (status, None);
     }
-    match conn.close_files() {
+    match close_files(conn) {
         Ok(files) => (status, Some(files)),
-        Err((_, store)) => {
+        Err(store) => {
             drop(store.close());
             (end(errors, Err(DeskFault::Run(RunFault::Store))), None)
         }
@@ -58,19 +62,19 @@ pub fn close_file<D: Disk + Drop, E: ByteOut>(
 pub fn run_file<D: Disk + Drop, I: Inputs + Read, W: ByteOut, E: ByteOut>(
     alloc: Global,
     line: &Line<'_>,
-    conn: Connection<FileStore<D>>,
+    conn: Connection<ByName<FileStore<D>>>,
     reader: &mut I,
     output: &mut W,
     errors: &mut E,
     at: Moment,
 ) -> FileEnd<D>
     ensures { HasCalledFile line.now
-        (keeping ⟦<Station<FileStore<D>> as Keeper>⟧.keeps
-        ⟦<Station<FileStore<D>> as Keeper>⟧.is_clean
-        ⟦<Station<FileStore<D>> as Keeper>⟧.is_sound
-        ⟦<Station<FileStore<D>> as Keeper>⟧.is_broken
-        ⟦<Station<FileStore<D>> as Keeper>⟧.may_find
-        ⟦<Station<FileStore<D>> as Keeper>⟧.may_fail)
+        (keeping ⟦<Station<ByName<FileStore<D>>> as Keeper>⟧.keeps
+        ⟦<Station<ByName<FileStore<D>>> as Keeper>⟧.is_clean
+        ⟦<Station<ByName<FileStore<D>>> as Keeper>⟧.is_sound
+        ⟦<Station<ByName<FileStore<D>>> as Keeper>⟧.is_broken
+        ⟦<Station<ByName<FileStore<D>>> as Keeper>⟧.may_find
+        ⟦<Station<ByName<FileStore<D>>> as Keeper>⟧.may_fail)
         (ends I.remaining I.given I.turned W.taken E.taken) at conn
         (reached reader.old output.old errors.old)
         (reached reader.new output.new errors.new) result }

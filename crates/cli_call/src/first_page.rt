@@ -1,10 +1,10 @@
 //! What two files look like before anything of them is recovered. Nothing is written.
-ghost use Rattle.std.specs.Prelude.{◌≡◌, IsTrue, IfSome};
+ghost use Rattle.std.specs.Prelude.{◌≡◌, ℕ, IsTrue, IfSome};
 ghost use Rattle.sqlite_wal.specs.PageSize.{bytes_of};
 ghost use Rattle.sqlite_wal.specs.Reads.{AreClean, OnlyReads};
 ghost use Rattle.sqlite_pool.specs.Stored.{stored_size};
-ghost use Rattle.sqlite_trees.specs.Tree.{Trees};
-ghost use Rattle.sqlite.specs.Files.{image_of, BeginsWell, HoldsDatabase};
+ghost use Rattle.sqlite.specs.Files.{image_of, BeginsWell};
+ghost use Rattle.cli_call.specs.ByList.{HoldsPages};
 
 use sqlite_disk::{Disk, Files};
 use sqlite_wal::{PageSize, probe_first_page, probe_page_size};
@@ -18,8 +18,7 @@ pub(crate) fn named_size<D: Disk>(files: &mut Files<D>) -> Option<PageSize>
     requires log { IsTrue (D.Disk.is_usable files.old.log) }
     requires db { IsTrue (D.Disk.is_usable files.old.db) }
     ensures sized { IfSome result (λ size. AreClean D.Disk files.new.log files.new.db
-        → (db : Trees) (held : HoldsDatabase (image_of D.Disk files.old) db)
-        → stored_size held.0 ≡ bytes_of size) }
+        → (n : ℕ) → HoldsPages n (image_of D.Disk files.old) → stored_size n ≡ bytes_of size) }
     ensures log { OnlyReads D.Disk files.old.log files.new.log }
     ensures db { OnlyReads D.Disk files.old.db files.new.db }
 {
@@ -34,8 +33,8 @@ pub(crate) fn begins_plain<D: Disk>(alloc: Global, files: &mut Files<D>, size: P
     requires log { IsTrue (D.Disk.is_usable files.old.log) }
     requires db { IsTrue (D.Disk.is_usable files.old.db) }
     ensures plain { IsTrue result → AreClean D.Disk files.new.log files.new.db
-        → (db : Trees) (held : HoldsDatabase (image_of D.Disk files.old) db)
-        → stored_size held.0 ≡ bytes_of size → held.0 ≡ bytes_of size }
+        → (n : ℕ) → HoldsPages n (image_of D.Disk files.old)
+        → stored_size n ≡ bytes_of size → n ≡ bytes_of size }
     ensures begins { IsTrue result → AreClean D.Disk files.new.log files.new.db
         → BeginsWell (bytes_of size) (image_of D.Disk files.old) }
     ensures log { OnlyReads D.Disk files.old.log files.new.log }

@@ -8,11 +8,10 @@ use Rattle.cli_call.proofs.first_page.begins_plain.Goals as goal
 
 -- the header's word is that of pages with no sums
 pub returns-then-first-eq83-clause-plain : goal.returns-then-first-eq83-clause-plain
-returns-then-first-eq83-clause-plain g c off clean db held is =
-    let size = held.0 in
+returns-then-first-eq83-clause-plain g c off clean size held is =
     let few : reserved size ≤ 8 = grind arith in
-    let found = held.2.found in
-    let page = reserved_word size _ _ found (omega (arith, held.1.0)) held.2.ours.file.sound in
+    let found = held.found in
+    let page = reserved_word size _ _ found (omega (arith, held.valid.0)) held.sound in
     let word = (c.in-Ok.ensures.value clean found.stored page.0 (subst (λ n. raw.Recovers n (image_of g.D.Disk c.args.files.now) found.stored) is found.found) page.1 (page.2 ∙ is)).1 ∙ page.3 in
     elim (cases_eq (size % 16) 8) [
       | inl on ↦

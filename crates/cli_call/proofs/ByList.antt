@@ -1,0 +1,124 @@
+-- What files hold by a list of their trees: found at an opening, and left by a crash and by a close.
+use Rattle.std.proofs.Common.{◌≡◌, ◌≤◌, false, Bool, ℕ, List, map, Some, Option, IsTrue, refl, sym, ap, subst, ◌∙◌, inl, inr, arith}
+use Rattle.std.proofs.lemmas.Bool.{cases_eq}
+use Rattle.std.proofs.Math.Logic.{∥∥₁_elim, ∥∥₁_map}
+use Rattle.sqlite_disk.specs.declared.Disk.{Ghosts}
+use Rattle.sqlite_disk.specs.declared.Files.{Files}
+use Rattle.sqlite_wal.specs.Format.{be32}
+use Rattle.sqlite_wal.specs.PageSize.{bytes_of, size_in_file, Names}
+use Rattle.sqlite_wal.specs.Recovery.{Image, IsIgnored}
+use Rattle.sqlite_wal.specs.declared.page_size.PageSize.{PageSize}
+use Rattle.sqlite_wal.proofs.LogLemmas.{SeenMayStay}
+use Rattle.sqlite_wal.proofs.StateLemmas.{clean_of}
+use Rattle.sqlite_pages.specs.PageMap.{PageMap}
+use Rattle.sqlite_pool.specs.Stored.{Adopts, Recovers, reserved, stored_size}
+use Rattle.sqlite_pool.specs.StoredLaws.{recovers_once}
+use Rattle.sqlite_pool.proofs.ProbeLemmas.{size_by_log, size_by_file}
+use Rattle.sqlite_pool.proofs.ResealLemmas.{adopts_of, plain_adopts}
+use Rattle.sqlite_pool.proofs.StateLemmas.{size_is_allowed, settled, file_alone}
+use Rattle.sqlite_trees.specs.Objects.{catalog_tree}
+use Rattle.sqlite_trees.specs.Tree.{Trees}
+use Rattle.sqlite_trees.specs.declared.schema.Object.{Object}
+use Rattle.sqlite_store.specs.Catalog.{wanted_of}
+use Rattle.sqlite_store.specs.FileStore.{state, view, schema_in, reading, recovers, log_frames}
+use Rattle.sqlite_store.specs.Laws.{stays_at}
+use Rattle.sqlite_store.specs.Listed.{catalog_rows}
+use Rattle.sqlite_store.specs.Listing.{file_trees, listed_from, IsOurs}
+use Rattle.sqlite_store.specs.Saved.{kept_schema}
+use Rattle.sqlite_store.specs.declared.catalog.Wanted.{Wanted}
+use Rattle.sqlite_store.specs.declared.store.FileStore.{FileStore}
+use Rattle.sqlite.specs.Files.{image_of, HoldsDatabase}
+use Rattle.sqlite.specs.Held.{AreDatabases}
+use Rattle.cli_call.specs.ByList.{HoldsByList, HoldsByListAlone, HoldsPages, IsListedBy, LeavesByList}
+use Rattle.cli_call.specs.Listed.{IsReadByList}
+use Rattle.cli_call.proofs.SameReading.{same_reading}
+
+pub in_any_order : {size : ℕ} {is_numbered : Bool} {wanted : List Wanted} {pages : PageMap} → IsOurs size is_numbered wanted pages → IsOurs size false wanted pages
+in_any_order ours = record { file = ours.file; numbered = λ never. absurd (cc) }
+
+-- an order that is asked for is that of a store that is numbered
+pub in_its_order : {size : ℕ} {is_numbered : Bool} {wanted : List Wanted} {pages : PageMap} (is_in_order : Bool) → (IsTrue is_in_order → IsTrue is_numbered)
+    → IsOurs size is_numbered wanted pages → IsOurs size is_in_order wanted pages
+in_its_order is_in_order numbered ours = record { file = ours.file; numbered = λ asked. ours.numbered (numbered asked) }
+
+pub pages_of : (image : Image) (db : Trees) (held : HoldsDatabase image db) → HoldsPages held.0 image
+pages_of image db held = record { valid = held.1; pages = held.2.pages; found = held.2.found; sound = held.2.ours.file.sound }
+
+-- the probe finds the size of files with sound pages
+module _ (image : Image) (found : Option PageSize) (by_log : ¬ IsIgnored image.log → Names found (be32 image.log 8)) (by_file : IsIgnored image.log → Names found (size_in_file image.db))
+    (n : ℕ) (held : HoldsPages n image) where
+  large : 504 ≤ n
+  large = let few : reserved n ≤ 8 = grind arith in omega (arith, held.valid.0)
+
+  names : ¬ (¬ Names found (stored_size n))
+  names never =
+      let read = λ (seen : ¬ IsIgnored image.log). never (subst (Names found) (size_by_log n image held.pages held.found seen) (by_log seen)) in
+      read (λ ignored. never (subst (Names found) (size_by_file n image held.pages held.found large held.sound ignored) (by_file ignored)))
+
+  pub probe_pages : (size : PageSize) → found ≡ Some size → stored_size n ≡ bytes_of size
+  probe_pages size is = elim (cases_eq (stored_size n) (bytes_of size)) [ inl same ↦ same | inr other ↦ absurd (names (λ named. other (sym (rw is at named.1)))) ]
+
+catalog_at : (size : ℕ) (schema : List Wanted) (pages : PageMap) → file_trees size schema pages catalog_tree ≡ listed_from 0 schema
+catalog_at size schema pages = catalog_rows size schema _
+
+reads_once : (size : ℕ) (image : Image) (a b : List Wanted) (p q : PageMap) → Recovers size image p → Recovers size image q → listed_from 0 a ≡ listed_from 0 b
+    → file_trees size a p ≡ file_trees size b q
+reads_once size image a b p q found again listing = ap (λ x. file_trees size a x) (recovers_once size image p q found again) ∙ same_reading size a b q listing
+
+module _ {D : Type 0} {g : Ghosts D} where
+  -- what files hold by this list is what was found
+  pub found_by_list : (files : Files D) (objects : List Object) (is_in_order : Bool) (it : FileStore D g) → IsReadByList files objects is_in_order it
+      → (db : Trees) → HoldsByList (image_of g files) db → IsListedBy objects db → (view it).trees ≡ db
+  found_by_list files objects is_in_order it r db held listed =
+      let image = image_of g files in
+      let same = r.sized held.size (record { valid = held.valid; pages = held.pages; found = held.found; sound = held.ours.file.sound }) in
+      let again = plain_adopts r.size image held.pages r.plain (subst (λ n. Adopts n image held.pages) same held.found) in
+      let theirs = held.reads ∙ ap (λ n. file_trees n held.wanted held.pages) same in
+      let listing = sym listed ∙ ap (λ (t : Trees). t catalog_tree) theirs ∙ catalog_at r.size held.wanted held.pages in
+      r.reads ∙ reads_once r.size image (map wanted_of objects) held.wanted _ _ r.found again listing ∙ sym theirs
+
+  -- each image that a crash may leave holds one of the databases that the store allows
+  pub leaves : (it : FileStore D g) → AreDatabases (recovers it) → LeavesByList it
+  leaves it sound left may = ∥∥₁_elim it.safe squash₁ (λ all.
+      let found = all left may in
+      let db = reading it found.0 in
+      let allowed : recovers it db = (left, found.0, may, ∣ found.1 ∣₁, refl) in
+      let schema = sound db allowed in
+      ∥∥₁_elim (size_is_allowed it.pool) squash₁ (λ size. ∥∥₁_map found.2 (λ ours. let r : (x : Trees) × recovers it x × HoldsByList left x = (
+        db,
+        allowed,
+        record {
+          size = (state it).page_size;
+          valid = size;
+          pages = found.0;
+          wanted = schema_in it found.0;
+          schema = schema.0;
+          found = adopts_of _ left found.0 found.1;
+          ours = in_any_order ours;
+          reads = refl;
+          sound = schema.1;
+        },
+      ) in r)))
+
+  module _ (it : FileStore D g) (stays : SeenMayStay g) (is_open : IsTrue (view it).is_open) (sound : AreDatabases (recovers it)) where
+    holds_commit : (left : Image) → Recovers (state it).page_size left (state it).committed → ∥ HoldsByList left (view it).committed ∥₁
+    holds_commit left found =
+        let schema = sound _ (stays_at it stays is_open) in
+        ∥∥₁_elim (size_is_allowed it.pool) squash₁ (λ size. ∥∥₁_map (it.stored is_open) (λ stored. let r : HoldsByList left (view it).committed = record {
+          size = (state it).page_size;
+          valid = size;
+          pages = (state it).committed;
+          wanted = kept_schema it.saved it.schema.items;
+          schema = schema.0;
+          found = adopts_of _ left _ found;
+          ours = in_any_order stored.ours;
+          reads = rw (clean_of (state it) is_open);
+          sound = schema.1;
+        } in r))
+
+    -- with an empty log, each image that a crash may leave has the last commit in the database file
+    pub copied_by_list : log_frames it ≡ 0 → (left : Image) → (state it).may_leave left → HoldsByListAlone left (view it).committed
+    copied_by_list empty left may = record {
+      both = holds_commit left ((settled it.pool stays is_open).durable left may);
+      alone = holds_commit _ (file_alone it.pool stays is_open empty left may);
+    }

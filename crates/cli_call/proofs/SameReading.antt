@@ -1,0 +1,91 @@
+-- Two lists with the same rows read the same pages alike, in whatever order the pages list the trees.
+use Rattle.std.proofs.Common.{◌≡◌, ℕ, zero, suc, ◌+◌, true, cond, ◌&&◌, List, [], ◌∷◌, ◌++◌, map, pos, get_or, refl, sym, ap, ◌∙◌, inl, inr, arith, eq-eqb, ne_eqb, lt-ltb, le-ltb}
+use Rattle.std.proofs.lemmas.Bool.{cases_eq}
+use Rattle.std.proofs.Math.Path.{fun_ext}
+use Rattle.sqlite_pages.specs.PageMap.{PageMap}
+use Rattle.sqlite_pool.specs.File.{in_use}
+use Rattle.sqlite_value.specs.declared.value.Value.{Value}
+use Rattle.sqlite_value.specs.Order.{Row, column}
+use Rattle.sqlite_value.proofs.OrderLemmas.{value_cmp-Int}
+use Rattle.sqlite_trees.specs.declared.store.Shape.{Shape}
+use Rattle.sqlite_trees.specs.declared.store.Shape.TheVariants.{Absent, Table, Index, Pageless, FrozenTable, FrozenIndex}
+use Rattle.sqlite_trees.specs.Objects.{catalog_tree, version_tree, row_for}
+use Rattle.sqlite_store.specs.declared.catalog.Wanted.{Wanted}
+use Rattle.sqlite_store.specs.Catalog.{describes, is_about, is_present, page_number, reals_at, root_in, same_value, shape_at}
+use Rattle.sqlite_store.specs.Db.{roots_of, rows_at, shown, thawed, trees_in}
+use Rattle.sqlite_store.specs.Listed.{same_listing}
+use Rattle.sqlite_store.specs.Listing.{all_reals, all_shapes, all_trees, file_trees, listed, listed_from, reals_if_present}
+use Rattle.sqlite_store.proofs.PadLemmas.{same_shown}
+
+-- the root of the first entry with these columns
+abbrev root_by : List Row → Value → Value → Value → Value → ℕ
+root_by [] kind name table sql = 0
+root_by (entry ∷ entries) kind name table sql =
+    cond (same_value (column entry 1) kind && same_value (column entry 2) name && same_value (column entry 3) table && same_value (column entry 5) sql)
+    (page_number (column entry 4)) (root_by entries kind name table sql)
+
+abbrev root_of_row : List Row → Row → ℕ
+root_of_row entries row = root_by entries (column row 1) (column row 2) (column row 3) (column row 4)
+
+same_root : (w : Wanted) → is_present w.shape ≡ true → (entries : List Row) → root_in entries w ≡ root_by entries (column w.row 0) (column w.row 1) (column w.row 2) (column w.row 3)
+unfolding describes is_about
+same_root w present [] = refl
+same_root w present (entry ∷ entries) = rw (present, same_root w present entries)
+
+module _ (entries : List Row) where
+  root_at : (from : ℕ) (schema : List Wanted) (at t : ℕ) → t ≡ from + at → is_present (shape_at schema at) ≡ true → get_or (map (root_in entries) schema) at 0 ≡ root_of_row entries (row_for (listed_from from schema) t)
+  root_at from [] at t is present = absurd (cc)
+  root_at from (w ∷ schema) zero t is present = let same : t ≡ from = omega arith in rw same (go w.shape present (same_root w present entries))
+    where
+      go : (shape : Shape) → is_present shape ≡ true → root_in entries w ≡ root_by entries (column w.row 0) (column w.row 1) (column w.row 2) (column w.row 3)
+          → root_in entries w ≡ root_of_row entries (row_for (listed from w shape ++ listed_from (from + 1) schema) from)
+      go Absent there root = absurd (cc)
+      go Table there root = rw (value_cmp-Int (pos (from + 1)) (pos (from + 1)), le-ltb (from + 1) (from + 1) (omega arith)) root
+      go (Index o) there root = rw (value_cmp-Int (pos (from + 1)) (pos (from + 1)), le-ltb (from + 1) (from + 1) (omega arith)) root
+      go Pageless there root = rw (value_cmp-Int (pos (from + 1)) (pos (from + 1)), le-ltb (from + 1) (from + 1) (omega arith)) root
+      go FrozenTable there root = rw (value_cmp-Int (pos (from + 1)) (pos (from + 1)), le-ltb (from + 1) (from + 1) (omega arith)) root
+      go (FrozenIndex o) there root = rw (value_cmp-Int (pos (from + 1)) (pos (from + 1)), le-ltb (from + 1) (from + 1) (omega arith)) root
+  root_at from (w ∷ schema) (suc at) t is present = go w.shape (root_at (from + 1) schema at t (omega arith) present)
+    where
+      go : (shape : Shape) → get_or (map (root_in entries) schema) at 0 ≡ root_of_row entries (row_for (listed_from (from + 1) schema) t)
+          → get_or (map (root_in entries) schema) at 0 ≡ root_of_row entries (row_for (listed from w shape ++ listed_from (from + 1) schema) t)
+      go Absent rest = rest
+      go Table rest = rw (value_cmp-Int (pos (from + 1)) (pos (t + 1)), lt-ltb (from + 1) (t + 1) (omega arith)) rest
+      go (Index o) rest = rw (value_cmp-Int (pos (from + 1)) (pos (t + 1)), lt-ltb (from + 1) (t + 1) (omega arith)) rest
+      go Pageless rest = rw (value_cmp-Int (pos (from + 1)) (pos (t + 1)), lt-ltb (from + 1) (t + 1) (omega arith)) rest
+      go FrozenTable rest = rw (value_cmp-Int (pos (from + 1)) (pos (t + 1)), lt-ltb (from + 1) (t + 1) (omega arith)) rest
+      go (FrozenIndex o) rest = rw (value_cmp-Int (pos (from + 1)) (pos (t + 1)), lt-ltb (from + 1) (t + 1) (omega arith)) rest
+
+module _ (size : ℕ) (pages : PageMap) where
+  one_tree : (shape : Shape) (p q x y : ℕ) → reals_if_present shape p ≡ reals_if_present shape q → (is_present shape ≡ true → x ≡ y)
+      → map (shown (thawed shape) p) (rows_at size pages (thawed shape) x) ≡ map (shown (thawed shape) q) (rows_at size pages (thawed shape) y)
+  one_tree Absent p q x y reals root = refl
+  one_tree Table p q x y reals root = rw (root refl) (same_shown Table p q size pages y reals)
+  one_tree (Index o) p q x y reals root = rw (root refl) (same_shown (Index o) p q size pages y reals)
+  one_tree Pageless p q x y reals root = refl
+  one_tree FrozenTable p q x y reals root = rw (root refl) (same_shown FrozenTable p q size pages y reals)
+  one_tree (FrozenIndex o) p q x y reals root = rw (root refl) (same_shown (FrozenIndex o) p q size pages y reals)
+
+  same_tree : (a b : List Wanted) (t : ℕ) → listed_from 0 a ≡ listed_from 0 b → shape_at a t ≡ shape_at b t
+      → reals_if_present (shape_at a t) (reals_at a t) ≡ reals_if_present (shape_at b t) (reals_at b t) → trees_in size a pages t ≡ trees_in size b pages t
+  unfolding trees_in roots_of
+  same_tree a b t listing shapes reals =
+      let entries = rows_at size pages Table 1 in
+      let roots = λ (there : is_present (shape_at b t) ≡ true).
+      root_at entries 0 a t t (omega arith) (ap is_present shapes ∙ there) ∙ ap (λ rows. root_of_row entries (row_for rows t)) listing ∙ sym (root_at entries 0 b t t (omega arith) there) in
+      rw shapes (one_tree (shape_at b t) _ _ _ _ (rw shapes at reals) roots)
+
+pub same_reading : (size : ℕ) (a b : List Wanted) (pages : PageMap) → listed_from 0 a ≡ listed_from 0 b → file_trees size a pages ≡ file_trees size b pages
+unfolding all_trees all_shapes all_reals
+same_reading size a b pages listing = fun_ext (λ t. elim (cases_eq t version_tree) [
+  | inl is ↦ rw (eq-eqb t version_tree is)
+  | inr apart ↦ elim (cases_eq t catalog_tree) [
+    | inl is ↦ rw (ne_eqb t version_tree apart, eq-eqb t catalog_tree is) listing
+    | inr other ↦
+        let same = same_listing a b listing in
+        let shapes : shape_at a t ≡ shape_at b t = rw (ne_eqb t version_tree apart, ne_eqb t catalog_tree other) at (ap (λ f. f t) same.0) in
+        let reals : reals_if_present (shape_at a t) (reals_at a t) ≡ reals_if_present (shape_at b t) (reals_at b t) =
+        rw (ne_eqb t version_tree apart, ne_eqb t catalog_tree other) at (ap (λ f. f t) same.1) in
+        rw (ne_eqb t version_tree apart, ne_eqb t catalog_tree other) (same_tree size (in_use size pages) a b t listing shapes reals)
+  ]
+])
