@@ -25,9 +25,9 @@ root_by (entry ∷ entries) kind name table sql =
     (page_number (column entry 4)) (root_by entries kind name table sql)
 
 abbrev root_of_row : List Row → Row → ℕ
-root_of_row entries row = root_by entries (column row 1) (column row 2) (column row 3) (column row 4)
+root_of_row entries r = root_by entries (column r 1) (column r 2) (column r 3) (column r 4)
 
-same_root : (w : Wanted) → is_present w.shape ≡ true → (entries : List Row) → root_in entries w ≡ root_by entries (column w.row 0) (column w.row 1) (column w.row 2) (column w.row 3)
+same_root : (w : Wanted) → is_present w.shape ≡ true → (entries : List Row) → root_in entries w ≡ root_by entries (column (w.row) 0) (column (w.row) 1) (column (w.row) 2) (column (w.row) 3)
 unfolding describes is_about
 same_root w present [] = refl
 same_root w present (entry ∷ entries) = rw (present, same_root w present entries)
@@ -37,7 +37,7 @@ module _ (entries : List Row) where
   root_at from [] at t is present = absurd (cc)
   root_at from (w ∷ schema) zero t is present = let same : t ≡ from = omega arith in rw same (go w.shape present (same_root w present entries))
     where
-      go : (shape : Shape) → is_present shape ≡ true → root_in entries w ≡ root_by entries (column w.row 0) (column w.row 1) (column w.row 2) (column w.row 3)
+      go : (shape : Shape) → is_present shape ≡ true → root_in entries w ≡ root_by entries (column (w.row) 0) (column (w.row) 1) (column (w.row) 2) (column (w.row) 3)
           → root_in entries w ≡ root_of_row entries (row_for (listed from w shape ++ listed_from (from + 1) schema) from)
       go Absent there root = absurd (cc)
       go Table there root = rw (value_cmp-Int (pos (from + 1)) (pos (from + 1)), le-ltb (from + 1) (from + 1) (omega arith)) root
