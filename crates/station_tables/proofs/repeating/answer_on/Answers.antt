@@ -1,5 +1,5 @@
 use Rattle.std.proofs.Common.{refl, sym, ◌∙◌, ap, subst, Some, inl, inr, ⊎_elim}
-use Rattle.station_engine.proofs.Steps.{refused_same}
+use Rattle.station_core.proofs.Refusals.{refused_stays}
 use Rattle.station_tables.specs.contracts.station.StationKeeper.TheImpl.{ghosts}
 use Rattle.station_tables.proofs.repeating.answer_on.Goals as goal
 
@@ -10,10 +10,10 @@ returns-in-Err-Store-clause-leaves g c = λ s keeps works sound found left.
 pub returns-in-Err-Refused-clause-answers : goal.returns-in-Err-Refused-clause-answers
 returns-in-Err-Refused-clause-answers g c = λ s keeps works sound.
     let given = rw c.in-Err-Refused.field-0-is at (c.in-Err-Refused.ensures.acts s keeps works sound) in
-    (given.0, subst ((ghosts g.row.S g.S.Alter g.S.Alter-dict g.S.Store g.S.Store-dict).keeps c.act_on.new.self) (sym (refused_same s c.in-Err-Refused.refusal c.args.input.now c.args.at given.0)) given.1)
+    (given.0, subst ((ghosts g.row.S g.S.Alter g.S.Alter-dict g.S.Store g.S.Store-dict).keeps c.act_on.new.self) (sym (refused_stays s c.args.input.now c.args.at c.in-Err-Refused.refusal given.0)) given.1)
 
 pub returns-in-Err-Refused-clause-leaves : goal.returns-in-Err-Refused-clause-leaves
 returns-in-Err-Refused-clause-leaves g c = λ s keeps works sound found left.
     let given = rw c.in-Err-Refused.field-0-is at (c.in-Err-Refused.ensures.acts s keeps works sound) in
     let found_is = rw c.in-Err-Refused.field-0-is at (c.in-Err-Refused.ensures.leaves s keeps works sound found left) in
-    found_is ∙ ap Some (sym (refused_same s c.in-Err-Refused.refusal c.args.input.now c.args.at given.0))
+    found_is ∙ ap Some (sym (refused_stays s c.args.input.now c.args.at c.in-Err-Refused.refusal given.0))
