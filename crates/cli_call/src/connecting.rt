@@ -3,6 +3,7 @@ ghost use Rattle.std.specs.Prelude.{◌≡◌, ◌≤◌, IsTrue, IfErr, IfOk};
 ghost use Rattle.sqlite_trees.specs.View.{doubt, IsClean, IsQuiet, IsRolledBack};
 ghost use Rattle.sqlite.specs.State.{HasCleanDisk, IsLive, Opens};
 ghost use Rattle.sqlite.specs.Held.{state, AreDatabases, IsNew};
+ghost use Rattle.sqlite.specs.Opening.{is_open_error};
 ghost use Rattle.sqlite.specs.Steps.{IsFresh};
 ghost use Rattle.cli_call.specs.ByName.{shown_by_name};
 ghost use Rattle.cli_call.specs.Inside.{inside};
@@ -46,6 +47,7 @@ pub(crate) fn connect_by_list<S: Alter + Drop>(
     ensures sums { IfOk result (λ c. HasCleanDisk (state S.Store (inside c))
         → (S.Store.view (inside c).store).has_sums ≡ (S.Store.view store).has_sums) }
     ensures fresh { IfOk result IsNew }
+    ensures named { IfErr result (λ e. IsTrue (is_open_error e.0)) }
     ensures unharmed { IfErr result (λ e. IsQuiet S.Store.view S.Store.faults S.Store.recovers
         S.Store.is_shielded store e.1) }
 {

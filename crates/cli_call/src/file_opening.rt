@@ -9,6 +9,7 @@ ghost use Rattle.sqlite_wal.specs.State.{IsShielded};
 ghost use Rattle.sqlite.specs.State.{HasCleanDisk};
 ghost use Rattle.sqlite.specs.Held.{IsNew};
 ghost use Rattle.sqlite.specs.Files.{file_state, Finds, IsCleanLeft, IsOpened};
+ghost use Rattle.sqlite.specs.Opening.{is_open_error};
 ghost use Rattle.cli_call.specs.ByList.{FindsByList};
 ghost use Rattle.cli_call.specs.Inside.{inside};
 ghost use Rattle.cli_call.specs.Listed.{IsReadByList};
@@ -211,6 +212,7 @@ pub fn connect_again<D: Disk + Drop>(
     ensures fresh { IfOk result IsNew }
     ensures guarded { IfOk result (λ c. (file_state conn).IsShielded
         → (file_state (inside c)).IsShielded) }
+    ensures named { IfErr result (λ e. IsTrue (is_open_error e)) }
 {
     let store = conn.into_store();
     if store.is_broken() {
