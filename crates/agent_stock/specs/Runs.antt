@@ -1,7 +1,7 @@
 -- The runs of the stock: numbers one after another with one holder.
 use Rattle.std.specs.Prelude.{ℕ, ◌≡◌, ◌≢◌, ◌+◌, ◌-◌, ◌≤◌, ◌<◌, ◌⊎◌, ◌==◌, IsTrue, IsSome, if◌then◌else◌, Some, None, List, [], ◌∷◌}
 use Rattle.std.specs.List.{AllByRecursion, list_any}
-use Rattle.awb_number.specs.Number.{prefix_of, serial_of}
+use Rattle.awb_number.specs.Number.{prefix_of, serial_of, serials}
 use Rattle.agent_stock.specs.Stock.{Holders, is_among}
 use Rattle.agent_stock.specs.declared.runs.Held.{Held}
 use Rattle.agent_stock.specs.declared.runs.StockRun.{StockRun}
@@ -9,10 +9,10 @@ use Rattle.agent_stock.specs.declared.runs.StockRun.{StockRun}
 -- numbers of one prefix and one holder, whose neighbours aren't with that holder
 pub record IsMaximalRun (holders : Holders) (row : StockRun) : Type 0 where
   pub some : 1 ≤ row.count
-  pub one_prefix : serial_of row.first + row.count ≤ 10_000_000
+  pub one_prefix : serial_of row.first + row.count ≤ serials
   pub one_holder : (q : ℕ) → IsTrue (is_among row.first row.count q) → holders q ≡ Some row.holder
   pub none_before : (serial_of row.first ≡ 0) ⊎ (holders (row.first - 1) ≢ Some row.holder)
-  pub none_after : (serial_of row.first + row.count ≡ 10_000_000) ⊎ (holders (row.first + row.count) ≢ Some row.holder)
+  pub none_after : (serial_of row.first + row.count ≡ serials) ⊎ (holders (row.first + row.count) ≢ Some row.holder)
 
 -- each row begins behind the one before it
 abbrev pub AreApart : List StockRun → Type 0

@@ -3,7 +3,7 @@
 use Rattle.std.specs.Prelude.{ℕ, ◌≡◌, ◌+◌, Bool, true, false, not, ◌&&◌, nat_lt, nat_le, if◌then◌else◌, Option, Some, None}
 use Rattle.std.specs.List.{find, range_with_len}
 use Rattle.std.specs.Str.{bytes_eq}
-use Rattle.awb_number.specs.Number.{serial_of}
+use Rattle.awb_number.specs.Number.{serial_of, serials}
 use Rattle.agent_stock.specs.declared.stock.Holder.{Holder}
 use Rattle.agent_stock.specs.declared.stock.Holder.TheVariants.{Desk, Agent, Void}
 use Rattle.agent_stock.specs.declared.stock.Run.{Run}
@@ -26,9 +26,13 @@ is_among first count q = nat_le first q && nat_lt q (first + count)
 abbrev pub covers : Run → ℕ → Bool
 covers run q = is_among run.first run.count q
 
--- whether a run has 1 to 1,000,000 numbers and stays within its prefix
+-- the most numbers of one run
+abbrev pub largest_run : ℕ
+largest_run = 1_000_000
+
+-- whether a run has some numbers, not too many, and stays within its prefix
 abbrev pub is_run : Run → Bool
-is_run run = nat_lt 0 run.count && nat_le run.count 1_000_000 && nat_le (serial_of run.first + run.count) 10_000_000
+is_run run = nat_lt 0 run.count && nat_le run.count largest_run && nat_le (serial_of run.first + run.count) serials
 
 -- whether a holder passes a test
 abbrev pub passes : Test → Option Holder → Bool

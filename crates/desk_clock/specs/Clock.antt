@@ -1,6 +1,6 @@
 -- What a clock shows in a zone, and the moment that it is.
 use Rattle.std.specs.Prelude.{◌≡◌, ℕ, ◌+◌, ◌*◌, ℤ, pos, ◌+ℤ◌, List}
-use Rattle.station_days.specs.Date.{LocalMinute}
+use Rattle.station_days.specs.Date.{LocalMinute, first_moment_day, last_moment_day}
 use Rattle.jiff.specs.Placed.{IsPosixZone}
 use Rattle.jiff.specs.ZoneView.{plain_zone}
 use Rattle.jiff_core.specs.Calendar.{IsBetween}
@@ -26,4 +26,4 @@ IsMinuteOf local m = (pos m.day ≡ epoch_day local.date) × (m.minute ≡ local
 
 -- from 2000-01-01 to 2099-12-31
 abbrev pub IsWithinDays : DateTime → Type 0
-IsWithinDays local = IsBetween (pos 10_957) (pos 47_481) (epoch_day local.date)
+IsWithinDays local = IsBetween (pos first_moment_day) (pos last_moment_day) (epoch_day local.date)

@@ -15,6 +15,8 @@ use Rattle.shipment_machine.specs.declared.flight.FlightDate.{FlightDate}
 use Rattle.desk_commands.specs.Day.{day_of}
 use Rattle.desk_commands.specs.declared.field_value.FieldValue.{FieldValue}
 use Rattle.desk_commands.specs.declared.field_value.FieldValue.TheVariants.{Text, Number, Flight, Absent}
+use Rattle.imp_fields.specs.Amount.{most_pieces, most_message_tenths}
+use Rattle.agent_stock.specs.Count.{largest_count}
 
 -- numbers without leading zeros, flights in their written form, and nothing where there is none
 abbrev pub line_of : FieldValue → List ℕ
@@ -83,16 +85,16 @@ abbrev pub day_in : FieldValue → Option ℕ
 day_in value = text_in value >>= day_of
 
 abbrev pub pieces_in : FieldValue → Option ℕ
-pieces_in value = number_in value >>= λ n. where_true (nat_le 1 n && nat_le n 9999) n
+pieces_in value = number_in value >>= λ n. where_true (nat_le 1 n && nat_le n most_pieces) n
 
 abbrev pub tenths_in : FieldValue → Option ℕ
-tenths_in value = number_in value >>= λ n. where_true (nat_le n 99_999_990) n
+tenths_in value = number_in value >>= λ n. where_true (nat_le n most_message_tenths) n
 
 abbrev pub counted_in : FieldValue → Option ℕ
-counted_in value = number_in value >>= λ n. where_true (nat_le n 9999) n
+counted_in value = number_in value >>= λ n. where_true (nat_le n most_pieces) n
 
 abbrev pub count_in : FieldValue → Option ℕ
-count_in value = number_in value >>= λ n. where_true (nat_le n 9_999_999) n
+count_in value = number_in value >>= λ n. where_true (nat_le n largest_count) n
 
 -- ---- what several say together
 

@@ -4,7 +4,7 @@ use Rattle.awb_number.specs.Number.{IsNumber, number_text}
 use Rattle.imp_fields.specs.Amount.{IsPieces, IsBookTenths}
 use Rattle.imp_fields.specs.Airport.{is_airport}
 use Rattle.imp_fields.specs.Name.{is_goods}
-use Rattle.imp_fields.specs.Flight.{Designator, IsDesignator}
+use Rattle.imp_fields.specs.Flight.{Designator, IsDesignator, most_waybills}
 use Rattle.station_days.specs.Date.{CalendarDay, IsCalendarDay}
 use Rattle.imp_fields.specs.Quantity.{quantity_text}
 use Rattle.imp_fields.specs.Consignment.{consignment_text}
@@ -52,4 +52,4 @@ pub record AreWritten (flight : Designator) (date : CalendarDay) (here unload : 
   pub from : is_airport here ≡ true
   pub to : is_airport unload ≡ true
   pub each : AreLoads loads
-  pub few : length loads ≤ 500
+  pub few : length loads ≤ most_waybills

@@ -4,6 +4,7 @@
 ghost use Rattle.std.specs.Prelude.{◌≡◌, ◌∷◌, ◌++◌, ◌≤◌, ◌<◌, ◌^◌, ℕ, List, [], length, map, Some, Ok, IfOk, IfErr, OnOk, option_map};
 ghost use Rattle.imp_fields.specs.Consignment.{consignment_of, shipment_of, HasSpans};
 ghost use Rattle.imp_fields.specs.NormalText.{fault_at, first_fault, IsFaultOf};
+ghost use Rattle.imp_fields.specs.TextSize.{most_lines};
 ghost use Rattle.ffm_text.specs.Ffm.{is_cargo_line, ordered_fault, cargo_fault, cargo_faults};
 ghost use Rattle.ffm_text.specs.Scan.{IsScan, AreCargo, texts_of};
 
@@ -108,7 +109,7 @@ impl<'a> ManifestScan<'a> {
 /// The fault of the first line that has one: those of a consignment line, and `Order`. `Memory` of
 /// line 0 says nothing of the lines.
 pub(crate) fn cargo<'a>(alloc: Global, lines: &[Token<'a>]) -> Result<Vec<FfmLine<'a>>, TextFault>
-    requires { length lines.now ≤ 1000 }
+    requires { length lines.now ≤ most_lines }
     ensures read { IfOk result (λ cargo. AreCargo (texts_of lines.now) cargo.items) }
     ensures fault { IfErr result
         (IsFaultOf (first_fault 3 (cargo_faults [] (texts_of lines.now)))) }

@@ -3,6 +3,7 @@
 
 ghost use Rattle.std.specs.Prelude.{◌≤◌, All, length};
 ghost use Rattle.ffm_text.specs.Written.{IsLoad, AreWritten};
+ghost use Rattle.imp_fields.specs.Flight.{most_waybills};
 
 use crate::Load;
 use imp_fields::{Airport, Flight};
@@ -36,7 +37,7 @@ pub(crate) fn written_known(
     unload: &Airport,
     loads: &[Load],
 )
-    requires count { length loads.now ≤ 500 }
+    requires count { length loads.now ≤ most_waybills }
     ensures { AreWritten flight.now date.now here.now unload.now loads.now }
 {
     let _flight = flight.write(&mut [0; 7]);

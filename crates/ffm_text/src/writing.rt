@@ -5,7 +5,7 @@ ghost use Rattle.imp_fields.specs.NormalText.{normal_lines};
 ghost use Rattle.imp_fields.specs.Message.{sent_text};
 ghost use Rattle.imp_fields.specs.Consignment.{goods_text, consignment_text};
 ghost use Rattle.ffm_text.specs.Ffm.{IsFfm, cargo_of, flight_line_text, ffm_lines, manifest_written};
-ghost use Rattle.imp_fields.specs.Flight.{Designator};
+ghost use Rattle.imp_fields.specs.Flight.{Designator, most_waybills};
 ghost use Rattle.station_days.specs.Date.{CalendarDay};
 ghost use Rattle.ffm_text.specs.declared.Load.{Load};
 ghost use Rattle.ffm_text.specs.Written.{AreWritten, Begins, line_text, load_line, route_text, amount_text};
@@ -164,7 +164,7 @@ pub fn write_ffm(
     unload: Airport,
     loads: &[Load],
 ) -> Result<(), AllocError>
-    requires count { length loads.now ≤ 500 }
+    requires count { length loads.now ≤ most_waybills }
     ensures ok { OnOk result
         (out.new.items ≡ out.old.items ++ sent_text (ffm_lines flight date here unload loads.now)) }
     ensures err { OnErr result (out.new.items ≡ out.old.items) }

@@ -7,21 +7,38 @@ use Rattle.imp_fields.specs.Characters.{is_point}
 use Rattle.imp_fields.specs.declared.amount.WeightUnit.{WeightUnit}
 use Rattle.imp_fields.specs.declared.amount.WeightUnit.TheVariants.{Kilograms, Pounds}
 
--- a message gives 1 to 9999 pieces
+-- the most pieces of a message, and of a waybill's cargo in the books
+abbrev pub most_pieces : ℕ
+most_pieces = 9_999
+
+-- the most parts of a manifest
+abbrev pub most_parts : ℕ
+most_parts = 9_999
+
+-- the most tenths of a kilogram in a message: 9,999,999 kilograms
+abbrev pub most_message_tenths : ℕ
+most_message_tenths = 99_999_990
+
+-- the most tenths of a kilogram in the books, and in a written message, where a weight has at most
+-- seven characters
+abbrev pub most_tenths : ℕ
+most_tenths = 999_999
+
+-- a message gives at least one piece
 abbrev pub IsPieces : ℕ → Type 0
-IsPieces n = (1 ≤ n) × (n ≤ 9999)
+IsPieces n = (1 ≤ n) × (n ≤ most_pieces)
 
--- the parts of a manifest are numbered 1 to 9999
+-- the parts of a manifest are numbered from 1
 abbrev pub IsPartNumber : ℕ → Type 0
-IsPartNumber n = (1 ≤ n) × (n ≤ 9999)
+IsPartNumber n = (1 ≤ n) × (n ≤ most_parts)
 
--- a message gives at most 9,999,999 kilograms
+-- a weight of a message
 abbrev pub IsTenths : ℕ → Type 0
-IsTenths n = n ≤ 99_999_990
+IsTenths n = n ≤ most_message_tenths
 
--- a weight of the books, and of a written message, has at most seven characters
+-- a weight of the books, and of a written message
 abbrev pub IsBookTenths : ℕ → Type 0
-IsBookTenths n = n ≤ 999_999
+IsBookTenths n = n ≤ most_tenths
 
 -- the part of a weight of so many pieces that falls to some of them, rounded down
 abbrev pub share_of : ℕ → ℕ → ℕ → ℕ

@@ -1,4 +1,5 @@
 pub mod Characters
+pub mod TextSize
 pub mod Amount
 pub mod Quantity
 pub mod Flight

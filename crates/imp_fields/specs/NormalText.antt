@@ -2,6 +2,7 @@
 use Rattle.std.specs.Prelude.{◌≡◌, ℕ, ◌+◌, ◌-◌, Bool, ◌==◌, not, nat_eq, nat_lt, if◌then◌else◌, List, [], ◌∷◌, length, take, drop, map, position, is_some, Option, Some, None, Result, Ok, Err, codes}
 use Rattle.std.specs.List.{list_all, starts_with, slice_split, join_with_byte}
 use Rattle.std.specs.Str.Lines.{strip_carriage_return}
+use Rattle.imp_fields.specs.TextSize.{most_bytes, most_lines}
 use Rattle.imp_fields.specs.Characters.{is_printable, before_last_while}
 use Rattle.imp_fields.specs.Name.{trimmed}
 use Rattle.imp_fields.specs.declared.fault.Why.{Why}
@@ -81,8 +82,8 @@ unless_fault None reading = reading
 -- its kind
 abbrev pub normal_lines : List ℕ → Result (List (List ℕ)) TextFault
 normal_lines bytes =
-    if nat_lt 65_536 (length bytes) then Err (fault_at 0 why.Size)
-    else (if nat_lt 1000 (length (lines_of bytes)) then Err (fault_at 0 why.Lines)
+    if nat_lt most_bytes (length bytes) then Err (fault_at 0 why.Size)
+    else (if nat_lt most_lines (length (lines_of bytes)) then Err (fault_at 0 why.Lines)
     else unless_fault (first_fault 1 (map line_fault (lines_of bytes))) (from_message_line (lines_of bytes)))
 
 -- the lines joined

@@ -5,6 +5,7 @@ use Rattle.imp_fields.specs.Characters.{before_last_while}
 use Rattle.station_days.specs.Steps.{or_else}
 use Rattle.imp_fields.specs.Token.{AreSlices}
 use Rattle.imp_fields.specs.NormalText.{is_newline, line_without_end, starts_from, is_empty, line_fault, first_fault, kind_of, is_message_line}
+use Rattle.imp_fields.specs.TextSize.{most_lines}
 use Rattle.imp_fields.specs.declared.token.Token.{Token}
 use Rattle.imp_fields.specs.declared.line.MessageKind.{MessageKind}
 use Rattle.imp_fields.specs.declared.normal.Scan.{Scan}
@@ -15,7 +16,7 @@ abbrev pub AreKept : List ℕ → List (List ℕ) → Option MessageKind → ℕ
 AreKept starts lines None before tokens = (position is_message_line (take 11 lines) ≡ None) × (tokens ≡ [])
 AreKept starts lines (Some kind) before tokens =
     (position is_message_line (take 11 lines) ≡ Some before) × (map kind_of (take 1 (drop before lines)) ≡ Some kind ∷ [])
-    × (map (λ t. t.text.now) tokens ≡ drop before (take 1000 lines)) × (map (λ t. t.start) tokens ≡ drop before (take 1000 starts))
+    × (map (λ t. t.text.now) tokens ≡ drop before (take most_lines lines)) × (map (λ t. t.start) tokens ≡ drop before (take most_lines starts))
 
 -- of the lines seen so far, which begin at these places
 pub record IsScanned (starts : List ℕ) (lines : List (List ℕ)) (s : Scan) : Type 0 where
@@ -32,7 +33,7 @@ pub record Sees (line : Token) (old new : Scan) : Type 0 where
   pub fault : new.fault ≡ or_else old.fault (first_fault (old.count + 1) (line_fault line.text.now ∷ []))
   pub kind : new.kind ≡ or_else old.kind (if nat_lt old.count 11 then kind_of line.text.now else None)
   pub before : new.before ≡ (if is_some old.kind then old.before else old.count)
-  pub lines : new.lines.items ≡ (if is_some new.kind && nat_lt old.count 1000 then old.lines.items ++ line ∷ [] else old.lines.items)
+  pub lines : new.lines.items ≡ (if is_some new.kind && nat_lt old.count most_lines then old.lines.items ++ line ∷ [] else old.lines.items)
 
 -- the tokens are slices of the source, in order, and end before a place
 pub record AreSlicesBefore (source : List ℕ) (place : ℕ) (tokens : List Token) : Type 0 where

@@ -8,6 +8,12 @@ use std::marker::Model;
 /// The most pieces that a waybill may have.
 pub const MOST_PIECES: u32 = 9_999;
 
+/// The most parts that a manifest may have.
+const MOST_PARTS: u32 = 9_999;
+
+/// The most tenths of a kilogram that a message or a command may give: 9,999,999 kilograms.
+pub const MOST_MESSAGE_TENTHS: u32 = 99_999_990;
+
 /// A count of pieces, 1 to 9999.
 #[derive(Clone, Copy, Debug, PartialEq, Eq, PartialOrd, Ord)]
 pub struct Pieces {
@@ -84,7 +90,7 @@ impl PartNumber {
         ensures in_range { IsSome result ↔ IsPartNumber number }
         ensures value { IfSome result (λ p. p ≡ number) }
     {
-        if 1 <= number && number <= 9999 {
+        if 1 <= number && number <= MOST_PARTS {
             Some(PartNumber { number })
         } else {
             None
@@ -129,7 +135,7 @@ impl Tenths {
         ensures in_range { IsSome result ↔ IsTenths number }
         ensures value { IfSome result (λ t. t ≡ number) }
     {
-        if number <= 99_999_990 {
+        if number <= MOST_MESSAGE_TENTHS {
             Some(Tenths { number })
         } else {
             None

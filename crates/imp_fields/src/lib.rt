@@ -20,8 +20,8 @@ mod waybill_summary;
 
 pub use airport::Airport;
 pub use amount::{
-    BookTenths, MOST_PIECES, MOST_TENTHS, PartNumber, Pieces, Quantity, ShipmentCode, Tenths,
-    WeightUnit, book_weight, share,
+    BookTenths, MOST_MESSAGE_TENTHS, MOST_PIECES, MOST_TENTHS, PartNumber, Pieces, Quantity,
+    ShipmentCode, Tenths, WeightUnit, book_weight, share,
 };
 pub use consignment::read_consignment;
 pub use discrepancy::Discrepancy;
@@ -31,7 +31,7 @@ pub use flight::Flight;
 pub use laws::{flight_law, quantity_law, share_law};
 pub use line::{Consignment, Lines, MessageKind};
 pub use name::{Goods, Name};
-pub use normal::{MOST_BYTES, is_head, normal_text};
+pub use normal::{MOST_BYTES, MOST_LINES, is_head, normal_text};
 pub use put::put_decimal;
 pub use quantity::{put_quantity, read_quantity, weight_of};
 pub use token::Token;

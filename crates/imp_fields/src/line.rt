@@ -1,6 +1,7 @@
 ghost use Rattle.std.specs.Prelude.{◌≤◌, IsTrue, length};
 ghost use Rattle.std.specs.List.{list_all};
 ghost use Rattle.imp_fields.specs.Token.{is_line_token};
+ghost use Rattle.imp_fields.specs.TextSize.{most_lines};
 
 use crate::airport::Airport;
 use crate::amount::Quantity;
@@ -24,7 +25,7 @@ pub enum MessageKind {
 pub struct Lines<'a> {
     pub kind: MessageKind,
     pub lines: Vec<Token<'a>>,
-    pub ghost few: { length lines.items ≤ 1000 },
+    pub ghost few: { length lines.items ≤ most_lines },
     pub ghost printable: { IsTrue (list_all is_line_token lines.items) },
 }
 

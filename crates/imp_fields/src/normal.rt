@@ -7,6 +7,7 @@ ghost use Rattle.station_days.specs.Steps.{or_else};
 ghost use Rattle.imp_fields.specs.Token.{IsSlice, AreSlices};
 ghost use Rattle.imp_fields.specs.Message.{is_head};
 ghost use Rattle.imp_fields.specs.NormalText.{line_without_end, line_fault, kind_of, first_fault, first_kind, normal_lines, line_texts, Gives, BeginLines};
+ghost use Rattle.imp_fields.specs.TextSize.{most_bytes};
 
 use crate::fault::{TextFault, Why, fault_at};
 use crate::line::{Lines, MessageKind};
@@ -18,7 +19,7 @@ use std::alloc::{AllocError, Global};
 pub const MOST_BYTES: usize = 65_536;
 
 /// The most lines that a text may have.
-const MOST_LINES: usize = 1000;
+pub const MOST_LINES: usize = 1_000;
 
 /// How many bytes a line has, to guess how many lines there are.
 const USUAL_LINE: usize = 16;
@@ -164,7 +165,7 @@ impl<'a> Scan<'a> {
 
     /// Each line of a text was seen.
     fn of(alloc: Global, bytes: &'a [u8]) -> Result<Scan<'a>, AllocError>
-        requires { length bytes.now ≤ 65_536 }
+        requires { length bytes.now ≤ most_bytes }
         ensures { IfOk result (IsScannedTo bytes.now (length bytes.now + 1)) }
     {
         let mut scan = Scan::new(alloc, MOST_LINES.min(bytes.len() / USUAL_LINE + 1))?;

@@ -2,7 +2,7 @@
 use agent_stock::AgentCode;
 use awb_number::SERIALS;
 use desk_commands::{Field, Verb, read_command_text};
-use imp_fields::{Airport, Flight, Goods, MOST_PIECES, Name};
+use imp_fields::{Airport, Flight, Goods, MOST_MESSAGE_TENTHS, MOST_PIECES, Name};
 use shipment_machine::Airline;
 use std::alloc::{AllocError, Global};
 
@@ -46,7 +46,7 @@ pub(crate) fn range(field: Field) -> Option<(u64, u64)> {
     match field {
         Field::Count => Some((0, u64::from(SERIALS) - 1)),
         Field::Pieces => Some((1, u64::from(MOST_PIECES))),
-        Field::Tenths => Some((0, 99_999_990)),
+        Field::Tenths => Some((0, u64::from(MOST_MESSAGE_TENTHS))),
         Field::Counted => Some((0, u64::from(MOST_PIECES))),
         Field::Upto => Some((0, u64::from(u32::MAX))),
         _ => None,

@@ -1,6 +1,6 @@
 //! The stock as its maximal runs.
 ghost use Rattle.std.specs.Prelude.{◌≡◌, ◌+◌, ◌≤◌, ◌↔◌, IsTrue, IfOk, OnOk};
-ghost use Rattle.awb_number.specs.Number.{prefix_of, serial_of};
+ghost use Rattle.awb_number.specs.Number.{prefix_of, serial_of, serials};
 ghost use Rattle.agent_stock.specs.Runs.{AreStockRuns};
 ghost use Rattle.agent_stock.specs.Stock.{Holders};
 ghost use Rattle.map_state.specs.Runs.{IsNoneFrom, with_numbers, with_run};
@@ -37,7 +37,7 @@ fn goes_on(row: &StockRun, next: &StockRun) -> bool
 /// Puts a run behind the others, or makes the last one longer by it.
 fn put_run(rows: &mut Vec<StockRun>, next: StockRun) -> Result<(), StoreFault>
     requires some { 1 ≤ next.count }
-    requires one_prefix { serial_of next.first + next.count ≤ 10_000_000 }
+    requires one_prefix { serial_of next.first + next.count ≤ serials }
     ensures { (held : Holders) → IsNoneFrom next.first held → AreStockRuns held rows.old.items
         → OnOk result (AreStockRuns (with_run held next) rows.new.items) }
 {

@@ -3,6 +3,7 @@
 
 ghost use Rattle.std.specs.Prelude.{◌≡◌, ◌≤◌};
 ghost use Rattle.map_state.specs.Shown.{Shows};
+ghost use Rattle.station_core.specs.Step.{most_rows};
 
 use crate::asked::{lines, messages, movements};
 use crate::state::MapState;
@@ -20,7 +21,7 @@ use station_core::{
 
 /// How many rows a list has, where that can be numbered.
 fn count(len: usize) -> u32
-    ensures { len ≤ 4_294_967_295 → result ≡ len }
+    ensures { len ≤ most_rows → result ≡ len }
 {
     u32::try_from(len).unwrap_or(u32::MAX)
 }

@@ -3,6 +3,8 @@ ghost use Rattle.std.specs.Prelude.{◌≡◌, ◌≤◌, ◌-◌, length};
 ghost use Rattle.plain_station.specs.Bounds.{IsWithin};
 ghost use Rattle.plain_station.specs.Spots.{is_in};
 ghost use Rattle.shipment_machine.specs.Book.{same_place, in_store, pieces_of, tenths_of, moved_in, moved_out, held, store, drawn, has_moves};
+ghost use Rattle.imp_fields.specs.Amount.{most_pieces, most_tenths};
+ghost use Rattle.station_core.specs.Step.{most_rows};
 
 use awb_number::Awb;
 use shipment_machine::{Amount, Move, Place};
@@ -29,8 +31,8 @@ const NOTHING: Total = Total {
 impl Total {
     /// What is left after something is taken away.
     fn less(&self, other: &Total) -> Amount
-        requires pieces { self.now.pieces - other.now.pieces ≤ 9999 }
-        requires tenths { self.now.tenths - other.now.tenths ≤ 999999 }
+        requires pieces { self.now.pieces - other.now.pieces ≤ most_pieces }
+        requires tenths { self.now.tenths - other.now.tenths ≤ most_tenths }
         ensures { result ≡ record {
           pieces = self.now.pieces - other.now.pieces;
           tenths = self.now.tenths -
@@ -65,7 +67,7 @@ impl Spot {
 
 /// What moved there.
 fn total_in(book: &[Move], awb: &Awb, spot: &Spot) -> Total
-    requires { length book.now ≤ 4_294_967_295 }
+    requires { length book.now ≤ most_rows }
     ensures pieces { result.pieces ≡ moved_in pieces_of book.now awb.now (is_in spot.now) }
     ensures tenths { result.tenths ≡ moved_in tenths_of book.now awb.now (is_in spot.now) }
 {
@@ -81,7 +83,7 @@ fn total_in(book: &[Move], awb: &Awb, spot: &Spot) -> Total
 
 /// What moved from there.
 fn total_out(book: &[Move], awb: &Awb, spot: &Spot) -> Total
-    requires { length book.now ≤ 4_294_967_295 }
+    requires { length book.now ≤ most_rows }
     ensures pieces { result.pieces ≡ moved_out pieces_of book.now awb.now (is_in spot.now) }
     ensures tenths { result.tenths ≡ moved_out tenths_of book.now awb.now (is_in spot.now) }
 {
@@ -97,7 +99,7 @@ fn total_out(book: &[Move], awb: &Awb, spot: &Spot) -> Total
 
 /// What is at a place.
 pub(crate) fn held(book: &[Move], awb: &Awb, place: &Place) -> Amount
-    requires few { length book.now ≤ 4_294_967_295 }
+    requires few { length book.now ≤ most_rows }
     requires within { IsWithin (held book.now awb.now (same_place place.now)) }
     ensures { result ≡ held book.now awb.now (same_place place.now) }
 {
@@ -107,7 +109,7 @@ pub(crate) fn held(book: &[Move], awb: &Awb, place: &Place) -> Amount
 
 /// What is in the store.
 pub(crate) fn stored(book: &[Move], awb: &Awb) -> Amount
-    requires few { length book.now ≤ 4_294_967_295 }
+    requires few { length book.now ≤ most_rows }
     requires within { IsWithin (store book.now awb.now) }
     ensures { result ≡ store book.now awb.now }
 {
@@ -117,7 +119,7 @@ pub(crate) fn stored(book: &[Move], awb: &Awb) -> Amount
 
 /// What came from a place.
 pub(crate) fn drawn(book: &[Move], awb: &Awb, place: &Place) -> Amount
-    requires few { length book.now ≤ 4_294_967_295 }
+    requires few { length book.now ≤ most_rows }
     requires within { IsWithin (drawn book.now awb.now (same_place place.now)) }
     ensures { result ≡ drawn book.now awb.now (same_place place.now) }
 {

@@ -7,6 +7,7 @@ ghost use Rattle.station_core.specs.Readers.{AreNoted, flight_row, AreFlightRows
 ghost use Rattle.station_core.specs.declared.rows.ExpectedRow.{ExpectedRow as AnyExpected};
 ghost use Rattle.station_core.specs.declared.rows.FlightRow.{FlightRow as AnyFlight};
 ghost use Rattle.plain_station.specs.Lists.{cargo_of};
+ghost use Rattle.imp_fields.specs.Flight.{most_waybills};
 
 use crate::cargo::PlainCargo;
 use crate::order::{put_expected, put_flight};
@@ -32,7 +33,7 @@ impl PlainCargo {
 
     /// What is built of some waybills on a flight: pieces, and tenths.
     fn built_of(&self, numbers: &[Awb], flight: &FlightDate) -> (u64, u64)
-        requires { length numbers.now ≤ 500 }
+        requires { length numbers.now ≤ most_waybills }
         ensures pieces { result.0 ≡ sum_by
             (λ w. (built self.now.lists.book.items w flight.now).pieces) numbers.now }
         ensures tenths { result.1 ≡ sum_by

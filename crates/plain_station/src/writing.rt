@@ -6,7 +6,7 @@ ghost use Rattle.shipment_machine.specs.Cargo.{written, written_all};
 ghost use Rattle.plain_station.specs.Lists.{cargo_of, texts_in};
 ghost use Rattle.plain_station.specs.Next.{cargo_with};
 ghost use Rattle.plain_station.specs.Doing.{Does};
-ghost use Rattle.station_core.specs.Step.{cargo_acted, sent, has_room};
+ghost use Rattle.station_core.specs.Step.{cargo_acted, sent, has_room, most_rows};
 ghost use Rattle.telegrams.specs.NoticeText.{notice_text};
 ghost use Rattle.shipment_machine.specs.Agreement.{outcome_of};
 ghost use Rattle.plain_station.specs.declared.lists.CargoLists.{CargoLists};
@@ -148,7 +148,7 @@ fn texts_of(alloc: Global, notices: &[Notice]) -> Result<Vec<Vec<u8>>, AllocErro
 
 /// Whether rows and some more are no more than can be numbered.
 fn can_be_numbered(rows: usize, more: usize) -> bool
-    ensures { result ≡ nat_le (rows + more) 4_294_967_295 }
+    ensures { result ≡ nat_le (rows + more) most_rows }
 {
     let most = u32::MAX as usize;
     rows <= most && more <= most - rows

@@ -5,7 +5,7 @@ use Rattle.std.specs.Str.{bytes_eq}
 use Rattle.std.specs.FinMap.{FinMap, get}
 use Rattle.awb_number.specs.Digits.{is_letter}
 use Rattle.imp_fields.specs.Airport.{is_airport}
-use Rattle.imp_fields.specs.Flight.{Designator, is_carrier, flight_of, flight_text}
+use Rattle.imp_fields.specs.Flight.{Designator, is_carrier, flight_of, flight_text, most_flight_number}
 use Rattle.shipment_machine.specs.declared.flight.FlightDate.{FlightDate}
 use Rattle.shipment_machine.specs.declared.moves.Outbound.{Outbound}
 use Rattle.station_core.specs.declared.rows.NotedFlight.{NotedFlight}
@@ -18,7 +18,7 @@ is_letter_or_none (Some b) = is_letter b
 
 -- a designator that can be written
 abbrev pub is_designator : Designator → Bool
-is_designator f = is_carrier f.carrier && nat_le 1 f.number && nat_le f.number 9999 && is_letter_or_none f.suffix
+is_designator f = is_carrier f.carrier && nat_le 1 f.number && nat_le f.number most_flight_number && is_letter_or_none f.suffix
 
 -- a designator as it is written
 abbrev pub is_written : List ℕ → Option Designator → Bool

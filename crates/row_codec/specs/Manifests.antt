@@ -12,6 +12,7 @@ use Rattle.station_core.specs.declared.rows.Expectation.{Expectation}
 use Rattle.station_schema.specs.Tables.{Expected, ExpectedKey, expected_cmp, PartKey, part_cmp}
 use Rattle.row_codec.specs.Numbers.{natural, is_within, is_number, is_day, flag, is_set, is_flag}
 use Rattle.row_codec.specs.Flights.{flight_date_of, is_designator, is_flight_text}
+use Rattle.imp_fields.specs.Amount.{most_pieces, most_parts, most_tenths}
 
 abbrev pub expected_key : FlightDate → ℕ → ExpectedKey
 expected_key f w = (flight_text f.flight, (pos f.day, pos w))
@@ -37,7 +38,7 @@ is_expected_key key = is_flight_text key.0 && is_day key.1.0 && is_number key.1.
 
 -- within range
 abbrev pub is_expected_row : ExpectedKey × Expected → Bool
-is_expected_row row = is_expected_key row.0 && is_within 1 9999 row.1.pieces && is_within 0 999_999 row.1.tenths && is_flag row.1.checked
+is_expected_row row = is_expected_key row.0 && is_within 1 most_pieces row.1.pieces && is_within 0 most_tenths row.1.tenths && is_flag row.1.checked
 
 abbrev pub part_key : Part → PartKey
 part_key p = (flight_text p.flight.flight, (pos p.flight.day, (p.airport, pos p.number)))
@@ -52,7 +53,7 @@ part_by key = option_map (λ f. record { flight = f; airport = key.1.1.0; number
 
 -- a flight in written form, a day, an airport and the number of a part
 abbrev pub is_part_key : PartKey → Bool
-is_part_key key = is_flight_text key.0 && is_day key.1.0 && is_airport key.1.1.0 && is_within 1 9999 key.1.1.1
+is_part_key key = is_flight_text key.0 && is_day key.1.0 && is_airport key.1.1.0 && is_within 1 most_parts key.1.1.1
 
 -- within range, and the telegram is a text
 abbrev pub is_part_row : PartKey × List ℕ → Bool

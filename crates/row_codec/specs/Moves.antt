@@ -12,6 +12,7 @@ use Rattle.station_core.specs.declared.rows.BookRow.{BookRow}
 use Rattle.station_schema.specs.Tables as table
 use Rattle.row_codec.specs.Numbers.{natural, is_within, is_number, is_day}
 use Rattle.row_codec.specs.Flights.{is_flight_text, flight_date_of}
+use Rattle.imp_fields.specs.Amount.{most_pieces, most_tenths}
 
 -- the code of a place
 abbrev pub place_code : Place → ℕ
@@ -86,5 +87,5 @@ are_flight_columns text day = ((length text == 0) && int_eq day (pos 0)) || (is_
 abbrev pub is_move_row : table.Move → Bool
 is_move_row row =
     is_number row.awb && is_some (place_of row.src (flight_date_of row.flight row.fday)) && is_some (place_of row.dst (flight_date_of row.flight row.fday))
-    && is_within 1 9999 row.pieces && is_within 0 999_999 row.tenths && are_flight_columns row.flight row.fday
+    && is_within 1 most_pieces row.pieces && is_within 0 most_tenths row.tenths && are_flight_columns row.flight row.fday
     && is_day row.day && is_within 0 1439 row.minute

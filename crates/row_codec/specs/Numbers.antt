@@ -2,6 +2,7 @@
 use Rattle.std.specs.Prelude.{◌≡◌, ℕ, ℤ, pos, negsuc, int_le, Bool, ◌&&◌, ◌||◌, if◌then◌else◌, List, map, length}
 use Rattle.std.specs.List.{range_with_len}
 use Rattle.std.specs.Ordering.{int_eq}
+use Rattle.station_days.specs.Date.{first_moment_day, last_moment_day}
 
 abbrev pub natural : ℤ → ℕ
 natural (pos n) = n
@@ -21,7 +22,7 @@ is_count = is_within 0 4_294_967_295
 
 -- a day from 2000-01-01 to 2099-12-31
 abbrev pub is_day : ℤ → Bool
-is_day = is_within 10957 47481
+is_day = is_within first_moment_day last_moment_day
 
 -- a flag is 1 or 0
 abbrev pub flag : Bool → ℤ

@@ -4,7 +4,7 @@ use Rattle.std.specs.Option.{option_and_then}
 use Rattle.std.specs.Ordering.{int_eq}
 use Rattle.std.specs.List.{find, list_all}
 use Rattle.std.specs.FinMap.{FinMap, entries}
-use Rattle.awb_number.specs.Number.{prefix_of, serial_of}
+use Rattle.awb_number.specs.Number.{prefix_of, serial_of, serials}
 use Rattle.agent_stock.specs.Code.{is_agent_code}
 use Rattle.agent_stock.specs.Stock.{Holders}
 use Rattle.agent_stock.specs.declared.stock.Holder.{Holder}
@@ -29,7 +29,7 @@ named None = holder.Desk
 -- a row as a run
 abbrev pub run_in : StockKey × Stock → StockRun
 run_in e = record {
-  first = natural e.0.0 * 10_000_000 + natural e.0.1;
+  first = natural e.0.0 * serials + natural e.0.1;
   count = natural e.1.high + 1 - natural e.0.1;
   holder = named (holder_by e.1);
 }

@@ -8,6 +8,7 @@ use Rattle.imp_fields.specs.Name.{is_goods}
 use Rattle.shipment_machine.specs.declared.moves.Declared.{Declared}
 use Rattle.station_schema.specs.Tables.{Waybill, waybill_id}
 use Rattle.row_codec.specs.Numbers.{natural, is_within, is_number, is_day, flag, is_set, is_flag}
+use Rattle.imp_fields.specs.Amount.{most_pieces, most_tenths}
 
 -- the day of a declaration, where one is kept
 abbrev pub since_of : ℤ → Option ℕ
@@ -53,5 +54,5 @@ declared_in rows w = option_map declared_by (get_by waybill_id rows (pos w))
 -- within range
 abbrev pub is_waybill_row : Waybill → Bool
 is_waybill_row row =
-    is_number row.awb && is_airport row.origin && is_airport row.destination && is_within 1 9999 row.pieces
-    && is_within 0 999_999 row.tenths && is_goods row.goods && is_flag row.notified && is_since row.since
+    is_number row.awb && is_airport row.origin && is_airport row.destination && is_within 1 most_pieces row.pieces
+    && is_within 0 most_tenths row.tenths && is_goods row.goods && is_flag row.notified && is_since row.since

@@ -3,6 +3,7 @@ ghost use Rattle.std.specs.Prelude.{◌≡◌, is_some, IfSome};
 ghost use Rattle.imp_fields.specs.Airport.{is_airport};
 ghost use Rattle.imp_fields.specs.Name.{is_goods};
 ghost use Rattle.row_codec.specs.Numbers.{natural, is_within, is_number, is_count, is_day, is_set, is_flag};
+ghost use Rattle.imp_fields.specs.Amount.{most_tenths, most_pieces, most_parts};
 
 use awb_number::Awb;
 use imp_fields::{Airport, BookTenths, Goods, PartNumber, Pieces};
@@ -20,7 +21,7 @@ pub(crate) fn awb_by(column: i64) -> Option<Awb>
 /// A count of pieces.
 #[tactic(auto, using(crate::proofs::Exact::within_both))]
 pub(crate) fn pieces_by(column: i64) -> Option<Pieces>
-    ensures exact { is_some result ≡ is_within 1 9999 column }
+    ensures exact { is_some result ≡ is_within 1 most_pieces column }
     ensures value { IfSome result (λ pieces. pieces ≡ natural column) }
 {
     Pieces::new(u32::try_from(column).ok()?)
@@ -29,7 +30,7 @@ pub(crate) fn pieces_by(column: i64) -> Option<Pieces>
 /// A weight in tenths of a kilogram that the book can have.
 #[tactic(auto, using(crate::proofs::Exact::within_most))]
 pub(crate) fn tenths_by(column: i64) -> Option<BookTenths>
-    ensures exact { is_some result ≡ is_within 0 999_999 column }
+    ensures exact { is_some result ≡ is_within 0 most_tenths column }
     ensures value { IfSome result (λ tenths. tenths ≡ natural column) }
 {
     BookTenths::new(u32::try_from(column).ok()?)
@@ -38,7 +39,7 @@ pub(crate) fn tenths_by(column: i64) -> Option<BookTenths>
 /// The number of a part of a manifest.
 #[tactic(auto, using(crate::proofs::Exact::within_both))]
 pub(crate) fn part_number_by(column: i64) -> Option<PartNumber>
-    ensures exact { is_some result ≡ is_within 1 9999 column }
+    ensures exact { is_some result ≡ is_within 1 most_parts column }
     ensures value { IfSome result (λ number. number ≡ natural column) }
 {
     PartNumber::new(u32::try_from(column).ok()?)

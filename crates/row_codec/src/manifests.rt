@@ -3,6 +3,7 @@ ghost use Rattle.table_rows.specs.Meant.{expected_meant, listed_waybill_meant};
 ghost use Rattle.station_schema.specs.Tables.{ExpectedKey};
 ghost use Rattle.row_codec.specs.Numbers.{is_within, is_flag};
 ghost use Rattle.row_codec.specs.Manifests.{is_expected_key, expectation_by, expected_by, expected_row, is_expected_row, is_part_key, part_by};
+ghost use Rattle.imp_fields.specs.Amount.{most_pieces, most_tenths};
 
 use crate::columns::{airport_of, awb_by, flag_by, part_number_by, pieces_by, tenths_by};
 use crate::flights::flight_date_by;
@@ -12,8 +13,8 @@ use station_rows::{ExpectedRow, ListedWaybillRow};
 
 /// What the columns of a row say is expected.
 fn expected_of(pieces: i64, tenths: i64, checked: i64) -> Option<Expected>
-    ensures exact { is_some result ≡ is_within 1 9999 pieces && is_within 0 999_999 tenths &&
-        is_flag checked }
+    ensures exact { is_some result
+        ≡ is_within 1 most_pieces pieces && is_within 0 most_tenths tenths && is_flag checked }
     ensures value { IfSome result (λ expected. expected
         ≡ expected_by (record { pieces = pieces; tenths = tenths; checked = checked })) }
 {

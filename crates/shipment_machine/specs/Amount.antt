@@ -1,6 +1,6 @@
 -- Amounts of cargo: pieces, with their weight in tenths of a kilogram.
 use Rattle.std.specs.Prelude.{ℕ, ◌+◌, ◌-◌, ◌≤◌, Bool, ◌&&◌, ◌==◌, nat_le, if◌then◌else◌, decimal, List, ◌++◌, codes}
-use Rattle.imp_fields.specs.Amount.{share_of}
+use Rattle.imp_fields.specs.Amount.{share_of, most_pieces, most_tenths}
 use Rattle.imp_fields.specs.Quantity.{weight_text}
 use Rattle.shipment_machine.specs.declared.amount.Amount.{Amount}
 
@@ -21,17 +21,17 @@ plus a b = amount (a.pieces + b.pieces) (a.tenths + b.tenths)
 
 -- whether an amount is within 9,999 pieces and 999,999 tenths
 abbrev pub fits : Amount → Bool
-fits a = nat_le a.pieces 9999 && nat_le a.tenths 999999
+fits a = nat_le a.pieces most_pieces && nat_le a.tenths most_tenths
 
 -- an amount within these bounds, with at least a tenth a piece
 pub record IsHeld (a : Amount) : Type 0 where
-  pub pieces : a.pieces ≤ 9999
-  pub tenths : a.tenths ≤ 999999
+  pub pieces : a.pieces ≤ most_pieces
+  pub tenths : a.tenths ≤ most_tenths
   pub tenth_a_piece : a.pieces ≤ a.tenths
 
 -- a count is at most 9999 pieces
 abbrev pub IsCount : ℕ → Type 0
-IsCount n = n ≤ 9999
+IsCount n = n ≤ most_pieces
 
 -- an amount is a part of another, and what it leaves has at least a tenth a piece too
 pub record IsPartOf (part whole : Amount) : Type 0 where
@@ -43,8 +43,8 @@ pub record IsPartOf (part whole : Amount) : Type 0 where
 -- two amounts are within 9,999 pieces and 999,999 tenths together
 pub record GoesWith (whole more : Amount) : Type 0 where
   pub held : IsHeld more
-  pub pieces : whole.pieces + more.pieces ≤ 9999
-  pub tenths : whole.tenths + more.tenths ≤ 999999
+  pub pieces : whole.pieces + more.pieces ≤ most_pieces
+  pub tenths : whole.tenths + more.tenths ≤ most_tenths
 
 -- an amount as 4 pieces, 40.0 kg
 abbrev pub pieces_word : ℕ → List ℕ

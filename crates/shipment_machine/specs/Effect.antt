@@ -49,6 +49,7 @@ use Rattle.shipment_machine.specs.declared.view.Rows.{Rows}
 use Rattle.shipment_machine.specs.declared.view.Rows.TheVariants as rows
 use Rattle.shipment_machine.specs.Cargo.{Cargo, written_all}
 use Rattle.shipment_machine.specs.Views.{undeclared, declaration_view, rows_of}
+use Rattle.imp_fields.specs.Flight.{most_waybills}
 
 -- what a command does that isn't refused
 pub record Outcome : Type 0 where
@@ -354,7 +355,7 @@ manifesting here view on w flight unload p at =
           ∷ (is_closed on.outbound, on_flight 208 flight)
           ∷ (goes_elsewhere on.outbound unload, on_flight 218 flight)
           ∷ (nat_lt free.pieces p, only_free free.pieces)
-          ∷ ((on.load.pieces == 0) && nat_le 500 on.waybills, on_flight 219 flight) ∷ [];
+          ∷ ((on.load.pieces == 0) && nat_le most_waybills on.waybills, on_flight 219 flight) ∷ [];
       outcome = does (move_of w place.Free (place.Built flight) a (Some flight) at)
           (status_of here w (declared_as view.declared) (event.Manifested flight unload) a)
           (if is_none on.outbound

@@ -17,6 +17,8 @@ pub use Rattle.shipment_machine.specs.Places.{is_outside, is_pair}
 use Rattle.shipment_machine.specs.Cargo.{Cargo}
 use Rattle.shipment_machine.specs.Amount.{fits}
 use Rattle.shipment_machine.specs.Effect.{is_closed}
+use Rattle.imp_fields.specs.Amount.{most_pieces, most_tenths}
+use Rattle.imp_fields.specs.Flight.{most_waybills}
 
 -- No more of a waybill moved out of a place than into it; what is there weighs at least a tenth a
 -- piece, and nothing where it has no piece.
@@ -46,7 +48,7 @@ NamesFlight _ named = ⊤
 pub record IsLawfulMove (s : Cargo) (m : Move) : Type 0 where
   pub pair : IsTrue (is_pair m.from m.to)
   pub some : 1 ≤ m.pieces
-  pub not_more : m.pieces ≤ 9999
+  pub not_more : m.pieces ≤ most_pieces
   pub declared : IsSome (s.declared m.awb)
   pub noted_from : IsNoted s m.from
   pub noted_to : IsNoted s m.to
@@ -56,9 +58,9 @@ pub record IsLawfulMove (s : Cargo) (m : Move) : Type 0 where
 -- pieces and tenths that may be declared or expected
 pub record IsLawfulAmount (pieces tenths : ℕ) : Type 0 where
   pub some : 1 ≤ pieces
-  pub not_more : pieces ≤ 9999
+  pub not_more : pieces ≤ most_pieces
   pub tenth_a_piece : pieces ≤ tenths
-  pub not_heavier : tenths ≤ 999999
+  pub not_heavier : tenths ≤ most_tenths
 
 -- whether a move takes pieces off with this flight, or builds them on it
 abbrev pub departs_with : FlightDate → Move → Bool
@@ -91,7 +93,7 @@ pub record IsLawful (s : Cargo) : Type 0 where
   pub departed : (flight : FlightDate) → StaysDeparted flight s.book
   pub empty : (flight : FlightDate) (w : ℕ) → IsTrue (is_closed (s.flights flight))
       → (built s.book w flight).pieces ≡ 0
-  pub room : (flight : FlightDate) → length (waybills_on s.book flight) ≤ 500
+  pub room : (flight : FlightDate) → length (waybills_on s.book flight) ≤ most_waybills
   pub outbound : (flight : FlightDate) → IfSome (s.flights flight)
       (λ o. bytes_eq o.unload s.here ≡ false)
   pub mark : s.confirmed ≤ length s.outbox

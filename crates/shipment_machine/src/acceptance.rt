@@ -4,6 +4,7 @@ ghost use Rattle.shipment_machine.specs.Amount.{IsHeld, amount, fits};
 ghost use Rattle.shipment_machine.specs.Effect.{decided, at_desk_or_void, booked, dated, declare, declared_by, declaring, receiving, withdrawing};
 ghost use Rattle.shipment_machine.specs.Agreement.{IsAnswer};
 ghost use Rattle.shipment_machine.specs.Claims.{claimed};
+ghost use Rattle.imp_fields.specs.Amount.{most_pieces};
 
 use crate::amount::{Amount, is_within, part_of};
 use crate::command::CargoLine;
@@ -92,7 +93,7 @@ pub(crate) fn claim_of(line: &CargoLine) -> ProposedDeclaration
     ensures value { claimed result ≡ declared_by line.now }
     ensures own { 1 ≤ line.now.pieces }
     ensures some { 1 ≤ result.pieces }
-    ensures bound { result.pieces ≤ 9999 }
+    ensures bound { result.pieces ≤ most_pieces }
 {
     let own = line.pieces.number();
     let pieces = match line.total {

@@ -4,6 +4,7 @@ ghost use Rattle.shipment_machine.specs.Amount.{GoesWith, IsHeld, IsPartOf, plus
 ghost use Rattle.shipment_machine.specs.Effect.{decided, came_in, expected_amount, counted_in, uncounted, counted_more, check_in_moves, check_in_notices, checking_in};
 ghost use Rattle.shipment_machine.specs.Agreement.{IsAnswer};
 ghost use Rattle.shipment_machine.specs.declared.notice.Event.TheVariants as event;
+ghost use Rattle.imp_fields.specs.Amount.{most_pieces};
 
 use crate::amount::Amount;
 use crate::command::PieceCount;
@@ -55,7 +56,7 @@ fn rest_of(whole: Amount, counted: u32) -> Amount
 fn tenths_beyond(whole: Amount, pieces: u32) -> u64
     requires held { IsHeld whole }
     requires some { 1 ≤ whole.pieces }
-    requires few { pieces ≤ 9999 }
+    requires few { pieces ≤ most_pieces }
     ensures value { result ≡ whole.tenths * pieces / whole.pieces }
     ensures heavy { pieces ≤ result }
     ensures bound { result < 2 ^ 61 }
@@ -67,7 +68,7 @@ fn tenths_beyond(whole: Amount, pieces: u32) -> u64
 fn more_of(balances: &Balances, whole: Amount, counted: u32) -> Option<Amount>
     requires held { IsHeld whole }
     requires some { 1 ≤ whole.pieces }
-    requires few { counted ≤ 9999 }
+    requires few { counted ≤ most_pieces }
     ensures value { result
         ≡ (if fits (plus (came_in balances.now) (plus whole (counted_more whole counted)))
         then Some (counted_more whole counted) else None) }

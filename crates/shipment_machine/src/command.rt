@@ -1,13 +1,16 @@
 ghost use Rattle.std.specs.Prelude.{◌≡◌, ℕ, ◌≤◌, ◌↔◌, length, IsSome, IfSome};
 ghost use Rattle.shipment_machine.specs.Amount.{IsCount};
 ghost use Rattle.shipment_machine.specs.Effect.{reads};
+ghost use Rattle.imp_fields.specs.TextSize.{most_lines};
 
 use crate::airline::Airline;
 use crate::flight::FlightDate;
 use crate::trail::TrailLines;
 use crate::view::RowsKey;
 use awb_number::Awb;
-use imp_fields::{Airport, Flight, Goods, MOST_PIECES, Name, PartNumber, Pieces, Tenths};
+use imp_fields::{
+    Airport, Flight, Goods, MOST_LINES, MOST_PIECES, Name, PartNumber, Pieces, Tenths,
+};
 use station_days::DayMonth;
 use std::marker::Model;
 
@@ -80,21 +83,22 @@ pub struct InboundLines<'a> {
 impl<'a> Model for InboundLines<'a> {
     ghost use Rattle.std.specs.Prelude.{List, ◌≤◌, length};
     ghost use Rattle.shipment_machine.specs.declared.command.InboundLine.{InboundLine};
+    ghost use Rattle.imp_fields.specs.TextSize.{most_lines};
 
     ghost Value = { List InboundLine };
 
     ghost view = { λ a. a.lines.now };
 
-    ghost invariant = { λ a. length a.lines.now ≤ 1000 };
+    ghost invariant = { λ a. length a.lines.now ≤ most_lines };
 }
 
 impl<'a> InboundLines<'a> {
     /// None where there are more than 1,000.
     pub fn new(lines: &'a [InboundLine]) -> Option<InboundLines<'a>>
-        ensures in_range { IsSome result ↔ (length lines.now ≤ 1000) }
+        ensures in_range { IsSome result ↔ (length lines.now ≤ most_lines) }
         ensures value { IfSome result (λ kept. kept ≡ lines.now) }
     {
-        if lines.len() <= 1000 {
+        if lines.len() <= MOST_LINES {
             Some(InboundLines { lines })
         } else {
             None
@@ -104,7 +108,7 @@ impl<'a> InboundLines<'a> {
     /// The lines, in their order.
     pub fn as_slice(&self) -> &'a [InboundLine]
         ensures value { result.now ≡ self.now }
-        ensures in_range { length result.now ≤ 1000 }
+        ensures in_range { length result.now ≤ most_lines }
     {
         self.lines
     }

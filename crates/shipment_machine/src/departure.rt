@@ -4,6 +4,7 @@ ghost use Rattle.std.specs.List.{flat_map, sum_by};
 ghost use Rattle.shipment_machine.specs.Effect.{decided, departing, depart_moves, manifest_line, status_of};
 ghost use Rattle.shipment_machine.specs.Agreement.{IsAnswer, IsOnBoard};
 ghost use Rattle.shipment_machine.specs.declared.notice.Event.TheVariants as event;
+ghost use Rattle.imp_fields.specs.Flight.{most_waybills};
 
 use crate::flight::FlightDate;
 use crate::moves::{Move, Outbound, Place};
@@ -87,7 +88,7 @@ fn line_of(aboard: &FlightLoad) -> ManifestLine
 /// The lines of the manifest.
 fn lines_of(on: &PlanContext, loads: &[FlightLoad]) -> Result<ManifestLines, AllocError>
     requires on_board { All IsOnBoard loads.now }
-    requires few { length loads.now ≤ 500 }
+    requires few { length loads.now ≤ most_waybills }
     ensures { IfOk result (λ lines. lines ≡ map manifest_line loads.now) }
 {
     let mut lines = Vec::new(on.alloc);
@@ -100,7 +101,7 @@ fn lines_of(on: &PlanContext, loads: &[FlightLoad]) -> Result<ManifestLines, All
 /// How many pieces leave.
 fn pieces_aboard(loads: &[FlightLoad]) -> u32
     requires on_board { All IsOnBoard loads.now }
-    requires few { length loads.now ≤ 500 }
+    requires few { length loads.now ≤ most_waybills }
     ensures { result ≡ sum_by (λ a. a.load.pieces) loads.now }
 {
     let mut pieces = 0;

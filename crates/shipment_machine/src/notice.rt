@@ -1,4 +1,5 @@
 ghost use Rattle.std.specs.Prelude.{◌≡◌, ◌≤◌, ◌↔◌, length, IsSome, IfSome};
+ghost use Rattle.imp_fields.specs.Flight.{most_waybills};
 
 use crate::flight::{FlightDate, MOST_WAYBILLS};
 use imp_fields::{Airport, BookTenths, Discrepancy, Goods, Name, Pieces, WaybillSummary};
@@ -64,18 +65,19 @@ pub struct ManifestLines {
 impl Model for ManifestLines {
     ghost use Rattle.std.specs.Prelude.{List, ◌≤◌, length};
     ghost use Rattle.shipment_machine.specs.declared.notice.ManifestLine.{ManifestLine};
+    ghost use Rattle.imp_fields.specs.Flight.{most_waybills};
 
     ghost Value = { List ManifestLine };
 
     ghost view = { λ a. a.lines.items };
 
-    ghost invariant = { λ a. length a.lines.items ≤ 500 };
+    ghost invariant = { λ a. length a.lines.items ≤ most_waybills };
 }
 
 impl ManifestLines {
     /// None where there are more than 500.
     pub fn new(lines: Vec<ManifestLine>) -> Option<ManifestLines>
-        ensures in_range { IsSome result ↔ (length lines.items ≤ 500) }
+        ensures in_range { IsSome result ↔ (length lines.items ≤ most_waybills) }
         ensures value { IfSome result (λ kept. kept ≡ lines.items) }
     {
         if lines.len() <= MOST_WAYBILLS {
@@ -88,7 +90,7 @@ impl ManifestLines {
     /// The waybills, in their order.
     pub fn as_slice(&self) -> &[ManifestLine]
         ensures value { result.now ≡ self.now }
-        ensures in_range { length result.now ≤ 500 }
+        ensures in_range { length result.now ≤ most_waybills }
     {
         self.lines.as_slice()
     }

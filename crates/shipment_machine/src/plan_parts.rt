@@ -1,7 +1,7 @@
 //! Parts of a plan.
 ghost use Rattle.std.specs.Prelude.{◌≡◌, ◌<◌, ◌^◌, ◌+◌, ◌≤◌, ◌++◌, [], OnOk};
 ghost use Rattle.std.specs.Str.{bytes_eq};
-ghost use Rattle.imp_fields.specs.Amount.{IsPieces, IsBookTenths};
+ghost use Rattle.imp_fields.specs.Amount.{IsPieces, IsBookTenths, most_pieces, most_tenths};
 ghost use Rattle.shipment_machine.specs.Amount.{IsHeld, amount, plus, fits};
 ghost use Rattle.shipment_machine.specs.Effect.{about as waybill_refusal, only_free as free_refusal, on_flight as flight_refusal, move_of, status_of, consigned, came_in};
 ghost use Rattle.shipment_machine.specs.declared.plans.PlanFault.TheVariants as fault;
@@ -84,8 +84,8 @@ pub(crate) fn fits_with(balances: &Balances, pieces: u64, tenths: u64) -> bool
 
 /// Two amounts together.
 pub(crate) fn together(a: Amount, b: Amount) -> Amount
-    requires pieces { a.pieces + b.pieces ≤ 9999 }
-    requires tenths { a.tenths + b.tenths ≤ 999_999 }
+    requires pieces { a.pieces + b.pieces ≤ most_pieces }
+    requires tenths { a.tenths + b.tenths ≤ most_tenths }
     ensures { result ≡ plus a b }
 {
     Amount {

@@ -1,6 +1,7 @@
 ghost use Rattle.std.specs.Prelude.{◌≡◌, ◌≤◌, IsTrue, length};
 ghost use Rattle.std.specs.List.{list_all};
 ghost use Rattle.imp_fields.specs.Characters.{is_line};
+ghost use Rattle.imp_fields.specs.TextSize.{most_lines};
 
 use std::marker::Model;
 
@@ -50,18 +51,20 @@ impl<'a> Model for TrailLines<'a> {
     ghost use Rattle.std.specs.Prelude.{List, ℕ, ◌≤◌, IsTrue, length};
     ghost use Rattle.std.specs.List.{list_all};
     ghost use Rattle.imp_fields.specs.Characters.{is_line};
+    ghost use Rattle.imp_fields.specs.TextSize.{most_lines};
 
     ghost Value = { List (List ℕ) };
 
     ghost view = { λ a. a.lines.now };
 
-    ghost invariant = { λ a. (length a.lines.now ≤ 1000) × IsTrue (list_all is_line a.lines.now) };
+    ghost invariant = { λ a. (length a.lines.now ≤ most_lines)
+        × IsTrue (list_all is_line a.lines.now) };
 }
 
 impl<'a> TrailLines<'a> {
     /// These lines, as borrowed.
     pub fn new(lines: &'a [TrailLine<'a>]) -> TrailLines<'a>
-        requires few { length lines.now ≤ 1000 }
+        requires few { length lines.now ≤ most_lines }
         requires printable { IsTrue (list_all is_line lines.now) }
         ensures value { result ≡ lines.now }
     {
@@ -71,7 +74,7 @@ impl<'a> TrailLines<'a> {
     /// The lines, in their order.
     pub fn as_slice(&self) -> &'a [TrailLine<'a>]
         ensures value { result.now ≡ self.now }
-        ensures in_range { length result.now ≤ 1000 }
+        ensures in_range { length result.now ≤ most_lines }
         ensures printable { IsTrue (list_all is_line result.now) }
     {
         self.lines

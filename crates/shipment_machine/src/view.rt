@@ -1,4 +1,5 @@
 ghost use Rattle.std.specs.Prelude.{◌≡◌, ◌≤◌, ◌↔◌, length, IsSome, IfSome};
+ghost use Rattle.imp_fields.specs.Flight.{most_waybills};
 
 use crate::amount::Amount;
 use crate::flight::{FlightDate, MOST_WAYBILLS};
@@ -52,18 +53,19 @@ pub struct Loads {
 impl Model for Loads {
     ghost use Rattle.std.specs.Prelude.{List, ◌≤◌, length};
     ghost use Rattle.shipment_machine.specs.declared.view.FlightLoad.{FlightLoad};
+    ghost use Rattle.imp_fields.specs.Flight.{most_waybills};
 
     ghost Value = { List FlightLoad };
 
     ghost view = { λ a. a.loads.items };
 
-    ghost invariant = { λ a. length a.loads.items ≤ 500 };
+    ghost invariant = { λ a. length a.loads.items ≤ most_waybills };
 }
 
 impl Loads {
     /// None where there are more than 500.
     pub fn new(loads: Vec<FlightLoad>) -> Option<Loads>
-        ensures in_range { IsSome result ↔ (length loads.items ≤ 500) }
+        ensures in_range { IsSome result ↔ (length loads.items ≤ most_waybills) }
         ensures value { IfSome result (λ kept. kept ≡ loads.items) }
     {
         if loads.len() <= MOST_WAYBILLS {
@@ -76,7 +78,7 @@ impl Loads {
     /// The waybills, in their order.
     pub fn as_slice(&self) -> &[FlightLoad]
         ensures value { result.now ≡ self.now }
-        ensures in_range { length result.now ≤ 500 }
+        ensures in_range { length result.now ≤ most_waybills }
     {
         self.loads.as_slice()
     }

@@ -3,7 +3,7 @@ use Rattle.std.specs.Prelude.{◌≤◌, IsTrue, IfSome, List}
 use Rattle.std.specs.List.{AllByRecursion, list_all}
 use Rattle.imp_fields.specs.Characters.{is_line}
 use Rattle.awb_number.specs.Number.{IsNumber}
-use Rattle.imp_fields.specs.Amount.{IsPieces, IsTenths}
+use Rattle.imp_fields.specs.Amount.{IsPieces, IsTenths, most_parts}
 use Rattle.imp_fields.specs.Airport.{is_airport}
 use Rattle.imp_fields.specs.Flight.{IsDesignator}
 use Rattle.station_days.specs.Date.{IsCalendarDay, LocalMinute}
@@ -28,7 +28,7 @@ IsInboundLine l = IsTrue (is_airport l.unload) × IsCargoLine l.cargo
 abbrev pub IsContent : Content → Type 0
 IsContent (Fwb c) = IsCargoLine c
 IsContent (Ffm p) =
-    (1 ≤ p.sequence) × (p.sequence ≤ 9999) × IsDesignator p.flight × IsCalendarDay p.date × IsTrue (is_airport p.loaded)
+    (1 ≤ p.sequence) × (p.sequence ≤ most_parts) × IsDesignator p.flight × IsCalendarDay p.date × IsTrue (is_airport p.loaded)
     × AllByRecursion IsInboundLine p.lines
 IsContent (Fsu u) = IsNumber u.awb × IsTrue (list_all is_line u.lines)
 

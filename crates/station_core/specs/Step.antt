@@ -111,9 +111,13 @@ sent texts s = record s { outbox = s.outbox ++ texts }
 abbrev pub with_notices : Acted → Cargo
 with_notices a = sent (map notice_text a.notices) a.cargo
 
+-- the most rows that may be numbered in one list: moves, lines of the trail, messages
+abbrev pub most_rows : ℕ
+most_rows = 4_294_967_295
+
 -- no list has more rows than may be numbered
 abbrev pub has_room : Cargo → Bool
-has_room s = nat_le (length s.book) 4_294_967_295 && nat_le (length s.trail) 4_294_967_295 && nat_le (length s.outbox) 4_294_967_295
+has_room s = nat_le (length s.book) most_rows && nat_le (length s.trail) most_rows && nat_le (length s.outbox) most_rows
 
 -- a request and its count are kept for good
 abbrev pub keeping : (List ℕ → Option Kept) → List ℕ → Kept → List ℕ → Option Kept

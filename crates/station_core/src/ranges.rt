@@ -4,7 +4,7 @@ ghost use Rattle.std.specs.Prelude.{◌≤◌, IsTrue, IfSome};
 ghost use Rattle.std.specs.List.{AllByRecursion, list_all};
 ghost use Rattle.awb_number.specs.Number.{IsNumber};
 ghost use Rattle.imp_fields.specs.Airport.{is_airport};
-ghost use Rattle.imp_fields.specs.Amount.{IsPieces};
+ghost use Rattle.imp_fields.specs.Amount.{IsPieces, most_parts};
 ghost use Rattle.imp_fields.specs.Characters.{is_line};
 ghost use Rattle.station_days.specs.Date.{IsCalendarDay};
 ghost use Rattle.imp_fields.specs.Flight.{IsDesignator};
@@ -66,7 +66,7 @@ fn lines_range(lines: &[InboundLine])
 }
 
 fn part_range(part: &PartContent)
-    ensures sequence { (1 ≤ part.now.sequence) × (part.now.sequence ≤ 9999) }
+    ensures sequence { (1 ≤ part.now.sequence) × (part.now.sequence ≤ most_parts) }
     ensures flight { IsDesignator part.now.flight }
     ensures date { IsCalendarDay part.now.date }
     ensures loaded { IsTrue (is_airport part.now.loaded) }

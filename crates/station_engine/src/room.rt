@@ -4,7 +4,7 @@ ghost use Rattle.std.specs.List.{filter};
 ghost use Rattle.shipment_machine.specs.Cargo.{Cargo as AnyCargo};
 ghost use Rattle.shipment_machine.specs.Agreement.{outcome_of};
 ghost use Rattle.shipment_machine.specs.Effect.{carried_out};
-ghost use Rattle.station_core.specs.Step.{has_room, sent};
+ghost use Rattle.station_core.specs.Step.{has_room, sent, most_rows};
 ghost use Rattle.station_engine.specs.Room.{is_line};
 ghost use Rattle.station_core.specs.Told.{sizes_of};
 ghost use Rattle.station_engine.specs.Written.{texts_in};
@@ -24,7 +24,7 @@ fn lines_in(changes: &[Change<'_>]) -> usize
 
 /// Whether so many rows and some more can be numbered.
 fn can_be_numbered(rows: u32, more: usize) -> bool
-    ensures { result ≡ nat_le (rows + more) 4_294_967_295 }
+    ensures { result ≡ nat_le (rows + more) most_rows }
 {
     let most = u32::MAX as usize;
     more <= most - rows as usize

@@ -1,7 +1,7 @@
 -- The stock as rows, one for a run of numbers that one holder has.
 use Rattle.std.specs.Prelude.{ℕ, ◌≡◌, ◌≢◌, ◌+◌, ◌-◌, ◌≤◌, ◌<◌, ◌⊎◌, if◌then◌else◌, Bool, not, ◌&&◌, nat_eq, nat_le, nat_lt, Option, Some, None, IfSome, List, [], ◌∷◌, ◌++◌, filter}
 use Rattle.std.specs.List.{AllByRecursion}
-use Rattle.awb_number.specs.Number.{prefix_of, serial_of}
+use Rattle.awb_number.specs.Number.{prefix_of, serial_of, serials}
 use Rattle.agent_stock.specs.Stock.{Holders, is_among}
 use Rattle.agent_stock.specs.declared.stock.Holder.{Holder}
 use Rattle.agent_stock.specs.declared.stock.Run.{Run}
@@ -20,7 +20,7 @@ end_of row = row.first + row.count
 -- a row has a number at least, and stays within its prefix
 pub record IsRunRow (row : StockRun) : Type 0 where
   pub some : 1 ≤ row.count
-  pub one_prefix : serial_of row.first + row.count ≤ 10_000_000
+  pub one_prefix : serial_of row.first + row.count ≤ serials
 
 -- each row begins there at least, and behind the one before it
 abbrev pub StandFrom : ℕ → List StockRun → Type 0

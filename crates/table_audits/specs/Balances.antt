@@ -19,6 +19,7 @@ use Rattle.table_audits.specs.declared.tally.Tally.{Tally}
 use Rattle.table_audits.specs.declared.sums.CountPlace.{CountPlace}
 use Rattle.table_audits.specs.declared.sums.BuildPlace.{BuildPlace}
 use Rattle.table_audits.specs.declared.sums.BookSums.{BookSums}
+use Rattle.imp_fields.specs.Flight.{most_waybills}
 
 -- no place of the station gave more than it got, no more went back than was taken over, what came
 -- is within bounds, a closed flight is empty, and at most 500 waybills are built on one
@@ -28,7 +29,7 @@ pub record AreBalances (t : Tables) : Type 0 where
   pub within : (w : ℕ) → IsTrue (fits (taken_and_found (cargo_in t).book w))
   pub empty : (flight : FlightDate) (w : ℕ) → IsTrue (is_closed ((cargo_in t).flights flight))
       → (built (cargo_in t).book w flight).pieces ≡ 0
-  pub room : (flight : FlightDate) → length (waybills_on (cargo_in t).book flight) ≤ 500
+  pub room : (flight : FlightDate) → length (waybills_on (cargo_in t).book flight) ≤ most_waybills
 
 -- ---- at a place of the station
 

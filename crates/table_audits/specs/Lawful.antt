@@ -27,6 +27,7 @@ use Rattle.row_codec.specs.Replies.{is_kept_row, AreRequests, is_kept_text_row}
 use Rattle.row_codec.specs.Meaning.{is_station, meaning_of}
 use Rattle.table_audits.specs.declared.name.TableName.{TableName}
 use Rattle.table_audits.specs.declared.name.TableName.TheVariants as table
+use Rattle.imp_fields.specs.Flight.{most_waybills}
 
 -- what the tables say of cargo
 abbrev pub cargo_in : Tables → Cargo
@@ -62,7 +63,7 @@ pub record AreMoves (t : Tables) : Type 0 where
   pub departed : (flight : FlightDate) → StaysDeparted flight (cargo_in t).book
   pub empty : (flight : FlightDate) (w : ℕ) → IsTrue (is_closed ((cargo_in t).flights flight))
       → (built (cargo_in t).book w flight).pieces ≡ 0
-  pub room : (flight : FlightDate) → length (waybills_on (cargo_in t).book flight) ≤ 500
+  pub room : (flight : FlightDate) → length (waybills_on (cargo_in t).book flight) ≤ most_waybills
 
 -- what is expected is within range, weighs at least a tenth a piece, and is of a declared waybill
 pub record AreExpected (t : Tables) : Type 0 where

@@ -10,6 +10,7 @@ use Rattle.row_codec.specs.Stock.{is_stock_row}
 use Rattle.row_codec.specs.Flights.{is_flight_row}
 use Rattle.row_codec.specs.Manifests.{is_expected_row}
 use Rattle.row_codec.specs.Logs.{is_trail_row}
+use Rattle.awb_number.specs.Number.{serials}
 
 -- within range, and at least a tenth a piece
 abbrev pub is_lawful_waybill : Waybill → Bool
@@ -21,7 +22,7 @@ has_waybill = has_key waybill_id
 
 -- the number of a prefix and a serial
 abbrev pub number_at : ℤ → ℤ → ℤ
-number_at prefix serial = (prefix *ℤ pos 10_000_000) +ℤ serial
+number_at prefix serial = (prefix *ℤ pos serials) +ℤ serial
 
 -- the numbers of a row, from the lowest to the highest
 abbrev pub lowest : StockKey × Stock → ℤ

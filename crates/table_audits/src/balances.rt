@@ -10,6 +10,7 @@ ghost use Rattle.row_codec.specs.Flights.{is_flight_row};
 ghost use Rattle.row_codec.specs.Moves.{book_in};
 ghost use Rattle.table_audits.specs.Sums.{meant, AreSums, AreFlightsOf, count_place_cmp, build_place_cmp};
 ghost use Rattle.table_audits.specs.Balances.{AreBalances, overdrawn, drawn_by, is_covered, is_left, is_within, is_lawful_count, is_open, is_lawful_build, on_flight};
+ghost use Rattle.imp_fields.specs.Flight.{most_waybills};
 
 use crate::sums::{BookSums, BuildPlace, CountPlace};
 use crate::tally::Tally;
@@ -161,7 +162,8 @@ fn are_builds_lawful(sums: &BookSums, flights: &[FlightEntry]) -> bool
 
 /// Whether at most 500 waybills are on each flight. The sums of a flight stand next to one another.
 fn is_room_kept(sums: &BookSums) -> bool
-    ensures { IsTrue result ↔ ((i : ℕ) → length (on_flight i sums.now.builds.entries) ≤ 500) }
+    ensures { IsTrue result
+        ↔ ((i : ℕ) → length (on_flight i sums.now.builds.entries) ≤ most_waybills) }
 {
     let mut flight = 0;
     let mut waybills: usize = 0;

@@ -2,7 +2,7 @@
 use Rattle.std.specs.Prelude.{◌≡◌, ◌≤◌, Bool, ◌&&◌, nat_le, true, length, Option, Some, None}
 use Rattle.std.proofs.Common.{sym, ap, ◌∙◌, refl, arith}
 use Rattle.shipment_machine.specs.Cargo.{Cargo}
-use Rattle.station_core.specs.Step.{State, has_room}
+use Rattle.station_core.specs.Step.{State, has_room, most_rows}
 use Rattle.station_schema.specs.Tables.{Tables}
 use Rattle.station_schema.specs.Store.{View}
 use Rattle.row_codec.specs.Meaning.{Means}
@@ -25,11 +25,11 @@ all_three : (a b c : Bool) → a ≡ true → b ≡ true → c ≡ true → (a &
 all_three a b c x y z = rw (x, y, z) refl
 
 -- counts of 32 bits number all rows
-pub all_numbered : (sizes : Sizes) (c : Cargo) → (sizes.moves ≤ 4_294_967_295)
-    × (sizes.lines ≤ 4_294_967_295) × (sizes.messages ≤ 4_294_967_295) → sizes ≡ sizes_of c
+pub all_numbered : (sizes : Sizes) (c : Cargo) → (sizes.moves ≤ most_rows)
+    × (sizes.lines ≤ most_rows) × (sizes.messages ≤ most_rows) → sizes ≡ sizes_of c
     → has_room c ≡ true
 all_numbered sizes c small are =
-    let moves : nat_le (length c.book) 4_294_967_295 ≡ true = grind (arith, small, are) in
-    let lines : nat_le (length c.trail) 4_294_967_295 ≡ true = grind (arith, small, are) in
-    let messages : nat_le (length c.outbox) 4_294_967_295 ≡ true = grind (arith, small, are) in
-    all_three (nat_le (length c.book) 4_294_967_295) (nat_le (length c.trail) 4_294_967_295) (nat_le (length c.outbox) 4_294_967_295) moves lines messages
+    let moves : nat_le (length c.book) most_rows ≡ true = grind (arith, small, are) in
+    let lines : nat_le (length c.trail) most_rows ≡ true = grind (arith, small, are) in
+    let messages : nat_le (length c.outbox) most_rows ≡ true = grind (arith, small, are) in
+    all_three (nat_le (length c.book) most_rows) (nat_le (length c.trail) most_rows) (nat_le (length c.outbox) most_rows) moves lines messages

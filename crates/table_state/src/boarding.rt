@@ -6,7 +6,7 @@ ghost use Rattle.shipment_machine.specs.declared.moves.Place.TheVariants.{Built}
 ghost use Rattle.running_totals.specs.Posted.{WereThere};
 ghost use Rattle.table_state.specs.Shown.{IsBoarded, AreBoarded, joins};
 
-use crate::counted::{Boarded, Boardings};
+use crate::counted::{Boarded, Boardings, MOST_FLIGHTS};
 use shipment_machine::{FlightDate, Move, Place};
 
 /// Whether a place is on a flight.
@@ -61,7 +61,7 @@ impl Boardings {
         ensures { (book : List cargo.Move) → AreBoarded result book }
     {
         Boardings {
-            flights: [None; 32],
+            flights: [None; MOST_FLIGHTS],
             next: 0,
         }
     }

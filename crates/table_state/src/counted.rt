@@ -1,5 +1,6 @@
 //! What is counted of the state that is shown.
 ghost use Rattle.std.specs.Prelude.{◌≤◌};
+ghost use Rattle.station_core.specs.Step.{most_rows};
 
 use crate::open_lines::OpenLines;
 use crate::waybill_sets::WaybillSets;
@@ -14,11 +15,13 @@ pub(crate) struct Boarded {
     pub(crate) waybills: usize,
 }
 
-/// How many waybills are on the flights that were asked for last, as many as are built up at one
-/// time.
+/// Of how many flights the number of waybills is kept: as many as are built up at one time.
+pub(crate) const MOST_FLIGHTS: usize = 32;
+
+/// How many waybills are on the flights that were asked for last.
 #[derive(Clone, Copy, Debug, PartialEq, Eq)]
 pub(crate) struct Boardings {
-    pub(crate) flights: [Option<Boarded>; 32],
+    pub(crate) flights: [Option<Boarded>; MOST_FLIGHTS],
     // Where the next flight goes, in the place of the one that was asked for longest ago.
     pub(crate) next: usize,
 }
@@ -33,6 +36,6 @@ pub(crate) struct Counted {
     pub(crate) known: KnownSums,
     pub(crate) waybills: WaybillSets,
     pub(crate) open_lines: OpenLines,
-    ghost fit: { (sizes.moves ≤ 4_294_967_295) × (sizes.lines ≤ 4_294_967_295)
-        × (sizes.messages ≤ 4_294_967_295) },
+    ghost fit: { (sizes.moves ≤ most_rows) × (sizes.lines ≤ most_rows)
+        × (sizes.messages ≤ most_rows) },
 }

@@ -4,6 +4,7 @@ ghost use Rattle.std.specs.Prelude.{◌≡◌, ◌≤◌, ◌&&◌, ◌++◌, Is
 ghost use Rattle.std.specs.List.{list_all};
 ghost use Rattle.imp_fields.specs.Characters.{is_line};
 ghost use Rattle.imp_fields.specs.NormalText.{line_texts};
+ghost use Rattle.imp_fields.specs.TextSize.{most_lines};
 ghost use Rattle.imp_fields.specs.Token.{is_line_token};
 ghost use Rattle.ffm_text.specs.Ffm.{is_cargo_line};
 ghost use Rattle.telegram_look.specs.Doubt.{is_doubtful};
@@ -142,7 +143,7 @@ fn put_lower<'a>(
     lower: &[Token<'a>],
     seen: &mut Vec<SeenLine<'a>>,
 ) -> Result<(), AllocError>
-    requires few { length lower.now ≤ 1000 }
+    requires few { length lower.now ≤ most_lines }
     requires printable { IsTrue (list_all is_line_token lower.now) }
     ensures { OnOk result (seen.new.items ≡ seen.old.items ++ lower_lines says.now 3
         (cargo_of says.now) (map (λ t. t.text.now) lower.now)) }

@@ -6,6 +6,7 @@ use Rattle.imp_fields.specs.Characters.{is_line}
 use Rattle.imp_fields.specs.Name.{kept_goods}
 use Rattle.imp_fields.specs.Consignment.{Shipment}
 use Rattle.imp_fields.specs.NormalText.{normal_lines, normal_text, first_kind, fault_at}
+use Rattle.imp_fields.specs.TextSize.{most_lines}
 use Rattle.imp_fields.specs.declared.fault.Why.{Why}
 use Rattle.imp_fields.specs.declared.fault.Why.TheVariants as why
 use Rattle.imp_fields.specs.declared.fault.TextFault.{TextFault}
@@ -79,7 +80,7 @@ pub record IsMeant (t : Meant) : Type 0 where
   pub lines : List (List ℕ)
   pub text : t.text ≡ normal_text lines
   pub printable : IsTrue (list_all is_line lines)
-  pub few : length lines ≤ 1000
+  pub few : length lines ≤ most_lines
   pub kind : first_kind lines ≡ Some (kind_said t.content)
   pub content : Says lines t.content
 

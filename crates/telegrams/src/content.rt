@@ -7,6 +7,7 @@ ghost use Rattle.imp_fields.specs.declared.fault.TextFault.{TextFault};
 ghost use Rattle.imp_fields.specs.declared.line.MessageKind.TheVariants as kinds;
 ghost use Rattle.imp_fields.specs.Consignment.{shipment_of};
 ghost use Rattle.imp_fields.specs.NormalText.{line_texts, IsFaultOf};
+ghost use Rattle.imp_fields.specs.TextSize.{most_lines};
 ghost use Rattle.fwb_text.specs.Fwb.{fwb_fault};
 ghost use Rattle.ffm_text.specs.Ffm.{ffm_fault, unloaded_of};
 ghost use Rattle.fsu_text.specs.Fsu.{fsu_fault};
@@ -24,7 +25,7 @@ use std::slice;
 
 /// What a fault that a reader returns makes of a telegram.
 pub(crate) fn refusal(told: TextFault) -> TelegramFault
-    requires { told.line ≤ 1000 }
+    requires { told.line ≤ most_lines }
     ensures reader { (due : Option TextFault) → IsFaultOf due told → RefusesAs due result }
     ensures text { (due : Option TextFault) → due ≡ Some told → RefusesAs due result }
 {

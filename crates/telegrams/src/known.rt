@@ -4,6 +4,7 @@ ghost use Rattle.std.specs.Prelude.{◌≤◌, All, length, map};
 ghost use Rattle.station_days.specs.Date.{date_on};
 ghost use Rattle.ffm_text.specs.Written.{IsLoad, AreWritten};
 ghost use Rattle.telegrams.specs.NoticeText.{sent_load, IsNormalManifest, IsManifestAgain};
+ghost use Rattle.imp_fields.specs.Flight.{most_waybills};
 
 use crate::notice::load_of;
 use imp_fields::Airport;
@@ -32,7 +33,7 @@ fn lines_known(lines: &[ManifestLine])
 }
 
 fn parts_known(here: &Airport, flight: &FlightDate, unload: &Airport, lines: &[ManifestLine])
-    requires few { length lines.now ≤ 500 }
+    requires few { length lines.now ≤ most_waybills }
     ensures { AreWritten flight.now.flight (date_on flight.now.day) here.now unload.now
         (map sent_load lines.now) }
 {

@@ -2,6 +2,7 @@ ghost use Rattle.std.specs.Prelude.{◌≡◌, ◌≤◌, ◌↔◌, IsTrue, len
 ghost use Rattle.std.specs.List.{list_all};
 ghost use Rattle.imp_fields.specs.Characters.{is_line};
 ghost use Rattle.telegrams.specs.Kept.{is_text_byte};
+ghost use Rattle.imp_fields.specs.TextSize.{most_lines};
 
 use awb_number::Awb;
 use imp_fields::{Airport, Flight, PartNumber};
@@ -53,17 +54,18 @@ pub struct PartLines {
 impl Model for PartLines {
     ghost use Rattle.std.specs.Prelude.{List, ◌≤◌, length};
     ghost use Rattle.shipment_machine.specs.declared.command.InboundLine.{InboundLine};
+    ghost use Rattle.imp_fields.specs.TextSize.{most_lines};
 
     ghost Value = { List InboundLine };
 
     ghost view = { λ a. a.lines.items };
 
-    ghost invariant = { λ a. length a.lines.items ≤ 1000 };
+    ghost invariant = { λ a. length a.lines.items ≤ most_lines };
 }
 
 impl PartLines {
     pub(crate) fn new(lines: Vec<InboundLine>) -> PartLines
-        requires { length lines.items ≤ 1000 }
+        requires { length lines.items ≤ most_lines }
         ensures { result ≡ lines.items }
     {
         PartLines { lines }
@@ -72,7 +74,7 @@ impl PartLines {
     /// The lines, in their order.
     pub fn as_slice(&self) -> &[InboundLine]
         ensures value { result.now ≡ self.now }
-        ensures in_range { length result.now ≤ 1000 }
+        ensures in_range { length result.now ≤ most_lines }
     {
         self.lines.as_slice()
     }
@@ -100,18 +102,19 @@ impl<'a> Model for StatusLines<'a> {
     ghost use Rattle.std.specs.Prelude.{List, ℕ, ◌≤◌, IsTrue, length};
     ghost use Rattle.std.specs.List.{list_all};
     ghost use Rattle.imp_fields.specs.Characters.{is_line};
+    ghost use Rattle.imp_fields.specs.TextSize.{most_lines};
 
     ghost Value = { List (List ℕ) };
 
     ghost view = { λ a. a.texts.items };
 
-    ghost invariant = { λ a. (length a.texts.items ≤ 1000)
+    ghost invariant = { λ a. (length a.texts.items ≤ most_lines)
         × IsTrue (list_all is_line a.texts.items) };
 }
 
 impl<'a> StatusLines<'a> {
     pub(crate) fn new(lines: Vec<TrailLine<'a>>) -> StatusLines<'a>
-        requires few { length lines.items ≤ 1000 }
+        requires few { length lines.items ≤ most_lines }
         requires printable { IsTrue (list_all is_line lines.items) }
         ensures { result ≡ lines.entry.items }
     {
@@ -121,7 +124,7 @@ impl<'a> StatusLines<'a> {
     /// The lines, in their order.
     pub fn as_slice(&self) -> &[TrailLine<'a>]
         ensures value { result.now ≡ self.now }
-        ensures in_range { length result.now ≤ 1000 }
+        ensures in_range { length result.now ≤ most_lines }
         ensures printable { IsTrue (list_all is_line result.now) }
     {
         self.texts.as_slice()
