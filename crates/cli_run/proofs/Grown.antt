@@ -5,7 +5,8 @@ use Rattle.station_core.specs.Given.{Given}
 use Rattle.station_core.specs.Ends.{ReadStep}
 use Rattle.station_core.specs.declared.ends.ReadFault.{ReadFault}
 use Rattle.station_core.specs.declared.ends.ReadFault.TheVariants as fault
-use Rattle.cli_run.specs.Came.{longest, most_bytes, HasGrown, HasCome, IsWithin}
+use Rattle.imp_fields.specs.TextSize.{most_bytes}
+use Rattle.cli_run.specs.Came.{most_come, most_read, HasGrown, HasCome, IsWithin}
 
 at_most : (a b d : ℕ) → a ≤ b → b ≤ d → a ≤ d
 at_most a b d ab bd = omega (arith, ab, bd)
@@ -21,7 +22,7 @@ grown_more a b d xs ys first more =
       idle = at_most a.idle b.idle d.idle first.idle more.idle;
     }
 
-pub has_come : (a d : Given) (ys : List ℕ) → HasGrown a d [] ys → (a.idle < d.idle) ⊎ (longest < length ys) → HasCome a d ys
+pub has_come : (a d : Given) (ys : List ℕ) → HasGrown a d [] ys → (a.idle < d.idle) ⊎ (most_bytes < length ys) → HasCome a d ys
 has_come a d ys grown whole = record {
   given = grown.given ∙ ap (λ l. a.bytes ++ l) (sym grown.bytes);
   failures = grown.failures;
@@ -36,10 +37,10 @@ read_within old new (Err fault.Interrupted) buf step = omega (arith, ap length s
 read_within old new (Err fault.Failed) buf step = omega (arith, ap length step.bytes)
 
 -- one read more behind an input that isn't too long yet
-pub more_within : (a d e : Given) (xs : List ℕ) → HasGrown a d [] xs → length xs ≤ longest → IsWithin 4_096 d e → IsWithin most_bytes a e
+pub more_within : (a d e : Given) (xs : List ℕ) → HasGrown a d [] xs → length xs ≤ most_bytes → IsWithin most_read d e → IsWithin most_come a e
 more_within a d e xs grown few more =
     omega (arith, few, more, ap length grown.given, ap length grown.bytes, length-append a.bytes grown.part)
 
-pub still_within : (a d : Given) (xs : List ℕ) → HasGrown a d [] xs → length xs ≤ longest → IsWithin most_bytes a d
+pub still_within : (a d : Given) (xs : List ℕ) → HasGrown a d [] xs → length xs ≤ most_bytes → IsWithin most_come a d
 still_within a d xs grown few =
     omega (arith, few, ap length grown.given, ap length grown.bytes, length-append a.bytes grown.part)

@@ -1,8 +1,9 @@
 -- What a line of `acts` asks.
-use Rattle.std.specs.Prelude.{◌≡◌, ◌≤◌, ℕ, List, length, codes, Some, IsTrue, IsUtf8}
+use Rattle.std.specs.Prelude.{◌≡◌, ◌≤◌, ℕ, ◌+◌, List, length, codes, Some, IsTrue, IsUtf8}
 use Rattle.serde_json.specs.Data.{Data, string}
 use Rattle.serde_json.specs.Find.{get}
 use Rattle.serde_json.specs.Read.{read}
+use Rattle.imp_fields.specs.TextSize.{most_bytes}
 use Rattle.imp_fields.specs.declared.fault.TextFault.{TextFault}
 use Rattle.desk_commands.specs.Body.{IsBodyOf, member_count}
 use Rattle.desk_commands.specs.Verb.{word}
@@ -13,7 +14,6 @@ use Rattle.station_core.specs.Key.{is_key}
 use Rattle.station_core.specs.declared.input.Input.TheVariants.{Keyed, Wire}
 use Rattle.cli_run.specs.declared.asked.Asked.{Asked}
 use Rattle.cli_run.specs.declared.asked.Asked.TheVariants as asked
-use Rattle.cli_run.specs.Came.{most_bytes}
 
 -- an object of a verb, a key and a body, and nothing else
 pub record IsFrame (d : Data) (verb : Verb) (key : List ℕ) (body : Data) : Type 0 where
@@ -42,9 +42,13 @@ Asks line d (asked.BadLine same) =
     × ((text : List ℕ) → ¬ (IsWired d text))
 Asks line d (asked.Bad verb body) = ⊥
 
+-- the most bytes of a line and its end: a body or a telegram, and 4,096 around it
+abbrev pub most_line : ℕ
+most_line = most_bytes + 4_096
+
 -- a line of JSON writes this value, and isn't too long
 abbrev pub IsWritten : List ℕ → Data → Type 0
-IsWritten line d = (length line ≤ most_bytes) × IsUtf8 line × (read line ≡ Some d)
+IsWritten line d = (length line ≤ most_line) × IsUtf8 line × (read line ≡ Some d)
 
 -- what a line asks, by the value that it writes
 abbrev pub IsActAsked : List ℕ → Asked → Type 0

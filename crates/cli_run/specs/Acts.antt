@@ -2,12 +2,11 @@
 use Rattle.std.specs.Prelude.{◌≡◌, ◌⊎◌, ◌||◌, ◌==◌, ℕ, Bool, true, false, Option, Some, Result, Ok, Err, OnOk, IfOk, IfErr, List}
 use Rattle.std.specs.List.{list_all}
 use Rattle.station_days.specs.Date.{LocalMinute}
-use Rattle.station_core.specs.Ends.{HasCause}
 use Rattle.station_core.specs.Given.{Given}
 use Rattle.station_core.specs.Step.{State}
 use Rattle.stock_list.specs.declared.answer.RunFault.{RunFault}
 use Rattle.stock_list.specs.declared.answer.RunFault.TheVariants as fault
-use Rattle.stock_list.specs.Ended.{IsShutAfter, IsUntroubled}
+use Rattle.stock_list.specs.Ended.{IsShutAfter, IsUntroubled, WriteHasCause}
 use Rattle.cli_run.specs.declared.asked.Asked.{Asked}
 use Rattle.cli_run.specs.ActLine.{IsActAsked}
 use Rattle.cli_run.specs.Ended.{IsAnswered, IsStopped}
@@ -50,7 +49,7 @@ pub record HasAnswered {K E : Type 0} (k : Keeping K) (at : LocalMinute) (taken 
   pub breaks : k.is_broken old.keeper ≡ false
       → IfErr result (λ e. IsShutAfter e (k.is_broken new.keeper))
   pub unread : result ≡ Err fault.Read → ⊥
-  pub write_cause : result ≡ Err fault.Write → HasCause old.sent new.sent
+  pub write_cause : WriteHasCause result old.sent new.sent
   pub write_told : IfErr result (λ e. (e ≡ fault.Write) ⊎ IsUntroubled old.sent new.sent)
   pub untroubled : OnOk result (IsUntroubled old.sent new.sent)
   pub same : k.is_broken old.keeper ≡ true → new.keeper ≡ old.keeper

@@ -1,12 +1,11 @@
 -- What a command leaves that reads one input.
 use Rattle.std.specs.Prelude.{◌≡◌, ◌⊎◌, Bool, true, false, Result, Err, OnOk, IfErr, List, ℕ}
 use Rattle.station_days.specs.Date.{LocalMinute}
-use Rattle.station_core.specs.Ends.{HasCause}
 use Rattle.station_core.specs.Given.{Given}
 use Rattle.station_core.specs.Step.{State}
 use Rattle.stock_list.specs.declared.answer.RunFault.{RunFault}
 use Rattle.stock_list.specs.declared.answer.RunFault.TheVariants as fault
-use Rattle.stock_list.specs.Ended.{IsShutAfter, IsUntroubled}
+use Rattle.stock_list.specs.Ended.{IsShutAfter, IsUntroubled, WriteHasCause}
 use Rattle.cli_run.specs.declared.asked.Asked.{Asked}
 use Rattle.cli_run.specs.Came.{HasFailed}
 use Rattle.cli_run.specs.Ended.{HasRun}
@@ -25,7 +24,7 @@ pub record HasAnsweredAsked {K E : Type 0} (IsAsked : List ℕ → Asked → Typ
       → (new.0.keeper ≡ old.0.keeper) × (new.0.sent ≡ old.0.sent)
   pub read_cause : result ≡ Err fault.Read → HasFailed old.1 new.1
   pub read_told : IfErr result (λ e. (e ≡ fault.Read) ⊎ (new.1.failures ≡ old.1.failures))
-  pub write_cause : result ≡ Err fault.Write → HasCause old.0.sent new.0.sent
+  pub write_cause : WriteHasCause result old.0.sent new.0.sent
   pub write_told : IfErr result (λ e. (e ≡ fault.Write) ⊎ IsUntroubled old.0.sent new.0.sent)
   pub untroubled : OnOk result (IsUntroubled old.0.sent new.0.sent)
   pub breaks : k.is_broken old.0.keeper ≡ false

@@ -3,6 +3,7 @@ use Rattle.std.specs.Prelude.{◌≡◌, ℕ, ◌≤◌, Bool, false, List, [], 
 use Rattle.serde_json.specs.Data.{Data}
 use Rattle.serde_json.specs.Read.{read}
 use Rattle.station_days.specs.Date.{LocalMinute}
+use Rattle.imp_fields.specs.TextSize.{most_bytes}
 use Rattle.imp_fields.specs.declared.fault.TextFault.{TextFault}
 use Rattle.desk_commands.specs.Body.{IsBodyOf}
 use Rattle.desk_commands.specs.declared.command.Command.{Command}
@@ -15,7 +16,6 @@ use Rattle.station_core.specs.Texts.{refusal_text}
 use Rattle.stock_list.specs.Lines.{answer_text}
 use Rattle.cli_run.specs.declared.asked.Asked.{Asked}
 use Rattle.cli_run.specs.declared.asked.Asked.TheVariants as asked
-use Rattle.cli_run.specs.Came.{longest}
 
 -- the bytes are this telegram, or they are refused by their fault
 abbrev pub IsTelegramAsked : List ℕ → Asked → Type 0
@@ -25,7 +25,7 @@ IsTelegramAsked bytes _ = ⊥
 
 -- the bytes are a body of JSON that says this command of the verb
 abbrev pub IsSaid : Verb → List ℕ → Command → Type 0
-IsSaid verb bytes command = (length bytes ≤ longest) × IsUtf8 bytes × ((d : Data) × (read bytes ≡ Some d) × IsBodyOf verb d command)
+IsSaid verb bytes command = (length bytes ≤ most_bytes) × IsUtf8 bytes × ((d : Data) × (read bytes ≡ Some d) × IsBodyOf verb d command)
 
 -- they say this command, under the key, or none
 abbrev pub IsCommandAsked : Verb → List ℕ → List ℕ → Asked → Type 0

@@ -1,14 +1,15 @@
 -- What has come of a command's input.
 use Rattle.std.specs.Prelude.{◌≡◌, ◌⊎◌, ℕ, ◌+◌, ◌<◌, ◌≤◌, List, ◌++◌, length}
+use Rattle.imp_fields.specs.TextSize.{most_bytes}
 use Rattle.station_core.specs.Given.{Given}
 
--- the most bytes of a telegram and of a body
-abbrev pub longest : ℕ
-longest = 65_536
+-- the most bytes of one read
+abbrev pub most_read : ℕ
+most_read = 4_096
 
--- and of an input at all: one read more than the most bytes that a telegram or a body has
-abbrev pub most_bytes : ℕ
-most_bytes = longest + 4_096
+-- the most bytes of an input: one read more than a telegram or a body has
+abbrev pub most_come : ℕ
+most_come = most_bytes + most_read
 
 -- not more than so many bytes more have come
 abbrev pub IsWithin : ℕ → Given → Given → Type 0
@@ -27,7 +28,7 @@ pub record HasGrown (old new : Given) (before after : List ℕ) : Type 0 where
 pub record HasCome (old new : Given) (bytes : List ℕ) : Type 0 where
   pub given : new.bytes ≡ old.bytes ++ bytes
   pub failures : new.failures ≡ old.failures
-  pub whole : (old.idle < new.idle) ⊎ (longest < length bytes)
+  pub whole : (old.idle < new.idle) ⊎ (most_bytes < length bytes)
 
 -- the most reads of an input
 abbrev pub most_reads : ℕ

@@ -9,7 +9,7 @@ use Rattle.reports.specs.declared.listing.Listing.TheVariants as listing
 use Rattle.reports.specs.declared.report.Report.TheVariants as report
 use Rattle.stock_list.specs.declared.answer.RunFault.{RunFault}
 use Rattle.stock_list.specs.declared.answer.RunFault.TheVariants as fault
-use Rattle.stock_list.specs.Ended.{rows_read, AreFirst, HasStopped, IsShutAfter, IsUntroubled}
+use Rattle.stock_list.specs.Ended.{rows_read, AreFirst, HasStopped, IsShutAfter, IsUntroubled, WriteHasCause}
 use Rattle.stock_list.specs.Ended.{HasRun as HasRunRows}
 use Rattle.stock_list.specs.Lines.{Row, stock_rows}
 use Rattle.stock_list.specs.Shut.{HasRunShut as HasRunRowsShut}
@@ -54,7 +54,7 @@ pub record HasAnsweredRows {K E : Type 0} (k : Keeping K) (at : LocalMinute) (le
       × HasStopped s rows next at e old.sent.bytes new.sent.bytes (kept_by k new.keeper))))
   pub read_cause : result ≡ Err fault.Read → 0 < read_new.failures
   pub no_failure : OnOk result (read_new.failures ≡ 0)
-  pub write_cause : result ≡ Err fault.Write → HasCause old.sent new.sent
+  pub write_cause : WriteHasCause result old.sent new.sent
   pub write_told : IfErr result (λ e. (e ≡ fault.Write) ⊎ IsUntroubled old.sent new.sent)
   pub untroubled : OnOk result (IsUntroubled old.sent new.sent)
   pub breaks : k.is_broken old.keeper ≡ false → IfErr result (λ e. IsShutAfter e (k.is_broken new.keeper))

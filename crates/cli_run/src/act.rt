@@ -1,9 +1,8 @@
 ghost use Rattle.std.specs.Prelude.{◌≡◌, ◌⊎◌, true, false, Ok, Err, IfErr, OnOk};
-ghost use Rattle.station_core.specs.Ends.{HasCause};
 ghost use Rattle.station_core.specs.Step.{State};
-ghost use Rattle.stock_list.specs.Ended.{IsShutAfter, IsUntroubled, IsWriteOrUntroubled};
+ghost use Rattle.stock_list.specs.Ended.{IsShutAfter, IsUntroubled, IsWriteOrUntroubled, WriteHasCause};
 ghost use Rattle.cli_run.specs.Asked.{IsCommandAsked};
-ghost use Rattle.cli_run.specs.Came.{HasFailed, IsWithin, most_bytes};
+ghost use Rattle.cli_run.specs.Came.{HasFailed, IsWithin, most_come};
 ghost use Rattle.cli_run.specs.Ended.{HasRun};
 ghost use Rattle.station_core.specs.Keeping.{KeepsPremise, KeepsWorking, StaysIfBroken, keeping};
 ghost use Rattle.cli_run.specs.Explained.{HasExplainedRun};
@@ -56,8 +55,7 @@ pub fn run_act<K: Keeper, I: ByteIn, O: ByteOut, E: ByteOut>(
         → HasFailed (I.given reader.old) (I.given reader.new) }
     ensures read_told { IfErr result (λ e. (e ≡ RunFault.Read)
         ⊎ ((I.given reader.new).failures ≡ (I.given reader.old).failures)) }
-    ensures write_cause { result ≡ Err RunFault.Write
-        → HasCause (O.taken writer.old) (O.taken writer.new) }
+    ensures write_cause { WriteHasCause result (O.taken writer.old) (O.taken writer.new) }
     ensures write_told { IfErr result (λ e. IsWriteOrUntroubled e (O.taken writer.old)
         (O.taken writer.new)) }
     ensures untroubled { OnOk result (IsUntroubled (O.taken writer.old) (O.taken writer.new)) }
@@ -67,7 +65,7 @@ pub fn run_act<K: Keeper, I: ByteIn, O: ByteOut, E: ByteOut>(
         ⊎ (O.taken writer.new ≡ O.taken writer.old)) }
 
     // Of an input that is too long only a beginning is read.
-    ensures most { IsWithin most_bytes (I.given reader.old) (I.given reader.new) }
+    ensures most { IsWithin most_come (I.given reader.old) (I.given reader.new) }
 
     // Behind its line a bad body has its reason, or a beginning of it, and nothing else goes there.
     ensures quiet { result ≡ Ok true → errors.new ≡ errors.old }

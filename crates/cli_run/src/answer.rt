@@ -1,9 +1,8 @@
 //! Answering what the input of a command asks.
 ghost use Rattle.std.specs.Prelude.{◌≡◌, ◌⊎◌, ◌++◌, ◌∷◌, [], true, false, Err, IfOk, IfErr, OnOk, codes, decimal, string_bytes};
-ghost use Rattle.station_core.specs.Ends.{HasCause};
 ghost use Rattle.station_core.specs.Step.{State};
 ghost use Rattle.station_core.specs.Texts.{refusal_text};
-ghost use Rattle.stock_list.specs.Ended.{IsShutAfter, IsUntroubled, IsWriteOrUntroubled, kept};
+ghost use Rattle.stock_list.specs.Ended.{IsShutAfter, IsUntroubled, IsWriteOrUntroubled, WriteHasCause, kept};
 ghost use Rattle.stock_list.specs.Lines.{answer_text};
 ghost use Rattle.input_reasons.specs.Reason.{is_unread};
 ghost use Rattle.cli_run.specs.Asked.{keyed, named, numbered};
@@ -145,8 +144,7 @@ fn answer_input<K: Keeper, O: ByteOut, E: ByteOut>(
         (O.taken writer.old).bytes (O.taken writer.new).bytes
         (kept (K.keeps keeper.new) (K.may_find keeper.new))) }
     ensures read { result ≡ Err RunFault.Read → ⊥ }
-    ensures write { result ≡ Err RunFault.Write
-        → HasCause (O.taken writer.old) (O.taken writer.new) }
+    ensures write { WriteHasCause result (O.taken writer.old) (O.taken writer.new) }
     ensures write_told { IfErr result (λ e. IsWriteOrUntroubled e (O.taken writer.old)
         (O.taken writer.new)) }
     ensures untroubled { OnOk result (IsUntroubled (O.taken writer.old) (O.taken writer.new)) }
@@ -292,8 +290,7 @@ pub(crate) fn answer_asked<K: Keeper, O: ByteOut, E: ByteOut>(
         → IfErr result (λ e. IsStopped number s asked.now at e (O.taken writer.old).bytes
         (O.taken writer.new).bytes (kept (K.keeps keeper.new) (K.may_find keeper.new))) }
     ensures read { result ≡ Err RunFault.Read → ⊥ }
-    ensures write { result ≡ Err RunFault.Write
-        → HasCause (O.taken writer.old) (O.taken writer.new) }
+    ensures write { WriteHasCause result (O.taken writer.old) (O.taken writer.new) }
     ensures write_told { IfErr result (λ e. IsWriteOrUntroubled e (O.taken writer.old)
         (O.taken writer.new)) }
     ensures untroubled { OnOk result (IsUntroubled (O.taken writer.old) (O.taken writer.new)) }

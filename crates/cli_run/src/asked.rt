@@ -2,8 +2,8 @@
 ghost use Rattle.std.specs.Prelude.{IfOk};
 ghost use Rattle.cli_run.specs.Asked.{IsTelegramAsked, IsCommandAsked};
 
-use crate::reading::LONGEST;
 use desk_commands::{BadBody, Verb, read_command};
+use imp_fields::MOST_BYTES;
 use serde_json::Value;
 use shipment_machine::Refusal;
 use station_core::{Input, Key};
@@ -47,7 +47,7 @@ pub fn command_asked<'a>(
 ) -> Result<Asked<'a>, AllocError>
     ensures { IfOk result (IsCommandAsked verb key body.entry.now) }
 {
-    if body.len() > LONGEST {
+    if body.len() > MOST_BYTES {
         return Ok(Asked::Bad { verb, body });
     }
     match Value::from_slice(alloc, body) {

@@ -1,14 +1,12 @@
 //! Reading the input of a command.
 ghost use Rattle.std.specs.Prelude.{◌≡◌, ◌⊎◌, ◌+◌, ◌<◌, true, Err, IfOk, IfErr, OnOk};
 ghost use Rattle.stock_list.specs.Ended.{IsReadersFault};
-ghost use Rattle.cli_run.specs.Came.{HasGrown, HasCome, HasFailed, IsWithin, most_bytes};
+ghost use Rattle.cli_run.specs.Came.{HasGrown, HasCome, HasFailed, IsWithin, most_come, most_read};
 
+use imp_fields::MOST_BYTES;
 use station_core::{ByteIn, ReadFault};
 use std::alloc::Global;
 use stock_list::RunFault;
-
-/// The most bytes of a telegram and of a body.
-pub(crate) const LONGEST: usize = imp_fields::MOST_BYTES;
 
 /// The most bytes of one read.
 const CHUNK: usize = 4096;
@@ -27,7 +25,7 @@ fn read_more<I: ByteIn>(reader: &mut I, bytes: &mut Vec<u8>) -> Result<bool, Run
         → (I.given reader.old).failures < (I.given reader.new).failures }
     ensures told { IfErr result (λ e. (e ≡ RunFault.Read)
         ⊎ ((I.given reader.new).failures ≡ (I.given reader.old).failures)) }
-    ensures part { IsWithin 4_096 (I.given reader.old) (I.given reader.new) }
+    ensures part { IsWithin most_read (I.given reader.old) (I.given reader.new) }
 {
     let mut room = [0; CHUNK];
     match reader.read(&mut room) {
@@ -53,14 +51,14 @@ pub fn read_input<I: ByteIn>(alloc: Global, reader: &mut I) -> Result<Vec<u8>, R
         → HasFailed (I.given reader.old) (I.given reader.new) }
     ensures told { IfErr result (λ e. (e ≡ RunFault.Read)
         ⊎ ((I.given reader.new).failures ≡ (I.given reader.old).failures)) }
-    ensures most { IsWithin most_bytes (I.given reader.old) (I.given reader.new) }
+    ensures most { IsWithin most_come (I.given reader.old) (I.given reader.new) }
 {
     let mut bytes = Vec::new(alloc);
     for _turn in 0..u64::MAX {
         if read_more(reader, &mut bytes)? {
             return Ok(bytes);
         }
-        if bytes.len() > LONGEST {
+        if bytes.len() > MOST_BYTES {
             return Ok(bytes);
         }
     }

@@ -1,11 +1,10 @@
 //! A look at a telegram before it is taken.
 ghost use Rattle.std.specs.Prelude.{◌≡◌, ◌⊎◌, ◌++◌, ◌∷◌, [], None, Some, false, not, Err, IfOk, IfErr, OnOk, OnErr, string_bytes};
-ghost use Rattle.station_core.specs.Ends.{HasCause};
 ghost use Rattle.station_core.specs.Texts.{refusal_text};
-ghost use Rattle.stock_list.specs.Ended.{IsUntroubled, IsWriteOrUntroubled};
+ghost use Rattle.stock_list.specs.Ended.{IsUntroubled, IsWriteOrUntroubled, WriteHasCause};
 ghost use Rattle.telegram_look.specs.Look.{has_doubt};
 ghost use Rattle.telegram_look.specs.LookText.{look_text};
-ghost use Rattle.cli_run.specs.Came.{HasFailed, IsWithin, most_bytes};
+ghost use Rattle.cli_run.specs.Came.{HasFailed, IsWithin, most_come};
 ghost use Rattle.cli_run.specs.Ended.{HasToldPart};
 ghost use Rattle.cli_run.specs.Explained.{telegram_head, HasToldWhy};
 ghost use Rattle.cli_run.specs.Seen.{has_reason, HasSeen, HasStoppedLook, IsSeen};
@@ -94,8 +93,7 @@ fn write_seen<O: ByteOut, E: ByteOut>(
     ensures why { IfErr result (λ e. e ≡ RunFault.Write) }
     ensures part { IfErr result (HasToldPart (string_bytes seen.now.text) (O.taken writer.old)
         (O.taken writer.new)) }
-    ensures write_cause { result ≡ Err RunFault.Write
-        → HasCause (O.taken writer.old) (O.taken writer.new) }
+    ensures write_cause { WriteHasCause result (O.taken writer.old) (O.taken writer.new) }
     ensures quiet { OnErr result (errors.new ≡ errors.old) }
 {
     send_line(writer, seen.text.as_str())?;
@@ -130,8 +128,7 @@ pub fn run_read<I: ByteIn, O: ByteOut, E: ByteOut>(
         → HasFailed (I.given reader.old) (I.given reader.new) }
     ensures read_told { IfErr result (λ e. (e ≡ RunFault.Read)
         ⊎ ((I.given reader.new).failures ≡ (I.given reader.old).failures)) }
-    ensures write_cause { result ≡ Err RunFault.Write
-        → HasCause (O.taken writer.old) (O.taken writer.new) }
+    ensures write_cause { WriteHasCause result (O.taken writer.old) (O.taken writer.new) }
     ensures write_told { IfErr result (λ e. IsWriteOrUntroubled e (O.taken writer.old)
         (O.taken writer.new)) }
 
@@ -140,7 +137,7 @@ pub fn run_read<I: ByteIn, O: ByteOut, E: ByteOut>(
         ⊎ (O.taken writer.new ≡ O.taken writer.old)) }
 
     // Of an input that is too long only a beginning is read.
-    ensures most { IsWithin most_bytes (I.given reader.old) (I.given reader.new) }
+    ensures most { IsWithin most_come (I.given reader.old) (I.given reader.new) }
 {
     let bytes = read_input(alloc, reader)?;
     match seen_of(alloc, bytes.as_slice()) {

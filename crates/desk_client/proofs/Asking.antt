@@ -4,7 +4,7 @@ use Rattle.station_core.specs.Given.{Given}
 use Rattle.reports.specs.declared.form.Form.{Form}
 use Rattle.desk_client.specs.Asked.{by_time, HasAsked, HasRead, HasSent, HasTaken, HasUnderstood}
 use Rattle.desk_client.specs.Came.{HasCome}
-use Rattle.desk_client.specs.Request.{most_rows}
+use Rattle.desk_client.specs.Request.{most_row_bytes}
 use Rattle.desk_client.specs.Whole.{IsWhole}
 use Rattle.desk_client.specs.declared.ask.Answer.{Answer}
 use Rattle.desk_client.specs.declared.ask.AskFault.{AskFault}
@@ -51,12 +51,12 @@ timed until request sent_old sent_new read_old read_new true fault.Foreign asked
 timed until request sent_old sent_new read_old read_new false e asked = asked
 
 -- an answer to a question for rows that came whole
-pub rows_read : (f : Form) (old new : Given) (came : List ℕ) (r : Result Answer AskFault) → HasCome most_rows old new came → HasUnderstood most_rows came r
+pub rows_read : (f : Form) (old new : Given) (came : List ℕ) (r : Result Answer AskFault) → HasCome most_row_bytes old new came → HasUnderstood most_row_bytes came r
     → HasRead (until.Rows f) old new r
 rows_read f old new came (Ok a) come (few, is, within, whole, none) =
     subst (λ (b : Option ℕ). HasTaken (until.Rows f) old new a b) (sym none) (record {
-      come = subst (λ (l : List ℕ). HasCome most_rows old new l) (sym is) come;
-      few = subst (λ (l : List ℕ). length l ≤ most_rows) (sym is) few;
+      come = subst (λ (l : List ℕ). HasCome most_row_bytes old new l) (sym is) come;
+      few = subst (λ (l : List ℕ). length l ≤ most_row_bytes) (sym is) few;
       within = subst (λ (l : List ℕ). a.start ≤ length l) (sym is) within;
       whole = subst (λ (l : List ℕ). IsWhole l a.status (drop a.start l)) (sym is) whole;
     })

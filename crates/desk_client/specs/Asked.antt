@@ -6,7 +6,7 @@ use Rattle.station_core.specs.Ends.{HasCause}
 use Rattle.desk_client.specs.Came.{HasCome}
 use Rattle.cli_run.specs.Came.{HasFailed, HasGrown}
 use Rattle.desk_client.specs.Front.{IsBegun}
-use Rattle.desk_client.specs.Request.{most_rows}
+use Rattle.desk_client.specs.Request.{most_row_bytes}
 use Rattle.desk_client.specs.Whole.{IsCutShort, IsNeverWhole, IsNotWhole, IsWhole}
 use Rattle.desk_client.specs.declared.ask.Answer.{Answer}
 use Rattle.desk_client.specs.declared.ask.AskFault.{AskFault}
@@ -51,12 +51,12 @@ pub record HasBegun (form : Form) (old new : Given) (a : Answer) (end : ℕ) : T
 -- the most bytes of an answer that is read so far
 abbrev pub most_by : Until → ℕ
 most_by (until.End most) = most
-most_by (until.Rows form) = most_rows
+most_by (until.Rows form) = most_row_bytes
 
 -- Only rows are returned before their answer has come whole.
 abbrev pub HasTaken : Until → Given → Given → Answer → Option ℕ → Type 0
 HasTaken (until.End most) old new a begun = HasAnswer most old new a
-HasTaken (until.Rows form) old new a None = HasAnswer most_rows old new a
+HasTaken (until.Rows form) old new a None = HasAnswer most_row_bytes old new a
 HasTaken (until.Rows form) old new a (Some end) = HasBegun form old new a end
 
 -- An answer was read so far. Or none is returned: the reader failed, or memory ran out, or what

@@ -16,11 +16,11 @@ abbrev pub most_answer : ℕ
 most_answer = 65_536
 
 -- only rows have no bound, but that of the machine's memory
-abbrev pub most_rows : ℕ
-most_rows = 18_446_744_073_709_551_615
+abbrev pub most_row_bytes : ℕ
+most_row_bytes = 18_446_744_073_709_551_615
 
 abbrev pub most_of : Question → ℕ
-most_of (question.Rows l f) = most_rows
+most_of (question.Rows l f) = most_row_bytes
 most_of _ = most_answer
 
 -- The lines of a request's head.

@@ -12,6 +12,7 @@ ghost use Rattle.awb_number.specs.Number.{number_of, number_text, IsNumber};
 ghost use Rattle.desk_commands.specs.Verb.{word};
 ghost use Rattle.desk_commands.specs.declared.verb.Verb.{Verb};
 ghost use Rattle.http_desk.specs.Request.{looks_up, sends};
+ghost use Rattle.imp_fields.specs.TextSize.{most_bytes};
 ghost use Rattle.http_desk.specs.Paths.{report_path};
 ghost use Rattle.reports.specs.declared.form.Form.{Form};
 ghost use Rattle.reports.specs.declared.listing.Listing.{Listing};
@@ -46,9 +47,9 @@ pub fn whole_law()
 /// in that form.
 pub fn request_law()
     ensures command { (verb : Verb) (key body : List ℕ) → is_key key ≡ true
-        → length body ≤ 65_536 → IsRead (command_head (word verb) key (length body) ++ body)
+        → length body ≤ most_bytes → IsRead (command_head (word verb) key (length body) ++ body)
         (sends (posted_command verb) (length body)) (Some key) body }
-    ensures telegram { (text : List ℕ) → length text ≤ 65_536
+    ensures telegram { (text : List ℕ) → length text ≤ most_bytes
         → IsRead (telegram_head (length text) ++ text) (sends posted_telegram (length text)) None
         text }
     ensures report { (name : Report)

@@ -6,13 +6,8 @@ ghost use Rattle.desk_clock.specs.Clock.{FollowsRule, Shows, IsMinuteOf, IsWithi
 use jiff::Timestamp;
 use jiff::civil::DateTime;
 use jiff::tz::TimeZone;
-use station_days::Moment;
+use station_days::{FIRST_MOMENT_DAY, LAST_MOMENT_DAY, Moment};
 use std::time::Clock;
-
-/// The first and the last day that count: 2000-01-01 and 2099-12-31, in days since 1970-01-01.
-const FIRST_DAY: i32 = 10_957;
-
-const LAST_DAY: i32 = 47_481;
 
 /// A zone, by its POSIX rule.
 #[derive(Clone, Copy, PartialEq, Eq)]
@@ -55,11 +50,11 @@ fn moment_at(local: DateTime) -> Option<Moment>
     ensures within { IsSome result ↔ IsWithinDays local }
     ensures value { IfSome result (IsMinuteOf local) }
 {
-    let day = local.date().to_plain().to_unix_epoch_day();
-    if day < FIRST_DAY || day > LAST_DAY {
+    let day = u32::try_from(local.date().to_plain().to_unix_epoch_day()).ok()?;
+    if day < FIRST_MOMENT_DAY || day > LAST_MOMENT_DAY {
         return None;
     }
-    Moment::new(day as u32, minute_of(local))
+    Moment::new(day, minute_of(local))
 }
 
 /// The moment that a clock in a zone shows at an instant: its local day and minute. `None` where

@@ -5,6 +5,7 @@ use Rattle.std.specs.Str.{bytes_eq}
 use Rattle.serde_json.specs.Data.{Data}
 use Rattle.serde_json.specs.Read.{read}
 use Rattle.http_desk.specs.Digits.{number_told}
+use Rattle.imp_fields.specs.TextSize.{most_bytes}
 use Rattle.imp_fields.specs.declared.fault.TextFault.{TextFault}
 use Rattle.shipment_machine.specs.declared.plans.Refusal.{Refusal}
 use Rattle.desk_commands.specs.declared.command.Command.{Command}
@@ -51,7 +52,7 @@ values_of name (field ∷ fields) =
 -- a length is a number, and at most 65,536
 abbrev pub within_length : Option ℕ → Result ℕ Fault
 within_length None = Err (fault 400 (codes "length"))
-within_length (Some n) = if nat_le n 65_536 then Ok n else Err (fault 413 [])
+within_length (Some n) = if nat_le n most_bytes then Ok n else Err (fault 413 [])
 
 abbrev pub length_in : List ℕ → Result ℕ Fault
 length_in value = within_length (number_told value)

@@ -6,11 +6,9 @@ use crate::field::fields_words;
 use crate::member::{kind_words, member_words};
 use crate::shown::{quoted, reason_line};
 use desk_commands::{Field, Verb};
+use imp_fields::MOST_BYTES;
 use serde_json::{Error, Value};
 use std::alloc::{AllocError, Global};
-
-/// The most bytes of a body.
-const LONGEST: usize = imp_fields::MOST_BYTES;
 
 /// What is said of a text that is no JSON.
 fn json_words(alloc: Global, error: &Error) -> Result<String, AllocError> {
@@ -97,7 +95,7 @@ pub(crate) fn value_words(alloc: Global, verb: Verb, body: &Value) -> Result<Str
 
 /// What is wrong with a body.
 fn body_words(alloc: Global, verb: Verb, bytes: &[u8]) -> Result<String, AllocError> {
-    if bytes.len() > LONGEST {
+    if bytes.len() > MOST_BYTES {
         return String::from_str(alloc, "more than 65,536 bytes");
     }
     if bytes.iter().all(|b| b.is_ascii_whitespace()) {

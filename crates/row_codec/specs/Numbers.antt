@@ -1,7 +1,9 @@
 -- Whole numbers of rows.
-use Rattle.std.specs.Prelude.{◌≡◌, ℕ, ℤ, pos, negsuc, int_le, Bool, ◌&&◌, ◌||◌, if◌then◌else◌, List, map, length}
+use Rattle.std.specs.Prelude.{◌≡◌, ℕ, ◌-◌, ℤ, pos, negsuc, int_le, Bool, ◌&&◌, ◌||◌, if◌then◌else◌, List, map, length}
 use Rattle.std.specs.List.{range_with_len}
 use Rattle.std.specs.Ordering.{int_eq}
+use Rattle.awb_number.specs.Number.{key_of, serials}
+use Rattle.station_core.specs.Step.{most_rows}
 use Rattle.station_days.specs.Date.{first_moment_day, last_moment_day}
 
 abbrev pub natural : ℤ → ℕ
@@ -12,13 +14,13 @@ natural (negsuc n) = 0
 abbrev pub is_within : ℕ → ℕ → ℤ → Bool
 is_within low high z = int_le (pos low) z && int_le z (pos high)
 
--- a waybill number, by its key
+-- a waybill number, by its key: up to the last serial of prefix 999
 abbrev pub is_number : ℤ → Bool
-is_number = is_within 0 9_999_999_999
+is_number = is_within 0 (key_of 999 (serials - 1))
 
--- what a column `count` or `confirmed` has
+-- what a column `count` or `confirmed` has, and the number of a row
 abbrev pub is_count : ℤ → Bool
-is_count = is_within 0 4_294_967_295
+is_count = is_within 0 most_rows
 
 -- a day from 2000-01-01 to 2099-12-31
 abbrev pub is_day : ℤ → Bool

@@ -44,7 +44,7 @@ holders_in stock n = option_and_then (λ row. holder_by row.1) (find (stands_for
 -- numbers of some prefix, one at least, with a holder
 abbrev pub is_stock_row : StockKey × Stock → Bool
 is_stock_row row =
-    is_within 0 999 row.0.0 && is_within 0 9_999_999 row.0.1 && int_le row.0.1 row.1.high && int_le row.1.high (pos 9_999_999) && is_some (holder_by row.1)
+    is_within 0 999 row.0.0 && is_within 0 (serials - 1) row.0.1 && int_le row.0.1 row.1.high && int_le row.1.high (pos (serials - 1)) && is_some (holder_by row.1)
 
 -- a row begins behind the one before it
 abbrev pub is_behind : StockKey × Stock → StockKey × Stock → Bool

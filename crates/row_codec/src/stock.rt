@@ -1,4 +1,5 @@
 ghost use Rattle.std.specs.Prelude.{◌≡◌, ◌&&◌, ◌+◌, ◌-◌, ◌*◌, pos, int_le, is_some, IsTrue, IfSome};
+ghost use Rattle.awb_number.specs.Number.{serials};
 ghost use Rattle.station_rows.specs.Meant.{stock_meant};
 ghost use Rattle.row_codec.specs.Numbers.{natural, is_within};
 ghost use Rattle.row_codec.specs.Stock.{holder_by, run_in, is_stock_row};
@@ -34,9 +35,9 @@ fn holder_by(row: &StockRow) -> Option<Holder>
 /// The number of a prefix and a serial.
 #[tactic(auto, using(crate::proofs::Exact::within_number_parts))]
 fn number_by(prefix: i64, serial: i64) -> Option<Awb>
-    ensures exact { is_some result ≡ is_within 0 999 prefix && is_within 0 9_999_999 serial }
+    ensures exact { is_some result ≡ is_within 0 999 prefix && is_within 0 (serials - 1) serial }
     ensures value { IfSome result (λ number. number
-        ≡ natural prefix * 10_000_000 + natural serial) }
+        ≡ natural prefix * serials + natural serial) }
 {
     Awb::new(u16::try_from(prefix).ok()?, u32::try_from(serial).ok()?)
 }
@@ -45,8 +46,8 @@ fn number_by(prefix: i64, serial: i64) -> Option<Awb>
 /// seven digits.
 #[tactic(auto, using(crate::proofs::Exact::serials_within))]
 fn count_by(low: i64, high: i64) -> Option<u32>
-    requires { IsTrue (is_within 0 9_999_999 low) }
-    ensures exact { is_some result ≡ int_le low high && int_le high (pos 9_999_999) }
+    requires { IsTrue (is_within 0 (serials - 1) low) }
+    ensures exact { is_some result ≡ int_le low high && int_le high (pos (serials - 1)) }
     ensures value { IfSome result (λ count. count ≡ natural high + 1 - natural low) }
 {
     if low <= high && high < i64::from(SERIALS) {

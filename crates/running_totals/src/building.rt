@@ -1,10 +1,10 @@
 ghost use Rattle.std.specs.Prelude.{◌≡◌, ℕ, ℤ, pos, List, Option, map, filter, option_map, IfOk, IfSome, OnErr, OnOk};
 ghost use Rattle.std.specs.FinMap.{get};
 ghost use Rattle.shipment_machine.specs.Book.{built};
-ghost use Rattle.station_schema.specs.Store.{Seen, Rests, Survives, IsShowing, inside};
+ghost use Rattle.station_schema.specs.Store.{Seen, Survives, IsShowing, inside};
 ghost use Rattle.station_schema.specs.Tables.{Tables};
 ghost use Rattle.table_rows.specs.Meant.{build_meant};
-ghost use Rattle.station_rows.specs.Clauses.{ShowsChange, ShowsStill, TellsOf, WasOpen};
+ghost use Rattle.station_rows.specs.Clauses.{RestsIfSound, ShowsChange, ShowsStill, TellsOf, WasOpen};
 ghost use Rattle.row_codec.specs.Counts.{AreBuilds, build_row, running, running_on};
 ghost use Rattle.running_totals.specs.Known.{AreKnown, IsRowOf};
 ghost use Rattle.running_totals.specs.Stored.{meant, pieces_found, storing_build, posting_build};
@@ -52,7 +52,7 @@ fn at_flight<S: TableStore>(
         (get tables.builds (flight.now, (day, awb)))) }
     ensures same { ShowsStill (S.view store.old) (S.view store.new) result }
     ensures open { WasOpen (S.view store.old) (S.view store.new) result }
-    ensures rests { (S.view store.new).IsSound → Rests (S.view store.old) (S.view store.new) }
+    ensures rests { RestsIfSound (S.view store.old) (S.view store.new) }
     ensures survives { Survives (S.view store.old) (S.view store.new) }
 {
     match store.build_row(flight, day, awb)? {
@@ -153,7 +153,7 @@ pub fn load<S: TableStore>(
     ensures known_at_err { OnErr result (known.new ≡ known.old) }
     ensures same { ShowsStill (S.view store.old) (S.view store.new) result }
     ensures open { WasOpen (S.view store.old) (S.view store.new) result }
-    ensures rests { (S.view store.new).IsSound → Rests (S.view store.old) (S.view store.new) }
+    ensures rests { RestsIfSound (S.view store.old) (S.view store.new) }
     ensures survives { Survives (S.view store.old) (S.view store.new) }
 {
     let text = written(alloc, &flight.flight)?;

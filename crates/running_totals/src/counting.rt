@@ -3,10 +3,10 @@ ghost use Rattle.std.specs.FinMap.{FinMap, entries, get};
 ghost use Rattle.std.specs.List.{find};
 ghost use Rattle.std.specs.Ordering.{int_eq};
 ghost use Rattle.shipment_machine.specs.Book.{balances_of, drawn, held, same_place};
-ghost use Rattle.station_schema.specs.Store.{Seen, Rests, Survives, IsShowing, inside};
+ghost use Rattle.station_schema.specs.Store.{Seen, Survives, IsShowing, inside};
 ghost use Rattle.station_schema.specs.Tables.{Count, Tables, count_cmp};
 ghost use Rattle.table_rows.specs.Meant.{count_meant, counts_for};
-ghost use Rattle.station_rows.specs.Clauses.{ShowsChange, ShowsStill, TellsOf, WasOpen};
+ghost use Rattle.station_rows.specs.Clauses.{RestsIfSound, ShowsChange, ShowsStill, TellsOf, WasOpen};
 ghost use Rattle.row_codec.specs.Counts.{AreCounts, count_row, running, running_in};
 ghost use Rattle.running_totals.specs.Known.{AreKnown, AreSumsOf, IsRowOf};
 ghost use Rattle.running_totals.specs.Sums.{is_built};
@@ -234,7 +234,7 @@ pub fn balances<S: TableStore>(
     ensures known_at_err { OnErr result (known.new ≡ known.old) }
     ensures same { ShowsStill (S.view store.old) (S.view store.new) result }
     ensures open { WasOpen (S.view store.old) (S.view store.new) result }
-    ensures rests { (S.view store.new).IsSound → Rests (S.view store.old) (S.view store.new) }
+    ensures rests { RestsIfSound (S.view store.old) (S.view store.new) }
     ensures survives { Survives (S.view store.old) (S.view store.new) }
 {
     let number = number_of(awb);

@@ -4,10 +4,10 @@ ghost use Rattle.std.specs.List.{prefix_len};
 ghost use Rattle.std.specs.Ordering.{int_eq};
 ghost use Rattle.shipment_machine.specs.Book.{balances_of};
 ghost use Rattle.station_core.specs.Told.{AreAllBalances};
-ghost use Rattle.station_schema.specs.Store.{Seen, Rests, Survives, IsShowing};
+ghost use Rattle.station_schema.specs.Store.{Seen, Survives, IsShowing};
 ghost use Rattle.station_schema.specs.Tables.{Count, count_cmp};
 ghost use Rattle.table_rows.specs.Meant.{count_meant, counts_for};
-ghost use Rattle.station_rows.specs.Clauses.{ShowsStill, WasOpen};
+ghost use Rattle.station_rows.specs.Clauses.{RestsIfSound, ShowsStill, WasOpen};
 ghost use Rattle.row_codec.specs.Counts.{AreCounts};
 
 use crate::counting::balances_by;
@@ -81,7 +81,7 @@ pub fn all_balances<S: TableStore>(
         → IfOk result (λ rows. AreAllBalances book rows.items) }
     ensures same { ShowsStill (S.view store.old) (S.view store.new) result }
     ensures open { WasOpen (S.view store.old) (S.view store.new) result }
-    ensures rests { (S.view store.new).IsSound → Rests (S.view store.old) (S.view store.new) }
+    ensures rests { RestsIfSound (S.view store.old) (S.view store.new) }
     ensures survives { Survives (S.view store.old) (S.view store.new) }
 {
     let rows = store.all_counts()?;

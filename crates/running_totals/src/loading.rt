@@ -1,9 +1,9 @@
 ghost use Rattle.std.specs.Prelude.{◌≡◌, ◌∷◌, ◌++◌, [], pos, int_lt, length, List, map, filter, IfOk, OnOk};
 ghost use Rattle.shipment_machine.specs.Book.{waybills_on};
 ghost use Rattle.station_core.specs.Told.{loads_on};
-ghost use Rattle.station_schema.specs.Store.{Seen, Rests, Survives, IsShowing};
+ghost use Rattle.station_schema.specs.Store.{Seen, Survives, IsShowing};
 ghost use Rattle.table_rows.specs.Meant.{build_meant};
-ghost use Rattle.station_rows.specs.Clauses.{ShowsStill, WasOpen};
+ghost use Rattle.station_rows.specs.Clauses.{RestsIfSound, ShowsStill, WasOpen};
 ghost use Rattle.row_codec.specs.Counts.{AreBuilds};
 ghost use Rattle.running_totals.specs.Loaded.{load_said, row_said, is_loaded};
 
@@ -68,7 +68,7 @@ pub fn aboard<S: TableStore>(
         → IfOk result (λ loads. loads.items ≡ loads_on book flight.now) }
     ensures same { ShowsStill (S.view store.old) (S.view store.new) result }
     ensures open { WasOpen (S.view store.old) (S.view store.new) result }
-    ensures rests { (S.view store.new).IsSound → Rests (S.view store.old) (S.view store.new) }
+    ensures rests { RestsIfSound (S.view store.old) (S.view store.new) }
     ensures survives { Survives (S.view store.old) (S.view store.new) }
 {
     let text = written(alloc, &flight.flight)?;
@@ -99,7 +99,7 @@ pub fn waybills_on<S: TableStore>(
         → IfOk result (λ number. number ≡ length (waybills_on book flight.now)) }
     ensures same { ShowsStill (S.view store.old) (S.view store.new) result }
     ensures open { WasOpen (S.view store.old) (S.view store.new) result }
-    ensures rests { (S.view store.new).IsSound → Rests (S.view store.old) (S.view store.new) }
+    ensures rests { RestsIfSound (S.view store.old) (S.view store.new) }
     ensures survives { Survives (S.view store.old) (S.view store.new) }
 {
     let text = written(alloc, &flight.flight)?;

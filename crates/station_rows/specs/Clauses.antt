@@ -1,7 +1,7 @@
 -- The forms of the clauses of `TableStore`: what the store showed before, and what it shows now.
 use Rattle.std.specs.Prelude.{◌≡◌, ◌⊎◌, Bool, true, List, OnOk, IfOk, IsErr, Result}
 use Rattle.station_schema.specs.Tables.{Tables}
-use Rattle.station_schema.specs.Store.{View, Seen, inside, IsShowing}
+use Rattle.station_schema.specs.Store.{View, Seen, inside, IsShowing, Rests}
 use Rattle.row_sinks.specs.Handed.{Hands}
 
 -- a write in a transaction: whatever it showed, it now shows this with one change
@@ -20,6 +20,10 @@ ShowsStill old new result = (seen : Seen) → IsShowing old seen → OnOk result
 -- a call that is answered finds the store open
 abbrev pub WasOpen : {X E : Type 0} → View → View → Result X E → Type 0
 WasOpen old new result = OnOk result (new.IsSound → old.is_open ≡ true)
+
+-- outside a transaction a read changes nothing, whatever it returns, unless it shut the store
+abbrev pub RestsIfSound : View → View → Type 0
+RestsIfSound old new = new.IsSound → Rests old new
 
 -- rows are handed out: whatever it showed, they are rows of it
 abbrev pub HandsOf : {S X E : Type 0} → View → View → Result (Unit {0}) E

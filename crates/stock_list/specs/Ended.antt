@@ -4,6 +4,7 @@ use Rattle.csv.specs.declared.error.ErrorKind.{ErrorKind}
 use Rattle.csv.specs.declared.error.ErrorKind.TheVariants as kind
 use Rattle.station_days.specs.Date.{LocalMinute}
 use Rattle.station_core.specs.Given.{Given}
+use Rattle.station_core.specs.Ends.{HasCause}
 use Rattle.station_core.specs.declared.answer.ActFault.{ActFault}
 use Rattle.station_core.specs.declared.answer.ActFault.TheVariants as act
 use Rattle.station_core.specs.Step.{State}
@@ -24,6 +25,10 @@ pub record IsUntroubled (old new : Given) : Type 0 where
 -- a fault that doesn't name the writer comes where the writer didn't fail
 abbrev pub IsWriteOrUntroubled : RunFault → Given → Given → Type 0
 IsWriteOrUntroubled e old new = (e ≡ fault.Write) ⊎ IsUntroubled old new
+
+-- a fault that names the writer comes where a call of it failed, or took nothing
+abbrev pub WriteHasCause : {X : Type 0} → Result X RunFault → Given → Given → Type 0
+WriteHasCause result old new = result ≡ Err fault.Write → HasCause old new
 
 -- Whether the station has to be opened again after a fault: where its store failed, and then only.
 abbrev pub IsShutAfter : RunFault → Bool → Type 0

@@ -3,7 +3,7 @@ ghost use Rattle.csv.specs.Records.{fields_of};
 ghost use Rattle.station_core.specs.Keeping.{KeepsPremise, KeepsWorking, StaysIfBroken};
 ghost use Rattle.station_core.specs.Ends.{HasCause};
 ghost use Rattle.station_core.specs.Step.{State};
-ghost use Rattle.stock_list.specs.Ended.{IsAnswered, IsShutAfter, IsStopped, IsUntroubled, IsWriteOrUntroubled, kept, run_fault};
+ghost use Rattle.stock_list.specs.Ended.{IsAnswered, IsShutAfter, IsStopped, IsUntroubled, IsWriteOrUntroubled, WriteHasCause, kept, run_fault};
 ghost use Rattle.input_reasons.specs.Reason.{HasReason};
 ghost use Rattle.stock_list.specs.Lines.{answer_text, answer_line, bad_line};
 ghost use Rattle.stock_list.specs.Reasons.{row_head, HasToldRow};
@@ -123,8 +123,7 @@ pub fn answer_bad_row<W: ByteOut, E: ByteOut>(
         × ((sent : ℕ) × ((W.taken writer.new).bytes ≡ (W.taken writer.old).bytes ++ take sent
         (bad_line place.number)))) }
     ensures untroubled { OnOk result (IsUntroubled (W.taken writer.old) (W.taken writer.new)) }
-    ensures write_cause { result ≡ Err RunFault.Write
-        → HasCause (W.taken writer.old) (W.taken writer.new) }
+    ensures write_cause { WriteHasCause result (W.taken writer.old) (W.taken writer.new) }
     ensures write_told { IfErr result (λ e. IsWriteOrUntroubled e (W.taken writer.old)
         (W.taken writer.new)) }
     ensures reasons { HasToldRow E.taken result None errors.old errors.new }
@@ -164,8 +163,7 @@ pub fn answer_row<K: Keeper, W: ByteOut, E: ByteOut>(
         (W.taken writer.old).bytes (W.taken writer.new).bytes
         (kept (K.keeps keeper.new) (K.may_find keeper.new))) }
     ensures untroubled { OnOk result (IsUntroubled (W.taken writer.old) (W.taken writer.new)) }
-    ensures write_cause { result ≡ Err RunFault.Write
-        → HasCause (W.taken writer.old) (W.taken writer.new) }
+    ensures write_cause { WriteHasCause result (W.taken writer.old) (W.taken writer.new) }
     ensures write_told { IfErr result (λ e. IsWriteOrUntroubled e (W.taken writer.old)
         (W.taken writer.new)) }
     ensures unread { result ≡ Err RunFault.Read → ⊥ }

@@ -2,9 +2,8 @@ ghost use Rattle.std.specs.Prelude.{◌≡◌, ◌<◌, ◌⊎◌, true, false, 
 ghost use Rattle.csv.specs.Reading.{error_kind};
 ghost use Rattle.csv.specs.Records.{fields_of};
 ghost use Rattle.station_core.specs.Keeping.{KeepsPremise, KeepsWorking, StaysIfBroken};
-ghost use Rattle.station_core.specs.Ends.{HasCause};
 ghost use Rattle.station_core.specs.Step.{State};
-ghost use Rattle.stock_list.specs.Ended.{AreFirst, HasRun, HasStopped, IsAnswered, IsShutAfter, IsStopped, IsUntroubled, IsWriteOrUntroubled, kept, reader_fault, rows_read, told_by};
+ghost use Rattle.stock_list.specs.Ended.{AreFirst, HasRun, HasStopped, IsAnswered, IsShutAfter, IsStopped, IsUntroubled, IsWriteOrUntroubled, WriteHasCause, kept, reader_fault, rows_read, told_by};
 ghost use Rattle.stock_list.specs.Lines.{Row, stock_rows};
 ghost use Rattle.stock_list.specs.Reasons.{HasToldRow, HasToldRows};
 ghost use Rattle.stock_list.specs.Row.{row_asks};
@@ -55,8 +54,7 @@ fn answer_listed<K: Keeper, W: ByteOut, E: ByteOut>(
         (W.taken writer.old).bytes (W.taken writer.new).bytes
         (kept (K.keeps keeper.new) (K.may_find keeper.new))) }
     ensures untroubled { OnOk result (IsUntroubled (W.taken writer.old) (W.taken writer.new)) }
-    ensures write_cause { result ≡ Err RunFault.Write
-        → HasCause (W.taken writer.old) (W.taken writer.new) }
+    ensures write_cause { WriteHasCause result (W.taken writer.old) (W.taken writer.new) }
     ensures write_told { IfErr result (λ e. IsWriteOrUntroubled e (W.taken writer.old)
         (W.taken writer.new)) }
     ensures reasons { HasToldRow E.taken result (row_asks (fields_of row.now)) errors.old
@@ -98,8 +96,7 @@ fn run_rows<K: Keeper, R: Read + Drop, W: ByteOut, E: ByteOut>(
         × ((next : Option Row) × (IfSome (R.remaining reader) (AreFirst (rows_read rows next))
         × HasStopped s rows next at e (W.taken writer.old).bytes (W.taken writer.new).bytes
         (kept (K.keeps keeper.new) (K.may_find keeper.new))))) }
-    ensures write_cause { result ≡ Err RunFault.Write
-        → HasCause (W.taken writer.old) (W.taken writer.new) }
+    ensures write_cause { WriteHasCause result (W.taken writer.old) (W.taken writer.new) }
     ensures write_told { IfErr result (λ e. IsWriteOrUntroubled e (W.taken writer.old)
         (W.taken writer.new)) }
     ensures untroubled { OnOk result (IsUntroubled (W.taken writer.old) (W.taken writer.new)) }
@@ -198,8 +195,7 @@ pub fn run_stock<K: Keeper, R: Watched + Read, W: ByteOut, E: ByteOut>(
     // it has not.
     ensures read_cause { result ≡ Err RunFault.Read → 0 < (R.given reader.new).failures }
     ensures no_failure { OnOk result ((R.given reader.new).failures ≡ 0) }
-    ensures write_cause { result ≡ Err RunFault.Write
-        → HasCause (W.taken writer.old) (W.taken writer.new) }
+    ensures write_cause { WriteHasCause result (W.taken writer.old) (W.taken writer.new) }
     ensures write_told { IfErr result (λ e. IsWriteOrUntroubled e (W.taken writer.old)
         (W.taken writer.new)) }
     ensures untroubled { OnOk result (IsUntroubled (W.taken writer.old) (W.taken writer.new)) }

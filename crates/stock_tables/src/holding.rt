@@ -1,8 +1,8 @@
 //! Who holds a number.
 ghost use Rattle.std.specs.Prelude.{◌≡◌, IfOk};
-ghost use Rattle.station_schema.specs.Store.{Seen, IsShowing, Rests, Survives};
+ghost use Rattle.station_schema.specs.Store.{Seen, IsShowing, Survives};
 ghost use Rattle.row_codec.specs.Stock.{holders_in, run_in};
-ghost use Rattle.station_rows.specs.Clauses.{ShowsStill, WasOpen};
+ghost use Rattle.station_rows.specs.Clauses.{RestsIfSound, ShowsStill, WasOpen};
 ghost use Rattle.station_rows.specs.Meant.{stock_meant};
 ghost use Rattle.stock_tables.specs.Reads.{holder_at};
 ghost use Rattle.stock_tables.specs.Stocked.{Stocked};
@@ -35,7 +35,7 @@ pub fn holder<S: TableStore>(store: &mut S, awb: &Awb) -> Result<Option<Holder>,
         → IfOk result (λ holder. holder ≡ holders_in x.now.stock awb.now) }
     ensures same { ShowsStill (S.view store.old) (S.view store.new) result }
     ensures open { WasOpen (S.view store.old) (S.view store.new) result }
-    ensures rests { (S.view store.new).IsSound → Rests (S.view store.old) (S.view store.new) }
+    ensures rests { RestsIfSound (S.view store.old) (S.view store.new) }
     ensures survives { Survives (S.view store.old) (S.view store.new) }
 {
     let row = store.stock_up_to(i64::from(awb.prefix()), i64::from(awb.serial()))?;

@@ -1,9 +1,9 @@
 //! The stock as its runs.
 ghost use Rattle.std.specs.Prelude.{◌≡◌, map, IfOk};
 ghost use Rattle.agent_stock.specs.Runs.{AreStockRuns};
-ghost use Rattle.station_schema.specs.Store.{Seen, IsShowing, Rests, Survives};
+ghost use Rattle.station_schema.specs.Store.{Seen, IsShowing, Survives};
 ghost use Rattle.row_codec.specs.Stock.{holders_in, run_in};
-ghost use Rattle.station_rows.specs.Clauses.{ShowsStill, WasOpen};
+ghost use Rattle.station_rows.specs.Clauses.{RestsIfSound, ShowsStill, WasOpen};
 ghost use Rattle.station_rows.specs.Meant.{stock_meant};
 ghost use Rattle.stock_tables.specs.Rows.{AreRuns, holders_by};
 ghost use Rattle.stock_tables.specs.Stocked.{Stocked};
@@ -39,7 +39,7 @@ pub fn runs<S: TableStore>(alloc: Global, store: &mut S) -> Result<Vec<StockRun>
         → IfOk result (λ runs. AreStockRuns (holders_in x.now.stock) runs.items) }
     ensures same { ShowsStill (S.view store.old) (S.view store.new) result }
     ensures open { WasOpen (S.view store.old) (S.view store.new) result }
-    ensures rests { (S.view store.new).IsSound → Rests (S.view store.old) (S.view store.new) }
+    ensures rests { RestsIfSound (S.view store.old) (S.view store.new) }
     ensures survives { Survives (S.view store.old) (S.view store.new) }
 {
     let rows = store.all_stock()?;

@@ -1,6 +1,7 @@
 //! The maximal runs of rows, whose neighbours may be with the same holder.
 ghost use Rattle.std.specs.Prelude.{◌≡◌, ◌+◌, ◌<◌, ◌∷◌, MatchOption, IfOk};
 ghost use Rattle.agent_stock.specs.Runs.{AreStockRuns};
+ghost use Rattle.awb_number.specs.Number.{serials};
 ghost use Rattle.stock_tables.specs.Rows.{AreRuns, Follows, both_as_one, holders_by};
 
 use crate::holders::is_same;
@@ -12,7 +13,7 @@ use std::alloc::{AllocError, Global};
 /// than a prefix has.
 fn joint(row: &StockRun, next: &StockRun) -> Option<StockRun>
     ensures { MatchOption result (Follows row.now next.now
-        → 10_000_000 < row.now.count + next.now.count)
+        → serials < row.now.count + next.now.count)
         (λ both. Follows row.now next.now × (both ≡ both_as_one row.now next.now)) }
 {
     if row.first.prefix() != next.first.prefix() {

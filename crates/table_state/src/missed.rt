@@ -5,7 +5,7 @@ use std::alloc::Global;
 use std::collections::HashSet;
 
 /// The most waybills that are remembered of a table, as many as a telegram has lines.
-const MOST_WAYBILLS: usize = 1_000;
+const MOST_REMEMBERED: usize = 1_000;
 
 /// The rows that were looked for and not found, and that were not written since: what a command
 /// reads is mostly what its plan then writes, so the write need not look for its row again.
@@ -24,7 +24,7 @@ pub(crate) struct Missed {
 
 /// Remembers a waybill, if memory is given for it. A full set is emptied first.
 fn remember(waybills: &mut HashSet<u64>, awb: &Awb) {
-    if waybills.len() >= MOST_WAYBILLS {
+    if waybills.len() >= MOST_REMEMBERED {
         waybills.clear();
     }
     let _remembered = waybills.insert(awb.key());

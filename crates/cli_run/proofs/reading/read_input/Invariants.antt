@@ -1,5 +1,6 @@
 use Rattle.std.proofs.Common.{◌≡◌, ◌≤◌, ◌+◌, [], length}
-use Rattle.cli_run.specs.Came.{longest, HasGrown}
+use Rattle.imp_fields.specs.TextSize.{most_bytes}
+use Rattle.cli_run.specs.Came.{HasGrown}
 use Rattle.cli_run.proofs.reading.read_input.Given as goal
 
 abbrev pub invariant-loop-turn : goal.invariant-loop-turn
@@ -9,5 +10,5 @@ invariant-loop-turn g l =
     record {
       grown : HasGrown before now [] l.bytes.items;
       calls : now.calls ≡ before.calls + l._turn;
-      few : length l.bytes.items ≤ longest;
+      few : length l.bytes.items ≤ most_bytes;
     }

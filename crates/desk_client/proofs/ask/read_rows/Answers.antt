@@ -1,4 +1,4 @@
-use Rattle.desk_client.specs.Request.{most_rows}
+use Rattle.desk_client.specs.Request.{most_row_bytes}
 use Rattle.desk_client.proofs.Asking.{rows_read}
 use Rattle.desk_client.proofs.Grown.{come_more}
 use Rattle.desk_client.proofs.ask.read_rows.Goals as goal
@@ -10,5 +10,5 @@ returns-then-branch g c =
     let new = g.I.ByteIn.given c.read_more.new.reader in
     let came = c.read_more.new.bytes.items in
     rows_read c.args.form old new came c.understood.result
-    (come_more most_rows old mid new c.loop-turn.bytes.items came c.loop-turn.invariant.grown c.in_ok-read_more.ensures.come
+    (come_more most_row_bytes old mid new c.loop-turn.bytes.items came c.loop-turn.invariant.grown c.in_ok-read_more.ensures.come
     (c.in_ok-read_more.ensures.ended c.if-branch.true)) c.understood.ensures

@@ -15,9 +15,9 @@ loop-number-preserved c =
     let few : (built book w flight).pieces ≤ 9999 = held.pieces in
     let light : (built book w flight).tenths ≤ 999999 = held.tenths in
     let so_far = c.loop-number.invariant in
-    let most_pieces = so_far.2 in let most_message_tenths = so_far.3 in (
+    let most_pieces = so_far.2 in let most_tenths = so_far.3 in (
       summed (λ v. (built book v flight).pieces) c.args.numbers.now c.loop-number.number-index c.loop-number.pieces c.from-pieces.result w c.loop-number-test.true c.number-item.is so_far.0 pieces,
       summed (λ v. (built book v flight).tenths) c.args.numbers.now c.loop-number.number-index c.loop-number.tenths c.from-tenths.result w c.loop-number-test.true c.number-item.is so_far.1 tenths,
       omega (arith, pieces, few, most_pieces),
-      omega (arith, tenths, light, most_message_tenths),
+      omega (arith, tenths, light, most_tenths),
     )
