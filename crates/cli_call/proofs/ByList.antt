@@ -28,18 +28,14 @@ use Rattle.sqlite_store.specs.Saved.{kept_schema}
 use Rattle.sqlite_store.specs.declared.catalog.Wanted.{Wanted}
 use Rattle.sqlite_store.specs.declared.store.FileStore.{FileStore}
 use Rattle.sqlite.specs.Files.{image_of, HoldsDatabase}
-use Rattle.sqlite.specs.Held.{AreDatabases}
-use Rattle.cli_call.specs.ByList.{HoldsByList, HoldsByListAlone, HoldsPages, IsListedBy, LeavesByList}
+use Rattle.sqlite.specs.Closing.{HoldsAlone, IsCopied}
+use Rattle.sqlite.specs.Held.{AreDatabases, Held}
+use Rattle.cli_call.specs.ByList.{HoldsByList, HoldsByListAlone, HoldsPages, IsCopiedByList, IsListedBy, LeavesByList}
 use Rattle.cli_call.specs.Listed.{IsReadByList}
 use Rattle.cli_call.proofs.SameReading.{same_reading}
 
 pub in_any_order : {size : ℕ} {is_numbered : Bool} {wanted : List Wanted} {pages : PageMap} → IsOurs size is_numbered wanted pages → IsOurs size false wanted pages
 in_any_order ours = record { file = ours.file; numbered = λ never. absurd (cc) }
-
--- an order that is asked for is that of a store that is numbered
-pub in_its_order : {size : ℕ} {is_numbered : Bool} {wanted : List Wanted} {pages : PageMap} (is_in_order : Bool) → (IsTrue is_in_order → IsTrue is_numbered)
-    → IsOurs size is_numbered wanted pages → IsOurs size is_in_order wanted pages
-in_its_order is_in_order numbered ours = record { file = ours.file; numbered = λ asked. ours.numbered (numbered asked) }
 
 pub pages_of : (image : Image) (db : Trees) (held : HoldsDatabase image db) → HoldsPages held.0 image
 pages_of image db held = record { valid = held.1; pages = held.2.pages; found = held.2.found; sound = held.2.ours.file.sound }
@@ -65,11 +61,27 @@ reads_once : (size : ℕ) (image : Image) (a b : List Wanted) (p q : PageMap) �
     → file_trees size a p ≡ file_trees size b q
 reads_once size image a b p q found again listing = ap (λ x. file_trees size a x) (recovers_once size image p q found again) ∙ same_reading size a b q listing
 
+by_list_of : (image : Image) (db : Trees) → HoldsDatabase image db → HoldsByList image db
+by_list_of image db held = record {
+  size = held.0;
+  valid = held.1;
+  pages = held.2.pages;
+  wanted = held.2.wanted;
+  schema = held.2.schema;
+  found = held.2.found;
+  ours = in_any_order held.2.ours;
+  reads = held.2.reads;
+  sound = held.2.sound;
+}
+
+alone_by_list : (image : Image) (db : Trees) → HoldsAlone image db → HoldsByListAlone image db
+alone_by_list image db held = record { both = ∥∥₁_map held.both (λ h. by_list_of _ db h); alone = ∥∥₁_map held.alone (λ h. by_list_of _ db h) }
+
 module _ {D : Type 0} {g : Ghosts D} where
   -- what files hold by this list is what was found
-  pub found_by_list : (files : Files D) (objects : List Object) (is_in_order : Bool) (it : FileStore D g) → IsReadByList files objects is_in_order it
+  pub found_by_list : (files : Files D) (objects : List Object) (it : FileStore D g) → IsReadByList files objects it
       → (db : Trees) → HoldsByList (image_of g files) db → IsListedBy objects db → (view it).trees ≡ db
-  found_by_list files objects is_in_order it r db held listed =
+  found_by_list files objects it r db held listed =
       let image = image_of g files in
       let same = r.sized held.size (record { valid = held.valid; pages = held.pages; found = held.found; sound = held.ours.file.sound }) in
       let again = plain_adopts r.size image held.pages r.plain (subst (λ n. Adopts n image held.pages) same held.found) in
@@ -100,25 +112,11 @@ module _ {D : Type 0} {g : Ghosts D} where
         },
       ) in r)))
 
-  module _ (it : FileStore D g) (stays : SeenMayStay g) (is_open : IsTrue (view it).is_open) (sound : AreDatabases (recovers it)) where
-    holds_commit : (left : Image) → Recovers (state it).page_size left (state it).committed → ∥ HoldsByList left (view it).committed ∥₁
-    holds_commit left found =
-        let schema = sound _ (stays_at it stays is_open) in
-        ∥∥₁_elim (size_is_allowed it.pool) squash₁ (λ size. ∥∥₁_map (it.stored is_open) (λ stored. let r : HoldsByList left (view it).committed = record {
-          size = (state it).page_size;
-          valid = size;
-          pages = (state it).committed;
-          wanted = kept_schema it.saved it.schema.items;
-          schema = schema.0;
-          found = adopts_of _ left _ found;
-          ours = in_any_order stored.ours;
-          reads = rw (clean_of (state it) is_open);
-          sound = schema.1;
-        } in r))
-
-    -- with an empty log, each image that a crash may leave has the last commit in the database file
-    pub copied_by_list : log_frames it ≡ 0 → (left : Image) → (state it).may_leave left → HoldsByListAlone left (view it).committed
-    copied_by_list empty left may = record {
-      both = holds_commit left ((settled it.pool stays is_open).durable left may);
-      alone = holds_commit _ (file_alone it.pool stays is_open empty left may);
-    }
+  -- what the library reads of files that were closed, their list reads
+  pub copied_by_list : (c : Held (FileStore D g)) (files : Files D) → IsCopied c files → IsCopiedByList c files
+  copied_by_list c files copied = record {
+    was_clean = copied.was_clean;
+    was_open = copied.was_open;
+    seen = alone_by_list _ _ copied.seen;
+    left = λ image may. alone_by_list image _ (copied.left image may);
+  }

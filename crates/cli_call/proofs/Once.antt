@@ -120,7 +120,7 @@ holds_once size image mine db schema wanted pages found ours reads sound b =
     reads ∙ ap (λ p. file_trees size wanted p) same ∙ ap (λ x. with_version x (version_in b.pages)) r.1 ∙ sym b.reads
 
 module _ {D : Type 0} {g : Ghosts D} (files : Files D) (objects : List Object) (it : FileStore D g) (schema : Schema) where
-  pub held_by_list : IsReadByList files objects true it → IsSound schema (view it).trees → (db : Trees) → HoldsDatabase (image_of g files) db → (view it).trees ≡ db
+  pub held_by_list : IsReadByList files objects it → IsSound schema (view it).trees → (db : Trees) → HoldsDatabase (image_of g files) db → (view it).trees ≡ db
   held_by_list r sound db held =
       let h = subst (λ n. HoldsIn n (image_of g files) db) (r.sized held.0 (pages_of (image_of g files) db held)) held.2 in
       holds_once r.size (image_of g files) (view it).trees db schema (map wanted_of objects) (state it).committed r.found r.ours r.reads sound

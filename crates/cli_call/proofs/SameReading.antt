@@ -66,13 +66,14 @@ module _ (size : ℕ) (pages : PageMap) where
   one_tree FrozenTable p q x y reals root = rw (root refl) (same_shown FrozenTable p q size pages y reals)
   one_tree (FrozenIndex o) p q x y reals root = rw (root refl) (same_shown (FrozenIndex o) p q size pages y reals)
 
-  same_tree : (a b : List Wanted) (t : ℕ) → listed_from 0 a ≡ listed_from 0 b → shape_at a t ≡ shape_at b t
+  -- where the lists have the same row for it
+  pub same_tree : (a b : List Wanted) (t : ℕ) → row_for (listed_from 0 a) t ≡ row_for (listed_from 0 b) t → shape_at a t ≡ shape_at b t
       → reals_if_present (shape_at a t) (reals_at a t) ≡ reals_if_present (shape_at b t) (reals_at b t) → trees_in size a pages t ≡ trees_in size b pages t
   unfolding trees_in roots_of
   same_tree a b t listing shapes reals =
       let entries = rows_at size pages Table 1 in
       let roots = λ (there : is_present (shape_at b t) ≡ true).
-      root_at entries 0 a t t (omega arith) (ap is_present shapes ∙ there) ∙ ap (λ rows. root_of_row entries (row_for rows t)) listing ∙ sym (root_at entries 0 b t t (omega arith) there) in
+      root_at entries 0 a t t (omega arith) (ap is_present shapes ∙ there) ∙ ap (root_of_row entries) listing ∙ sym (root_at entries 0 b t t (omega arith) there) in
       rw shapes (one_tree (shape_at b t) _ _ _ _ (rw shapes at reals) roots)
 
 pub same_reading : (size : ℕ) (a b : List Wanted) (pages : PageMap) → listed_from 0 a ≡ listed_from 0 b → file_trees size a pages ≡ file_trees size b pages
@@ -86,6 +87,6 @@ same_reading size a b pages listing = fun_ext (λ t. elim (cases_eq t version_tr
         let shapes : shape_at a t ≡ shape_at b t = rw (ne_eqb t version_tree apart, ne_eqb t catalog_tree other) at (ap (λ f. f t) same.0) in
         let reals : reals_if_present (shape_at a t) (reals_at a t) ≡ reals_if_present (shape_at b t) (reals_at b t) =
         rw (ne_eqb t version_tree apart, ne_eqb t catalog_tree other) at (ap (λ f. f t) same.1) in
-        rw (ne_eqb t version_tree apart, ne_eqb t catalog_tree other) (same_tree size (in_use size pages) a b t listing shapes reals)
+        rw (ne_eqb t version_tree apart, ne_eqb t catalog_tree other) (same_tree size (in_use size pages) a b t (ap (λ rows. row_for rows t) listing) shapes reals)
   ]
 ])

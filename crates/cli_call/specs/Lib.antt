@@ -1,10 +1,11 @@
 pub mod Begun
+pub mod Beside
 pub mod ByList
-pub mod ByName
 pub mod Closed
-pub mod Copied
+pub mod Cut
+pub mod CutLaws
 pub mod Ended
-pub mod Inside
+pub mod First
 pub mod Listed
 pub mod Migrated
 pub mod Opened

@@ -1,5 +1,5 @@
 -- Files that are read by a list of their trees.
-use Rattle.std.specs.Prelude.{◌≡◌, ◌≢◌, ◌%◌, ℕ, Bool, List, map, IsTrue}
+use Rattle.std.specs.Prelude.{◌≡◌, ◌≢◌, ◌%◌, ℕ, true, List, map, IsTrue}
 use Rattle.sqlite_disk.specs.declared.Disk.{Ghosts}
 use Rattle.sqlite_disk.specs.declared.Files.{Files}
 use Rattle.sqlite_wal.specs.Reads.{AreClean}
@@ -12,19 +12,17 @@ use Rattle.sqlite_trees.specs.declared.schema.Object.{Object}
 use Rattle.sqlite.specs.Steps.{IsFresh}
 use Rattle.sqlite.specs.Files.{image_of}
 use Rattle.cli_call.specs.ByList.{HoldsPages}
-use Rattle.cli_call.specs.ByName.{shown_by_name}
 
--- The store shows what the files recover to, as a list of trees reads it. The files list the trees
--- in its order, or in any.
+-- The store shows what the files recover to, as a list of trees reads it; the files list the trees
+-- in its order.
 pub record IsReadByList {D : Type 0} {g : Ghosts D} (files : Files D) (objects : List Object)
-    (is_in_order : Bool) (it : FileStore D g) : Type 0 where
+    (it : FileStore D g) : Type 0 where
   pub honest : AreClean g files.log files.db
-  pub fresh : IsFresh (shown_by_name (view it))
-  pub numbered : IsTrue is_in_order → IsTrue (view it).is_numbered
+  pub fresh : IsFresh (view it)
   pub is_open : IsTrue (view it).is_open
   pub size : ℕ
   pub plain : size % 16 ≢ 8
   pub found : Recovers size (image_of g files) (state it).committed
-  pub ours : ∥ IsOurs size is_in_order (map wanted_of objects) (state it).committed ∥₁
+  pub ours : ∥ IsOurs size true (map wanted_of objects) (state it).committed ∥₁
   pub reads : (view it).trees ≡ read_by size objects (state it).committed
   pub sized : (n : ℕ) → HoldsPages n (image_of g files) → n ≡ size

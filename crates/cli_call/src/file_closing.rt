@@ -1,40 +1,45 @@
 //! Files that are closed.
 ghost use Rattle.std.specs.Prelude.{IfOk};
+ghost use Rattle.sqlite.specs.Closing.{IsCopied};
+ghost use Rattle.sqlite.specs.Held.{state};
 ghost use Rattle.sqlite_wal.specs.Reads.{AreClean};
-ghost use Rattle.cli_call.specs.Copied.{HasCopied};
-ghost use Rattle.cli_call.specs.Inside.{inside};
+ghost use Rattle.cli_call.specs.ByList.{IsCopiedByList};
+ghost use Rattle.cli_call.specs.First.{IsCopiedFirst};
 
-use crate::by_name::ByName;
-use crate::connecting::store_of;
+use crate::first_trees::FirstTrees;
 use sqlite::{Connection, FileStore};
 use sqlite_disk::{Disk, Files};
 use sqlite_trees::store::Store;
-
-/// The closed files of a connection, with the log copied into the database file.
-#[derive(Drop)]
-pub struct ClosedFiles<D: Disk> {
-    pub files: Files<D>,
-    /// Whether the files are known to list their trees in the order by which they were opened.
-    pub is_in_order: bool,
-}
 
 /// Rolls back, copies the log into the database file, and gives the files back.
 ///
 /// Returns the store where the log can't be copied.
 pub(crate) fn close_files<D: Disk + Drop>(
-    conn: Connection<ByName<FileStore<D>>>,
-) -> Result<ClosedFiles<D>, FileStore<D>>
-    ensures { IfOk result (λ end. AreClean D.Disk end.files.log end.files.db
-        → HasCopied (inside conn) end) }
+    conn: Connection<FileStore<D>>,
+) -> Result<Files<D>, FileStore<D>>
+    ensures copied { IfOk result (λ files. AreClean D.Disk files.log files.db
+        → IsCopied conn files) }
+    ensures by_list { IfOk result (λ files. AreClean D.Disk files.log files.db
+        → IsCopiedByList conn files) }
 {
-    let (mut store, is_in_order) = store_of(conn);
+    match conn.close_files() {
+        Ok(files) => Ok(files),
+        Err((_, store)) => Err(store),
+    }
+}
+
+/// As `close_files`, of a connection to the first trees of its files.
+pub(crate) fn close_beside<D: Disk + Drop>(
+    conn: Connection<FirstTrees<FileStore<D>>>,
+) -> Result<Files<D>, FileStore<D>>
+    ensures { IfOk result (λ files. AreClean D.Disk files.log files.db
+        → IsCopiedFirst D.Disk (state ⟦<FirstTrees<FileStore<D>> as Store>⟧ conn) files) }
+{
+    let mut store = conn.into_store().into_inner();
     // Again, for what only this store's rollback says of the log.
     store.rollback();
     match store.checkpoint() {
-        Ok(()) => Ok(ClosedFiles {
-            files: store.close(),
-            is_in_order,
-        }),
+        Ok(()) => Ok(store.close()),
         Err(_) => Err(store),
     }
 }

@@ -8,10 +8,7 @@ ghost use Rattle.sqlite.specs.State.{HasCleanDisk};
 ghost use Rattle.sqlite.specs.Held.{IsNew};
 ghost use Rattle.sqlite.specs.Files.{file_state, image_of, IsCleanLeft, IsEmpty, IsOpened};
 ghost use Rattle.cli_call.specs.Begun.{IsBegun, LeavesUnstarted};
-ghost use Rattle.cli_call.specs.Inside.{inside};
 
-use crate::by_name::ByName;
-use crate::connecting::connect_by_list;
 use crate::file_opening::with_list;
 use sqlite::{Connection, Error, ErrorCode, FileStore, Leftover, Options};
 use sqlite_disk::{Disk, Files};
@@ -91,20 +88,20 @@ pub fn open_new<D: Disk + Drop>(
     mut files: Files<D>,
     size: PageSize,
     options: Options,
-) -> Result<Option<Connection<ByName<FileStore<D>>>>, (ErrorCode, Leftover<D>)>
+) -> Result<Option<Connection<FileStore<D>>>, (ErrorCode, Leftover<D>)>
     requires log { IsTrue (D.Disk.is_usable files.log) }
     requires db { IsTrue (D.Disk.is_usable files.db) }
-    ensures nothing { IfOk result (λ made. IfSome made (λ c. HasCleanDisk (file_state (inside c))
+    ensures nothing { IfOk result (λ made. IfSome made (λ c. HasCleanDisk (file_state c)
         → IsBlankFile (bytes_of size) (image_of D.Disk files))) }
-    ensures empty { IfOk result (λ made. IfSome made (λ c. HasCleanDisk (file_state (inside c))
-        → IsEmpty (file_state (inside c)).committed.trees)) }
-    ensures opened { IfOk result (λ made. IfSome made (λ c. HasCleanDisk (file_state (inside c))
-        → IsOpened (inside c))) }
-    ensures plain { IfOk result (λ made. IfSome made (λ c. HasCleanDisk (file_state (inside c))
-        → (view (inside c).store).has_sums ≡ false)) }
+    ensures empty { IfOk result (λ made. IfSome made (λ c. HasCleanDisk (file_state c)
+        → IsEmpty (file_state c).committed.trees)) }
+    ensures opened { IfOk result (λ made. IfSome made (λ c. HasCleanDisk (file_state c)
+        → IsOpened c)) }
+    ensures plain { IfOk result (λ made. IfSome made (λ c. HasCleanDisk (file_state c)
+        → (view c.store).has_sums ≡ false)) }
     ensures fresh { IfOk result (λ made. IfSome made IsNew) }
-    ensures guarded { IfOk result (λ made. IfSome made (λ c. HasCleanDisk (file_state (inside c))
-        → (file_state (inside c)).IsShielded)) }
+    ensures guarded { IfOk result (λ made. IfSome made (λ c. HasCleanDisk (file_state c)
+        → (file_state c).IsShielded)) }
     ensures unstarted { IfErr result (λ e. IsCleanLeft e.1
         → LeavesUnstarted (bytes_of size) files e.1) }
 {
@@ -114,7 +111,7 @@ pub fn open_new<D: Disk + Drop>(
         Err(code) => return Err((code, Leftover::Files(files))),
     }
     let store = store_begun(alloc, files, size, options)?;
-    match connect_by_list(alloc, store, true) {
+    match Connection::over(alloc, store) {
         Ok(conn) => Ok(Some(conn)),
         Err((error, store)) => Err((open_code(error), Leftover::Store(store))),
     }

@@ -2,29 +2,31 @@
 //! its command runs, its end is reported, and the file is closed.
 #![tactic(auto)]
 
-mod by_name;
 mod closing;
-mod connecting;
 mod ended;
+mod file_beside;
 mod file_closing;
 mod file_making;
 mod file_opening;
 mod file_trees;
 mod first_page;
+mod first_trees;
 mod laws;
+mod layout;
 mod migrating;
 mod opening;
 mod run;
+mod tree_list;
 mod version;
 
-pub use by_name::ByName;
-pub use closing::{FileEnd, close_file, run_file};
+pub use closing::{FileEnd, close_file, close_file_beside, run_file, run_file_beside};
 pub use ended::{DeskFault, end};
-pub use file_closing::ClosedFiles;
+pub use file_beside::open_beside;
 pub use file_making::open_new;
-pub use file_opening::{connect_again, open_by_name, open_listed};
+pub use file_opening::open_listed;
 pub use file_trees::station_trees;
-pub use laws::{files_leave_by_list, named_files_lie_in_order};
+pub use first_trees::FirstTrees;
+pub use laws::{files_leave_by_list, files_leave_first, first_files_lie_in_order};
 pub use opening::open_station;
 pub use run::{run_gathered, run_kept, run_line};
 pub use version::version_line;

@@ -1,4 +1,4 @@
-use Rattle.std.proofs.Common.{◌≡◌, true, refl, sym, ap, subst, ◌∙◌, arith, rules}
+use Rattle.std.proofs.Common.{◌≡◌, true, sym, ap, subst, ◌∙◌, arith, rules}
 use Rattle.std.proofs.lemmas.Result.{err_from_is_err_and}
 use Rattle.sqlite_wal.specs.PageSize.{bytes_of}
 use Rattle.sqlite_pool.specs.Opening.{IsBlankFile}
@@ -10,11 +10,8 @@ use Rattle.sqlite.proofs.FileLemmas.{same_image}
 use Rattle.cli_call.proofs.Unstarted.{unstarted_before}
 use Rattle.cli_call.proofs.file_making.open_new.Goals as goal
 
-pub connect_by_list-requires-clause-fresh : goal.connect_by_list-requires-clause-fresh
-connect_by_list-requires-clause-fresh g c none = let fresh = (c.in_ok-store.ensures.begun (sure _ none)).fresh in record { sound = fresh.sound; numbered = refl; clean = fresh.clean; unmarked = fresh.unmarked }
-
-pub connect_by_list-requires-clause-numbered : goal.connect_by_list-requires-clause-numbered
-connect_by_list-requires-clause-numbered g c ordered none = (c.in_ok-store.ensures.begun (sure _ none)).fresh.numbered
+pub over-requires : goal.over-requires
+over-requires g c none = (c.in_ok-store.ensures.begun (sure _ none)).fresh
 
 pub returns-in-Ok-clause-nothing : goal.returns-in-Ok-clause-nothing
 returns-in-Ok-clause-nothing g c now =
@@ -44,11 +41,11 @@ returns-in_err-store-clause-unstarted g c =
     rw (p.1, p.2) (λ still. unstarted_before (bytes_of c.args.size) c.args.files c.is_blank.new.files c.in_err-store.field-0.0.1 looked.log looked.db
     (c.in_err-store.ensures.unstarted still (λ clean. subst (IsBlankFile (bytes_of c.args.size)) (sym (same_image looked.log looked.db)) ((looked.blank clean).0 is))))
 
-pub returns-in-Err-connect_by_list-clause-unstarted : goal.returns-in-Err-connect_by_list-clause-unstarted
-returns-in-Err-connect_by_list-clause-unstarted g c late =
+pub returns-in-Err-over-clause-unstarted : goal.returns-in-Err-over-clause-unstarted
+returns-in-Err-over-clause-unstarted g c late =
     let store = c.in_ok-store.store in
     let is : c.in-Ok-true.field-0 ≡ true = search rules in
-    let it = c.in_ok-store.ensures.begun (sure (shown store).is_clean (omega (arith, no_doubt _ late, c.in-Err-connect_by_list.ensures.unharmed.clean))) in (
+    let it = c.in_ok-store.ensures.begun (sure (shown store).is_clean (omega (arith, no_doubt _ late, c.in-Err-over.ensures.unharmed.clean))) in (
       (c.in-Ok-true.ensures.blank it.honest).0 is,
-      λ db may. let at = settled_at store g.met.D.Disk.seen_may_stay db it.is_open (c.in-Err-connect_by_list.ensures.unharmed.outcomes db may) ∙ sym it.fresh.clean in subst IsEmpty (sym at) it.empty,
+      λ db may. let at = settled_at store g.met.D.Disk.seen_may_stay db it.is_open (c.in-Err-over.ensures.unharmed.outcomes db may) ∙ sym it.fresh.clean in subst IsEmpty (sym at) it.empty,
     )

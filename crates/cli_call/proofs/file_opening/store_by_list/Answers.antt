@@ -1,5 +1,6 @@
-use Rattle.std.proofs.Common.{◌≡◌, ◌≢◌, ◌%◌, IsTrue, false, refl, sym, ap, ap₂, subst, subst₂, ◌∙◌, inl, inr, arith, rules}
+use Rattle.std.proofs.Common.{◌≡◌, ◌≢◌, ◌%◌, IsTrue, false, sym, ap, ap₂, subst, subst₂, ◌∙◌, inl, inr, arith, rules}
 use Rattle.std.proofs.Math.Logic.{∥∥₁_map}
+use Rattle.std.proofs.Math.Path.{subst₃}
 use Rattle.std.proofs.lemmas.Bool.{cond-true}
 use Rattle.sqlite_wal.specs.Files.{outcomes, seen_image}
 use Rattle.sqlite_wal.specs.Recovery.{Image}
@@ -20,13 +21,12 @@ use Rattle.sqlite.specs.Files.{image_of, BeginsWell}
 use Rattle.sqlite.proofs.OpenLemmas.{pool_files}
 use Rattle.sqlite.proofs.FileLemmas.{reads_then, same_image, stays_something, stored_used, summed_used}
 use Rattle.cli_call.specs.ByList.{HoldsPages}
-use Rattle.cli_call.proofs.ByList.{in_its_order}
 use Rattle.cli_call.proofs.file_opening.store_by_list.Goals as goal
 
-pub returns-in-Ok-open_as-clause-listed : goal.returns-in-Ok-open_as-clause-listed
-returns-in-Ok-open_as-clause-listed g c now =
-    let it = c.in-Ok-open_as.it in
-    let e = c.in-Ok-open_as.ensures in
+pub returns-in-Ok-open_numbered-clause-listed : goal.returns-in-Ok-open_numbered-clause-listed
+returns-in-Ok-open_numbered-clause-listed g c now =
+    let it = c.in-Ok-open_numbered.it in
+    let e = c.in-Ok-open_numbered.ensures in
     let start = image_of g.D.Disk c.args.files in
     let fresh = c.in-Ok.unopened in
     let made = c.in-Ok.ensures in
@@ -45,35 +45,34 @@ returns-in-Ok-open_as-clause-listed g c now =
     let begins : IsTrue c.begins_plain.result = search rules in
     record {
       honest = both_clean _ _ _ _ log.clean db.clean last;
-      fresh = record { sound = e.ready.sound (no_doubt _ now); numbered = refl; clean = e.ready.clean; unmarked = e.ready.unmarked };
-      numbered = e.numbered;
+      fresh = record { sound = e.ready.sound (no_doubt _ now); numbered = e.numbered; clean = e.ready.clean; unmarked = e.ready.unmarked };
       is_open = e.ready.is_open (no_doubt _ now);
       size = size;
       plain = λ h. omega (arith, chosen.aligned, h);
       found = subst₂ (λ n i. Recovers n i (state it).committed) made.size seen (e.found now);
-      ours = ∥∥₁_map (it.stored (e.ready.is_open (no_doubt _ now))) (λ s. subst₂ (λ n x. IsOurs n c.args.is_in_order x (state it).committed) sized (listing ∙ made.list) (in_its_order c.args.is_in_order e.numbered s.ours));
+      ours = ∥∥₁_map (it.stored (e.ready.is_open (no_doubt _ now))) (λ s. subst₃ (λ n b x. IsOurs n b x (state it).committed) sized e.numbered (listing ∙ made.list) s.ours);
       reads = e.ready.clean
           ∙ cond-true _ (file_trees (state it).page_size (kept_schema it.saved it.schema.items) (state it).committed) no_trees now
           ∙ ap₂ (λ n s. file_trees n s (state it).committed) sized (listing ∙ made.list);
       sized = λ n h. looked.plain begins last n (subst (HoldsPages n) (sym first) h) (c.in-Some.ensures.sized early n h);
     }
 
-pub returns-in-Ok-open_as-clause-plain : goal.returns-in-Ok-open_as-clause-plain
-returns-in-Ok-open_as-clause-plain g c now =
-    ap is_summed ((c.in-Ok-open_as.ensures.kept now).size ∙ c.in-Ok.ensures.size) ∙ summed_used c.in-Some.size false
+pub returns-in-Ok-open_numbered-clause-plain : goal.returns-in-Ok-open_numbered-clause-plain
+returns-in-Ok-open_numbered-clause-plain g c now =
+    ap is_summed ((c.in-Ok-open_numbered.ensures.kept now).size ∙ c.in-Ok.ensures.size) ∙ summed_used c.in-Some.size false
 
 -- as the library's own opening leaves them
-pub returns-in-Err-open_as-clause-spared : goal.returns-in-Err-open_as-clause-spared
-returns-in-Err-open_as-clause-spared g c still left may =
+pub returns-in-Err-open_numbered-clause-spared : goal.returns-in-Err-open_numbered-clause-spared
+returns-in-Err-open_numbered-clause-spared g c still left may =
     let start = image_of g.D.Disk c.args.files in
     let fresh = c.in-Ok.unopened in
     let made = c.in-Ok.ensures in
     let chosen = c.in-Some.size in
     let size = bytes_of chosen in
-    let now = (state_of c.in-Err-open_as.left).page_size in
+    let now = (state_of c.in-Err-open_numbered.left).page_size in
     let named = c.named_size.ensures in
     let looked = c.begins_plain.ensures in
-    let e = c.in-Err-open_as.ensures in
+    let e = c.in-Err-open_numbered.ensures in
     let clean = e.falls still in
     let last = sym ((pool_files fresh.pool).1 ∙ ap (λ f. are_clean g.D.Disk f.0 f.1) made.files) ∙ clean in
     let log = reads_then named.log looked.log in

@@ -1,0 +1,10 @@
+//! How trees are laid out.
+
+use sqlite_trees::store::Shape;
+
+/// The shape of a tree, and a bit for each column of type REAL.
+#[derive(Clone, Copy, Debug, PartialEq, Eq)]
+pub struct Layout {
+    pub shape: Shape,
+    pub reals: u64,
+}
