@@ -1,8 +1,6 @@
 //! The file of a station.
 
-use cli_call::{
-    ByName, DeskFault, connect_again, open_by_name, open_listed, open_new, station_trees,
-};
+use cli_call::{DeskFault, FirstTrees, open_beside, open_listed, open_new, station_trees};
 use cli_run::is_opening;
 use cli_words::Line;
 use sqlite::{Alter, Connection, Error, ErrorCode, File, FileStore, Options, Unknown};
@@ -22,6 +20,15 @@ const PAGE_LEN: usize = 1024;
 const NOT_AS_INIT: &str =
     "init declares the tables otherwise, so the promises about a power failure aren't proved \
     for this file; copy its rows into a new one";
+
+/// A connection to a station's file.
+pub enum FileConnection {
+    /// It shows all that the file has, in the order in which the file lists it.
+    Whole(Connection<FileStore<File>>),
+    /// It shows the tables and indexes that `init` makes. The file lists them in another order, or
+    /// has trees of other programs beside them.
+    Beside(Connection<FirstTrees<FileStore<File>>>),
+}
 
 /// Why a file isn't opened.
 #[derive(Clone, Copy, Debug, PartialEq, Eq)]
@@ -67,19 +74,9 @@ fn refused(error: Error) -> FileFault {
 }
 
 /// Opens a file that has a database, whatever its tables.
-fn open_any(
-    rt: &HostRuntime,
-    path: &str,
-) -> Result<Connection<ByName<FileStore<File>>>, FileFault> {
-    let conn = match Connection::open(rt, path) {
-        Ok(conn) => conn,
-        Err(error) => return Err(refused(error)),
-    };
-    match connect_again(rt.alloc(), conn) {
-        Ok(mut conn) => {
-            conn.set_clock(rt);
-            Ok(conn)
-        }
+fn open_any(rt: &HostRuntime, path: &str) -> Result<Connection<FileStore<File>>, FileFault> {
+    match Connection::open(rt, path) {
+        Ok(conn) => Ok(conn),
         Err(error) => Err(refused(error)),
     }
 }
@@ -89,46 +86,42 @@ fn is_no_file(path: &str) -> bool {
     path == ":memory:" || path.starts_with("file:")
 }
 
-/// Opens a file whose tables are declared as `init` declares them, with one recovery of its log:
-/// in the order of `init`, or in any.
-fn open_declared(
-    rt: &HostRuntime,
-    path: &str,
-    is_in_order: bool,
-) -> Option<Connection<ByName<FileStore<File>>>> {
-    if is_no_file(path) {
-        return None;
-    }
+/// Opens a file that has the trees that `init` makes, in their order, and no other, with one
+/// recovery of its log.
+fn open_in_order(rt: &HostRuntime, path: &str) -> Option<Connection<FileStore<File>>> {
     let options = options(rt).ok()?;
-    let trees = station_trees();
-    let Ok(files) = sqlite_std_file::open(rt, path, Unknown) else {
-        return None;
-    };
-    let opened = if is_in_order {
-        open_listed(rt.alloc(), files, options, &trees)
-    } else {
-        open_by_name(rt.alloc(), files, options, &trees)
-    };
-    match opened {
-        Ok(mut conn) => {
-            conn.set_clock(rt);
-            Some(conn)
-        }
-        Err(_left) => None,
-    }
+    let files = sqlite_std_file::open(rt, path, Unknown).ok()?;
+    let mut conn = open_listed(rt.alloc(), files, options, &station_trees()).ok()?;
+    conn.set_clock(rt);
+    Some(conn)
 }
 
-/// Opens a file that has a database: by the list of trees that `init` makes, in their order and
-/// then in any; and one whose tables are declared otherwise as the library opens any file, with two
-/// recoveries of its log.
-fn open(rt: &HostRuntime, path: &str) -> Result<Connection<ByName<FileStore<File>>>, FileFault> {
-    if let Some(conn) = open_declared(rt, path, true) {
-        return Ok(conn);
+/// Opens a file that has the trees that `init` makes, in any order, and may have trees of other
+/// programs beside them.
+fn open_among_others(
+    rt: &HostRuntime,
+    path: &str,
+) -> Option<Connection<FirstTrees<FileStore<File>>>> {
+    let options = options(rt).ok()?;
+    let files = sqlite_std_file::open(rt, path, Unknown).ok()?;
+    let mut conn = open_beside(rt.alloc(), files, options, &station_trees()).ok()?;
+    conn.set_clock(rt);
+    Some(conn)
+}
+
+/// Opens a file that has a database: by the list of trees that `init` makes, in their order, and
+/// then in any order and beside others; and one whose tables are declared otherwise as the library
+/// opens any file, with two recoveries of its log.
+fn open(rt: &HostRuntime, path: &str) -> Result<FileConnection, FileFault> {
+    if !is_no_file(path) {
+        if let Some(conn) = open_in_order(rt, path) {
+            return Ok(FileConnection::Whole(conn));
+        }
+        if let Some(conn) = open_among_others(rt, path) {
+            return Ok(FileConnection::Beside(conn));
+        }
     }
-    match open_declared(rt, path, false) {
-        Some(conn) => Ok(conn),
-        None => open_any(rt, path),
-    }
+    Ok(FileConnection::Whole(open_any(rt, path)?))
 }
 
 /// Whether a file begins with a byte 0.
@@ -159,12 +152,9 @@ fn options(rt: &HostRuntime) -> Result<Options, FileFault> {
 
 /// Opens a file, or makes it where it is missing or empty. Whatever stops it, the file has no
 /// database or the whole one, and the next call goes on from there.
-pub fn make_file(
-    rt: &HostRuntime,
-    path: &str,
-) -> Result<Connection<ByName<FileStore<File>>>, FileFault> {
+pub fn make_file(rt: &HostRuntime, path: &str) -> Result<FileConnection, FileFault> {
     if is_no_file(path) {
-        return open_any(rt, path);
+        return Ok(FileConnection::Whole(open_any(rt, path)?));
     }
     let size = PageSize::new(PAGE_LEN).unwrap();
     let options = options(rt)?;
@@ -175,19 +165,16 @@ pub fn make_file(
     match open_new(rt.alloc(), files, size, options) {
         Ok(Some(mut conn)) => {
             conn.set_clock(rt);
-            Ok(conn)
+            Ok(FileConnection::Whole(conn))
         }
-        Ok(None) => open_any(rt, path),
+        Ok(None) => Ok(FileConnection::Whole(open_any(rt, path)?)),
         Err((ErrorCode::OutOfMemory, _left)) => Err(FileFault::Memory),
         Err((code, _left)) => Err(FileFault::Store(code)),
     }
 }
 
 /// Opens a file that is there. A file that is missing or empty has no station, and stays as it is.
-pub fn open_file(
-    rt: &HostRuntime,
-    path: &str,
-) -> Result<Connection<ByName<FileStore<File>>>, FileFault> {
+pub fn open_file(rt: &HostRuntime, path: &str) -> Result<FileConnection, FileFault> {
     match is_blank(rt, path) {
         Ok(true) => Err(FileFault::NoStation),
         Ok(false) => open(rt, path),
@@ -213,8 +200,8 @@ pub fn tell_unopened(rt: &HostRuntime, path: &str, fault: FileFault) {
 }
 
 /// Whether a line runs over a file that was found and whose tables aren't declared as `init`
-/// declares them: one of them has another text, or a table of another program is next to them. A
-/// station works in such a file, but what is proved of a power failure isn't proved of it.
+/// declares them: one of them has another text, or an index of another program. A station works in
+/// such a file, but what is proved of a power failure isn't proved of it.
 pub fn is_undeclared<S: Alter>(line: &Line<'_>, conn: &Connection<S>) -> bool {
     line.db.is_some() && !is_opening(line) && !has_station(conn)
 }

@@ -1,8 +1,11 @@
 //! A line over its station: in memory, or in a file.
 
-use crate::files::{make_file, open_file, tell_undeclared, tell_unopened};
+use crate::files::{FileConnection, make_file, open_file, tell_undeclared, tell_unopened};
 use crate::service::{Service, serve_keeper, serve_line};
-use cli_call::{ByName, DeskFault, close_file, end, run_file, run_gathered};
+use cli_call::{
+    DeskFault, FileEnd, FirstTrees, close_file, close_file_beside, end, run_file, run_file_beside,
+    run_gathered,
+};
 use cli_run::{Feed, Turns, airport_of_line, is_opening};
 use cli_words::Line;
 use map_state::MapState;
@@ -72,36 +75,60 @@ fn run_in_memory<R: Read + Drop>(rt: &HostRuntime, line: &Line<'_>, task: Task<'
     }
 }
 
-/// Runs a line over a connection to a file. Each answer is written before the next input acts.
-fn run_direct<D: Disk + Drop, R: Read + Drop>(
-    rt: &HostRuntime,
-    line: &Line<'_>,
-    conn: Connection<ByName<FileStore<D>>>,
-    reader: R,
-    turns: &Turns,
-    at: Moment,
-) -> u8 {
-    let alloc = rt.alloc();
-    let mut output = Counted::new(rt.stdout());
-    let mut errors = Counted::new(rt.stderr());
-    let mut feed = Feed::new(reader, turns);
-    let ended = run_file(alloc, line, conn, &mut feed, &mut output, &mut errors, at);
+/// Tells that the tables of a line's file are declared otherwise, where the line ran over such a
+/// file, and returns the exit status.
+fn end_file<D: Disk>(rt: &HostRuntime, line: &Line<'_>, ended: &FileEnd<D>) -> u8 {
     if ended.status <= 1 && !ended.is_declared && !is_opening(line) {
         tell_undeclared(rt, line);
     }
     ended.status
 }
 
-/// Serves the station of a line over a connection to a file, which is closed behind it.
-fn serve_file<D: Disk + Drop>(
+/// Does a line's task over a connection to a file, which is closed behind it. Each answer is
+/// written before the next input acts.
+fn run_whole<D: Disk + Drop, R: Read + Drop>(
     rt: &HostRuntime,
     line: &Line<'_>,
-    conn: Connection<ByName<FileStore<D>>>,
-    service: Service<'_>,
+    conn: Connection<FileStore<D>>,
+    task: Task<'_, R>,
 ) -> u8 {
-    let (status, conn) = serve_line(rt, line, conn, service);
-    let (status, _files) = close_file(conn, status, &mut Counted::new(rt.stderr()));
-    status
+    let alloc = rt.alloc();
+    let mut output = Counted::new(rt.stdout());
+    let mut errors = Counted::new(rt.stderr());
+    match task {
+        Task::Run { reader, turns, at } => {
+            let mut feed = Feed::new(reader, turns);
+            let ended = run_file(alloc, line, conn, &mut feed, &mut output, &mut errors, at);
+            end_file(rt, line, &ended)
+        }
+        Task::Serve(service) => {
+            let (status, conn) = serve_line(rt, line, conn, service);
+            close_file(conn, status, &mut errors).0
+        }
+    }
+}
+
+/// As `run_whole`, over a connection that shows the tables and indexes that `init` makes.
+fn run_beside<D: Disk + Drop, R: Read + Drop>(
+    rt: &HostRuntime,
+    line: &Line<'_>,
+    conn: Connection<FirstTrees<FileStore<D>>>,
+    task: Task<'_, R>,
+) -> u8 {
+    let alloc = rt.alloc();
+    let mut output = Counted::new(rt.stdout());
+    let mut errors = Counted::new(rt.stderr());
+    match task {
+        Task::Run { reader, turns, at } => {
+            let mut feed = Feed::new(reader, turns);
+            let ended = run_file_beside(alloc, line, conn, &mut feed, &mut output, &mut errors, at);
+            end_file(rt, line, &ended)
+        }
+        Task::Serve(service) => {
+            let (status, conn) = serve_line(rt, line, conn, service);
+            close_file_beside(conn, status, &mut errors).0
+        }
+    }
 }
 
 /// Does a line's task over a file.
@@ -117,10 +144,8 @@ fn run_in_file<R: Read + Drop>(
         open_file(rt, path)
     };
     match opened {
-        Ok(conn) => match task {
-            Task::Run { reader, turns, at } => run_direct(rt, line, conn, reader, turns, at),
-            Task::Serve(service) => serve_file(rt, line, conn, service),
-        },
+        Ok(FileConnection::Whole(conn)) => run_whole(rt, line, conn, task),
+        Ok(FileConnection::Beside(conn)) => run_beside(rt, line, conn, task),
         Err(fault) => {
             let status = end_call(rt, Err(fault.ended()));
             tell_unopened(rt, path, fault);
