@@ -1,5 +1,5 @@
 -- What files hold by a list of their trees: found at an opening, and left by a crash and by a close.
-use Rattle.std.proofs.Common.{◌≡◌, ◌≤◌, false, Bool, ℕ, List, map, Some, Option, IsTrue, refl, sym, ap, subst, ◌∙◌, inl, inr, arith}
+use Rattle.std.proofs.Common.{◌≡◌, ◌≤◌, false, Bool, ℕ, List, Some, Option, refl, sym, subst, inl, inr, arith}
 use Rattle.std.proofs.lemmas.Bool.{cases_eq}
 use Rattle.std.proofs.Math.Logic.{∥∥₁_elim, ∥∥₁_map}
 use Rattle.sqlite_disk.specs.declared.Disk.{Ghosts}
@@ -8,31 +8,20 @@ use Rattle.sqlite_wal.specs.Format.{be32}
 use Rattle.sqlite_wal.specs.PageSize.{bytes_of, size_in_file, Names}
 use Rattle.sqlite_wal.specs.Recovery.{Image, IsIgnored}
 use Rattle.sqlite_wal.specs.declared.page_size.PageSize.{PageSize}
-use Rattle.sqlite_wal.proofs.LogLemmas.{SeenMayStay}
-use Rattle.sqlite_wal.proofs.StateLemmas.{clean_of}
 use Rattle.sqlite_pages.specs.PageMap.{PageMap}
-use Rattle.sqlite_pool.specs.Stored.{Adopts, Recovers, reserved, stored_size}
-use Rattle.sqlite_pool.specs.StoredLaws.{recovers_once}
+use Rattle.sqlite_pool.specs.Stored.{reserved, stored_size}
 use Rattle.sqlite_pool.proofs.ProbeLemmas.{size_by_log, size_by_file}
-use Rattle.sqlite_pool.proofs.ResealLemmas.{adopts_of, plain_adopts}
-use Rattle.sqlite_pool.proofs.StateLemmas.{size_is_allowed, settled, file_alone}
-use Rattle.sqlite_trees.specs.Objects.{catalog_tree}
+use Rattle.sqlite_pool.proofs.ResealLemmas.{adopts_of}
+use Rattle.sqlite_pool.proofs.StateLemmas.{size_is_allowed}
 use Rattle.sqlite_trees.specs.Tree.{Trees}
-use Rattle.sqlite_trees.specs.declared.schema.Object.{Object}
-use Rattle.sqlite_store.specs.Catalog.{wanted_of}
-use Rattle.sqlite_store.specs.FileStore.{state, view, schema_in, reading, recovers, log_frames}
-use Rattle.sqlite_store.specs.Laws.{stays_at}
-use Rattle.sqlite_store.specs.Listed.{catalog_rows}
-use Rattle.sqlite_store.specs.Listing.{file_trees, listed_from, IsOurs}
-use Rattle.sqlite_store.specs.Saved.{kept_schema}
+use Rattle.sqlite_store.specs.FileStore.{state, schema_in, reading, recovers}
+use Rattle.sqlite_store.specs.Listing.{IsOurs}
 use Rattle.sqlite_store.specs.declared.catalog.Wanted.{Wanted}
 use Rattle.sqlite_store.specs.declared.store.FileStore.{FileStore}
-use Rattle.sqlite.specs.Files.{image_of, HoldsDatabase}
+use Rattle.sqlite.specs.Files.{HoldsDatabase}
 use Rattle.sqlite.specs.Closing.{HoldsAlone, IsCopied}
 use Rattle.sqlite.specs.Held.{AreDatabases, Held}
-use Rattle.cli_call.specs.ByList.{HoldsByList, HoldsByListAlone, HoldsPages, IsCopiedByList, IsListedBy, LeavesByList}
-use Rattle.cli_call.specs.Listed.{IsReadByList}
-use Rattle.cli_call.proofs.SameReading.{same_reading}
+use Rattle.cli_call.specs.ByList.{HoldsByList, HoldsByListAlone, HoldsPages, IsCopiedByList, LeavesByList}
 
 pub in_any_order : {size : ℕ} {is_numbered : Bool} {wanted : List Wanted} {pages : PageMap} → IsOurs size is_numbered wanted pages → IsOurs size false wanted pages
 in_any_order ours = record { file = ours.file; numbered = λ never. absurd (cc) }
@@ -54,13 +43,6 @@ module _ (image : Image) (found : Option PageSize) (by_log : ¬ IsIgnored image.
   pub probe_pages : (size : PageSize) → found ≡ Some size → stored_size n ≡ bytes_of size
   probe_pages size is = elim (cases_eq (stored_size n) (bytes_of size)) [ inl same ↦ same | inr other ↦ absurd (names (λ named. other (sym (rw is at named.1)))) ]
 
-catalog_at : (size : ℕ) (schema : List Wanted) (pages : PageMap) → file_trees size schema pages catalog_tree ≡ listed_from 0 schema
-catalog_at size schema pages = catalog_rows size schema _
-
-reads_once : (size : ℕ) (image : Image) (a b : List Wanted) (p q : PageMap) → Recovers size image p → Recovers size image q → listed_from 0 a ≡ listed_from 0 b
-    → file_trees size a p ≡ file_trees size b q
-reads_once size image a b p q found again listing = ap (λ x. file_trees size a x) (recovers_once size image p q found again) ∙ same_reading size a b q listing
-
 by_list_of : (image : Image) (db : Trees) → HoldsDatabase image db → HoldsByList image db
 by_list_of image db held = record {
   size = held.0;
@@ -78,17 +60,6 @@ alone_by_list : (image : Image) (db : Trees) → HoldsAlone image db → HoldsBy
 alone_by_list image db held = record { both = ∥∥₁_map held.both (λ h. by_list_of _ db h); alone = ∥∥₁_map held.alone (λ h. by_list_of _ db h) }
 
 module _ {D : Type 0} {g : Ghosts D} where
-  -- what files hold by this list is what was found
-  pub found_by_list : (files : Files D) (objects : List Object) (it : FileStore D g) → IsReadByList files objects it
-      → (db : Trees) → HoldsByList (image_of g files) db → IsListedBy objects db → (view it).trees ≡ db
-  found_by_list files objects it r db held listed =
-      let image = image_of g files in
-      let same = r.sized held.size (record { valid = held.valid; pages = held.pages; found = held.found; sound = held.ours.file.sound }) in
-      let again = plain_adopts r.size image held.pages r.plain (subst (λ n. Adopts n image held.pages) same held.found) in
-      let theirs = held.reads ∙ ap (λ n. file_trees n held.wanted held.pages) same in
-      let listing = sym listed ∙ ap (λ (t : Trees). t catalog_tree) theirs ∙ catalog_at r.size held.wanted held.pages in
-      r.reads ∙ reads_once r.size image (map wanted_of objects) held.wanted _ _ r.found again listing ∙ sym theirs
-
   -- each image that a crash may leave holds one of the databases that the store allows
   pub leaves : (it : FileStore D g) → AreDatabases (recovers it) → LeavesByList it
   leaves it sound left may = ∥∥₁_elim it.safe squash₁ (λ all.

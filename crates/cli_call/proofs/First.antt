@@ -1,5 +1,5 @@
 -- What files hold of the first trees of a list: found at an opening, and left by a crash and by a close.
-use Rattle.std.proofs.Common.{◌≡◌, ◌<◌, ℕ, List, length, map, filter, refl, sym, ap, subst, ◌∙◌}
+use Rattle.std.proofs.Common.{◌≡◌, ◌≢◌, ◌<◌, ◌%◌, ℕ, List, length, map, filter, refl, sym, ap, subst, ◌∙◌}
 use Rattle.std.proofs.lemmas.List.{length-map}
 use Rattle.sqlite_disk.specs.declared.Disk.{Ghosts}
 use Rattle.sqlite_disk.specs.declared.Files.{Files}
@@ -28,11 +28,12 @@ use Rattle.sqlite_store.specs.declared.store.FileStore.{FileStore}
 use Rattle.sqlite.specs.Files.{image_of}
 use Rattle.sqlite.specs.State.{State}
 use Rattle.cli_call.specs.Beside.{IsBeside}
-use Rattle.cli_call.specs.ByList.{IsListedBy}
+use Rattle.cli_call.specs.ByList.{HoldsByList, HoldsFirst, HoldsPages, IsListedBy}
 use Rattle.cli_call.specs.Cut.{cut_trees, is_first}
-use Rattle.cli_call.specs.First.{may_leave_first, FindsFirst, HoldsFirst, HoldsFirstAlone, IsReadBeside, LeavesFirst}
+use Rattle.cli_call.specs.First.{may_leave_first, FindsFirst, HoldsFirstAlone, IsReadBeside, LeavesFirst}
 use Rattle.cli_call.proofs.ByList.{in_any_order}
 use Rattle.cli_call.proofs.FirstReading.{first_listed, first_reading}
+use Rattle.cli_call.proofs.SameReading.{same_reading}
 
 -- the first trees of a list that begins with these are read as the list of these alone reads them
 pub begins_with : (size : ℕ) (objects : List Object) (wanted : List Wanted) (pages : PageMap) → length objects < 65536 → IsBeside objects wanted
@@ -43,18 +44,30 @@ begins_with size objects wanted pages few beside =
     let first = subst (λ n. filter (is_first n) (listed_from 0 wanted) ≡ listed_from 0 own) same (first_listed own beside.others wanted beside.lists) in
     first_reading size (length objects) few wanted own pages first
 
-module _ {D : Type 0} {g : Ghosts D} (files : Files D) (objects : List Object) (few : length objects < 65536) (it : FileStore D g) (r : IsReadBeside files objects it) where
-  pub held_first : (db : Trees) → HoldsFirst (image_of g files) db → IsListedBy objects db → read_by r.size objects (state it).committed ≡ db
-  held_first db held listed =
-      let image = image_of g files in
+-- what files with these pages hold by this list, all of it or its first trees, is what the pages read as by it
+module _ (image : Image) (objects : List Object) (size : ℕ) (pages : PageMap) (plain : size % 16 ≢ 8) (found : Recovers size image pages)
+    (sized : (n : ℕ) → HoldsPages n image → n ≡ size) where
+  once : (held : PageMap) (n : ℕ) → n ≡ size → Adopts n image held → read_by size objects pages ≡ read_by size objects held
+  once held n same adopts = ap (read_by size objects) (recovers_once size image pages held found (plain_adopts size image held plain (subst (λ m. Adopts m image held) same adopts)))
+
+  pub held_by_list : (db : Trees) → HoldsByList image db → IsListedBy objects db → read_by size objects pages ≡ db
+  held_by_list db held listed =
       let own = map wanted_of objects in
-      let same = r.sized held.size (record { valid = held.valid; pages = held.pages; found = held.found; sound = held.ours.file.sound }) in
-      let again = plain_adopts r.size image held.pages r.plain (subst (λ n. Adopts n image held.pages) same held.found) in
+      let same = sized held.size (record { valid = held.valid; pages = held.pages; found = held.found; sound = held.ours.file.sound }) in
+      let theirs = held.reads ∙ ap (λ n. file_trees n held.wanted held.pages) same in
+      let listing : listed_from 0 held.wanted ≡ listed_from 0 own = sym (catalog_rows size held.wanted _) ∙ sym (ap (λ (t : Trees). t catalog_tree) theirs) ∙ listed in
+      once held.pages held.size same held.found ∙ sym (theirs ∙ same_reading size held.wanted own held.pages listing)
+
+  pub held_first : (db : Trees) → HoldsFirst image db → IsListedBy objects db → read_by size objects pages ≡ db
+  held_first db held listed =
+      let own = map wanted_of objects in
+      let same = sized held.size (record { valid = held.valid; pages = held.pages; found = held.found; sound = held.ours.file.sound }) in
       let theirs = held.reads ∙ ap (λ n. cut_trees held.count (file_trees n held.wanted held.pages)) same in
       let first : filter (is_first held.count) (listed_from 0 held.wanted) ≡ listed_from 0 own =
-      ap (filter (is_first held.count)) (sym (catalog_rows r.size held.wanted _)) ∙ sym (ap (λ (t : Trees). t catalog_tree) theirs) ∙ listed in
-      ap (read_by r.size objects) (recovers_once r.size image _ held.pages r.found again) ∙ sym (theirs ∙ first_reading r.size held.count held.few held.wanted own held.pages first)
+      ap (filter (is_first held.count)) (sym (catalog_rows size held.wanted _)) ∙ sym (ap (λ (t : Trees). t catalog_tree) theirs) ∙ listed in
+      once held.pages held.size same held.found ∙ sym (theirs ∙ first_reading size held.count held.few held.wanted own held.pages first)
 
+module _ {D : Type 0} {g : Ghosts D} (files : Files D) (objects : List Object) (few : length objects < 65536) (it : FileStore D g) (r : IsReadBeside files objects it) where
   pub finds_first : (s : State) → s.committed.trees ≡ cut_trees (length objects) (view it).trees → FindsFirst g files objects s
   finds_first s shown =
       let reads : s.committed.trees ≡ read_by r.size objects (state it).committed =
@@ -68,7 +81,8 @@ module _ {D : Type 0} {g : Ghosts D} (files : Files D) (objects : List Object) (
         beside = r.beside;
         ours = r.ours;
         reads = reads;
-        holds = λ db held listed. reads ∙ held_first db held listed;
+        holds = λ db held listed. reads ∙ held_by_list (image_of g files) objects r.size (state it).committed r.plain r.found r.sized db held listed;
+        holds_first = λ db held listed. reads ∙ held_first (image_of g files) objects r.size (state it).committed r.plain r.found r.sized db held listed;
       }
 
 module _ {D : Type 0} {g : Ghosts D} (it : FileStore D g) (count : ℕ) (few : count < 65536) (sound : AreDatabases (may_leave_first it count)) where

@@ -3,15 +3,12 @@ use Rattle.std.specs.Prelude.{◌≡◌, ◌≢◌, ◌<◌, ◌%◌, ℕ, false
 use Rattle.sqlite_disk.specs.declared.Disk.{Ghosts}
 use Rattle.sqlite_disk.specs.declared.Files.{Files}
 use Rattle.sqlite_wal.specs.Files.{outcomes}
-use Rattle.sqlite_wal.specs.PageSize.{IsPageSize}
 use Rattle.sqlite_wal.specs.Reads.{AreClean}
 use Rattle.sqlite_wal.specs.Recovery.{Image}
 use Rattle.sqlite_pages.specs.PageMap.{PageMap}
-use Rattle.sqlite_pool.specs.Stored.{Adopts, Recovers, stored_size}
+use Rattle.sqlite_pool.specs.Stored.{Recovers}
 use Rattle.sqlite_trees.specs.Tree.{Trees}
 use Rattle.sqlite_trees.specs.declared.schema.Object.{Object}
-use Rattle.sqlite_schema.specs.declared.schema.Schema.{Schema}
-use Rattle.sqlite_catalog.specs.Listing.{IsSound}
 use Rattle.sqlite_store.specs.FileStore.{recovers, state, view}
 use Rattle.sqlite_store.specs.Listing.{file_trees, read_by, IsOurs}
 use Rattle.sqlite_store.specs.declared.catalog.Wanted.{Wanted}
@@ -23,24 +20,9 @@ use Rattle.sqlite.specs.Steps.{IsFresh}
 use Rattle.sqlite.specs.declared.file.Leftover.{Leftover}
 use Rattle.sqlite.specs.declared.file.Leftover.TheVariants as left
 use Rattle.cli_call.specs.Beside.{IsBeside}
-use Rattle.cli_call.specs.ByList.{HoldsPages, IsListedBy}
+use Rattle.cli_call.specs.ByList.{HoldsByList, HoldsFirst, HoldsPages, IsListedBy}
 use Rattle.cli_call.specs.Cut.{as_numbered, cut_trees}
 use Rattle.cli_call.specs.Spared.{SparesFiles}
-
--- The files recover to the pages of a sound file of some trees, in any order. By the list of these
--- trees its first ones are this database, which obeys its schema.
-pub record HoldsFirst (image : Image) (db : Trees) : Type 0 where
-  pub size : ℕ
-  pub valid : IsPageSize (stored_size size)
-  pub pages : PageMap
-  pub wanted : List Wanted
-  pub count : ℕ
-  pub few : count < 65536
-  pub schema : Schema
-  pub found : Adopts size image pages
-  pub ours : IsOurs size false wanted pages
-  pub reads : db ≡ cut_trees count (file_trees size wanted pages)
-  pub sound : IsSound schema db
 
 -- both files hold the database so, and so does the database file with no log
 pub record HoldsFirstAlone (image : Image) (db : Trees) : Type 0 where
@@ -59,7 +41,8 @@ pub record FindsFirst {D : Type 0} (g : Ghosts D) (files : Files D) (objects : L
   pub beside : IsBeside objects wanted
   pub ours : ∥ IsOurs size false wanted pages ∥₁
   pub reads : s.committed.trees ≡ read_by size objects pages
-  pub holds : (db : Trees) → HoldsFirst (image_of g files) db → IsListedBy objects db → s.committed.trees ≡ db
+  pub holds : (db : Trees) → HoldsByList (image_of g files) db → IsListedBy objects db → s.committed.trees ≡ db
+  pub holds_first : (db : Trees) → HoldsFirst (image_of g files) db → IsListedBy objects db → s.committed.trees ≡ db
 
 -- the last commit is in the database file, as the list of its trees reads the first of them now and
 -- after a crash

@@ -4,10 +4,11 @@ use Rattle.sqlite_pool.proofs.ResealLemmas.{adopts_of}
 use Rattle.sqlite_trees.proofs.Doubt.{clean_of as sure, no_doubt}
 use Rattle.sqlite_store.specs.Laws.{settled_at}
 use Rattle.sqlite_catalog.specs.Listing.{IsSound}
-use Rattle.sqlite_store.specs.FileStore.{view as shown}
-use Rattle.sqlite.specs.Files.{file_state, AreFound}
-use Rattle.cli_call.proofs.ByList.{found_by_list, in_any_order}
-use Rattle.cli_call.proofs.Once.{held_by_list}
+use Rattle.sqlite_store.specs.FileStore.{state as store_state, view as shown}
+use Rattle.sqlite.specs.Files.{file_state, image_of, AreFound}
+use Rattle.cli_call.proofs.ByList.{in_any_order}
+use Rattle.cli_call.proofs.First.{held_by_list, held_first}
+use Rattle.cli_call.proofs.Once.{held_by_list as held_once}
 use Rattle.cli_call.proofs.file_opening.open_listed.Goals as goal
 
 pub over-requires : goal.over-requires
@@ -22,13 +23,15 @@ returns-in-Ok-clause-found g c now =
     let sound = subst (IsSound (file_state c.in-Ok.conn).committed.schema) trees (opens.1 opens.0.is_open).1 in
     record {
       honest = it.honest;
-      holds = λ db held. trees ∙ held_by_list c.args.files c.args.objects.now store _ it sound db held;
+      holds = λ db held. trees ∙ held_once c.args.files c.args.objects.now store _ it sound db held;
       reads = subst (AreFound g.D.Disk c.args.files) (sym trees) (inl (it.size, _, _, adopts_of it.size _ _ it.found, it.ours, it.reads));
     }
 
 pub returns-in-Ok-clause-by_list : goal.returns-in-Ok-clause-by_list
 returns-in-Ok-clause-by_list g c now =
     let store = c.in_ok-store.store in
+    let image = image_of g.D.Disk c.args.files in
+    let objects = c.args.objects.now in
     let it = c.in_ok-store.ensures.listed (sure (shown store).is_clean (omega (arith, c.in-Ok.ensures.clean))) in
     let opens = c.in-Ok.ensures.opens now in
     let trees = sym (ap (λ d. d.trees) opens.0.clean) ∙ c.in-Ok.ensures.trees now in
@@ -39,7 +42,8 @@ returns-in-Ok-clause-by_list g c now =
       found = it.found;
       ours = ∥∥₁_map it.ours (λ ours. in_any_order ours);
       reads = trees ∙ it.reads;
-      holds = λ db held listed. trees ∙ found_by_list c.args.files c.args.objects.now store it db held listed;
+      holds = λ db held listed. trees ∙ it.reads ∙ held_by_list image objects it.size (store_state store).committed it.plain it.found it.sized db held listed;
+      holds_first = λ db held listed. trees ∙ it.reads ∙ held_first image objects it.size (store_state store).committed it.plain it.found it.sized db held listed;
     }
 
 pub returns-in-Ok-clause-plain : goal.returns-in-Ok-clause-plain
