@@ -3,6 +3,7 @@
 #![tactic(auto)]
 
 mod closing;
+mod closing_beside;
 mod ended;
 mod file_beside;
 mod file_closing;
@@ -19,7 +20,8 @@ mod run;
 mod tree_list;
 mod version;
 
-pub use closing::{FileEnd, close_file, close_file_beside, run_file, run_file_beside};
+pub use closing::{FileEnd, close_file, run_file};
+pub use closing_beside::{close_file_beside, run_file_beside};
 pub use ended::{DeskFault, end};
 pub use file_beside::open_beside;
 pub use file_making::open_new;
