@@ -16,9 +16,9 @@ pub record Lists (rows : List Row) (layouts : List (Shape × ℕ)) (wanted : Lis
   pub paired : length layouts ≡ length wanted
   pub lists : joined rows layouts ≡ listed_from 0 wanted
 
--- the row names no table of a list, in any case of letters
+-- what is described is about no table of a list, in any case of letters
 abbrev pub is_apart : List Object → Row → Bool
-is_apart objects row = not (list_any (λ (o : Object). same_name o.table.now (bytes (column row 2))) objects)
+is_apart objects described = not (list_any (λ (o : Object). same_name o.table.now (bytes (column described 2))) objects)
 
 -- each of these trees is about another table than those of a list
 abbrev pub AreApart : List Object → List Wanted → Type 0
