@@ -1,6 +1,6 @@
 //! The file of a station.
 
-use cli_call::{DeskFault, FirstTrees, open_beside, open_listed, open_new, station_trees};
+use cli_call::{DeskFault, OLD_TREES, OwnTrees, open_beside, open_listed, open_new, station_trees};
 use cli_run::is_opening;
 use cli_words::Line;
 use sqlite::{Alter, Connection, Error, ErrorCode, File, FileStore, Options, Unknown};
@@ -25,9 +25,9 @@ const NOT_AS_INIT: &str =
 pub enum FileConnection {
     /// It shows all that the file has, in the order in which the file lists it.
     Whole(Connection<FileStore<File>>),
-    /// It shows the tables and indexes that `init` makes. The file lists them in another order, or
-    /// has trees of other programs beside them.
-    Beside(Connection<FirstTrees<FileStore<File>>>),
+    /// It shows the tables and indexes that `init` makes, or the first of them, and can make the
+    /// rest. The file lists them in another order, or has trees of other programs beside them.
+    Beside(Connection<OwnTrees<FileStore<File>>>),
 }
 
 /// Why a file isn't opened.
@@ -96,32 +96,46 @@ fn open_in_order(rt: &HostRuntime, path: &str) -> Option<Connection<FileStore<Fi
     Some(conn)
 }
 
-/// Opens a file that has the trees that `init` makes, in any order, and may have trees of other
-/// programs beside them.
+/// Opens a file that has the first `made` of the trees that `init` makes, in any order, and may
+/// have trees of other programs beside them.
 fn open_among_others(
     rt: &HostRuntime,
     path: &str,
-) -> Option<Connection<FirstTrees<FileStore<File>>>> {
+    made: usize,
+) -> Option<Connection<OwnTrees<FileStore<File>>>> {
     let options = options(rt).ok()?;
     let files = sqlite_std_file::open(rt, path, Unknown).ok()?;
-    let mut conn = open_beside(rt.alloc(), files, options, &station_trees()).ok()?;
+    let mut conn = open_beside(rt.alloc(), files, options, &station_trees(), made).ok()?;
     conn.set_clock(rt);
     Some(conn)
 }
 
-/// Opens a file that has a database: by the list of trees that `init` makes, in their order, and
-/// then in any order and beside others; and one whose tables are declared otherwise as the library
-/// opens any file, with two recoveries of its log.
-fn open(rt: &HostRuntime, path: &str) -> Result<FileConnection, FileFault> {
-    if !is_no_file(path) {
-        if let Some(conn) = open_in_order(rt, path) {
-            return Ok(FileConnection::Whole(conn));
-        }
-        if let Some(conn) = open_among_others(rt, path) {
-            return Ok(FileConnection::Beside(conn));
-        }
+/// Opens a file by the first `made` of the trees that `init` makes, in any order and beside others,
+/// and any other file as the library does, with two recoveries of its log.
+fn open_or_any(rt: &HostRuntime, path: &str, made: usize) -> Result<FileConnection, FileFault> {
+    match open_among_others(rt, path, made) {
+        Some(conn) => Ok(FileConnection::Beside(conn)),
+        None => Ok(FileConnection::Whole(open_any(rt, path)?)),
     }
-    Ok(FileConnection::Whole(open_any(rt, path)?))
+}
+
+/// Opens a file that has a database: by the list of trees that `init` makes, in their order, and
+/// then in any order and beside others, for `migrate` also by those of version 1; and one whose
+/// tables are declared otherwise as the library does.
+fn open(rt: &HostRuntime, path: &str, is_migration: bool) -> Result<FileConnection, FileFault> {
+    if is_no_file(path) {
+        return Ok(FileConnection::Whole(open_any(rt, path)?));
+    }
+    if let Some(conn) = open_in_order(rt, path) {
+        return Ok(FileConnection::Whole(conn));
+    }
+    if !is_migration {
+        return open_or_any(rt, path, station_trees().len());
+    }
+    match open_among_others(rt, path, station_trees().len()) {
+        Some(conn) => Ok(FileConnection::Beside(conn)),
+        None => open_or_any(rt, path, OLD_TREES),
+    }
 }
 
 /// Whether a file begins with a byte 0.
@@ -150,8 +164,8 @@ fn options(rt: &HostRuntime) -> Result<Options, FileFault> {
     }
 }
 
-/// Opens a file, or makes it where it is missing or empty. Whatever stops it, the file has no
-/// database or the whole one, and the next call goes on from there.
+/// Opens a file that a station is to be made in, or makes it where it is missing or empty. Whatever
+/// stops it, the file has no database or the whole one, and the next call goes on from there.
 pub fn make_file(rt: &HostRuntime, path: &str) -> Result<FileConnection, FileFault> {
     if is_no_file(path) {
         return Ok(FileConnection::Whole(open_any(rt, path)?));
@@ -167,17 +181,21 @@ pub fn make_file(rt: &HostRuntime, path: &str) -> Result<FileConnection, FileFau
             conn.set_clock(rt);
             Ok(FileConnection::Whole(conn))
         }
-        Ok(None) => Ok(FileConnection::Whole(open_any(rt, path)?)),
+        Ok(None) => open_or_any(rt, path, 0),
         Err((ErrorCode::OutOfMemory, _left)) => Err(FileFault::Memory),
         Err((code, _left)) => Err(FileFault::Store(code)),
     }
 }
 
 /// Opens a file that is there. A file that is missing or empty has no station, and stays as it is.
-pub fn open_file(rt: &HostRuntime, path: &str) -> Result<FileConnection, FileFault> {
+pub fn open_file(
+    rt: &HostRuntime,
+    path: &str,
+    is_migration: bool,
+) -> Result<FileConnection, FileFault> {
     match is_blank(rt, path) {
         Ok(true) => Err(FileFault::NoStation),
-        Ok(false) => open(rt, path),
+        Ok(false) => open(rt, path, is_migration),
         Err(_) => Err(FileFault::Store(ErrorCode::CannotOpen)),
     }
 }

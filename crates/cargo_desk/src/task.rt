@@ -3,10 +3,10 @@
 use crate::files::{FileConnection, make_file, open_file, tell_undeclared, tell_unopened};
 use crate::service::{Service, serve_keeper, serve_line};
 use cli_call::{
-    DeskFault, FileEnd, FirstTrees, close_file, close_file_beside, end, run_file, run_file_beside,
+    DeskFault, FileEnd, OwnTrees, close_file, close_file_beside, end, run_file, run_file_beside,
     run_gathered,
 };
-use cli_run::{Feed, Turns, airport_of_line, is_opening};
+use cli_run::{Feed, Turns, airport_of_line, is_migration, is_opening};
 use cli_words::Line;
 use map_state::MapState;
 use sqlite::{Connection, FileStore};
@@ -112,7 +112,7 @@ fn run_whole<D: Disk + Drop, R: Read + Drop>(
 fn run_beside<D: Disk + Drop, R: Read + Drop>(
     rt: &HostRuntime,
     line: &Line<'_>,
-    conn: Connection<FirstTrees<FileStore<D>>>,
+    conn: Connection<OwnTrees<FileStore<D>>>,
     task: Task<'_, R>,
 ) -> u8 {
     let alloc = rt.alloc();
@@ -141,7 +141,7 @@ fn run_in_file<R: Read + Drop>(
     let opened = if is_opening(line) {
         make_file(rt, path)
     } else {
-        open_file(rt, path)
+        open_file(rt, path, is_migration(line))
     };
     match opened {
         Ok(FileConnection::Whole(conn)) => run_whole(rt, line, conn, task),

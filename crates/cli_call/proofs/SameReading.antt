@@ -18,13 +18,13 @@ use Rattle.sqlite_store.specs.Listing.{all_reals, all_shapes, all_trees, file_tr
 use Rattle.sqlite_store.proofs.PadLemmas.{same_shown}
 
 -- the root of the first entry with these columns
-abbrev root_by : List Row → Value → Value → Value → Value → ℕ
+abbrev pub root_by : List Row → Value → Value → Value → Value → ℕ
 root_by [] kind name table sql = 0
 root_by (entry ∷ entries) kind name table sql =
     cond (same_value (column entry 1) kind && same_value (column entry 2) name && same_value (column entry 3) table && same_value (column entry 5) sql)
     (page_number (column entry 4)) (root_by entries kind name table sql)
 
-abbrev root_of_row : List Row → Row → ℕ
+abbrev pub root_of_row : List Row → Row → ℕ
 root_of_row entries r = root_by entries (column r 1) (column r 2) (column r 3) (column r 4)
 
 same_root : (w : Wanted) → is_present w.shape ≡ true → (entries : List Row) → root_in entries w ≡ root_by entries (column (w.row) 0) (column (w.row) 1) (column (w.row) 2) (column (w.row) 3)
@@ -66,14 +66,15 @@ module _ (size : ℕ) (pages : PageMap) where
   one_tree FrozenTable p q x y reals root = rw (root refl) (same_shown FrozenTable p q size pages y reals)
   one_tree (FrozenIndex o) p q x y reals root = rw (root refl) (same_shown (FrozenIndex o) p q size pages y reals)
 
-  -- where the lists have the same row for it
-  pub same_tree : (a b : List Wanted) (t : ℕ) → row_for (listed_from 0 a) t ≡ row_for (listed_from 0 b) t → shape_at a t ≡ shape_at b t
-      → reals_if_present (shape_at a t) (reals_at a t) ≡ reals_if_present (shape_at b t) (reals_at b t) → trees_in size a pages t ≡ trees_in size b pages t
+  -- where the lists have rows for them that describe the same tree
+  pub same_trees : (a b : List Wanted) (s t : ℕ)
+      → ((entries : List Row) → root_of_row entries (row_for (listed_from 0 a) s) ≡ root_of_row entries (row_for (listed_from 0 b) t)) → shape_at a s ≡ shape_at b t
+      → reals_if_present (shape_at a s) (reals_at a s) ≡ reals_if_present (shape_at b t) (reals_at b t) → trees_in size a pages s ≡ trees_in size b pages t
   unfolding trees_in roots_of
-  same_tree a b t listing shapes reals =
+  same_trees a b s t listing shapes reals =
       let entries = rows_at size pages Table 1 in
       let roots = λ (there : is_present (shape_at b t) ≡ true).
-      root_at entries 0 a t t (omega arith) (ap is_present shapes ∙ there) ∙ ap (root_of_row entries) listing ∙ sym (root_at entries 0 b t t (omega arith) there) in
+      root_at entries 0 a s s (omega arith) (ap is_present shapes ∙ there) ∙ listing entries ∙ sym (root_at entries 0 b t t (omega arith) there) in
       rw shapes (one_tree (shape_at b t) _ _ _ _ (rw shapes at reals) roots)
 
 pub same_reading : (size : ℕ) (a b : List Wanted) (pages : PageMap) → listed_from 0 a ≡ listed_from 0 b → file_trees size a pages ≡ file_trees size b pages
@@ -87,6 +88,6 @@ same_reading size a b pages listing = fun_ext (λ t. elim (cases_eq t version_tr
         let shapes : shape_at a t ≡ shape_at b t = rw (ne_eqb t version_tree apart, ne_eqb t catalog_tree other) at (ap (λ f. f t) same.0) in
         let reals : reals_if_present (shape_at a t) (reals_at a t) ≡ reals_if_present (shape_at b t) (reals_at b t) =
         rw (ne_eqb t version_tree apart, ne_eqb t catalog_tree other) at (ap (λ f. f t) same.1) in
-        rw (ne_eqb t version_tree apart, ne_eqb t catalog_tree other) (same_tree size (in_use size pages) a b t (ap (λ rows. row_for rows t) listing) shapes reals)
+        rw (ne_eqb t version_tree apart, ne_eqb t catalog_tree other) (same_trees size (in_use size pages) a b t t (λ entries. ap (λ rows. root_of_row entries (row_for rows t)) listing) shapes reals)
   ]
 ])

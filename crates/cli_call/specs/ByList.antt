@@ -1,5 +1,5 @@
 -- Files that a list of trees reads, in whatever order they list the trees.
-use Rattle.std.specs.Prelude.{◌≡◌, ◌<◌, ℕ, false, List, [], map, IsTrue}
+use Rattle.std.specs.Prelude.{◌≡◌, ◌<◌, ℕ, false, List, [], length, map, slice_index, IsTrue}
 use Rattle.sqlite_disk.specs.declared.Disk.{Ghosts}
 use Rattle.sqlite_disk.specs.declared.Files.{Files}
 use Rattle.sqlite_wal.specs.Files.{outcomes}
@@ -22,7 +22,7 @@ use Rattle.sqlite_store.specs.declared.store.FileStore.{FileStore}
 use Rattle.sqlite.specs.Files.{file_state, image_of}
 use Rattle.sqlite.specs.Held.{AreDatabases, Held}
 use Rattle.sqlite.specs.State.{HasCleanDisk}
-use Rattle.cli_call.specs.Cut.{cut_trees}
+use Rattle.cli_call.specs.Own.{own_trees}
 
 -- the files recover to the pages of a sound file, with pages of this size
 pub record HoldsPages (size : ℕ) (image : Image) : Type 0 where
@@ -45,18 +45,19 @@ pub record HoldsByList (image : Image) (db : Trees) : Type 0 where
   pub sound : IsSound schema db
 
 -- The files recover to the pages of a sound file of some trees, in any order. By the list of these
--- trees its first ones are this database, which obeys its schema.
-pub record HoldsFirst (image : Image) (db : Trees) : Type 0 where
+-- trees those with some numbers are this database, which obeys its schema.
+pub record HoldsOwn (image : Image) (db : Trees) : Type 0 where
   pub size : ℕ
   pub valid : IsPageSize (stored_size size)
   pub pages : PageMap
   pub wanted : List Wanted
-  pub count : ℕ
-  pub few : count < 65536
+  pub numbers : List ℕ
+  pub few : length numbers < 65536
+  pub low : (t : ℕ) → t < length numbers → slice_index numbers t < 65536
   pub schema : Schema
   pub found : Adopts size image pages
   pub ours : IsOurs size false wanted pages
-  pub reads : db ≡ cut_trees count (file_trees size wanted pages)
+  pub reads : db ≡ own_trees numbers (file_trees size wanted pages)
   pub sound : IsSound schema db
 
 -- the trees of a database are those of this list, in its order
@@ -69,8 +70,8 @@ pub record HoldsByListAlone (image : Image) (db : Trees) : Type 0 where
   pub alone : ∥ HoldsByList (record image { log = [] }) db ∥₁
 
 module _ {D : Type 0} {g : Ghosts D} where
-  -- The connection shows what the files hold, as a list of trees reads it, all of it or its first
-  -- trees.
+  -- The connection shows what the files hold, as a list of trees reads it, all of it or some of
+  -- its trees.
   pub record FindsByList (files : Files D) (objects : List Object) (c : Held (FileStore D g)) : Type 0 where
     pub honest : AreClean g files.log files.db
     pub size : ℕ
@@ -80,7 +81,7 @@ module _ {D : Type 0} {g : Ghosts D} where
     pub reads : (file_state c).committed.trees ≡ read_by size objects pages
     pub holds : (db : Trees) → HoldsByList (image_of g files) db → IsListedBy objects db
         → (file_state c).committed.trees ≡ db
-    pub holds_first : (db : Trees) → HoldsFirst (image_of g files) db → IsListedBy objects db
+    pub holds_own : (db : Trees) → HoldsOwn (image_of g files) db → IsListedBy objects db
         → (file_state c).committed.trees ≡ db
 
   -- whatever a crash leaves of the files holds a database that the store may leave

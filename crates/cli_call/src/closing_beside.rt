@@ -1,14 +1,14 @@
-//! A call over a file of which only the first trees are shown.
+//! A call over a file of which only the trees of a list are shown.
 ghost use Rattle.sqlite.specs.Held.{state};
 ghost use Rattle.cli_call.specs.Closed.{HasCalledFile, HasClosed};
-ghost use Rattle.cli_call.specs.First.{IsCopiedFirst};
+ghost use Rattle.cli_call.specs.OwnFiles.{IsCopiedOwn};
 ghost use Rattle.station_core.specs.Keeping.{keeping};
 ghost use Rattle.cli_run.specs.Ends.{ends, reached};
 
 use crate::closing::FileEnd;
 use crate::ended::{DeskFault, end};
 use crate::file_closing::close_beside;
-use crate::first_trees::FirstTrees;
+use crate::own_trees::OwnTrees;
 use crate::run::run_line;
 use cli_run::Inputs;
 use cli_words::Line;
@@ -23,14 +23,14 @@ use std::alloc::Global;
 use std::io::Read;
 use stock_list::RunFault;
 
-/// As `close_file`, of a file of which only the first trees are shown.
+/// As `close_file`, of a file of which only the trees of a list are shown.
 pub fn close_file_beside<D: Disk + Drop, E: ByteOut>(
-    conn: Connection<FirstTrees<FileStore<D>>>,
+    conn: Connection<OwnTrees<FileStore<D>>>,
     status: u8,
     errors: &mut E,
 ) -> (u8, Option<Files<D>>)
     ensures { HasClosed D.Disk
-        (IsCopiedFirst D.Disk (state ⟦<FirstTrees<FileStore<D>> as Store>⟧ conn)) E.taken
+        (IsCopiedOwn D.Disk (state ⟦<OwnTrees<FileStore<D>> as Store>⟧ conn)) E.taken
         (status, errors.old) (result.0, errors.new) result.1 }
 {
     if status > 1 {
@@ -45,24 +45,24 @@ pub fn close_file_beside<D: Disk + Drop, E: ByteOut>(
     }
 }
 
-/// As `run_file`, over a file of which only the first trees are shown.
+/// As `run_file`, over a file of which only the trees of a list are shown.
 pub fn run_file_beside<D: Disk + Drop, I: Inputs + Read, W: ByteOut, E: ByteOut>(
     alloc: Global,
     line: &Line<'_>,
-    conn: Connection<FirstTrees<FileStore<D>>>,
+    conn: Connection<OwnTrees<FileStore<D>>>,
     reader: &mut I,
     output: &mut W,
     errors: &mut E,
     at: Moment,
 ) -> FileEnd<D>
     ensures { HasCalledFile (λ ran. HasClosed D.Disk
-        (IsCopiedFirst D.Disk (state ⟦<FirstTrees<FileStore<D>> as Store>⟧ ran)) E.taken) line.now
-        (keeping ⟦<Station<FirstTrees<FileStore<D>>> as Keeper>⟧.keeps
-        ⟦<Station<FirstTrees<FileStore<D>>> as Keeper>⟧.is_clean
-        ⟦<Station<FirstTrees<FileStore<D>>> as Keeper>⟧.is_sound
-        ⟦<Station<FirstTrees<FileStore<D>>> as Keeper>⟧.is_broken
-        ⟦<Station<FirstTrees<FileStore<D>>> as Keeper>⟧.may_find
-        ⟦<Station<FirstTrees<FileStore<D>>> as Keeper>⟧.may_fail)
+        (IsCopiedOwn D.Disk (state ⟦<OwnTrees<FileStore<D>> as Store>⟧ ran)) E.taken) line.now
+        (keeping ⟦<Station<OwnTrees<FileStore<D>>> as Keeper>⟧.keeps
+        ⟦<Station<OwnTrees<FileStore<D>>> as Keeper>⟧.is_clean
+        ⟦<Station<OwnTrees<FileStore<D>>> as Keeper>⟧.is_sound
+        ⟦<Station<OwnTrees<FileStore<D>>> as Keeper>⟧.is_broken
+        ⟦<Station<OwnTrees<FileStore<D>>> as Keeper>⟧.may_find
+        ⟦<Station<OwnTrees<FileStore<D>>> as Keeper>⟧.may_fail)
         (ends I.remaining I.given I.turned W.taken E.taken) at conn
         (reached reader.old output.old errors.old, reached reader.new output.new errors.new)
         result }

@@ -4,9 +4,9 @@ ghost use Rattle.sqlite.specs.Closing.{IsCopied};
 ghost use Rattle.sqlite.specs.Held.{state};
 ghost use Rattle.sqlite_wal.specs.Reads.{AreClean};
 ghost use Rattle.cli_call.specs.ByList.{IsCopiedByList};
-ghost use Rattle.cli_call.specs.First.{IsCopiedFirst};
+ghost use Rattle.cli_call.specs.OwnFiles.{IsCopiedOwn};
 
-use crate::first_trees::FirstTrees;
+use crate::own_trees::OwnTrees;
 use sqlite::{Connection, FileStore};
 use sqlite_disk::{Disk, Files};
 use sqlite_trees::store::Store;
@@ -28,12 +28,12 @@ pub(crate) fn close_files<D: Disk + Drop>(
     }
 }
 
-/// As `close_files`, of a connection to the first trees of its files.
+/// As `close_files`, of a connection to some trees of its files.
 pub(crate) fn close_beside<D: Disk + Drop>(
-    conn: Connection<FirstTrees<FileStore<D>>>,
+    conn: Connection<OwnTrees<FileStore<D>>>,
 ) -> Result<Files<D>, FileStore<D>>
     ensures { IfOk result (λ files. AreClean D.Disk files.log files.db
-        → IsCopiedFirst D.Disk (state ⟦<FirstTrees<FileStore<D>> as Store>⟧ conn) files) }
+        → IsCopiedOwn D.Disk (state ⟦<OwnTrees<FileStore<D>> as Store>⟧ conn) files) }
 {
     let mut store = conn.into_store().into_inner();
     // Again, for what only this store's rollback says of the log.

@@ -8,6 +8,9 @@ use station_schema::declarations::{
     STOCK, TRAIL, WAYBILL, WAYBILL2,
 };
 
+/// How many of the trees a file of version 1 has: the first ones.
+pub const OLD_TREES: usize = 22;
+
 /// A table by its text.
 fn table(name: &'static str, sql: &'static str) -> Object<'static> {
     Object {

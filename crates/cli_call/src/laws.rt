@@ -1,9 +1,9 @@
-//! Laws of stores in files whose trees are read by a list, or of which the first are shown.
+//! Laws of stores in files whose trees are read by a list, or of which some are shown.
 ghost use Rattle.station_schema.specs.Own.{LiesInOrder};
 ghost use Rattle.cli_call.specs.ByList.{LeaveByList};
-ghost use Rattle.cli_call.specs.First.{LeaveFirst};
+ghost use Rattle.cli_call.specs.OwnFiles.{LeaveOwn};
 
-use crate::first_trees::FirstTrees;
+use crate::own_trees::OwnTrees;
 use sqlite::FileStore;
 use sqlite_disk::Disk;
 use sqlite_trees::store::Store;
@@ -16,15 +16,15 @@ pub fn files_leave_by_list<D: Disk>()
 {}
 
 /// The law that whatever a crash leaves of the files of a store holds, as the list of their trees
-/// reads the first of them, a database that the store may leave so.
-pub fn files_leave_first<D: Disk>()
-    ensures { LeaveFirst D.Disk }
+/// reads those with some numbers, a database that the store may leave so.
+pub fn files_leave_own<D: Disk>()
+    ensures { LeaveOwn D.Disk }
 {}
 
-/// The law that the rows of tables in files lie in order, on every disk, if only the first trees
-/// are shown.
-pub fn first_files_lie_in_order<D: Disk>()
-    ensures { LiesInOrder ⟦<FirstTrees<FileStore<D>> as Store>⟧ }
+/// The law that the rows of tables in files lie in order, on every disk, if only some trees are
+/// shown.
+pub fn own_files_lie_in_order<D: Disk>()
+    ensures { LiesInOrder ⟦<OwnTrees<FileStore<D>> as Store>⟧ }
 {
     files_lie_in_order::<D>();
 }

@@ -1,18 +1,15 @@
-//! Lists of trees, those of other programs behind those that are asked for.
-ghost use Rattle.std.specs.Prelude.{◌≡◌, ◌≢◌, ◌+◌, ◌<◌, pos, length, map, not, true, ◌++◌, [], ◌∷◌, IsTrue, IfOk, IfSome, OnOk};
-ghost use Rattle.sqlite_value.specs.declared.value.Value.TheVariants.{Int};
+//! Lists of trees: those that are asked for, and those of other programs.
+ghost use Rattle.std.specs.Prelude.{◌≡◌, ◌+◌, pos, ◌∷◌, [], find, option_copied, IsTrue};
 ghost use Rattle.sqlite_value.specs.Order.{column};
-ghost use Rattle.sqlite_store.specs.Catalog.{wanted_of, is_present, text_or_null};
 ghost use Rattle.sqlite_value.specs.Value.{owned};
-ghost use Rattle.sqlite_trees.specs.Sound.{same_name};
-ghost use Rattle.std.specs.List.{list_any};
-ghost use Rattle.cli_call.specs.Beside.{is_apart, AreBeside, Lists};
+ghost use Rattle.sqlite_trees.specs.Tree.{has_rowid};
+ghost use Rattle.sqlite_store.specs.Catalog.{is_present, text_or_null, wanted_of};
 
 use sqlite_trees::schema::Object;
-use sqlite_trees::sound::{bytes_of, is_text_only, is_word, same_name};
+use sqlite_trees::sound::{is_text_only, is_word};
 use sqlite_trees::store::Shape;
 use sqlite_value::keys::Order;
-use sqlite_value::order::is_same;
+use sqlite_value::order::{compare, is_same};
 use sqlite_value::row::Row;
 use sqlite_value::value::ValueRef;
 use std::alloc::{AllocError, Global};
@@ -24,62 +21,18 @@ pub(crate) struct TreeList {
     pub(crate) layouts: Vec<(Shape, u64)>,
 }
 
-/// The row of a tree with this number, and type, name, table and text.
-fn numbered(alloc: Global, tree: usize, described: &Row) -> Result<Row, AllocError>
-    requires { tree < 65536 }
-    ensures { IfOk result (λ row. row ≡ Int (pos (tree + 1)) ∷ column described.now 0
-        ∷ column described.now 1 ∷ column described.now 2 ∷ column described.now 3 ∷ []) }
-{
-    let mut row = Row::new(alloc);
-    row.push(ValueRef::Int(tree as i64 + 1))?;
-    row.push(described.get(0))?;
-    row.push(described.get(1))?;
-    row.push(described.get(2))?;
-    row.push(described.get(3))?;
-    Ok(row)
-}
-
-/// Lists one more tree, unless the list is full.
-fn add(
-    list: &mut TreeList,
-    alloc: Global,
-    described: &Row,
-    shape: Shape,
-    reals: u64,
-) -> Result<bool, AllocError>
-    requires { is_present shape ≡ true }
-    ensures { IfOk result (λ added. IsTrue added → (them : _)
-        → Lists list.old.rows.items list.old.layouts.items them
-        → Lists list.new.rows.items list.new.layouts.items
-        (them ++ record { shape = shape; reals = reals; row = described.now } ∷ [])) }
-{
-    let tree = list.rows.len();
-    if tree >= 65536 {
-        return Ok(false);
-    }
-    let row = numbered(alloc, tree, described)?;
-    list.rows.push(row)?;
-    list.layouts.push((shape, reals))?;
-    Ok(true)
+/// The list of all trees of files, and the numbers of those that are asked for.
+#[derive(Drop)]
+pub(crate) struct AllTrees {
+    pub(crate) list: TreeList,
+    pub(crate) numbers: Vec<u32>,
 }
 
 /// Whether a number with this shape names a tree.
-fn is_present(shape: Shape) -> bool
+pub(crate) fn is_present(shape: Shape) -> bool
     ensures { result ≡ is_present shape }
 {
     !matches!(shape, Shape::Absent)
-}
-
-/// Type, name, table and text of a tree that is asked for.
-fn described(alloc: Global, object: &Object<'_>) -> Result<Row, AllocError>
-    ensures { IfOk result (λ row. row ≡ (wanted_of object.now).row) }
-{
-    let mut row = Row::new(alloc);
-    row.push(ValueRef::Text(object.kind.as_bytes()))?;
-    row.push(ValueRef::Text(object.name.as_bytes()))?;
-    row.push(ValueRef::Text(object.table.as_bytes()))?;
-    row.push(text_or_null(object.sql))?;
-    Ok(row)
 }
 
 /// The text of a tree, or NULL.
@@ -92,67 +45,89 @@ fn text_or_null(sql: Option<&str>) -> ValueRef<'_>
     }
 }
 
-/// Type, name, table and text of a row of sqlite_schema.
-fn without_root(alloc: Global, entry: &Row) -> Result<Row, AllocError> {
+/// Whether a row has type, name, table and text of a tree that is asked for.
+pub(crate) fn is_object(object: &Object<'_>, row: &Row) -> bool
+    ensures { IsTrue result → column row.now 1 ∷ column row.now 2 ∷ column row.now 3
+        ∷ column row.now 4 ∷ [] ≡ (wanted_of object.now).row }
+{
+    is_same(row.get(1), ValueRef::Text(object.kind.as_bytes()))
+        && is_same(row.get(2), ValueRef::Text(object.name.as_bytes()))
+        && is_same(row.get(3), ValueRef::Text(object.table.as_bytes()))
+        && is_same(row.get(4), text_or_null(object.sql))
+}
+
+/// Whether a row lists the tree with this number.
+pub(crate) fn has_number(row: &Row, number: u32) -> bool
+    ensures { result ≡ has_rowid (pos (number + 1)) row.now }
+{
+    compare(row.get(0), ValueRef::Int(i64::from(number) + 1)).is_eq()
+}
+
+/// The row that lists the tree with this number.
+pub(crate) fn row_of(rows: &[Row], number: u32) -> Option<&Row>
+    ensures { option_copied result ≡ find (has_rowid (pos (number + 1))) rows.now }
+{
+    rows.iter().find(|row| has_number(row, number))
+}
+
+/// The number of the tree that a row lists.
+fn number_of(row: &Row) -> Option<u32> {
+    match row.get(0) {
+        ValueRef::Int(id) if 1 <= id && id <= 65536 => Some((id - 1) as u32),
+        _ => None,
+    }
+}
+
+/// The rowid of the tree at a place of a list.
+fn id_at(place: usize) -> i64 {
+    i64::try_from(place).map_or(i64::MAX, |at| at.saturating_add(1))
+}
+
+/// The row of a tree with this rowid, and type, name, table and text.
+fn described(
+    alloc: Global,
+    id: i64,
+    kind: ValueRef<'_>,
+    name: ValueRef<'_>,
+    table: ValueRef<'_>,
+    sql: ValueRef<'_>,
+) -> Result<Row, AllocError> {
     let mut row = Row::new(alloc);
-    row.push(entry.get(1))?;
-    row.push(entry.get(2))?;
-    row.push(entry.get(3))?;
-    row.push(entry.get(5))?;
+    row.push(ValueRef::Int(id))?;
+    row.push(kind)?;
+    row.push(name)?;
+    row.push(table)?;
+    row.push(sql)?;
     Ok(row)
 }
 
-/// The list of the trees that are asked for, if all of them are trees.
-fn own_trees(alloc: Global, objects: &[Object<'_>]) -> Result<Option<TreeList>, AllocError>
-    ensures { IfOk result (λ found. IfSome found (λ list.
-        Lists list.rows.items list.layouts.items (map wanted_of objects.now))) }
-{
-    let mut list = TreeList {
-        rows: Vec::new(alloc),
-        layouts: Vec::new(alloc),
-    };
-    for object in objects {
-        let row = described(alloc, object)?;
-        if !is_present(object.shape) {
-            return Ok(None);
-        }
-        if !add(&mut list, alloc, &row, object.shape, object.reals)? {
-            return Ok(None);
-        }
-    }
-    Ok(Some(list))
+/// The row of a tree that is asked for.
+fn row_for(alloc: Global, id: i64, object: &Object<'_>) -> Result<Row, AllocError> {
+    described(
+        alloc,
+        id,
+        ValueRef::Text(object.kind.as_bytes()),
+        ValueRef::Text(object.name.as_bytes()),
+        ValueRef::Text(object.table.as_bytes()),
+        text_or_null(object.sql),
+    )
 }
 
-/// Whether a tree is one of those that are asked for.
-fn is_own(objects: &[Object<'_>], row: &Row) -> bool {
-    objects.iter().any(|o| {
-        is_same(row.get(0), ValueRef::Text(o.kind.as_bytes()))
-            && is_same(row.get(1), ValueRef::Text(o.name.as_bytes()))
-            && is_same(row.get(2), ValueRef::Text(o.table.as_bytes()))
-            && is_same(row.get(3), text_or_null(o.sql))
-    })
-}
-
-/// Whether one of the trees that are asked for is about a table, in any case of letters.
-fn has_table(objects: &[Object<'_>], table: &[u8]) -> bool
-    ensures { result ≡ list_any (λ o. same_name o.table.now table.now) objects.now }
-{
-    objects.iter().any(|o| same_name(o.table.as_bytes(), table))
-}
-
-/// Whether a tree is about another table than those that are asked for, in any case of letters: a
-/// write to one of these would leave it behind.
-fn is_apart(objects: &[Object<'_>], row: &Row) -> bool
-    ensures { result ≡ is_apart objects.now row.now }
-{
-    !has_table(objects, bytes_of(row.get(2)))
+/// A row of sqlite_schema without its root.
+fn without_root(alloc: Global, id: i64, entry: &Row) -> Result<Row, AllocError> {
+    described(
+        alloc,
+        id,
+        entry.get(1),
+        entry.get(2),
+        entry.get(3),
+        entry.get(5),
+    )
 }
 
 /// The shape by which a tree of another program is listed. It is only read, and what has no pages
 /// and no text that is all of it, as a virtual table, isn't listed.
-fn other_shape(entry: &Row, has_index_root: bool) -> Option<Shape>
-    ensures { IfSome result (λ shape. is_present shape ≡ true) }
-{
+fn other_shape(entry: &Row, has_index_root: bool) -> Option<Shape> {
     if is_text_only(entry.get(1)) {
         return Some(Shape::Pageless);
     }
@@ -165,52 +140,134 @@ fn other_shape(entry: &Row, has_index_root: bool) -> Option<Shape>
     Some(Shape::FrozenTable)
 }
 
-/// Lists the tree of a row of sqlite_schema behind those that are asked for, unless it is one of
-/// them. Returns false where it is about one of their tables.
-fn add_other(
-    list: &mut TreeList,
-    alloc: Global,
-    objects: &[Object<'_>],
-    entry: &Row,
-    has_index_root: bool,
-) -> Result<bool, AllocError>
-    ensures { IfOk result (λ fits. IsTrue fits
-        → AreBeside objects.now list.old.rows.items list.old.layouts.items
-        → AreBeside objects.now list.new.rows.items list.new.layouts.items) }
-{
-    let row = without_root(alloc, entry)?;
-    if is_own(objects, &row) {
-        return Ok(true);
+impl TreeList {
+    fn new(alloc: Global) -> TreeList {
+        TreeList {
+            rows: Vec::new(alloc),
+            layouts: Vec::new(alloc),
+        }
     }
-    let Some(shape) = other_shape(entry, has_index_root) else {
-        return Ok(true);
-    };
-    if !is_apart(objects, &row) {
-        return Ok(false);
+
+    fn add(&mut self, row: Row, shape: Shape, reals: u64) -> Result<(), AllocError> {
+        self.rows.push(row)?;
+        self.layouts.push((shape, reals))?;
+        Ok(())
     }
-    add(list, alloc, &row, shape, 0)
 }
 
 /// The list of the trees that are asked for and, behind them, of the others that sqlite_schema
-/// lists, by its rows and whether the root of each begins an index. There is none where another
-/// tree is about a table of theirs.
-pub(crate) fn all_trees(
+/// lists, by its rows and whether the root of each begins an index.
+fn list_own_first(
     alloc: Global,
     objects: &[Object<'_>],
     entries: &[Row],
     index_roots: &[bool],
-) -> Result<Option<TreeList>, AllocError>
-    ensures { IfOk result (λ found. IfSome found (λ list.
-        AreBeside objects.now list.rows.items list.layouts.items)) }
-{
-    let Some(mut list) = own_trees(alloc, objects)? else {
-        return Ok(None);
-    };
+) -> Result<TreeList, AllocError> {
+    let mut list = TreeList::new(alloc);
+    for (at, object) in objects.iter().enumerate() {
+        let row = row_for(alloc, id_at(at), object)?;
+        list.add(row, object.shape, object.reals)?;
+    }
     for (at, entry) in entries.iter().enumerate() {
+        let row = without_root(alloc, id_at(list.rows.len()), entry)?;
+        if objects.iter().any(|object| is_object(object, &row)) {
+            continue;
+        }
         let has_index_root = index_roots.get(at).copied().unwrap_or(false);
-        if !add_other(&mut list, alloc, objects, entry, has_index_root)? {
-            return Ok(None);
+        if let Some(shape) = other_shape(entry, has_index_root) {
+            list.add(row, shape, 0)?;
         }
     }
+    Ok(list)
+}
+
+/// How a tree is listed: as it is asked for, or as one of another program.
+fn layout_of(
+    objects: &[Object<'_>],
+    row: &Row,
+    entry: &Row,
+    has_index_root: bool,
+) -> Option<(Shape, u64)> {
+    match objects.iter().find(|object| is_object(object, row)) {
+        Some(object) => Some((object.shape, object.reals)),
+        None => Some((other_shape(entry, has_index_root)?, 0)),
+    }
+}
+
+/// The list of all trees that sqlite_schema lists, in its order and under its numbers. There is
+/// none if one of them has neither pages nor a text that is all of it.
+fn list_in_order(
+    alloc: Global,
+    objects: &[Object<'_>],
+    entries: &[Row],
+    index_roots: &[bool],
+) -> Result<Option<TreeList>, AllocError> {
+    let mut list = TreeList::new(alloc);
+    for (at, entry) in entries.iter().enumerate() {
+        let Some(number) = number_of(entry) else {
+            return Ok(None);
+        };
+        let row = without_root(alloc, i64::from(number) + 1, entry)?;
+        let has_index_root = index_roots.get(at).copied().unwrap_or(false);
+        let Some((shape, reals)) = layout_of(objects, &row, entry, has_index_root) else {
+            return Ok(None);
+        };
+        list.add(row, shape, reals)?;
+    }
     Ok(Some(list))
+}
+
+/// The numbers under which rows list the first of these trees, and free ones for the rest.
+fn numbers_of(
+    alloc: Global,
+    objects: &[Object<'_>],
+    made: usize,
+    rows: &[Row],
+) -> Result<Option<Vec<u32>>, AllocError> {
+    let mut numbers = Vec::new(alloc);
+    let mut free = rows
+        .iter()
+        .filter_map(number_of)
+        .max()
+        .map_or(0, |last| last.saturating_add(1));
+    for (at, object) in objects.iter().enumerate() {
+        if at >= made {
+            numbers.push(free)?;
+            free = free.saturating_add(1);
+            continue;
+        }
+        let Some(number) = rows
+            .iter()
+            .find(|row| is_object(object, row))
+            .and_then(number_of)
+        else {
+            return Ok(None);
+        };
+        numbers.push(number)?;
+    }
+    Ok(Some(numbers))
+}
+
+/// The list of all trees that sqlite_schema lists, by its rows and whether the root of each begins
+/// an index: in its order, if trees are to be made, and otherwise with those that are asked for
+/// first. There is none if one of the first `made` is missing.
+pub(crate) fn all_trees(
+    alloc: Global,
+    objects: &[Object<'_>],
+    made: usize,
+    entries: &[Row],
+    index_roots: &[bool],
+) -> Result<Option<AllTrees>, AllocError> {
+    let list = if made < objects.len() {
+        list_in_order(alloc, objects, entries, index_roots)?
+    } else {
+        Some(list_own_first(alloc, objects, entries, index_roots)?)
+    };
+    let Some(list) = list else {
+        return Ok(None);
+    };
+    match numbers_of(alloc, objects, made, list.rows.as_slice())? {
+        Some(numbers) => Ok(Some(AllTrees { list, numbers })),
+        None => Ok(None),
+    }
 }

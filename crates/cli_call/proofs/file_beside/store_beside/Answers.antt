@@ -23,9 +23,9 @@ use Rattle.cli_call.specs.ByList.{HoldsPages}
 use Rattle.cli_call.proofs.ByList.{in_any_order}
 use Rattle.cli_call.proofs.file_beside.store_beside.Goals as goal
 
-pub returns-in-Ok-open_all-clause-listed : goal.returns-in-Ok-open_all-clause-listed
-returns-in-Ok-open_all-clause-listed g c now =
-    let it = c.in-Ok-open_all.it in
+pub returns-in-Ok-open_all-clause-read : goal.returns-in-Ok-open_all-clause-read
+returns-in-Ok-open_all-clause-read g c now =
+    let it = c.in-Ok-open_all.found.0 in
     let e = c.in-Ok-open_all.ensures in
     let start = image_of g.D.Disk c.args.files in
     let fresh = c.in-Ok.unopened in
@@ -51,7 +51,6 @@ returns-in-Ok-open_all-clause-listed g c now =
       plain = λ h. omega (arith, chosen.aligned, h);
       found = subst₂ (λ n i. Recovers n i (state it).committed) made.size seen (e.found now);
       wanted = it.schema.items;
-      beside = e.listed;
       ours = ∥∥₁_map (it.stored (e.ready.is_open (no_doubt _ now))) (λ s. subst₂ (λ n x. IsOurs n false x (state it).committed) sized listing (in_any_order s.ours));
       reads = e.ready.clean
           ∙ cond-true _ (file_trees (state it).page_size (kept_schema it.saved it.schema.items) (state it).committed) no_trees now

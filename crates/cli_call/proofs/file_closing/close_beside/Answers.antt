@@ -1,4 +1,4 @@
-use Rattle.std.proofs.Common.{◌≡◌, ◌≤◌, length, ap, sym, subst, ◌∙◌, arith}
+use Rattle.std.proofs.Common.{◌≡◌, ◌≤◌, ap, sym, subst, ◌∙◌, arith}
 use Rattle.sqlite_wal.proofs.StateLemmas.{open_from}
 use Rattle.sqlite_wal.specs.Files.{outcomes}
 use Rattle.sqlite_wal.specs.Reads.{AreClean}
@@ -10,25 +10,25 @@ use Rattle.sqlite_trees.specs.View.{View, doubt, IsClean, IsRolledBack}
 use Rattle.sqlite_store.specs.declared.store.FileStore.{FileStore}
 use Rattle.sqlite_store.specs.FileStore.{state, view}
 use Rattle.sqlite.specs.Held.{AreDatabases}
-use Rattle.cli_call.specs.Cut.{cut, cut_trees}
-use Rattle.cli_call.specs.First.{may_leave_first, HoldsFirstAlone}
-use Rattle.cli_call.proofs.First.{copied_first}
+use Rattle.cli_call.specs.Own.{own_trees, own_view}
+use Rattle.cli_call.specs.OwnFiles.{may_leave_own, HoldsOwnAlone}
+use Rattle.cli_call.proofs.OwnFiles.{copied_own}
 use Rattle.cli_call.proofs.file_closing.close_beside.Goals as goal
 
 -- as the library closes its own connections
 pub returns-in-Ok : goal.returns-in-Ok
 returns-in-Ok g c honest =
     let from = c.args.conn.store in
-    let start = cut from.layouts.items (view from.store) in
+    let start = own_view from.numbers.items from.layouts.items from.before.items (view from.store) in
     let named = c.into_store.result in
-    let layouts = named.layouts.items in
-    let count = length layouts in
+    let numbers = named.numbers.items in
+    let shown = own_view numbers named.layouts.items named.before.items in
     let back = c.into_inner-store.result in
     let same = sym c.into_inner-store.ensures in
     let gave = c.into_store.ensures in
-    let undone = subst (λ (s : FileStore g.row.D.Denot g.D.Disk). IsRolledBack start (cut layouts (view s))) same gave.undone in
+    let undone = subst (λ (s : FileStore g.row.D.Denot g.D.Disk). IsRolledBack start (shown (view s))) same gave.undone in
     let falls = subst (λ (s : FileStore g.row.D.Denot g.D.Disk). doubt start.is_clean ≤ doubt (view s).is_clean) same gave.quiet.clean in
-    let databases = subst (λ (s : FileStore g.row.D.Denot g.D.Disk). IsClean (view s) → AreDatabases (may_leave_first s count)) same gave.sound in
+    let databases = subst (λ (s : FileStore g.row.D.Denot g.D.Disk). IsClean (view s) → AreDatabases (may_leave_own s numbers)) same gave.sound in
     let before = c.rollback.new.self in
     let last = c.checkpoint.new.self in
     let q = c.checkpoint.ensures.quiet in
@@ -41,15 +41,15 @@ returns-in-Ok g c honest =
     let second = c.rollback.ensures.undone.kept clean in
     let first = undone.kept early in
     let on = c.in-Ok.ensures.open none in
-    let committed : cut_trees count (view last).committed ≡ start.committed =
-    ap (cut_trees count) (ap (λ (v : View). v.committed) (c.checkpoint.ensures.same on) ∙ second.committed h) ∙ first.committed (second.was_open h) in
-    let sound = λ (db : Trees) (found : may_leave_first last count db).
+    let committed : own_trees numbers (view last).committed ≡ start.committed =
+    ap (own_trees numbers) (ap (λ (v : View). v.committed) (c.checkpoint.ensures.same on) ∙ second.committed h) ∙ first.committed (second.was_open h) in
+    let sound = λ (db : Trees) (found : may_leave_own last numbers db).
     databases early db (found.0, c.rollback.ensures.quiet.outcomes found.0 (q.outcomes found.0 found.1), found.2) in
     let empty = c.in-Ok.ensures.moved (c.rollback.ensures.logged (second.was_open h)) in
     let left = λ (image : Image) (may : outcomes g.D.Disk c.close.result.log c.close.result.db image).
     may_leave_is last.pool image sure_now (subst (λ p. outcomes g.D.Disk p.0 p.1 image) c.close.ensures may) in
     let each = λ (image : Image) (may : outcomes g.D.Disk c.close.result.log c.close.result.db image).
-    subst (HoldsFirstAlone image) committed (copied_first last count named.few sound stays on empty image (left image may)) in
+    subst (HoldsOwnAlone image) committed (copied_own last numbers named.few named.low sound stays on empty image (left image may)) in
     record {
       was_clean = omega (arith, falls, early);
       was_open = first.was_open (second.was_open h);

@@ -7,7 +7,7 @@ use Rattle.sqlite_catalog.specs.Listing.{IsSound}
 use Rattle.sqlite_store.specs.FileStore.{state as store_state, view as shown}
 use Rattle.sqlite.specs.Files.{file_state, image_of, AreFound}
 use Rattle.cli_call.proofs.ByList.{in_any_order}
-use Rattle.cli_call.proofs.First.{held_by_list, held_first}
+use Rattle.cli_call.proofs.OwnFiles.{held_by_list, held_own}
 use Rattle.cli_call.proofs.Once.{held_by_list as held_once}
 use Rattle.cli_call.proofs.file_opening.open_listed.Goals as goal
 
@@ -43,7 +43,7 @@ returns-in-Ok-clause-by_list g c now =
       ours = ∥∥₁_map it.ours (λ ours. in_any_order ours);
       reads = trees ∙ it.reads;
       holds = λ db held listed. trees ∙ it.reads ∙ held_by_list image objects it.size (store_state store).committed it.plain it.found it.sized db held listed;
-      holds_first = λ db held listed. trees ∙ it.reads ∙ held_first image objects it.size (store_state store).committed it.plain it.found it.sized db held listed;
+      holds_own = λ db held listed. trees ∙ it.reads ∙ held_own image objects it.size (store_state store).committed it.plain it.found it.sized db held listed;
     }
 
 pub returns-in-Ok-clause-plain : goal.returns-in-Ok-clause-plain
