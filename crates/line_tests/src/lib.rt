@@ -1,18 +1,20 @@
 //! Calls of the program: what their words are read as, what they print, and how they end. Each is
 //! asked as a file of cases says.
 //!
-//! The station of `--db` is in memory, and is the same for all calls of a file of cases. The
-//! service of `--at` is a script of connections.
+//! The station of `--db` is in memory, or in two files in memory, and is the same for all calls of
+//! a file of cases. The service of `--at` is a script of connections.
 #![tactic(auto)]
 
 mod calls;
 mod client;
 mod clock;
 mod desk;
+mod files;
 mod samples;
 mod words;
 
 use desk::Desk;
+use files::FileBytes;
 use std::alloc::Global;
 use std::io;
 use test_kit::{Answers, go_through_file};
@@ -26,6 +28,7 @@ pub const FILES: &[&str] = &[
     "reasons",
     "many-inputs",
     "parts",
+    "files",
     "client",
 ];
 
@@ -35,6 +38,7 @@ struct FileAnswers<'a> {
     alloc: Global,
     file: &'a str,
     desk: Desk,
+    bytes: FileBytes,
 }
 
 impl Answers for FileAnswers<'_> {
@@ -48,6 +52,7 @@ impl Answers for FileAnswers<'_> {
                 asked,
                 text,
             ),
+            "files" => files::answer(self.alloc, &mut self.bytes, asked, text),
             "client" => client::answer(self.alloc, asked, text),
             _ => None,
         }
@@ -65,6 +70,7 @@ pub fn run_file(rt: &HostRuntime, file: &str) -> Result<bool, io::Error> {
         alloc: rt.alloc(),
         file,
         desk: Desk::new(),
+        bytes: FileBytes::new(rt.alloc()),
     };
     go_through_file(rt, "lines", file, &mut answers)
 }

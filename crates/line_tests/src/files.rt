@@ -1,0 +1,166 @@
+//! Calls over two files in memory, which are opened as the program opens a station's file.
+use crate::calls::{Parts, ended_said, now};
+use crate::words::{fault_said, words_of};
+use cli_call::{
+    FileEnd, OLD_TREES, OwnTrees, open_beside, open_listed, open_new, run_file, run_file_beside,
+    station_trees,
+};
+use cli_run::{Feed, Turns, is_migration, is_opening};
+use cli_words::{Line, parse_words};
+use sqlite::{Connection, FileStore, Files, Options};
+use sqlite_disk::{Disk, Memory};
+use sqlite_wal::PageSize;
+use station_core::Counted;
+use std::alloc::Global;
+use test_kit::{Narrow, say, shown};
+
+/// A log and a database file.
+#[derive(Drop)]
+pub struct FileBytes {
+    log: Vec<u8>,
+    db: Vec<u8>,
+}
+
+/// A connection to the files, with how they were opened.
+#[derive(Drop)]
+enum Opened {
+    Whole(Connection<FileStore<Memory>>, &'static str),
+    Beside(Connection<OwnTrees<FileStore<Memory>>>),
+}
+
+/// A file in memory that has these bytes.
+fn file_of(alloc: Global, bytes: &[u8]) -> Option<Memory> {
+    let mut file = Memory::new(alloc);
+    file.write_at(0, bytes).ok()?;
+    file.sync().ok()?;
+    Some(file)
+}
+
+impl FileBytes {
+    /// Files with nothing in them.
+    pub fn new(alloc: Global) -> FileBytes {
+        FileBytes {
+            log: Vec::new(alloc),
+            db: Vec::new(alloc),
+        }
+    }
+
+    /// The files, opened for one call.
+    fn files(&self, alloc: Global) -> Option<Files<Memory>> {
+        Some(Files {
+            log: file_of(alloc, self.log.as_slice())?,
+            db: file_of(alloc, self.db.as_slice())?,
+        })
+    }
+
+    /// Takes over what files have after a call.
+    fn take(&mut self, alloc: Global, files: &Files<Memory>) -> Option<()> {
+        self.log = files.log.bytes().to_vec(alloc).ok()?;
+        self.db = files.db.bytes().to_vec(alloc).ok()?;
+        Some(())
+    }
+
+    /// Opens the files as the library does.
+    fn open_any(&self, alloc: Global) -> Option<Connection<FileStore<Memory>>> {
+        Connection::open_files(alloc, self.files(alloc)?, Options::new(7)).ok()
+    }
+
+    /// Opens the files by the first `made` trees of a station, in any order, or as the library does.
+    fn open_or_any(&self, alloc: Global, made: usize) -> Option<Opened> {
+        let files = self.files(alloc)?;
+        match open_beside(alloc, files, Options::new(7), &station_trees(), made) {
+            Ok(conn) => Some(Opened::Beside(conn)),
+            Err(_) => Some(Opened::Whole(self.open_any(alloc)?, "library")),
+        }
+    }
+
+    /// Opens the files for a line.
+    fn open(&self, alloc: Global, line: &Line<'_>) -> Option<Opened> {
+        let (files, options) = (self.files(alloc)?, Options::new(7));
+        if is_opening(line) {
+            return match open_new(alloc, files, PageSize::new(1024)?, options) {
+                Ok(Some(conn)) => Some(Opened::Whole(conn, "new")),
+                Ok(None) => self.open_or_any(alloc, 0),
+                Err(_) => None,
+            };
+        }
+        match open_listed(alloc, files, options, &station_trees()) {
+            Ok(conn) => Some(Opened::Whole(conn, "in order")),
+            Err(_) if is_migration(line) => self.open_or_any(alloc, OLD_TREES),
+            Err(_) => self.open_or_any(alloc, station_trees().len()),
+        }
+    }
+}
+
+/// What comes of what is asked.
+pub fn answer(alloc: Global, bytes: &mut FileBytes, asked: &str, text: &[u8]) -> Option<String> {
+    match asked {
+        "new-files" => {
+            *bytes = FileBytes::new(alloc);
+            say(alloc, "made")
+        }
+        "sql" => statements(alloc, bytes, shown(text)),
+        "call" => call(alloc, bytes, shown(text)),
+        _ => None,
+    }
+}
+
+/// Does statements of SQL in the files, as another program does: how many rows the last one wrote.
+fn statements(alloc: Global, bytes: &mut FileBytes, text: &str) -> Option<String> {
+    let mut conn = bytes.open_any(alloc)?;
+    let mut rows = 0;
+    for statement in text.split("; ") {
+        rows = conn.execute(statement, &[]).ok()?;
+    }
+    let files = conn.close_files().ok()?;
+    bytes.take(alloc, &files)?;
+    format!(in alloc; "{rows}").ok()
+}
+
+/// A call over the files: its words stand on the first line, its input behind that. How the files
+/// were opened, the status, what was printed, and what was printed on standard error.
+fn call(alloc: Global, bytes: &mut FileBytes, text: &str) -> Option<String> {
+    let (first, input) = text.split_once('\n').unwrap_or((text, ""));
+    let words = words_of(alloc, first)?;
+    match parse_words(alloc, words.as_slice()) {
+        Ok(line) => run(alloc, bytes, &line, input),
+        Err(fault) => fault_said(alloc, &fault),
+    }
+}
+
+/// Runs a line over the files.
+fn run(alloc: Global, bytes: &mut FileBytes, line: &Line<'_>, input: &str) -> Option<String> {
+    let opened = bytes.open(alloc, line)?;
+    let turns = Turns::new();
+    let mut feed = Feed::new(Parts::new(input, false, &turns), &turns);
+    let mut output = Counted::new(Narrow::new(alloc, usize::MAX));
+    let mut errors = Counted::new(Vec::new(alloc));
+    let at = now()?;
+    let (how, end) = match opened {
+        Opened::Whole(conn, how) => {
+            let end = run_file(alloc, line, conn, &mut feed, &mut output, &mut errors, at);
+            (how, end)
+        }
+        Opened::Beside(conn) => {
+            let end = run_file_beside(alloc, line, conn, &mut feed, &mut output, &mut errors, at);
+            ("beside", end)
+        }
+    };
+    let FileEnd {
+        status,
+        is_declared,
+        files,
+    } = end;
+    if let Some(files) = files {
+        bytes.take(alloc, &files)?;
+    }
+    let (taken, told) = (output.into_inner().into_taken(), errors.into_inner());
+    let ended = ended_said(
+        alloc,
+        status,
+        shown(taken.as_slice()),
+        shown(told.as_slice()),
+    )?;
+    let declared = if is_declared { "as init" } else { "otherwise" };
+    format!(in alloc; "{how}, {declared}: {ended}").ok()
+}
