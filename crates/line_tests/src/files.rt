@@ -65,12 +65,20 @@ impl FileBytes {
         Connection::open_files(alloc, self.files(alloc)?, Options::new(7)).ok()
     }
 
-    /// Opens the files by the first `made` trees of a station, in any order, or as the library does.
-    fn open_or_any(&self, alloc: Global, made: usize) -> Option<Opened> {
+    /// Opens the files by the first `made` trees of a station, in any order, beside others.
+    fn open_beside(&self, alloc: Global, made: usize) -> Option<Opened> {
         let files = self.files(alloc)?;
         match open_beside(alloc, files, Options::new(7), &station_trees(), made) {
             Ok(conn) => Some(Opened::Beside(conn)),
-            Err(_) => Some(Opened::Whole(self.open_any(alloc)?, "library")),
+            Err(_) => None,
+        }
+    }
+
+    /// Opens the files in one of these ways, or as the library does.
+    fn opened_or_any(&self, alloc: Global, opened: Option<Opened>) -> Option<Opened> {
+        match opened {
+            Some(opened) => Some(opened),
+            None => Some(Opened::Whole(self.open_any(alloc)?, "library")),
         }
     }
 
@@ -80,15 +88,22 @@ impl FileBytes {
         if is_opening(line) {
             return match open_new(alloc, files, PageSize::new(1024)?, options) {
                 Ok(Some(conn)) => Some(Opened::Whole(conn, "new")),
-                Ok(None) => self.open_or_any(alloc, 0),
+                Ok(None) => self.opened_or_any(alloc, self.open_beside(alloc, 0)),
                 Err(_) => None,
             };
         }
-        match open_listed(alloc, files, options, &station_trees()) {
-            Ok(conn) => Some(Opened::Whole(conn, "in order")),
-            Err(_) if is_migration(line) => self.open_or_any(alloc, OLD_TREES),
-            Err(_) => self.open_or_any(alloc, station_trees().len()),
+        if let Ok(conn) = open_listed(alloc, files, options, &station_trees()) {
+            return Some(Opened::Whole(conn, "in order"));
         }
+        if let Some(opened) = self.open_beside(alloc, station_trees().len()) {
+            return Some(opened);
+        }
+        let older = if is_migration(line) {
+            self.open_beside(alloc, OLD_TREES)
+        } else {
+            None
+        };
+        self.opened_or_any(alloc, older)
     }
 }
 
