@@ -62,12 +62,19 @@ impl FileBytes {
 
     /// Opens the files as the library does.
     fn open_any(&self, alloc: Global) -> Option<Connection<FileStore<Memory>>> {
-        Connection::open_files(alloc, self.files(alloc)?, Options::new(7)).ok()
+        let files = self.files(alloc)?;
+        if !files.may_be_used() {
+            return None;
+        }
+        Connection::open_files(alloc, files, Options::new(7)).ok()
     }
 
     /// Opens the files by the first `made` trees of a station, in any order, beside others.
     fn open_beside(&self, alloc: Global, made: usize) -> Option<Opened> {
         let files = self.files(alloc)?;
+        if !files.may_be_used() {
+            return None;
+        }
         match open_beside(alloc, files, Options::new(7), &station_trees(), made) {
             Ok(conn) => Some(Opened::Beside(conn)),
             Err(_) => None,
@@ -85,6 +92,9 @@ impl FileBytes {
     /// Opens the files for a line.
     fn open(&self, alloc: Global, line: &Line<'_>) -> Option<Opened> {
         let (files, options) = (self.files(alloc)?, Options::new(7));
+        if !files.may_be_used() {
+            return None;
+        }
         if is_opening(line) {
             return match open_new(alloc, files, PageSize::new(1024)?, options) {
                 Ok(Some(conn)) => Some(Opened::Whole(conn, "new")),
