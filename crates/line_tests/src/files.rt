@@ -81,39 +81,57 @@ impl FileBytes {
         }
     }
 
-    /// Opens the files in one of these ways, or as the library does.
-    fn opened_or_any(&self, alloc: Global, opened: Option<Opened>) -> Option<Opened> {
-        match opened {
-            Some(opened) => Some(opened),
-            None => Some(Opened::Whole(self.open_any(alloc)?, "library")),
-        }
-    }
-
-    /// Opens the files for a line.
-    fn open(&self, alloc: Global, line: &Line<'_>) -> Option<Opened> {
-        let (files, options) = (self.files(alloc)?, Options::new(7));
+    /// Opens the files by the trees of a station, in their order.
+    fn open_in_order(&self, alloc: Global) -> Option<Opened> {
+        let files = self.files(alloc)?;
         if !files.may_be_used() {
             return None;
         }
-        if is_opening(line) {
-            return match open_new(alloc, files, PageSize::new(1024)?, options) {
-                Ok(Some(conn)) => Some(Opened::Whole(conn, "new")),
-                Ok(None) => self.opened_or_any(alloc, self.open_beside(alloc, 0)),
-                Err(_) => None,
-            };
+        match open_listed(alloc, files, Options::new(7), &station_trees()) {
+            Ok(conn) => Some(Opened::Whole(conn, "in order")),
+            Err(_) => None,
         }
-        if let Ok(conn) = open_listed(alloc, files, options, &station_trees()) {
-            return Some(Opened::Whole(conn, "in order"));
+    }
+
+    /// Opens the files in which a station is to be made.
+    fn begin(&self, alloc: Global) -> Option<Opened> {
+        let files = self.files(alloc)?;
+        if !files.may_be_used() {
+            return None;
+        }
+        match open_new(alloc, files, PageSize::new(1024)?, Options::new(7)) {
+            Ok(Some(conn)) => Some(Opened::Whole(conn, "new")),
+            Ok(None) => self.open_beside(alloc, 0),
+            Err(_) => None,
+        }
+    }
+
+    /// Opens the files of a station, for `migrate` also one of version 1.
+    fn open_by_list(&self, alloc: Global, is_migration: bool) -> Option<Opened> {
+        if let Some(opened) = self.open_in_order(alloc) {
+            return Some(opened);
         }
         if let Some(opened) = self.open_beside(alloc, station_trees().len()) {
             return Some(opened);
         }
-        let older = if is_migration(line) {
+        if is_migration {
             self.open_beside(alloc, OLD_TREES)
         } else {
             None
+        }
+    }
+
+    /// Opens the files for a line, by a list of their trees or as the library does.
+    fn open(&self, alloc: Global, line: &Line<'_>) -> Option<Opened> {
+        let opened = if is_opening(line) {
+            self.begin(alloc)
+        } else {
+            self.open_by_list(alloc, is_migration(line))
         };
-        self.opened_or_any(alloc, older)
+        match opened {
+            Some(opened) => Some(opened),
+            None => Some(Opened::Whole(self.open_any(alloc)?, "library")),
+        }
     }
 }
 
