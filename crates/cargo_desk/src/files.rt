@@ -1,10 +1,11 @@
 //! The file of a station.
 
-use cli_call::{DeskFault, OLD_TREES, OwnTrees, open_beside, open_listed, open_new, station_trees};
+use cli_call::DeskFault;
 use cli_run::is_opening;
 use cli_words::Line;
 use sqlite::{Alter, Connection, Error, ErrorCode, File, FileStore, Options, Unknown};
 use sqlite_wal::PageSize;
+use station_files::{OLD_TREES, OwnTrees, open_beside, open_listed, open_new, station_trees};
 use station_schema::has_station;
 use station_tables::AttachFault;
 use std::hash::{BuildHasher, RandomState};

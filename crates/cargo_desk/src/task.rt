@@ -3,8 +3,7 @@
 use crate::files::{FileConnection, make_file, open_file, tell_undeclared, tell_unopened};
 use crate::service::{Service, serve_keeper, serve_line};
 use cli_call::{
-    DeskFault, FileEnd, OwnTrees, close_file, close_file_beside, end, run_file, run_file_beside,
-    run_gathered,
+    DeskFault, FileEnd, close_file, close_file_beside, end, run_file, run_file_beside, run_gathered,
 };
 use cli_run::{Feed, Turns, airport_of_line, is_migration, is_opening};
 use cli_words::Line;
@@ -14,6 +13,7 @@ use sqlite_disk::Disk;
 use station_core::{Counted, Keeper};
 use station_days::Moment;
 use station_engine::StoredStation;
+use station_files::OwnTrees;
 use std::io::Read;
 use stock_list::RunFault;
 

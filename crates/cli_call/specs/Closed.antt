@@ -13,7 +13,7 @@ use Rattle.station_days.specs.Date.{LocalMinute}
 use Rattle.station_tables.specs.declared.station.Station.{Station}
 use Rattle.stock_list.specs.declared.answer.RunFault.TheVariants as run
 use Rattle.cli_words.specs.declared.line.Line.{Line}
-use Rattle.cli_call.specs.ByList.{IsCopiedByList}
+use Rattle.station_files.specs.ByList.{IsCopiedByList}
 use Rattle.cli_call.specs.declared.closing.FileEnd.{FileEnd}
 use Rattle.cli_call.specs.declared.ended.DeskFault.TheVariants as fault
 use Rattle.cli_call.specs.Ended.{HasTold}

@@ -1,15 +1,6 @@
-pub mod Begun
-pub mod Beside
-pub mod ByList
 pub mod Closed
 pub mod Ended
-pub mod Listed
 pub mod Migrated
 pub mod Opened
-pub mod Own
-pub mod OwnFiles
-pub mod OwnLaws
-pub mod OwnRows
 pub mod Ran
-pub mod Spared
 pub mod Version

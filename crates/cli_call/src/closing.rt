@@ -4,7 +4,6 @@ ghost use Rattle.station_core.specs.Keeping.{keeping};
 ghost use Rattle.cli_run.specs.Ends.{ends, reached};
 
 use crate::ended::{DeskFault, end};
-use crate::file_closing::close_files;
 use crate::run::run_line;
 use cli_run::Inputs;
 use cli_words::Line;
@@ -12,6 +11,7 @@ use sqlite::{Connection, FileStore};
 use sqlite_disk::{Disk, Files};
 use station_core::{ByteOut, Keeper};
 use station_days::Moment;
+use station_files::close_files;
 use station_schema::has_station;
 use station_tables::Station;
 use std::alloc::Global;

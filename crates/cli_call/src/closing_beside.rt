@@ -1,14 +1,12 @@
 //! A call over a file of which only the trees of a list are shown.
 ghost use Rattle.sqlite.specs.Held.{state};
 ghost use Rattle.cli_call.specs.Closed.{HasCalledFile, HasClosed};
-ghost use Rattle.cli_call.specs.OwnFiles.{IsCopiedOwn};
+ghost use Rattle.station_files.specs.OwnFiles.{IsCopiedOwn};
 ghost use Rattle.station_core.specs.Keeping.{keeping};
 ghost use Rattle.cli_run.specs.Ends.{ends, reached};
 
 use crate::closing::FileEnd;
 use crate::ended::{DeskFault, end};
-use crate::file_closing::close_beside;
-use crate::own_trees::OwnTrees;
 use crate::run::run_line;
 use cli_run::Inputs;
 use cli_words::Line;
@@ -17,6 +15,7 @@ use sqlite_disk::{Disk, Files};
 use sqlite_trees::store::Store;
 use station_core::{ByteOut, Keeper};
 use station_days::Moment;
+use station_files::{OwnTrees, close_beside};
 use station_schema::has_station;
 use station_tables::Station;
 use std::alloc::Global;

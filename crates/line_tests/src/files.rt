@@ -1,16 +1,14 @@
 //! Calls over two files in memory, which are opened as the program opens a station's file.
 use crate::calls::{Parts, ended_said, now};
 use crate::words::{fault_said, words_of};
-use cli_call::{
-    FileEnd, OLD_TREES, OwnTrees, open_beside, open_listed, open_new, run_file, run_file_beside,
-    station_trees,
-};
+use cli_call::{FileEnd, run_file, run_file_beside};
 use cli_run::{Feed, Turns, is_migration, is_opening};
 use cli_words::{Line, parse_words};
 use sqlite::{Connection, FileStore, Files, Options};
 use sqlite_disk::{Disk, Memory};
 use sqlite_wal::PageSize;
 use station_core::Counted;
+use station_files::{OLD_TREES, OwnTrees, open_beside, open_listed, open_new, station_trees};
 use std::alloc::Global;
 use test_kit::{Narrow, say, shown};
 

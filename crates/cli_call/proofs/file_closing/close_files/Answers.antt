@@ -1,5 +1,0 @@
-use Rattle.cli_call.proofs.ByList.{copied_by_list}
-use Rattle.cli_call.proofs.file_closing.close_files.Goals as goal
-
-pub returns-in-Ok-clause-by_list : goal.returns-in-Ok-clause-by_list
-returns-in-Ok-clause-by_list g c honest = copied_by_list c.args.conn c.in-Ok.files (c.in-Ok.ensures.copied honest)

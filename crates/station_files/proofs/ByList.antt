@@ -1,0 +1,93 @@
+-- What files hold by a list of their trees: found at an opening, and left by a crash and by a close.
+use Rattle.std.proofs.Common.{◌≡◌, ◌≤◌, false, Bool, ℕ, List, Some, Option, refl, sym, subst, inl, inr, arith}
+use Rattle.std.proofs.lemmas.Bool.{cases_eq}
+use Rattle.std.proofs.Math.Logic.{∥∥₁_elim, ∥∥₁_map}
+use Rattle.sqlite_disk.specs.declared.Disk.{Ghosts}
+use Rattle.sqlite_disk.specs.declared.Files.{Files}
+use Rattle.sqlite_wal.specs.Format.{be32}
+use Rattle.sqlite_wal.specs.PageSize.{bytes_of, size_in_file, Names}
+use Rattle.sqlite_wal.specs.Recovery.{Image, IsIgnored}
+use Rattle.sqlite_wal.specs.declared.page_size.PageSize.{PageSize}
+use Rattle.sqlite_pages.specs.PageMap.{PageMap}
+use Rattle.sqlite_pool.specs.Stored.{reserved, stored_size}
+use Rattle.sqlite_pool.proofs.ProbeLemmas.{size_by_log, size_by_file}
+use Rattle.sqlite_pool.proofs.ResealLemmas.{adopts_of}
+use Rattle.sqlite_pool.proofs.StateLemmas.{size_is_allowed}
+use Rattle.sqlite_trees.specs.Tree.{Trees}
+use Rattle.sqlite_store.specs.FileStore.{state, schema_in, reading, recovers}
+use Rattle.sqlite_store.specs.Listing.{IsOurs}
+use Rattle.sqlite_store.specs.declared.catalog.Wanted.{Wanted}
+use Rattle.sqlite_store.specs.declared.store.FileStore.{FileStore}
+use Rattle.sqlite.specs.Files.{HoldsDatabase}
+use Rattle.sqlite.specs.Closing.{HoldsAlone, IsCopied}
+use Rattle.sqlite.specs.Held.{AreDatabases, Held}
+use Rattle.station_files.specs.ByList.{HoldsByList, HoldsByListAlone, HoldsPages, IsCopiedByList, LeavesByList}
+
+pub in_any_order : {size : ℕ} {is_numbered : Bool} {wanted : List Wanted} {pages : PageMap} → IsOurs size is_numbered wanted pages → IsOurs size false wanted pages
+in_any_order ours = record { file = ours.file; numbered = λ never. absurd (cc) }
+
+pub pages_of : (image : Image) (db : Trees) (held : HoldsDatabase image db) → HoldsPages held.0 image
+pages_of image db held = record { valid = held.1; pages = held.2.pages; found = held.2.found; sound = held.2.ours.file.sound }
+
+-- the probe finds the size of files with sound pages
+module _ (image : Image) (found : Option PageSize) (by_log : ¬ IsIgnored image.log → Names found (be32 image.log 8)) (by_file : IsIgnored image.log → Names found (size_in_file image.db))
+    (n : ℕ) (held : HoldsPages n image) where
+  large : 504 ≤ n
+  large = let few : reserved n ≤ 8 = grind arith in omega (arith, held.valid.0)
+
+  names : ¬ (¬ Names found (stored_size n))
+  names never =
+      let read = λ (seen : ¬ IsIgnored image.log). never (subst (Names found) (size_by_log n image held.pages held.found seen) (by_log seen)) in
+      read (λ ignored. never (subst (Names found) (size_by_file n image held.pages held.found large held.sound ignored) (by_file ignored)))
+
+  pub probe_pages : (size : PageSize) → found ≡ Some size → stored_size n ≡ bytes_of size
+  probe_pages size is = elim (cases_eq (stored_size n) (bytes_of size)) [ inl same ↦ same | inr other ↦ absurd (names (λ named. other (sym (rw is at named.1)))) ]
+
+by_list_of : (image : Image) (db : Trees) → HoldsDatabase image db → HoldsByList image db
+by_list_of image db held = record {
+  size = held.0;
+  valid = held.1;
+  pages = held.2.pages;
+  wanted = held.2.wanted;
+  schema = held.2.schema;
+  found = held.2.found;
+  ours = in_any_order held.2.ours;
+  reads = held.2.reads;
+  sound = held.2.sound;
+}
+
+alone_by_list : (image : Image) (db : Trees) → HoldsAlone image db → HoldsByListAlone image db
+alone_by_list image db held = record { both = ∥∥₁_map held.both (λ h. by_list_of _ db h); alone = ∥∥₁_map held.alone (λ h. by_list_of _ db h) }
+
+module _ {D : Type 0} {g : Ghosts D} where
+  -- each image that a crash may leave holds one of the databases that the store allows
+  pub leaves : (it : FileStore D g) → AreDatabases (recovers it) → LeavesByList it
+  leaves it sound left may = ∥∥₁_elim it.safe squash₁ (λ all.
+      let found = all left may in
+      let db = reading it found.0 in
+      let allowed : recovers it db = (left, found.0, may, ∣ found.1 ∣₁, refl) in
+      let schema = sound db allowed in
+      ∥∥₁_elim (size_is_allowed it.pool) squash₁ (λ size. ∥∥₁_map found.2 (λ ours. let r : (x : Trees) × recovers it x × HoldsByList left x = (
+        db,
+        allowed,
+        record {
+          size = (state it).page_size;
+          valid = size;
+          pages = found.0;
+          wanted = schema_in it found.0;
+          schema = schema.0;
+          found = adopts_of _ left found.0 found.1;
+          ours = in_any_order ours;
+          reads = refl;
+          sound = schema.1;
+        },
+      ) in r)))
+
+  -- what the library reads of files that were closed, their list reads
+  pub copied_by_list : (c : Held (FileStore D g)) (files : Files D) → IsCopied c files → IsCopiedByList c files
+  copied_by_list c files copied = record {
+    was_clean = copied.was_clean;
+    was_open = copied.was_open;
+    seen = alone_by_list _ _ copied.seen;
+    left = λ image may. alone_by_list image _ (copied.left image may);
+  }

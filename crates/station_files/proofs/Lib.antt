@@ -1,0 +1,9 @@
+mod ByList
+mod Once
+mod Opened
+mod OwnFiles
+mod OwnListing
+mod OwnReading
+mod Owning
+mod SameReading
+mod Unstarted

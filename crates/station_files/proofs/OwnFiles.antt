@@ -1,0 +1,138 @@
+-- What files hold of the trees of a list: found at an opening, and left by a crash and by a close.
+use Rattle.std.proofs.Common.{◌≡◌, ◌≢◌, ◌<◌, ◌%◌, ℕ, List, length, map, get_or, take, refl, sym, ap, subst, ◌∙◌}
+use Rattle.sqlite_disk.specs.declared.Disk.{Ghosts}
+use Rattle.sqlite_disk.specs.declared.Files.{Files}
+use Rattle.std.proofs.Math.Logic.{∥∥₁_elim, ∥∥₁_map}
+use Rattle.sqlite_wal.specs.Recovery.{Image}
+use Rattle.sqlite_wal.proofs.LogLemmas.{SeenMayStay}
+use Rattle.sqlite_wal.proofs.StateLemmas.{clean_of}
+use Rattle.sqlite_pages.specs.PageMap.{PageMap}
+use Rattle.sqlite_pool.specs.Stored.{Adopts, Recovers}
+use Rattle.sqlite_pool.specs.StoredLaws.{recovers_once}
+use Rattle.sqlite_pool.proofs.ResealLemmas.{adopts_of, plain_adopts}
+use Rattle.sqlite_pool.proofs.StateLemmas.{size_is_allowed, settled, file_alone}
+use Rattle.sqlite_trees.specs.Objects.{catalog_tree}
+use Rattle.sqlite_trees.specs.Tree.{Trees}
+use Rattle.sqlite_trees.specs.declared.schema.Object.{Object}
+use Rattle.sqlite_store.specs.Catalog.{wanted_of}
+use Rattle.sqlite_store.specs.FileStore.{log_frames, reading, schema_in, state, view}
+use Rattle.sqlite_store.specs.Laws.{stays_at}
+use Rattle.sqlite_store.specs.Saved.{kept_schema}
+use Rattle.sqlite.specs.Held.{AreDatabases}
+use Rattle.std.proofs.Common.{IsTrue}
+use Rattle.sqlite_store.specs.Listed.{catalog_rows}
+use Rattle.sqlite_store.specs.Listing.{file_trees, listed_from, read_by}
+use Rattle.sqlite_store.specs.declared.store.FileStore.{FileStore}
+use Rattle.sqlite.specs.Files.{image_of}
+use Rattle.sqlite.specs.State.{State}
+use Rattle.station_files.specs.Beside.{AreBeside}
+use Rattle.station_files.specs.ByList.{HoldsByList, HoldsOwn, HoldsPages, IsListedBy}
+use Rattle.station_files.specs.Own.{own_trees, rows_from}
+use Rattle.station_files.specs.OwnFiles.{may_leave_own, FindsOwn, HoldsOwnAlone, IsReadByTheirs, LeavesOwn}
+use Rattle.station_files.proofs.ByList.{in_any_order}
+use Rattle.station_files.proofs.OwnReading.{own_reading}
+use Rattle.station_files.proofs.SameReading.{same_reading}
+
+-- what files with these pages hold by this list, all of it or some of its trees, is what the pages read as by it
+module _ (image : Image) (objects : List Object) (size : ℕ) (pages : PageMap) (plain : size % 16 ≢ 8) (found : Recovers size image pages)
+    (sized : (n : ℕ) → HoldsPages n image → n ≡ size) where
+  once : (held : PageMap) (n : ℕ) → n ≡ size → Adopts n image held → read_by size objects pages ≡ read_by size objects held
+  once held n same adopts = ap (read_by size objects) (recovers_once size image pages held found (plain_adopts size image held plain (subst (λ m. Adopts m image held) same adopts)))
+
+  pub held_by_list : (db : Trees) → HoldsByList image db → IsListedBy objects db → read_by size objects pages ≡ db
+  held_by_list db held listed =
+      let own = map wanted_of objects in
+      let same = sized held.size (record { valid = held.valid; pages = held.pages; found = held.found; sound = held.ours.file.sound }) in
+      let theirs = held.reads ∙ ap (λ n. file_trees n held.wanted held.pages) same in
+      let listing : listed_from 0 held.wanted ≡ listed_from 0 own = sym (catalog_rows size held.wanted _) ∙ sym (ap (λ (t : Trees). t catalog_tree) theirs) ∙ listed in
+      once held.pages held.size same held.found ∙ sym (theirs ∙ same_reading size held.wanted own held.pages listing)
+
+  pub held_own : (db : Trees) → HoldsOwn image db → IsListedBy objects db → read_by size objects pages ≡ db
+  held_own db held listed =
+      let own = map wanted_of objects in
+      let same = sized held.size (record { valid = held.valid; pages = held.pages; found = held.found; sound = held.ours.file.sound }) in
+      let theirs = held.reads ∙ ap (λ n. own_trees held.numbers (file_trees n held.wanted held.pages)) same in
+      let lists : rows_from 0 held.numbers (listed_from 0 held.wanted) ≡ listed_from 0 own =
+      ap (rows_from 0 held.numbers) (sym (catalog_rows size held.wanted _)) ∙ sym (ap (λ (t : Trees). t catalog_tree) theirs) ∙ listed in
+      once held.pages held.size same held.found ∙ sym (theirs ∙ own_reading size held.numbers held.few held.low held.wanted own held.pages lists)
+
+module _ {D : Type 0} {g : Ghosts D} (files : Files D) (objects : List Object) (made : ℕ) (it : FileStore D g) (r : IsReadByTheirs files it) (numbers : List ℕ) (few : length numbers < 65536)
+    (low : (t : ℕ) → t < length numbers → get_or numbers t 0 < 65536) (beside : AreBeside objects made numbers ((view it).trees catalog_tree)) where
+  in_file : AreBeside objects made numbers (listed_from 0 r.wanted)
+  in_file = subst (AreBeside objects made numbers) (ap (λ (t : Trees). t catalog_tree) r.reads ∙ catalog_rows r.size r.wanted _) beside
+
+  pub reads_own : own_trees numbers (view it).trees ≡ read_by r.size (take made objects) (state it).committed
+  reads_own = ap (own_trees numbers) r.reads ∙ own_reading r.size numbers few low r.wanted (map wanted_of (take made objects)) (state it).committed in_file.lists
+
+  pub finds_own : (s : State) → s.committed.trees ≡ own_trees numbers (view it).trees → FindsOwn g files objects made s
+  finds_own s shown =
+      let reads = shown ∙ reads_own in
+      let own = take made objects in
+      record {
+        honest = r.honest;
+        size = r.size;
+        pages = (state it).committed;
+        found = r.found;
+        wanted = r.wanted;
+        numbers = numbers;
+        beside = in_file;
+        ours = r.ours;
+        reads = reads;
+        holds = λ db held listed. reads ∙ held_by_list (image_of g files) own r.size (state it).committed r.plain r.found r.sized db held listed;
+        holds_own = λ db held listed. reads ∙ held_own (image_of g files) own r.size (state it).committed r.plain r.found r.sized db held listed;
+      }
+
+module _ {D : Type 0} {g : Ghosts D} (it : FileStore D g) (numbers : List ℕ) (few : length numbers < 65536) (low : (t : ℕ) → t < length numbers → get_or numbers t 0 < 65536)
+    (sound : AreDatabases (may_leave_own it numbers)) where
+  -- each image that a crash may leave holds one of the databases that the store allows
+  pub leaves_own : LeavesOwn it numbers
+  leaves_own left may = ∥∥₁_elim it.safe squash₁ (λ all.
+      let found = all left may in
+      let whole = reading it found.0 in
+      let db = own_trees numbers whole in
+      let allowed : may_leave_own it numbers db = (whole, (left, found.0, may, ∣ found.1 ∣₁, refl), refl) in
+      let schema = sound db allowed in
+      ∥∥₁_elim (size_is_allowed it.pool) squash₁ (λ size. ∥∥₁_map found.2 (λ ours. let r : (x : Trees) × may_leave_own it numbers x × HoldsOwn left x = (
+        db,
+        allowed,
+        record {
+          size = (state it).page_size;
+          valid = size;
+          pages = found.0;
+          wanted = schema_in it found.0;
+          numbers = numbers;
+          few = few;
+          low = low;
+          schema = schema.0;
+          found = adopts_of _ left found.0 found.1;
+          ours = in_any_order ours;
+          reads = refl;
+          sound = schema.1;
+        },
+      ) in r)))
+
+  module _ (stays : SeenMayStay g) (is_open : IsTrue (view it).is_open) where
+    holds_own : (left : Image) → Recovers (state it).page_size left (state it).committed → ∥ HoldsOwn left (own_trees numbers (view it).committed) ∥₁
+    holds_own left found =
+        let schema = sound _ ((view it).committed, stays_at it stays is_open, refl) in
+        ∥∥₁_elim (size_is_allowed it.pool) squash₁ (λ size. ∥∥₁_map (it.stored is_open) (λ stored. let r : HoldsOwn left (own_trees numbers (view it).committed) = record {
+          size = (state it).page_size;
+          valid = size;
+          pages = (state it).committed;
+          wanted = kept_schema it.saved it.schema.items;
+          numbers = numbers;
+          few = few;
+          low = low;
+          schema = schema.0;
+          found = adopts_of _ left _ found;
+          ours = in_any_order stored.ours;
+          reads = rw (clean_of (state it) is_open);
+          sound = schema.1;
+        } in r))
+
+    -- with an empty log, each image that a crash may leave has the last commit in the database file
+    pub copied_own : log_frames it ≡ 0 → (left : Image) → (state it).may_leave left → HoldsOwnAlone left (own_trees numbers (view it).committed)
+    copied_own empty left may = record {
+      both = holds_own left ((settled it.pool stays is_open).durable left may);
+      alone = holds_own _ (file_alone it.pool stays is_open empty left may);
+    }

@@ -1,0 +1,117 @@
+-- Rows that list the trees that are asked for, one place at a time.
+use Rattle.std.proofs.Common.{◌≡◌, ◌<◌, ◌-◌, ◌+◌, ℕ, ℤ, zero, suc, pos, Bool, true, false, cond, ◌&&◌, List, [], ◌∷◌, ◌++◌, length, map, take, find, get_or, slice_get, ltb, ltb-true, ltb-false, option_map, Option, None, Some, unwrap_or, refl, sym, ap, ap₂, ◌∙◌, inl, inr, arith}
+use Rattle.std.proofs.lemmas.Bool.{cases_Bool}
+use Rattle.std.specs.List.{list_all}
+use Rattle.sqlite_value.specs.declared.value.Value.TheVariants.{Int}
+use Rattle.sqlite_value.specs.Order.{Row, column}
+use Rattle.sqlite_trees.specs.Objects.{listing, number_in, shape_code, IsListed}
+use Rattle.sqlite_trees.specs.Tree.{has_rowid}
+use Rattle.sqlite_trees.specs.declared.schema.Object.{Object}
+use Rattle.sqlite_trees.specs.declared.store.Shape.{Shape}
+use Rattle.sqlite_trees.specs.declared.store.Shape.TheVariants.{Absent, Table, Index, Pageless, FrozenTable, FrozenIndex}
+use Rattle.sqlite_store.specs.Catalog.{is_present, wanted_of}
+use Rattle.sqlite_store.specs.Listing.{listed, listed_from}
+use Rattle.station_files.specs.Beside.{is_known}
+use Rattle.station_files.specs.Own.{rows_from, shown_row}
+
+-- the first five columns have the rowid
+pub find_taken : (id : ℤ) (rows : List Row) → find (has_rowid id) (map (take 5) rows) ≡ option_map (take 5) (find (has_rowid id) rows)
+find_taken id [] = refl
+find_taken id (r ∷ rows) = go r (find_taken id rows)
+  where
+    go : (r : Row) → find (has_rowid id) (map (take 5) rows) ≡ option_map (take 5) (find (has_rowid id) rows)
+        → find (has_rowid id) (map (take 5) (r ∷ rows)) ≡ option_map (take 5) (find (has_rowid id) (r ∷ rows))
+    go [] rest = elim (cases_Bool (has_rowid id [])) [ inl is ↦ rw is refl | inr other ↦ rw other rest ]
+    go (v ∷ r) rest = elim (cases_Bool (has_rowid id (v ∷ r))) [ inl is ↦ rw is refl | inr other ↦ rw other rest ]
+
+abbrev four : Row → Row
+four listed = column listed 1 ∷ column listed 2 ∷ column listed 3 ∷ column listed 4 ∷ []
+
+four_taken : (row : Row) → four (take 5 row) ≡ four row
+four_taken [] = refl
+four_taken (a ∷ []) = refl
+four_taken (a ∷ b ∷ []) = refl
+four_taken (a ∷ b ∷ c ∷ []) = refl
+four_taken (a ∷ b ∷ c ∷ d ∷ []) = refl
+four_taken (a ∷ b ∷ c ∷ d ∷ e ∷ row) = refl
+
+abbrev described_as : ℕ → Row → ℕ → ℕ → Row
+described_as tree described code reals =
+    Int (pos (tree + 1)) ∷ column described 0 ∷ column described 1 ∷ column described 2 ∷ column described 3 ∷ Int (pos code) ∷ Int (pos reals) ∷ []
+
+module _ (objects : List Row) (shape : ℕ → Shape) (reals : ℕ → ℕ) (all : IsListed objects shape reals) (number : ℕ) (small : number < 4294967296) where
+  pub is_listed_there : (o : Object) (row : Row) (tree : ℕ) → find (has_rowid (pos (number + 1))) (map (take 5) objects) ≡ Some row → four row ≡ (wanted_of o).row
+      → is_present o.shape ≡ true → shape number ≡ o.shape → reals number ≡ o.reals
+      → shown_row tree (find (has_rowid (pos (number + 1))) objects) ≡ listed tree (wanted_of o) o.shape
+  is_listed_there o row tree finds same there shaped typed = go (find (has_rowid (pos (number + 1))) objects) refl (sym (find_taken (pos (number + 1)) objects) ∙ finds)
+    where
+      one : (s : Shape) → is_present s ≡ true → listing tree (wanted_of o).row s o.reals ∷ [] ≡ listed tree (wanted_of o) s
+      one Absent there = absurd (cc)
+      one Table there = refl
+      one (Index x) there = refl
+      one Pageless there = refl
+      one FrozenTable there = refl
+      one (FrozenIndex x) there = refl
+
+      go : (found : Option Row) → find (has_rowid (pos (number + 1))) objects ≡ found → option_map (take 5) found ≡ Some row → shown_row tree found ≡ listed tree (wanted_of o) o.shape
+      go None is never = absurd (cc)
+      go (Some r) is taken =
+          let here : take 5 r ≡ row = (let e = taken in cc) in
+          let described : four r ≡ (wanted_of o).row = sym (four_taken r) ∙ ap four here ∙ same in
+          let listed_as : unwrap_or (find (has_rowid (pos (number + 1))) objects) [] ≡ r = ap (λ (x : Option Row). unwrap_or x []) is in
+          let code : number_in (column r 5) ≡ shape_code o.shape =
+          ap (λ (x : Row). number_in (column x 5)) (sym listed_as) ∙ sym (all.shapes number (omega arith) (omega arith)) ∙ ap shape_code shaped in
+          let columns : number_in (column r 6) ≡ o.reals =
+          ap (λ (x : Row). number_in (column x 6)) (sym listed_as) ∙ sym (all.columns number (omega arith) (omega arith)) ∙ typed in
+          ap (λ (d : Row). described_as tree d (number_in (column r 5)) (number_in (column r 6)) ∷ []) described
+          ∙ ap₂ (λ c k. described_as tree (wanted_of o).row c k ∷ []) code columns ∙ one o.shape there
+
+  pub is_missing_there : (tree : ℕ) → find (has_rowid (pos (number + 1))) (map (take 5) objects) ≡ None → shown_row tree (find (has_rowid (pos (number + 1))) objects) ≡ []
+  is_missing_there tree none = go (find (has_rowid (pos (number + 1))) objects) (sym (find_taken (pos (number + 1)) objects) ∙ none)
+    where
+      go : (found : Option Row) → option_map (take 5) found ≡ None → shown_row tree found ≡ []
+      go None none = refl
+      go (Some r) never = absurd (cc)
+
+-- the tree at this place is listed as it is asked for, or not made yet
+abbrev pub IsPlaced : List Row → ℕ → ℕ → ℕ → Object → Type 0
+IsPlaced rows made tree number o = shown_row tree (find (has_rowid (pos (number + 1))) rows) ≡ cond (ltb tree made) (listed tree (wanted_of o) o.shape) []
+
+pub all_placed : (rows : List Row) (made from : ℕ) (numbers : List ℕ) (objects : List Object) → length numbers ≡ length objects
+    → ((at tree : ℕ) (o : Object) → tree ≡ from + at → at < length objects → slice_get objects at ≡ Some o → IsPlaced rows made tree (get_or numbers at 0) o)
+    → rows_from from numbers rows ≡ listed_from from (map wanted_of (take (made - from) objects))
+all_placed rows made from [] [] same placed = nothing (made - from)
+  where
+    nothing : (n : ℕ) → [] ≡ listed_from from (map wanted_of (take n []))
+    nothing zero = refl
+    nothing (suc n) = refl
+all_placed rows made from [] (o ∷ objects) same placed = absurd (omega arith)
+all_placed rows made from (n ∷ numbers) [] same placed = absurd (omega arith)
+all_placed rows made from (n ∷ numbers) (o ∷ objects) same placed =
+    let rest = all_placed rows made (from + 1) numbers objects (omega arith) (λ at tree p is within found. placed (suc at) tree p (omega arith) (omega arith) found) in
+    let head = placed 0 from o (omega arith) (omega arith) refl in
+    go (ltb from made) refl head rest
+  where
+    go : (low : Bool) → ltb from made ≡ low → shown_row from (find (has_rowid (pos (n + 1))) rows) ≡ cond low (listed from (wanted_of o) o.shape) []
+        → rows_from (from + 1) numbers rows ≡ listed_from (from + 1) (map wanted_of (take (made - (from + 1)) objects))
+        → shown_row from (find (has_rowid (pos (n + 1))) rows) ++ rows_from (from + 1) numbers rows ≡ listed_from from (map wanted_of (take (made - from) (o ∷ objects)))
+    go true low first rest =
+        let here = ltb-true from made low in
+        let count : made - from ≡ suc (made - (from + 1)) = omega arith in
+        rw count (ap₂ (λ (xs ys : List Row). xs ++ ys) first rest)
+    go false high first rest =
+        let past = ltb-false from made high in
+        let none : made - from ≡ 0 = omega arith in
+        let later : made - (from + 1) ≡ 0 = omega arith in
+        rw none (ap₂ (λ (xs ys : List Row). xs ++ ys) first (rw later at rest))
+
+known_row : (objects : List Object) (numbers : List ℕ) (row : Row) → is_known objects numbers (take 5 row) ≡ is_known objects numbers row
+known_row objects numbers [] = refl
+known_row objects numbers (a ∷ []) = refl
+known_row objects numbers (a ∷ b ∷ []) = refl
+known_row objects numbers (a ∷ b ∷ c ∷ []) = refl
+known_row objects numbers (a ∷ b ∷ c ∷ d ∷ row) = refl
+
+pub known_taken : (objects : List Object) (numbers : List ℕ) (rows : List Row) → list_all (is_known objects numbers) (map (take 5) rows) ≡ list_all (is_known objects numbers) rows
+known_taken objects numbers [] = refl
+known_taken objects numbers (r ∷ rows) = ap₂ (λ a b. a && b) (known_row objects numbers r) (known_taken objects numbers rows)

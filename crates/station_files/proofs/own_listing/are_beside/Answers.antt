@@ -1,0 +1,19 @@
+use Rattle.std.proofs.Common.{◌≡◌, ap, map, take, true, IsTrue, sym, ◌∙◌, rules}
+use Rattle.std.specs.List.{list_all}
+use Rattle.sqlite_trees.specs.Objects.{catalog_tree}
+use Rattle.station_files.specs.Beside.{is_known}
+use Rattle.station_files.proofs.OwnListing.{known_taken}
+use Rattle.station_files.proofs.own_listing.are_beside.Goals as goal
+
+pub returns : goal.returns
+returns g c done clean sound =
+    let objects = c.args.objects.now in
+    let numbers = c.args.numbers.now in
+    let whole = (g.S.Store.view c.args.store.now).trees catalog_tree in
+    let rows : c.in-Ok.rows.items ≡ map (take 5) whole = search rules in
+    let there : IsTrue c.are_there.result = search rules in
+    let known : list_all (is_known objects numbers) c.in-Ok.rows.items ≡ true = search rules in
+    record {
+      lists = c.are_there.ensures there clean sound (c.as_slice.ensures.value ∙ rows);
+      apart = sym (known_taken objects numbers whole) ∙ ap (list_all (is_known objects numbers)) (sym rows) ∙ known;
+    }

@@ -1,0 +1,18 @@
+use Rattle.std.proofs.Common.{Bool, true, false, ap, List, ℕ}
+use Rattle.std.proofs.lemmas.Result.{IfOk-weaker}
+use Rattle.sqlite_value.specs.Order.{Row}
+use Rattle.sqlite_trees.specs.View.{Advances, View}
+use Rattle.station_files.specs.Own.{own_view}
+use Rattle.station_files.specs.declared.layout.Layout.{Layout}
+use Rattle.station_files.proofs.own_trees.OwnTreesStore.next.Goals as goal
+
+advances : (numbers : List ℕ) (layouts before : List Layout) (a b : View) (cursor : ℕ) (row : Row) (found : Bool) → Advances a b cursor row found
+    → Advances (own_view numbers layouts before a) (own_view numbers layouts before b) cursor row found
+advances numbers layouts before a b cursor row true h = (h.0, h.1, ap (own_view numbers layouts before) h.2)
+advances numbers layouts before a b cursor row false h = (h.0, ap (own_view numbers layouts before) h.1)
+
+pub returns-clause-ok : goal.returns-clause-ok
+returns-clause-ok g c =
+    let it = c.args.self.now in
+    IfOk-weaker c.next.result _ _
+    (λ found h clean. advances it.numbers.items it.layouts.items it.before.items (g.S.Store.view it.store) (g.S.Store.view c.next.new.self) c.args.cursor c.next.new.row found (h clean)) c.next.ensures.ok

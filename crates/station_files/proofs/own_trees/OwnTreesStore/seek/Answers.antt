@@ -1,0 +1,20 @@
+use Rattle.std.proofs.Common.{ap, ap₂, sym, ◌∙◌}
+use Rattle.std.proofs.lemmas.Result.{on_ok_weaker}
+use Rattle.sqlite_trees.specs.Tree.{order_of, sought}
+use Rattle.sqlite_trees.specs.View.{with_cursor}
+use Rattle.station_files.specs.Own.{own_view}
+use Rattle.station_files.proofs.Owning.{has_inside}
+use Rattle.station_files.proofs.own_trees.OwnTreesStore.seek.Goals as goal
+
+pub returns-clause-ok : goal.returns-clause-ok
+returns-clause-ok g c =
+    let it = c.args.self.now in
+    let old = g.S.Store.view it.store in
+    let new = g.S.Store.view c.seek.new.self in
+    let own = own_view it.numbers.items it.layouts.items it.before.items in
+    let inside = c.in-Some.ensures in
+    on_ok_weaker c.seek.result
+    (λ h clean. ap own (h clean)
+    ∙ ap₂ (λ s rows. with_cursor (own old) c.args.cursor (sought (order_of s) c.args.direction c.args.key.now rows)) inside.shaped
+    (sym (has_inside it.numbers.items it.few it.low it.apart it.layouts.items it.before.items old new c.args.tree c.in-Some.number inside)))
+    c.seek.ensures.ok

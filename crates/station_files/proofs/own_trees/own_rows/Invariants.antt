@@ -1,0 +1,8 @@
+use Rattle.std.proofs.Common.{◌≡◌, ◌++◌, List, map, take, drop}
+use Rattle.sqlite_value.specs.Order.{Row}
+use Rattle.station_files.specs.Own.{rows_from}
+use Rattle.station_files.proofs.own_trees.own_rows.Given as goal
+
+abbrev pub invariant-loop-tree : goal.invariant-loop-tree
+invariant-loop-tree l = (all : List Row) → l.rows ≡ map (take 5) all
+    → l.own.items ++ map (take 5) (rows_from l.tree (drop l.tree l.numbers) all) ≡ map (take 5) (rows_from 0 l.numbers all)

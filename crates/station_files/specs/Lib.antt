@@ -1,0 +1,9 @@
+pub mod Begun
+pub mod Beside
+pub mod ByList
+pub mod Listed
+pub mod Own
+pub mod OwnFiles
+pub mod OwnLaws
+pub mod OwnRows
+pub mod Spared

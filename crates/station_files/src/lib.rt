@@ -1,0 +1,22 @@
+//! The two files of a station: begun, opened by the list of their trees, and closed.
+#![tactic(auto)]
+
+mod beside;
+mod closing;
+mod first_page;
+mod laws;
+mod layout;
+mod making;
+mod opening;
+mod own_listing;
+mod own_trees;
+mod tree_list;
+mod trees;
+
+pub use beside::open_beside;
+pub use closing::{close_beside, close_files};
+pub use laws::{files_leave_by_list, files_leave_own, own_files_lie_in_order};
+pub use making::open_new;
+pub use opening::open_listed;
+pub use own_trees::OwnTrees;
+pub use trees::{OLD_TREES, station_trees};

@@ -1,0 +1,107 @@
+//! Files that are opened by a list of their trees.
+ghost use Rattle.std.specs.Prelude.{◌≡◌, false, IsTrue, IfErr, IfOk};
+ghost use Rattle.sqlite_wal.specs.PageSize.{bytes_of};
+ghost use Rattle.sqlite_store.specs.FileStore.{view, is_shielded};
+ghost use Rattle.sqlite_store.specs.Unopened.{files_of, state_of, wanted_by};
+ghost use Rattle.sqlite_store.specs.Catalog.{Describes};
+ghost use Rattle.sqlite.specs.State.{HasCleanDisk};
+ghost use Rattle.sqlite.specs.Held.{IsNew};
+ghost use Rattle.sqlite.specs.Files.{file_state, Finds, IsCleanLeft, IsOpened};
+ghost use Rattle.station_files.specs.ByList.{FindsByList};
+ghost use Rattle.station_files.specs.Listed.{IsReadByList};
+ghost use Rattle.station_files.specs.Spared.{SparesFiles};
+
+use crate::first_page::{begins_plain, named_size};
+use sqlite::{Connection, FileStore, Leftover, Options};
+use sqlite_disk::{Disk, Files};
+use sqlite_pager::Pager;
+use sqlite_store::Unopened;
+use sqlite_trees::schema::Object;
+use sqlite_wal::PageSize;
+use std::alloc::{AllocFailed, Global};
+
+/// Files with pages of a size, and a list of their trees. Returns the files where memory runs out.
+pub(crate) fn with_list<D: Disk>(
+    alloc: Global,
+    files: Files<D>,
+    size: PageSize,
+    options: Options,
+    objects: &[Object<'_>],
+) -> Result<Unopened<D>, Files<D>>
+    ensures back { IfErr result (λ left. (left.log ≡ files.log) × (left.db ≡ files.db)) }
+    ensures files { IfOk result (λ it. files_of it ≡ (files.log, files.db)) }
+    ensures size { IfOk result (λ it. (state_of it).page_size ≡ bytes_of size) }
+    ensures list { IfOk result (λ it. Describes (wanted_by it) objects.now) }
+{
+    let pager = match Pager::new(alloc, files, size, options) {
+        Ok(pager) => pager,
+        Err(AllocFailed { value }) => return Err(value),
+    };
+    match Unopened::new(alloc, pager, objects) {
+        Ok(it) => Ok(it),
+        Err(AllocFailed { value }) => Err(value.close()),
+    }
+}
+
+/// The store of two files that hold a database of exactly these trees, in this order, without sums.
+fn store_by_list<D: Disk>(
+    alloc: Global,
+    mut files: Files<D>,
+    options: Options,
+    objects: &[Object<'_>],
+) -> Result<FileStore<D>, Leftover<D>>
+    requires log { IsTrue (D.Disk.is_usable files.log) }
+    requires db { IsTrue (D.Disk.is_usable files.db) }
+    ensures listed { IfOk result (λ it. IsTrue (view it).is_clean
+        → IsReadByList files objects.now it) }
+    ensures plain { IfOk result (λ it. IsTrue (view it).is_clean → (view it).has_sums ≡ false) }
+    ensures guarded { IfOk result (λ it. IsTrue (view it).is_clean → is_shielded it) }
+    ensures spared { IfErr result (λ left. IsCleanLeft left → SparesFiles files objects.now left) }
+{
+    let Some(size) = named_size(&mut files) else {
+        return Err(Leftover::Files(files));
+    };
+    if !begins_plain(alloc, &mut files, size) {
+        return Err(Leftover::Files(files));
+    }
+    let unopened = match with_list(alloc, files, size, options, objects) {
+        Ok(unopened) => unopened,
+        Err(left) => return Err(Leftover::Files(left)),
+    };
+    match unopened.open_numbered() {
+        Ok(it) => Ok(it),
+        Err((_, left)) => Err(Leftover::Unopened(left)),
+    }
+}
+
+/// Opens two files that hold a database of exactly these trees, in this order, whose pages have no
+/// sums. It recovers the log once, where `Connection::open_files` does twice: first to read the
+/// list of trees.
+///
+/// Returns what is left of other files, and of files where memory or the disk fails; an opening of
+/// any files finds the same in them, or says why not.
+pub fn open_listed<D: Disk + Drop>(
+    alloc: Global,
+    files: Files<D>,
+    options: Options,
+    objects: &[Object<'_>],
+) -> Result<Connection<FileStore<D>>, Leftover<D>>
+    requires log { IsTrue (D.Disk.is_usable files.log) }
+    requires db { IsTrue (D.Disk.is_usable files.db) }
+    ensures opened { IfOk result (λ c. HasCleanDisk (file_state c) → IsOpened c) }
+    ensures found { IfOk result (λ c. HasCleanDisk (file_state c) → Finds files c) }
+    ensures by_list { IfOk result (λ c. HasCleanDisk (file_state c)
+        → FindsByList files objects.now c) }
+    ensures plain { IfOk result (λ c. HasCleanDisk (file_state c)
+        → (view c.store).has_sums ≡ false) }
+    ensures fresh { IfOk result IsNew }
+    ensures guarded { IfOk result (λ c. HasCleanDisk (file_state c)
+        → (file_state c).IsShielded) }
+    ensures spared { IfErr result (λ left. IsCleanLeft left → SparesFiles files objects.now left) }
+{
+    let store = store_by_list(alloc, files, options, objects)?;
+    match Connection::over(alloc, store) {
+        Ok(conn) => Ok(conn),
+        Err((_, store)) => Err(Leftover::Store(store)),
+    }
+}

@@ -1,0 +1,141 @@
+//! Whether a store lists the trees of a list, and other trees that are about other tables.
+ghost use Rattle.std.specs.Prelude.{◌≡◌, ◌<◌, ◌+◌, pos, false, map, take, length, find, if◌then◌else◌, [], IsTrue};
+ghost use Rattle.std.specs.List.{list_all};
+ghost use Rattle.sqlite_trees.specs.Objects.{catalog_tree};
+ghost use Rattle.sqlite_trees.specs.Tree.{has_rowid};
+ghost use Rattle.sqlite_trees.specs.View.{IsClean};
+ghost use Rattle.sqlite_store.specs.Catalog.{wanted_of};
+ghost use Rattle.sqlite_store.specs.Listing.{listed, listed_from};
+ghost use Rattle.station_files.specs.Beside.{is_about, is_known, is_one_of, AreBeside};
+ghost use Rattle.station_files.specs.Own.{rows_from, shown_row};
+
+use crate::tree_list::{has_number, is_object, is_present, row_of};
+use sqlite_trees::schema::Object;
+use sqlite_trees::sound::{bytes_of, same_name};
+use sqlite_trees::store::Alter;
+use sqlite_value::row::Row;
+use std::alloc::Global;
+
+/// Whether a tree has this number in a store, as it is asked for.
+fn is_there<S: Alter>(store: &S, rows: &[Row], object: &Object<'_>, number: u32) -> bool
+    ensures { IsTrue result → IsClean (S.Store.view store.now)
+        → (S.Store.view store.now).is_broken ≡ false
+        → rows.now ≡ map (take 5) ((S.Store.view store.now).trees catalog_tree) → (tree : _)
+        → shown_row tree (find (has_rowid (pos (number + 1)))
+        ((S.Store.view store.now).trees catalog_tree))
+        ≡ listed tree (wanted_of object.now) object.now.shape }
+{
+    match row_of(rows, number) {
+        Some(row) => {
+            is_present(object.shape)
+                && is_object(object, row)
+                && store.shape(number) == object.shape
+                && store.reals(number) == object.reals
+        }
+        None => false,
+    }
+}
+
+/// Whether a tree has this number in a store, as it is asked for, or none has, if it isn't made
+/// yet.
+fn is_placed<S: Alter>(
+    store: &S,
+    rows: &[Row],
+    object: &Object<'_>,
+    number: u32,
+    is_made: bool,
+) -> bool
+    ensures { IsTrue result → IsClean (S.Store.view store.now)
+        → (S.Store.view store.now).is_broken ≡ false
+        → rows.now ≡ map (take 5) ((S.Store.view store.now).trees catalog_tree) → (tree : _)
+        → shown_row tree (find (has_rowid (pos (number + 1)))
+        ((S.Store.view store.now).trees catalog_tree))
+        ≡ (if is_made then listed tree (wanted_of object.now) object.now.shape else []) }
+{
+    if is_made {
+        is_there(store, rows, object, number)
+    } else {
+        row_of(rows, number).is_none()
+    }
+}
+
+/// Whether the first of these trees have these numbers in a store, in their order, and there are
+/// none of the rest.
+fn are_there<S: Alter>(
+    store: &S,
+    rows: &[Row],
+    objects: &[Object<'_>],
+    made: usize,
+    numbers: &[u32],
+) -> bool
+    requires { length numbers.now ≡ length objects.now }
+    ensures { IsTrue result → IsClean (S.Store.view store.now)
+        → (S.Store.view store.now).is_broken ≡ false
+        → rows.now ≡ map (take 5) ((S.Store.view store.now).trees catalog_tree)
+        → rows_from 0 numbers.now ((S.Store.view store.now).trees catalog_tree)
+        ≡ listed_from 0 (map wanted_of (take made objects.now)) }
+{
+    for (at, object) in objects.iter().enumerate() {
+        if !is_placed(store, rows, object, numbers[at], at < made) {
+            return false;
+        }
+    }
+    true
+}
+
+/// Whether a row lists a tree about a table of those that are asked for, or with a name of theirs,
+/// in any case of letters.
+fn is_about(objects: &[Object<'_>], row: &Row) -> bool
+    ensures { result ≡ is_about objects.now row.now }
+{
+    let (table, name) = (bytes_of(row.get(3)), bytes_of(row.get(2)));
+    objects.iter().any(|o| same_name(o.table.as_bytes(), table)
+        || same_name(o.name.as_bytes(), name))
+}
+
+/// Whether a row lists one of the trees with these numbers.
+fn is_one_of(numbers: &[u32], row: &Row) -> bool
+    ensures { result ≡ is_one_of numbers.now row.now }
+{
+    numbers.iter().any(|n| has_number(row, *n))
+}
+
+/// Whether a row lists one of the trees with these numbers, or a tree about another table than
+/// those that are asked for, which a write to one of these would leave behind.
+fn is_known(row: &Row, objects: &[Object<'_>], numbers: &[u32]) -> bool
+    ensures { result ≡ is_known objects.now numbers.now row.now }
+{
+    is_one_of(numbers, row) || !is_about(objects, row)
+}
+
+/// Whether each row lists a tree that is known so.
+fn are_known(rows: &[Row], objects: &[Object<'_>], numbers: &[u32]) -> bool
+    ensures { result ≡ list_all (is_known objects.now numbers.now) rows.now }
+{
+    rows.iter().all(|row| is_known(row, objects, numbers))
+}
+
+/// Whether the first of these trees have these numbers in a store, in their order, there are none
+/// of the rest, and each other tree is about another table.
+pub(crate) fn are_beside<S: Alter>(
+    alloc: Global,
+    store: &S,
+    objects: &[Object<'_>],
+    made: usize,
+    numbers: &[u32],
+) -> bool
+    ensures { IsTrue result → IsClean (S.Store.view store.now)
+        → (S.Store.view store.now).is_broken ≡ false
+        → AreBeside objects.now made numbers.now ((S.Store.view store.now).trees catalog_tree) }
+{
+    let Ok(rows) = store.objects(alloc) else {
+        return false;
+    };
+    if numbers.len() != objects.len() {
+        return false;
+    }
+    if !are_there(store, rows.as_slice(), objects, made, numbers) {
+        return false;
+    }
+    are_known(rows.as_slice(), objects, numbers)
+}

@@ -1,0 +1,510 @@
+//! Files that have trees of other programs beside those of a list.
+ghost use Rattle.std.specs.Prelude.{◌≡◌, ◌≢◌, ◌⊎◌, ◌<◌, ℕ, ◌+◌, map, take, length, slice_index, false, [], ◌∷◌, ◌++◌, IsTrue, IfOk, IfErr, IfSome, OnOk};
+ghost use Rattle.std.specs.List.{AllByRecursion};
+ghost use Rattle.sqlite_value.specs.declared.value.Value.TheVariants.{Text};
+ghost use Rattle.sqlite_value.specs.Order.{column};
+ghost use Rattle.sqlite_trees.specs.Objects.{catalog_tree, IsListed};
+ghost use Rattle.sqlite_trees.specs.Tree.{Trees};
+ghost use Rattle.sqlite_trees.specs.View.{IsClean};
+ghost use Rattle.sqlite_trees.specs.declared.error.StoreError.{StoreError as Failure};
+ghost use Rattle.sqlite_trees.specs.declared.error.StoreError.TheVariants.{OutOfMemory};
+ghost use Rattle.sqlite_trees.specs.declared.store.Shape.TheVariants.{Absent};
+ghost use Rattle.sqlite.specs.Steps.{IsFresh};
+ghost use Rattle.station_files.specs.Own.{as_numbered, number_inside, own_trees, own_view, renumbered, rows_from, AreLaidOut, IsNumberOf};
+ghost use Rattle.station_files.specs.OwnLaws.{GoBack};
+
+use crate::layout::Layout;
+use crate::tree_list::row_of;
+use sqlite_trees::error::StoreError;
+use sqlite_trees::schema::Object;
+use sqlite_trees::store::{Alter, Direction, Shape, Store};
+use sqlite_value::order::is_same;
+use sqlite_value::row::Row;
+use sqlite_value::value::ValueRef;
+use std::alloc::{AllocError, Global};
+
+/// A store that shows some trees of another, numbered by their places in a list, and hides the
+/// rest. It makes trees of the list that are missing, if the other store is numbered, and drops
+/// none.
+pub struct OwnTrees<S: Alter> {
+    store: S,
+    /// The number that each tree has in the other store.
+    numbers: Vec<u32>,
+    /// How the trees are laid out now, and were at the last commit.
+    layouts: Vec<Layout>,
+    before: Vec<Layout>,
+    makes: bool,
+    alloc: Global,
+    ghost few: { length numbers.items < 65536 },
+    ghost low: { (t : ℕ) → t < length numbers.items → slice_index numbers.items t < 65536 },
+    ghost apart: { (s t : ℕ) → s < length numbers.items → t < length numbers.items
+        → slice_index numbers.items s ≡ slice_index numbers.items t → s ≡ t },
+    ghost all: { (length layouts.items ≡ length numbers.items)
+        × (length before.items ≡ length numbers.items) },
+    ghost numbered: { IsTrue makes → IsClean (S.Store.view store)
+        → IsTrue (S.Store.view store).is_numbered },
+    ghost shown: { IsClean (S.Store.view store) → AreLaidOut numbers.items layouts.items
+        (S.Store.view store).shape (S.Store.view store).reals },
+    ghost kept: { IsClean (S.Store.view store) → AreLaidOut numbers.items before.items
+        (S.Store.view store).committed_shape (S.Store.view store).committed_reals },
+    // The list of the last commit gives the shapes that it left.
+    ghost listed: { IsClean (S.Store.view store) → IsTrue (S.Store.view store).is_open
+        → IsListed ((S.Store.view store).committed catalog_tree)
+        (S.Store.view store).committed_shape (S.Store.view store).committed_reals },
+}
+
+// It is written out, so that a caller does not prove again how each part is dropped.
+impl<S: Alter + Drop> Drop for OwnTrees<S> {
+    fn drop(self) {
+        let OwnTrees {
+            store: _,
+            numbers: _,
+            layouts: _,
+            before: _,
+            makes: _,
+            alloc: _,
+        } = self;
+    }
+}
+
+/// Whether the number at a place comes before it too.
+fn comes_before(numbers: &[u32], at: usize) -> bool
+    requires { at < length numbers.now }
+    ensures { result ≡ false → (s : ℕ) → s < at
+        → slice_index numbers.now s ≢ slice_index numbers.now at }
+{
+    numbers[..at].contains(&numbers[at])
+}
+
+/// Whether these are the numbers of different trees.
+fn are_apart(numbers: &[u32]) -> bool
+    ensures few { IsTrue result → length numbers.now < 65536 }
+    ensures low { IsTrue result → (t : ℕ) → t < length numbers.now
+        → slice_index numbers.now t < 65536 }
+    ensures apart { IsTrue result → (s t : ℕ) → s < length numbers.now → t < length numbers.now
+        → slice_index numbers.now s ≡ slice_index numbers.now t → s ≡ t }
+{
+    if numbers.len() >= 65536 {
+        return false;
+    }
+    for at in 0..numbers.len() {
+        if numbers[at] >= 65536 || comes_before(numbers, at) {
+            return false;
+        }
+    }
+    true
+}
+
+/// How the tree with this number is laid out in a store.
+fn layout_of<S: Alter>(store: &S, number: u32) -> Layout
+    ensures shaped { result.shape ≡ (S.Store.view store.now).shape number }
+    ensures typed { result.reals ≡ (S.Store.view store.now).reals number }
+{
+    let (shape, reals) = (store.shape(number), store.reals(number));
+    Layout { shape, reals }
+}
+
+/// Takes over how the trees with these numbers are laid out in a store.
+fn lay_out<S: Alter>(store: &S, numbers: &[u32], layouts: &mut [Layout])
+    requires few { length numbers.now < 65536 }
+    requires all { length layouts.old ≡ length numbers.now }
+    ensures all { length layouts.new ≡ length layouts.old }
+    ensures shown { AreLaidOut numbers.now layouts.new
+        (S.Store.view store.now).shape (S.Store.view store.now).reals }
+{
+    for at in 0..numbers.len() {
+        layouts[at] = layout_of(store, numbers[at]);
+    }
+}
+
+/// How the trees with these numbers are laid out in a store.
+fn layouts_of<S: Alter>(
+    alloc: Global,
+    store: &S,
+    numbers: &[u32],
+) -> Result<Vec<Layout>, AllocError>
+    requires { length numbers.now < 65536 }
+    ensures all { IfOk result (λ layouts. length layouts.items ≡ length numbers.now) }
+    ensures shown { IfOk result (λ layouts. AreLaidOut numbers.now layouts.items
+        (S.Store.view store.now).shape (S.Store.view store.now).reals) }
+{
+    let none = Layout {
+        shape: Shape::Absent,
+        reals: 0,
+    };
+    let mut layouts = Vec::from_elem(alloc, none, numbers.len())?;
+    lay_out(store, numbers, &mut layouts);
+    Ok(layouts)
+}
+
+/// Goes back to the layouts of the last commit, unless the store is shut.
+fn go_back<S: Alter>(store: &S, layouts: &mut [Layout], before: &[Layout])
+    requires { length layouts.old ≡ length before.now }
+    ensures went { GoBack layouts.old before.now layouts.new (S.Store.view store.now) }
+    ensures all { length layouts.new ≡ length layouts.old }
+{
+    if !store.is_broken() {
+        layouts.copy_from_slice(before);
+    }
+}
+
+/// The first five columns of the row of a tree, under this number.
+fn renumber(alloc: Global, tree: usize, row: &Row) -> Result<Row, AllocError>
+    requires { tree < 65536 }
+    ensures { IfOk result (λ new. new ≡ take 5 (renumbered tree row.now)) }
+{
+    let mut new = Row::new(alloc);
+    new.push(ValueRef::Int(tree as i64 + 1))?;
+    new.push(row.get(1))?;
+    new.push(row.get(2))?;
+    new.push(row.get(3))?;
+    new.push(row.get(4))?;
+    Ok(new)
+}
+
+/// Whether a row of the list of objects has this name.
+fn is_named(rows: &[Row], name: &str) -> bool
+    ensures { result ≡ false → AllByRecursion (λ r. column r 2 ≢ Text name.now) rows.now }
+{
+    rows.iter()
+        .any(|row| is_same(row.get(2), ValueRef::Text(name.as_bytes())))
+}
+
+/// Puts the first five columns of the row of a tree, if there is one, behind the others.
+fn push_row(
+    alloc: Global,
+    own: &mut Vec<Row>,
+    tree: usize,
+    number: u32,
+    rows: &[Row],
+) -> Result<(), AllocError>
+    requires { tree < 65536 }
+    ensures { OnOk result ((all : _) → rows.now ≡ map (take 5) all → own.new.items
+        ≡ own.old.items ++ map (take 5) (rows_from tree (number ∷ []) all)) }
+{
+    match row_of(rows, number) {
+        None => Ok(()),
+        Some(row) => {
+            own.push(renumber(alloc, tree, row)?)?;
+            Ok(())
+        }
+    }
+}
+
+/// The first five columns of the rows that list the trees with these numbers, numbered by their
+/// places.
+fn own_rows(alloc: Global, numbers: &[u32], rows: &[Row]) -> Result<Vec<Row>, AllocError>
+    requires { length numbers.now < 65536 }
+    ensures { IfOk result (λ own. (all : _) → rows.now ≡ map (take 5) all
+        → own.items ≡ map (take 5) (rows_from 0 numbers.now all)) }
+{
+    let mut own = Vec::new(alloc);
+    for tree in 0..numbers.len() {
+        push_row(alloc, &mut own, tree, numbers[tree], rows)?;
+    }
+    Ok(own)
+}
+
+impl<S: Alter> OwnTrees<S> {
+    /// Shows the trees of a store that was just opened which have these numbers there. Trees may be
+    /// made at numbers that are free there, if `makes`. Returns the store if two of the numbers are
+    /// the same, or one of them is too large.
+    pub fn new(alloc: Global, store: S, numbers: Vec<u32>, makes: bool) -> Result<OwnTrees<S>, S>
+        requires fresh { IsClean (S.Store.view store)
+            → IsFresh (as_numbered (S.Store.view store)) }
+        requires numbered { IsTrue makes → IsClean (S.Store.view store)
+            → IsTrue (S.Store.view store).is_numbered }
+        ensures same { IfOk result (λ it. it.store ≡ store) }
+        ensures numbers { IfOk result (λ it. it.numbers ≡ numbers) }
+        ensures back { IfErr result (λ back. back ≡ store) }
+    {
+        if !are_apart(&numbers) {
+            return Err(store);
+        }
+        let Ok(layouts) = layouts_of(alloc, &store, &numbers) else {
+            return Err(store);
+        };
+        let Ok(before) = layouts_of(alloc, &store, &numbers) else {
+            return Err(store);
+        };
+        Ok(OwnTrees {
+            store,
+            numbers,
+            layouts,
+            before,
+            makes,
+            alloc,
+        })
+    }
+
+    /// Gives the store inside back.
+    pub fn into_inner(self) -> S
+        ensures { result ≡ self.store }
+    {
+        let OwnTrees {
+            store,
+            numbers: _,
+            layouts: _,
+            before: _,
+            makes: _,
+            alloc: _,
+        } = self;
+        store
+    }
+
+    /// The number inside of a tree that is shown.
+    fn number_of(&self, tree: u32) -> Option<u32>
+        ensures { IfSome result (IsNumberOf self.now.numbers.items self.now.layouts.items
+            (S.Store.view self.now.store) tree) }
+    {
+        let number = *self.numbers.get(tree as usize)?;
+        let layout = self.layouts.get(tree as usize)?;
+        if self.store.shape(number) == layout.shape && self.store.reals(number) == layout.reals {
+            Some(number)
+        } else {
+            None
+        }
+    }
+
+    /// The number inside of a tree that can be made: no tree of another program has its name.
+    fn free_number(&self, tree: u32, name: &str) -> Option<u32>
+        ensures number { IfSome result (IsNumberOf self.now.numbers.items self.now.layouts.items
+            (S.Store.view self.now.store) tree) }
+        ensures numbered { IfSome result (λ _. IsClean (S.Store.view self.now.store)
+            → IsTrue (S.Store.view self.now.store).is_numbered) }
+        ensures unnamed { IfSome result (λ _. IsClean (S.Store.view self.now.store)
+            → AllByRecursion (λ r. column r 2 ≢ Text name.now)
+            ((S.Store.view self.now.store).trees catalog_tree)) }
+    {
+        if !self.makes {
+            return None;
+        }
+        let Ok(rows) = self.store.objects(self.alloc) else {
+            return None;
+        };
+        if is_named(rows.as_slice(), name) {
+            return None;
+        }
+        self.number_of(tree)
+    }
+}
+
+impl<S: Alter> Store for OwnTrees<S> {
+    ghost use Rattle.std.proofs.Common.{refl, ap, ◌∙◌};
+    ghost use Rattle.std.proofs.Math.Logic.{∥∥₁_map};
+    ghost use Rattle.station_files.specs.OwnLaws.{clean_if_sound, open_if_sound, own_nothing, view_ordered, view_unaltered};
+
+    ghost view = { λ it. own_view it.numbers.items it.layouts.items it.before.items
+        (S.Store.view it.store) };
+
+    ghost faults = { λ it. S.Store.faults it.store };
+
+    ghost recovers = { λ it db. (whole : Trees) × S.Store.recovers it.store whole
+        × (db ≡ own_trees it.numbers.items whole) };
+
+    ghost is_shielded = { λ it. S.Store.is_shielded it.store };
+
+    ghost is_step = { λ old new tree.
+        S.Store.is_step old.store new.store (number_inside old.numbers.items tree)
+        ⊎ (new.store ≡ old.store) };
+
+    ghost blamed = { λ it. S.Store.blamed it.store };
+
+    ghost names = { λ old new e. S.Store.names old.store new.store e ⊎ (e ≡ OutOfMemory) };
+
+    ghost ordered = { λ it sound. let v = S.Store.view it.store in
+        let clean = clean_if_sound v (S.Store.shut_if_dirty it.store)
+        (S.Store.broken_if_shut it.store) sound in
+        view_ordered it.numbers.items it.layouts.items it.before.items v it.few it.low
+        (it.shown clean) (S.Alter.listed it.store sound) (S.Store.ordered it.store sound) };
+
+    ghost shut_if_dirty = { λ it. S.Store.shut_if_dirty it.store };
+
+    ghost empty_if_dirty = { λ it dirty. let empty = S.Store.empty_if_dirty it.store dirty in
+        let nothing = own_nothing it.numbers.items in (
+          ap (own_trees it.numbers.items) empty.0 ∙ nothing,
+          ap (own_trees it.numbers.items) empty.1 ∙ nothing,
+        ) };
+
+    ghost broken_if_shut = { λ it. S.Store.broken_if_shut it.store };
+
+    ghost settled = { λ it db is_open may. may.2
+        ∙ ap (own_trees it.numbers.items) (S.Store.settled it.store may.0 is_open may.1) };
+
+    ghost stays = { λ it is_open. (
+      (S.Store.view it.store).committed,
+      S.Store.stays it.store is_open,
+      refl,
+    ) };
+
+    ghost survives = { λ it clean. ∥∥₁_map (S.Store.survives it.store clean)
+        (λ left. (own_trees it.numbers.items left.0, (left.0, left.1, refl))) };
+
+    ghost unaltered = { λ it sound same. let v = S.Store.view it.store in
+        let clean = clean_if_sound v (S.Store.shut_if_dirty it.store)
+        (S.Store.broken_if_shut it.store) sound in
+        let is_open = open_if_sound v (S.Store.broken_if_shut it.store) sound in
+        view_unaltered it.numbers.items it.layouts.items it.before.items v it.few it.low
+        (it.shown clean) (S.Alter.listed it.store sound) (it.kept clean)
+        (it.listed clean is_open) same };
+
+    fn is_broken(&self) -> bool {
+        self.store.is_broken()
+    }
+
+    fn shape(&self, tree: u32) -> Shape {
+        match self.layouts.get(tree as usize) {
+            Some(layout) => layout.shape,
+            None => Shape::Absent,
+        }
+    }
+
+    fn tree_count(&self) -> u64 {
+        let mut count = self.layouts.len();
+        while count > 0 && self.layouts[count - 1].shape == Shape::Absent {
+            count -= 1;
+        }
+        count as u64
+    }
+
+    fn reals(&self, tree: u32) -> u64 {
+        match self.layouts.get(tree as usize) {
+            Some(layout) => layout.reals,
+            None => 0,
+        }
+    }
+
+    fn seek(
+        &mut self,
+        cursor: u16,
+        tree: u32,
+        key: &Row,
+        direction: Direction,
+    ) -> Result<(), StoreError> {
+        let Some(number) = self.number_of(tree) else {
+            return Err(StoreError::OutOfMemory);
+        };
+        self.store.seek(cursor, number, key, direction)
+    }
+
+    fn next(&mut self, cursor: u16, row: &mut Row) -> Result<bool, StoreError> {
+        self.store.next(cursor, row)
+    }
+
+    fn get(&mut self, table: u32, id: i64, row: &mut Row) -> Result<bool, StoreError> {
+        let Some(number) = self.number_of(table) else {
+            return Err(StoreError::OutOfMemory);
+        };
+        self.store.get(number, id, row)
+    }
+
+    fn put(&mut self, table: u32, row: &Row) -> Result<(), StoreError> {
+        let Some(number) = self.number_of(table) else {
+            return Err(StoreError::OutOfMemory);
+        };
+        self.store.put(number, row)
+    }
+
+    fn delete(&mut self, table: u32, id: i64) -> Result<(), StoreError> {
+        let Some(number) = self.number_of(table) else {
+            return Err(StoreError::OutOfMemory);
+        };
+        self.store.delete(number, id)
+    }
+
+    fn insert(&mut self, index: u32, entry: &Row) -> Result<(), StoreError> {
+        let Some(number) = self.number_of(index) else {
+            return Err(StoreError::OutOfMemory);
+        };
+        self.store.insert(number, entry)
+    }
+
+    fn remove(&mut self, index: u32, entry: &Row) -> Result<(), StoreError> {
+        let Some(number) = self.number_of(index) else {
+            return Err(StoreError::OutOfMemory);
+        };
+        self.store.remove(number, entry)
+    }
+
+    fn commit(&mut self) -> Result<(), StoreError> {
+        match self.store.commit() {
+            Ok(()) => {
+                self.before.copy_from_slice(&self.layouts);
+                Ok(())
+            }
+            Err(error) => {
+                go_back(&self.store, &mut self.layouts, &self.before);
+                Err(error)
+            }
+        }
+    }
+
+    fn rollback(&mut self) {
+        self.store.rollback();
+        go_back(&self.store, &mut self.layouts, &self.before);
+    }
+
+    fn savepoint(&mut self) -> Result<(), StoreError> {
+        self.store.savepoint()
+    }
+
+    fn release(&mut self) -> Result<(), StoreError> {
+        self.store.release()
+    }
+
+    fn rollback_to(&mut self) -> Result<(), StoreError> {
+        match self.store.rollback_to() {
+            Ok(()) => {
+                lay_out(&self.store, &self.numbers, &mut self.layouts);
+                Ok(())
+            }
+            Err(error) => Err(error),
+        }
+    }
+}
+
+impl<S: Alter> Alter for OwnTrees<S> {
+    ghost use Rattle.station_files.specs.OwnLaws.{clean_if_sound, view_listed};
+
+    ghost listed = { λ it sound. let v = S.Store.view it.store in
+        let clean = clean_if_sound v (S.Store.shut_if_dirty it.store)
+        (S.Store.broken_if_shut it.store) sound in
+        view_listed it.numbers.items it.layouts.items it.before.items v it.few it.low
+        (it.shown clean) (S.Alter.listed it.store sound) };
+
+    fn objects(&self, alloc: Global) -> Result<Vec<Row>, AllocError> {
+        let rows = self.store.objects(alloc)?;
+        own_rows(alloc, &self.numbers, rows.as_slice())
+    }
+
+    fn create(&mut self, tree: u32, object: &Object<'_>) -> Result<(), StoreError> {
+        let Some(number) = self.free_number(tree, object.name) else {
+            return Err(StoreError::OutOfMemory);
+        };
+        match self.store.create(number, object) {
+            Ok(()) => {
+                lay_out(&self.store, &self.numbers, &mut self.layouts);
+                Ok(())
+            }
+            // The rows that are hidden may be why.
+            Err(StoreError::Unstorable) => Err(StoreError::OutOfMemory),
+            Err(error) => Err(error),
+        }
+    }
+
+    fn destroy(&mut self, _tree: u32) -> Result<(), StoreError> {
+        Err(StoreError::OutOfMemory)
+    }
+
+    fn relist(&mut self, _changes: &[(u32, Object<'_>)]) -> Result<(), StoreError> {
+        Err(StoreError::OutOfMemory)
+    }
+
+    fn version(&self) -> u32 {
+        self.store.version()
+    }
+
+    fn set_version(&mut self, version: u32) -> Result<(), StoreError> {
+        self.store.set_version(version)
+    }
+}
