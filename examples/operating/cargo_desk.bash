@@ -1,8 +1,8 @@
 # Completion for bash: source it, or put it into /usr/share/bash-completion/completions/cargo_desk.
 _cargo_desk_options='--db --at --station --zone --help --version'
 _cargo_desk_commands='init migrate stock take read act acts outbox report history waybill holder serve help'
-_cargo_desk_verbs='take-in issue return void book receive withdraw manifest offload reroute depart check-in notify
-    deliver transfer missing found confirm'
+_cargo_desk_verbs='take-in issue return void book amend receive withdraw manifest offload reroute depart check-in
+    strike notify deliver transfer missing found confirm'
 _cargo_desk() {
     local cur=${COMP_WORDS[COMP_CWORD]} word command= i=1
     COMPREPLY=()

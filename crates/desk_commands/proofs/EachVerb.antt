@@ -2,7 +2,7 @@
 use Rattle.std.proofs.Common.{◌≡◌, List, [], ◌∷◌, length, Some, None, refl, take, subst}
 use Rattle.awb_number.specs.Number.{prefix_of, serial_of}
 use Rattle.agent_stock.specs.declared.stock.Order.TheVariants.{TakeIn, Issue, GiveBack, Void}
-use Rattle.shipment_machine.specs.declared.command.DeskCommand.TheVariants.{Book, Receive, Withdraw, Manifest, Offload, Reroute, Depart, CheckIn, Notify, Deliver, Transfer, Missing, Found, Confirm}
+use Rattle.shipment_machine.specs.declared.command.DeskCommand.TheVariants.{Book, Amend, Receive, Withdraw, Manifest, Offload, Reroute, Depart, CheckIn, Strike, Notify, Deliver, Transfer, Missing, Found, Confirm}
 use Rattle.desk_commands.specs.declared.command.Command.{Command}
 use Rattle.desk_commands.specs.declared.command.Command.TheVariants.{Stock, Cargo}
 use Rattle.desk_commands.specs.declared.verb.Verb.{Verb}
@@ -26,6 +26,7 @@ fits (Stock (Issue run agent)) h = (free_padded 3 (prefix_of run.first), (free_p
 fits (Stock (GiveBack run agent)) h = (free_padded 3 (prefix_of run.first), (free_padded 7 (serial_of run.first), (count_fits run.count h.0.1, (free_agent agent h.1, tt))))
 fits (Stock (Void run)) h = (free_padded 3 (prefix_of run.first), (free_padded 7 (serial_of run.first), (count_fits run.count h.1, tt)))
 fits (Cargo (Book w o d p t g)) h = (free_number w, (free_airport o h.1, (free_airport d h.2, (pieces_fit p h.3, (tenths_fit t h.4, (free_goods g h.5, tt))))))
+fits (Cargo (Amend w o d p t g)) h = (free_number w, (free_airport o h.1, (free_airport d h.2, (pieces_fit p h.3, (tenths_fit t h.4, (free_goods g h.5, tt))))))
 fits (Cargo (Receive w p t n)) h = (free_number w, (pieces_fit p h.1, (tenths_fit t h.2, (free_name n h.3, tt))))
 fits (Cargo (Withdraw w p n)) h = (free_number w, (pieces_fit p h.1, (free_name n h.2, tt)))
 fits (Cargo (Manifest w f u p)) h = (free_number w, (h.1.0, (free_day f.day, (free_airport u h.2, (pieces_fit p h.3, tt)))))
@@ -33,6 +34,7 @@ fits (Cargo (Offload w f p)) h = (free_number w, (h.1.0, (free_day f.day, (piece
 fits (Cargo (Reroute f u)) h = (h.0.0, (free_day f.day, (free_airport u h.1, tt)))
 fits (Cargo (Depart f)) h = (h.0, (free_day f.day, tt))
 fits (Cargo (CheckIn w f k)) h = (free_number w, (h.1.0, (free_day f.day, (counted_fit k h.2, tt))))
+fits (Cargo (Strike w f p)) h = (free_number w, (h.1.0, (free_day f.day, (pieces_fit p h.2, tt))))
 fits (Cargo (Notify w n)) h = (free_number w, (free_name n h.1, tt))
 fits (Cargo (Deliver w p n)) h = (free_number w, (pieces_fit p h.1, (free_name n h.2, tt)))
 fits (Cargo (Transfer w p a)) h = (free_number w, (pieces_fit p h.1, (free_carrier a h.2, tt)))
@@ -60,6 +62,9 @@ made_again (Stock (Void run)) h =
 made_again (Cargo (Book w o d p t g)) h =
     again6 (awb_in (number w)) (airport_in (Text o)) (airport_in (Text d)) (pieces_in (Number p)) (tenths_in (Number t)) (goods_in (Text g)) (λ w o d p t g. Cargo (Book w o d p t g)) w o d p t g
     (awb_again w h.0) (airport_again o h.1) (airport_again d h.2) (pieces_again p h.3) (tenths_again t h.4) (goods_again g h.5)
+made_again (Cargo (Amend w o d p t g)) h =
+    again6 (awb_in (number w)) (airport_in (Text o)) (airport_in (Text d)) (pieces_in (Number p)) (tenths_in (Number t)) (goods_in (Text g)) (λ w o d p t g. Cargo (Amend w o d p t g)) w o d p t g
+    (awb_again w h.0) (airport_again o h.1) (airport_again d h.2) (pieces_again p h.3) (tenths_again t h.4) (goods_again g h.5)
 made_again (Cargo (Receive w p t n)) h =
     again4 (awb_in (number w)) (pieces_in (Number p)) (tenths_in (Number t)) (name_in (Text n)) (λ w p t n. Cargo (Receive w p t n)) w p t n
     (awb_again w h.0) (pieces_again p h.1) (tenths_again t h.2) (name_again n h.3)
@@ -81,6 +86,9 @@ made_again (Cargo (Depart f)) h =
 made_again (Cargo (CheckIn w f k)) h =
     again3 (awb_in (number w)) (flight_date_in (flight f) (day f)) (counted_in (Number k)) (λ w f k. Cargo (CheckIn w f k)) w f k
     (awb_again w h.0) (flight_date_again f h.1) (counted_again k h.2)
+made_again (Cargo (Strike w f p)) h =
+    again3 (awb_in (number w)) (flight_date_in (flight f) (day f)) (pieces_in (Number p)) (λ w f p. Cargo (Strike w f p)) w f p
+    (awb_again w h.0) (flight_date_again f h.1) (pieces_again p h.2)
 made_again (Cargo (Notify w n)) h =
     again2 (awb_in (number w)) (name_in (Text n)) (λ w n. Cargo (Notify w n)) w n
     (awb_again w h.0) (name_again n h.1)
@@ -134,6 +142,15 @@ made_of verb.Book a b c d e f cmd ha hb hc hd h =
     let x5 = tenths_is e r.e r.is_e in
     let x6 = goods_is f r.f r.is_f in
     subst (IsMadeOf verb.Book (a ∷ b ∷ c ∷ d ∷ e ∷ f ∷ [])) r.same (record { in_range = (x1.0, x2.0, x3.0, x4.0, x5.0, x6.0); verb_is = refl; front = λ i. x1.1 i ∷ x2.1 i ∷ x3.1 i ∷ x4.1 i ∷ x5.1 i ∷ x6.1 i ∷ [] })
+made_of verb.Amend a b c d e f cmd ha hb hc hd h =
+    let r = made6 (awb_in a) (airport_in b) (airport_in c) (pieces_in d) (tenths_in e) (goods_in f) (λ y1 y2 y3 y4 y5 y6. Cargo (Amend y1 y2 y3 y4 y5 y6)) cmd h in
+    let x1 = awb_is a r.a r.is_a in
+    let x2 = airport_is b r.b r.is_b in
+    let x3 = airport_is c r.c r.is_c in
+    let x4 = pieces_is d r.d r.is_d in
+    let x5 = tenths_is e r.e r.is_e in
+    let x6 = goods_is f r.f r.is_f in
+    subst (IsMadeOf verb.Amend (a ∷ b ∷ c ∷ d ∷ e ∷ f ∷ [])) r.same (record { in_range = (x1.0, x2.0, x3.0, x4.0, x5.0, x6.0); verb_is = refl; front = λ i. x1.1 i ∷ x2.1 i ∷ x3.1 i ∷ x4.1 i ∷ x5.1 i ∷ x6.1 i ∷ [] })
 made_of verb.Receive a b c d e f cmd ha hb hc hd h =
     let r = made4 (awb_in a) (pieces_in b) (tenths_in c) (name_in d) (λ y1 y2 y3 y4. Cargo (Receive y1 y2 y3 y4)) cmd h in
     let x1 = awb_is a r.a r.is_a in
@@ -175,6 +192,12 @@ made_of verb.CheckIn a b c d e f cmd ha hb hc hd h =
     let x2 = flight_date_is b c r.b r.is_b in
     let x3 = counted_is d r.c r.is_c in
     subst (IsMadeOf verb.CheckIn (a ∷ b ∷ c ∷ d ∷ e ∷ f ∷ [])) r.same (record { in_range = (x1.0, date_range b c r.b hb x2, x3.0); verb_is = refl; front = λ i. x1.1 i ∷ x2.flight_is i ∷ x2.date_is i ∷ x3.1 i ∷ [] })
+made_of verb.Strike a b c d e f cmd ha hb hc hd h =
+    let r = made3 (awb_in a) (flight_date_in b c) (pieces_in d) (λ y1 y2 y3. Cargo (Strike y1 y2 y3)) cmd h in
+    let x1 = awb_is a r.a r.is_a in
+    let x2 = flight_date_is b c r.b r.is_b in
+    let x3 = pieces_is d r.c r.is_c in
+    subst (IsMadeOf verb.Strike (a ∷ b ∷ c ∷ d ∷ e ∷ f ∷ [])) r.same (record { in_range = (x1.0, date_range b c r.b hb x2, x3.0); verb_is = refl; front = λ i. x1.1 i ∷ x2.flight_is i ∷ x2.date_is i ∷ x3.1 i ∷ [] })
 made_of verb.Notify a b c d e f cmd ha hb hc hd h =
     let r = made2 (awb_in a) (name_in b) (λ y1 y2. Cargo (Notify y1 y2)) cmd h in
     let x1 = awb_is a r.a r.is_a in

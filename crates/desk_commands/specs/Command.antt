@@ -19,7 +19,7 @@ use Rattle.agent_stock.specs.declared.stock.Order.{Order}
 use Rattle.agent_stock.specs.declared.stock.Order.TheVariants.{TakeIn, Issue, GiveBack, Void}
 use Rattle.shipment_machine.specs.declared.flight.FlightDate.{FlightDate}
 use Rattle.shipment_machine.specs.declared.command.DeskCommand.{DeskCommand}
-use Rattle.shipment_machine.specs.declared.command.DeskCommand.TheVariants.{Book, Receive, Withdraw, Manifest, Offload, Reroute, Depart, CheckIn, Notify, Deliver, Transfer, Missing, Found, Confirm}
+use Rattle.shipment_machine.specs.declared.command.DeskCommand.TheVariants.{Book, Amend, Receive, Withdraw, Manifest, Offload, Reroute, Depart, CheckIn, Strike, Notify, Deliver, Transfer, Missing, Found, Confirm}
 use Rattle.desk_commands.specs.declared.command.Command.{Command}
 use Rattle.desk_commands.specs.declared.command.Command.TheVariants.{Stock, Cargo}
 use Rattle.desk_commands.specs.declared.verb.Verb.{Verb}
@@ -39,6 +39,7 @@ order_verb (Void run) = verb.Void
 
 abbrev pub desk_verb : DeskCommand → Verb
 desk_verb (Book w origin destination pieces tenths goods) = verb.Book
+desk_verb (Amend w origin destination pieces tenths goods) = verb.Amend
 desk_verb (Receive w pieces tenths name) = verb.Receive
 desk_verb (Withdraw w pieces name) = verb.Withdraw
 desk_verb (Manifest w flight unload pieces) = verb.Manifest
@@ -46,6 +47,7 @@ desk_verb (Offload w flight pieces) = verb.Offload
 desk_verb (Reroute flight unload) = verb.Reroute
 desk_verb (Depart flight) = verb.Depart
 desk_verb (CheckIn w flight counted) = verb.CheckIn
+desk_verb (Strike w flight pieces) = verb.Strike
 desk_verb (Notify w name) = verb.Notify
 desk_verb (Deliver w pieces name) = verb.Deliver
 desk_verb (Transfer w pieces airline) = verb.Transfer
@@ -93,6 +95,8 @@ order_values (Void run) = prefix_text run ∷ serial_text run ∷ Number run.cou
 abbrev pub desk_values : DeskCommand → List FieldValue
 desk_values (Book w origin destination pieces tenths goods) =
     number w ∷ Text origin ∷ Text destination ∷ Number pieces ∷ Number tenths ∷ Text goods ∷ []
+desk_values (Amend w origin destination pieces tenths goods) =
+    number w ∷ Text origin ∷ Text destination ∷ Number pieces ∷ Number tenths ∷ Text goods ∷ []
 desk_values (Receive w pieces tenths name) =
     number w ∷ Number pieces ∷ Number tenths ∷ Text name ∷ []
 desk_values (Withdraw w pieces name) = number w ∷ Number pieces ∷ Text name ∷ []
@@ -102,6 +106,7 @@ desk_values (Offload w f pieces) = number w ∷ flight f ∷ day f ∷ Number pi
 desk_values (Reroute f unload) = flight f ∷ day f ∷ Text unload ∷ []
 desk_values (Depart f) = flight f ∷ day f ∷ []
 desk_values (CheckIn w f counted) = number w ∷ flight f ∷ day f ∷ Number counted ∷ []
+desk_values (Strike w f pieces) = number w ∷ flight f ∷ day f ∷ Number pieces ∷ []
 desk_values (Notify w name) = number w ∷ Text name ∷ []
 desk_values (Deliver w pieces name) = number w ∷ Number pieces ∷ Text name ∷ []
 desk_values (Transfer w pieces airline) = number w ∷ Number pieces ∷ Text airline ∷ []
@@ -136,6 +141,9 @@ abbrev pub IsDeskCommand : DeskCommand → Type 0
 IsDeskCommand (Book w origin destination pieces tenths goods) =
     IsNumber w × IsAirport origin × IsAirport destination × IsPieces pieces × IsTenths tenths
     × IsTrue (is_goods goods)
+IsDeskCommand (Amend w origin destination pieces tenths goods) =
+    IsNumber w × IsAirport origin × IsAirport destination × IsPieces pieces × IsTenths tenths
+    × IsTrue (is_goods goods)
 IsDeskCommand (Receive w pieces tenths name) =
     IsNumber w × IsPieces pieces × IsTenths tenths × IsTrue (is_name name)
 IsDeskCommand (Withdraw w pieces name) = IsNumber w × IsPieces pieces × IsTrue (is_name name)
@@ -145,6 +153,7 @@ IsDeskCommand (Offload w flight pieces) = IsNumber w × IsFlightDate flight × I
 IsDeskCommand (Reroute flight unload) = IsFlightDate flight × IsAirport unload
 IsDeskCommand (Depart flight) = IsFlightDate flight
 IsDeskCommand (CheckIn w flight counted) = IsNumber w × IsFlightDate flight × IsCount counted
+IsDeskCommand (Strike w flight pieces) = IsNumber w × IsFlightDate flight × IsPieces pieces
 IsDeskCommand (Notify w name) = IsNumber w × IsTrue (is_name name)
 IsDeskCommand (Deliver w pieces name) = IsNumber w × IsPieces pieces × IsTrue (is_name name)
 IsDeskCommand (Transfer w pieces airline) =
@@ -215,6 +224,14 @@ command_in verb.Book awb origin destination pieces tenths goods = do
   t ← tenths_in tenths
   g ← goods_in goods
   Some (Cargo (Book w o d p t g))
+command_in verb.Amend awb origin destination pieces tenths goods = do
+  w ← awb_in awb
+  o ← airport_in origin
+  d ← airport_in destination
+  p ← pieces_in pieces
+  t ← tenths_in tenths
+  g ← goods_in goods
+  Some (Cargo (Amend w o d p t g))
 command_in verb.Receive awb pieces tenths name _ _ = do
   w ← awb_in awb
   p ← pieces_in pieces
@@ -249,6 +266,11 @@ command_in verb.CheckIn awb flight day counted _ _ = do
   f ← flight_date_in flight day
   n ← counted_in counted
   Some (Cargo (CheckIn w f n))
+command_in verb.Strike awb flight day pieces _ _ = do
+  w ← awb_in awb
+  f ← flight_date_in flight day
+  p ← pieces_in pieces
+  Some (Cargo (Strike w f p))
 command_in verb.Notify awb name _ _ _ _ = do
   w ← awb_in awb
   n ← name_in name

@@ -15,6 +15,7 @@ word verb.Issue = codes "issue"
 word verb.Return = codes "return"
 word verb.Void = codes "void"
 word verb.Book = codes "book"
+word verb.Amend = codes "amend"
 word verb.Receive = codes "receive"
 word verb.Withdraw = codes "withdraw"
 word verb.Manifest = codes "manifest"
@@ -22,6 +23,7 @@ word verb.Offload = codes "offload"
 word verb.Reroute = codes "reroute"
 word verb.Depart = codes "depart"
 word verb.CheckIn = codes "check-in"
+word verb.Strike = codes "strike"
 word verb.Notify = codes "notify"
 word verb.Deliver = codes "deliver"
 word verb.Transfer = codes "transfer"
@@ -37,6 +39,8 @@ row verb.Return = field.Prefix ∷ field.Serial ∷ field.Count ∷ field.Agent 
 row verb.Void = field.Prefix ∷ field.Serial ∷ field.Count ∷ []
 row verb.Book =
     field.Awb ∷ field.Origin ∷ field.Destination ∷ field.Pieces ∷ field.Tenths ∷ field.Goods ∷ []
+row verb.Amend =
+    field.Awb ∷ field.Origin ∷ field.Destination ∷ field.Pieces ∷ field.Tenths ∷ field.Goods ∷ []
 row verb.Receive = field.Awb ∷ field.Pieces ∷ field.Tenths ∷ field.Name ∷ []
 row verb.Withdraw = field.Awb ∷ field.Pieces ∷ field.Name ∷ []
 row verb.Manifest = field.Awb ∷ field.Flight ∷ field.Date ∷ field.Unload ∷ field.Pieces ∷ []
@@ -44,6 +48,7 @@ row verb.Offload = field.Awb ∷ field.Flight ∷ field.Date ∷ field.Pieces �
 row verb.Reroute = field.Flight ∷ field.Date ∷ field.Unload ∷ []
 row verb.Depart = field.Flight ∷ field.Date ∷ []
 row verb.CheckIn = field.Awb ∷ field.Flight ∷ field.Date ∷ field.Counted ∷ []
+row verb.Strike = field.Awb ∷ field.Flight ∷ field.Date ∷ field.Pieces ∷ []
 row verb.Notify = field.Awb ∷ field.Name ∷ []
 row verb.Deliver = field.Awb ∷ field.Pieces ∷ field.Name ∷ []
 row verb.Transfer = field.Awb ∷ field.Pieces ∷ field.Airline ∷ []
@@ -101,9 +106,10 @@ places verb = map (slice_get (row verb)) (0 ∷ 1 ∷ 2 ∷ 3 ∷ 4 ∷ 5 ∷ []
 
 abbrev pub verbs : List Verb
 verbs =
-    verb.TakeIn ∷ verb.Issue ∷ verb.Return ∷ verb.Void ∷ verb.Book ∷ verb.Receive ∷ verb.Withdraw
-    ∷ verb.Manifest ∷ verb.Offload ∷ verb.Reroute ∷ verb.Depart ∷ verb.CheckIn ∷ verb.Notify
-    ∷ verb.Deliver ∷ verb.Transfer ∷ verb.Missing ∷ verb.Found ∷ verb.Confirm ∷ []
+    verb.TakeIn ∷ verb.Issue ∷ verb.Return ∷ verb.Void ∷ verb.Book ∷ verb.Amend ∷ verb.Receive
+    ∷ verb.Withdraw ∷ verb.Manifest ∷ verb.Offload ∷ verb.Reroute ∷ verb.Depart ∷ verb.CheckIn
+    ∷ verb.Strike ∷ verb.Notify ∷ verb.Deliver ∷ verb.Transfer ∷ verb.Missing ∷ verb.Found
+    ∷ verb.Confirm ∷ []
 
 abbrev pub is_word : List ℕ → Verb → Bool
 is_word text verb = bytes_eq (word verb) text

@@ -36,6 +36,7 @@ pub(crate) fn command_of(verb: Verb, values: &[FieldValue<'_>; 6]) -> Option<Com
         Verb::Return => give_back(values),
         Verb::Void => void(values),
         Verb::Book => book(values),
+        Verb::Amend => amend(values),
         Verb::Receive => receive(values),
         Verb::Withdraw => withdraw(values),
         Verb::Manifest => manifest(values),
@@ -43,6 +44,7 @@ pub(crate) fn command_of(verb: Verb, values: &[FieldValue<'_>; 6]) -> Option<Com
         Verb::Reroute => reroute(values),
         Verb::Depart => depart(values),
         Verb::CheckIn => check_in(values),
+        Verb::Strike => strike(values),
         Verb::Notify => notify(values),
         Verb::Deliver => deliver(values),
         Verb::Transfer => transfer(values),
@@ -94,6 +96,14 @@ fn desk_text(alloc: Global, command: &DeskCommand) -> Result<String, AllocError>
             tenths,
             goods,
         } => book_text(alloc, awb, origin, destination, *pieces, *tenths, goods),
+        DeskCommand::Amend {
+            awb,
+            origin,
+            destination,
+            pieces,
+            tenths,
+            goods,
+        } => amend_text(alloc, awb, origin, destination, *pieces, *tenths, goods),
         DeskCommand::Receive {
             awb,
             pieces,
@@ -119,6 +129,11 @@ fn desk_text(alloc: Global, command: &DeskCommand) -> Result<String, AllocError>
             flight,
             counted,
         } => check_in_text(alloc, awb, flight, *counted),
+        DeskCommand::Strike {
+            awb,
+            flight,
+            pieces,
+        } => strike_text(alloc, awb, flight, *pieces),
         DeskCommand::Notify { awb, name } => notify_text(alloc, awb, name),
         DeskCommand::Deliver { awb, pieces, name } => deliver_text(alloc, awb, *pieces, name),
         DeskCommand::Transfer {
@@ -308,6 +323,44 @@ fn book_text(
     format!(in alloc; "book\n{awb}\n{origin}\n{destination}\n{pieces}\n{tenths}\n{goods}")
 }
 
+fn amend(values: &[FieldValue<'_>; 6]) -> Option<Command>
+    ensures { result ≡ command_of Verb.Amend values.now }
+{
+    let [awb, origin, destination, pieces, tenths, goods] = values;
+    Some(Command::Cargo(DeskCommand::Amend {
+        awb: awb.awb()?,
+        origin: origin.airport()?,
+        destination: destination.airport()?,
+        pieces: pieces.pieces()?,
+        tenths: tenths.tenths()?,
+        goods: goods.goods()?,
+    }))
+}
+
+fn amend_text(
+    alloc: Global,
+    awb: &Awb,
+    origin: &Airport,
+    destination: &Airport,
+    pieces: Pieces,
+    tenths: Tenths,
+    goods: &Goods,
+) -> Result<String, AllocError>
+    ensures { WritesDesk result
+        (DeskCommand.Amend awb.now origin.now destination.now pieces tenths goods.now) }
+{
+    let number = number_bytes(awb);
+    let awb = ascii_text(&number);
+    let origin = airport_bytes(origin);
+    let origin = ascii_text(&origin);
+    let destination = airport_bytes(destination);
+    let destination = ascii_text(&destination);
+    let pieces = pieces.number();
+    let goods = goods_text(goods);
+    let tenths = tenths.number();
+    format!(in alloc; "amend\n{awb}\n{origin}\n{destination}\n{pieces}\n{tenths}\n{goods}")
+}
+
 fn receive(values: &[FieldValue<'_>; 6]) -> Option<Command>
     ensures { result ≡ command_of Verb.Receive values.now }
 {
@@ -477,6 +530,32 @@ fn check_in_text(
     let counted = counted.number();
     let flight = flight_lines(alloc, flight)?;
     format!(in alloc; "check-in\n{awb}\n{flight}\n{counted}")
+}
+
+fn strike(values: &[FieldValue<'_>; 6]) -> Option<Command>
+    ensures { result ≡ command_of Verb.Strike values.now }
+{
+    let [awb, flight, day, pieces, ..] = values;
+    Some(Command::Cargo(DeskCommand::Strike {
+        awb: awb.awb()?,
+        flight: flight_date(flight, day)?,
+        pieces: pieces.pieces()?,
+    }))
+}
+
+fn strike_text(
+    alloc: Global,
+    awb: &Awb,
+    flight: &FlightDate,
+    pieces: Pieces,
+) -> Result<String, AllocError>
+    ensures { WritesDesk result (DeskCommand.Strike awb.now flight.now pieces) }
+{
+    let number = number_bytes(awb);
+    let awb = ascii_text(&number);
+    let pieces = pieces.number();
+    let flight = flight_lines(alloc, flight)?;
+    format!(in alloc; "strike\n{awb}\n{flight}\n{pieces}")
 }
 
 fn notify(values: &[FieldValue<'_>; 6]) -> Option<Command>

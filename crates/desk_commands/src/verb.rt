@@ -18,6 +18,7 @@ pub enum Verb {
     Return,
     Void,
     Book,
+    Amend,
     Receive,
     Withdraw,
     Manifest,
@@ -25,6 +26,7 @@ pub enum Verb {
     Reroute,
     Depart,
     CheckIn,
+    Strike,
     Notify,
     Deliver,
     Transfer,
@@ -34,12 +36,13 @@ pub enum Verb {
 }
 
 /// Each verb, in the order in which a desk names them.
-pub const VERBS: [Verb; 18] = [
+pub const VERBS: [Verb; 20] = [
     Verb::TakeIn,
     Verb::Issue,
     Verb::Return,
     Verb::Void,
     Verb::Book,
+    Verb::Amend,
     Verb::Receive,
     Verb::Withdraw,
     Verb::Manifest,
@@ -47,6 +50,7 @@ pub const VERBS: [Verb; 18] = [
     Verb::Reroute,
     Verb::Depart,
     Verb::CheckIn,
+    Verb::Strike,
     Verb::Notify,
     Verb::Deliver,
     Verb::Transfer,
@@ -74,6 +78,7 @@ impl Verb {
             Verb::Return => "return",
             Verb::Void => "void",
             Verb::Book => "book",
+            Verb::Amend => "amend",
             Verb::Receive => "receive",
             Verb::Withdraw => "withdraw",
             Verb::Manifest => "manifest",
@@ -81,6 +86,7 @@ impl Verb {
             Verb::Reroute => "reroute",
             Verb::Depart => "depart",
             Verb::CheckIn => "check-in",
+            Verb::Strike => "strike",
             Verb::Notify => "notify",
             Verb::Deliver => "deliver",
             Verb::Transfer => "transfer",
@@ -99,6 +105,7 @@ impl Verb {
             Verb::Return => RETURN,
             Verb::Void => VOID,
             Verb::Book => BOOK,
+            Verb::Amend => AMEND,
             Verb::Receive => RECEIVE,
             Verb::Withdraw => WITHDRAW,
             Verb::Manifest => MANIFEST,
@@ -106,6 +113,7 @@ impl Verb {
             Verb::Reroute => REROUTE,
             Verb::Depart => DEPART,
             Verb::CheckIn => CHECK_IN,
+            Verb::Strike => STRIKE,
             Verb::Notify => NOTIFY,
             Verb::Deliver => DELIVER,
             Verb::Transfer => TRANSFER,
@@ -122,11 +130,11 @@ impl Verb {
         match self {
             Verb::TakeIn | Verb::Void => &[Prefix, Serial, Count],
             Verb::Issue | Verb::Return => &[Prefix, Serial, Count, Agent],
-            Verb::Book => &[Awb, Origin, Destination, Pieces, Tenths, Goods],
+            Verb::Book | Verb::Amend => &[Awb, Origin, Destination, Pieces, Tenths, Goods],
             Verb::Receive => &[Awb, Pieces, Tenths, Name],
             Verb::Withdraw => &[Awb, Pieces, Name],
             Verb::Manifest => &[Awb, Flight, Date, Unload, Pieces],
-            Verb::Offload => &[Awb, Flight, Date, Pieces],
+            Verb::Offload | Verb::Strike => &[Awb, Flight, Date, Pieces],
             Verb::Reroute => &[Flight, Date, Unload],
             Verb::Depart => &[Flight, Date],
             Verb::CheckIn => &[Awb, Flight, Date, Counted],
@@ -301,6 +309,16 @@ Refused: 217 more than 9,999 pieces or 999,999 tenths
          202 it is already declared and has moves
          203 its number is at the desk, or void";
 
+const AMEND: &str = "\
+Changes the declaration of a waybill while all its pieces that came in are free
+Fields: awb, origin, destination, pieces, tenths, goods
+Body: {\"awb\":\"020-12345675\",\"origin\":\"FRA\",\"destination\":\"ORD\",\"pieces\":12,\"tenths\":1200,\"goods\":\"CARGO\"}
+Refused: 201 unknown waybill
+         204 pieces were received here, and its origin would be elsewhere
+         217 more than 9,999 pieces or 999,999 tenths
+         225 some of its pieces aren't free
+         226 its free pieces don't fit the new pieces and weight";
+
 const RECEIVE: &str = "\
 Receives pieces of a waybill at its origin
 Fields: awb, pieces, tenths, name
@@ -362,6 +380,15 @@ Refused: 201 unknown waybill
          211 not expected on that flight
          212 already checked in
          217 more than 9,999 pieces or 999,999 tenths";
+
+const STRIKE: &str = "\
+Strikes pieces off what a flight should bring, because they were counted before
+Fields: awb, flight, date, pieces
+Body: {\"awb\":\"020-12345675\",\"flight\":\"LH400\",\"date\":\"2026-01-12\",\"pieces\":2}
+Refused: 201 unknown waybill
+         211 not expected on that flight
+         212 already checked in, or struck
+         224 not that many expected on that flight";
 
 const NOTIFY: &str = "\
 Notifies the consignee that pieces are ready

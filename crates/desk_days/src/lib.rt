@@ -74,6 +74,7 @@ pub const FILES: &[&str] = &[
     "desk",
     "transfer",
     "mistakes",
+    "corrections",
     "lists",
     "repeats",
     "bodies",

@@ -87,11 +87,8 @@ fn tenths(words: &mut SplitWhitespace<'_>) -> Option<Tenths> {
 
 fn command(asked: &str, words: &mut SplitWhitespace<'_>, last: &str) -> Option<DeskCommand> {
     match asked {
-        "book" | "receive" | "withdraw" | "notify" | "deliver" | "transfer" => at_the_desk(
-            asked,
-            words,
-            last.as_bytes(),
-        ),
+        "book" | "amend" | "receive" | "withdraw" | "notify" | "deliver" | "transfer" =>
+            at_the_desk(asked, words, last.as_bytes()),
         "missing" | "found" => irregular(asked, words),
         "confirm" => Some(DeskCommand::Confirm {
             upto: next_number(words)?,
@@ -105,6 +102,14 @@ fn at_the_desk(asked: &str, words: &mut SplitWhitespace<'_>, last: &[u8]) -> Opt
     let awb = number(words)?;
     match asked {
         "book" => Some(DeskCommand::Book {
+            awb,
+            origin: airport(words)?,
+            destination: airport(words)?,
+            pieces: pieces(words)?,
+            tenths: tenths(words)?,
+            goods: Goods::read(last)?,
+        }),
+        "amend" => Some(DeskCommand::Amend {
             awb,
             origin: airport(words)?,
             destination: airport(words)?,
@@ -161,6 +166,11 @@ fn with_flight(asked: &str, words: &mut SplitWhitespace<'_>) -> Option<DeskComma
             pieces: pieces(words)?,
         }),
         "offload" => Some(DeskCommand::Offload {
+            awb,
+            flight,
+            pieces: pieces(words)?,
+        }),
+        "strike" => Some(DeskCommand::Strike {
             awb,
             flight,
             pieces: pieces(words)?,

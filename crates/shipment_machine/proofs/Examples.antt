@@ -249,6 +249,72 @@ example_reroute_here = refl
 example_reroute_built : reply manifested (rerouting 400 jfk) noon ≡ refused_flight 222 (lh_on 400)
 example_reroute_built = refl
 
+-- What is declared is replaced while all that came in is free and fits in it, and not where nothing was declared.
+
+abbrev amending : List ℕ → List ℕ → ℕ → ℕ → ShipmentCommand
+amending origin destination pieces tenths = order.Desk (desk.Amend w1 origin destination pieces tenths (codes "TOOLS"))
+
+example_amend : reply received (amending fra (codes "ORD") 12 1200) noon ≡ Ok 12
+example_amend = refl
+
+example_amend_moves_nothing : moves received (amending fra (codes "ORD") 12 1200) noon ≡ []
+example_amend_moves_nothing = refl
+
+example_amend_tells_nothing : events received (amending fra (codes "ORD") 12 1200) noon ≡ []
+example_amend_tells_nothing = refl
+
+abbrev amended : Cargo
+amended = after received (amending fra (codes "ORD") 12 1200) noon
+
+example_amended : amended.declared w1 ≡ Some (record { origin = fra; destination = codes "ORD"; pieces = 12; tenths = 1200; goods = codes "TOOLS"; notified = false; since = Some 20465 })
+example_amended = refl
+
+-- two more may be received now, and no third
+example_receive_more : reply amended (order.Desk (desk.Receive w1 2 200 [])) noon ≡ Ok 2
+example_receive_more = refl
+
+example_receive_third : reply amended (order.Desk (desk.Receive w1 3 300 [])) noon ≡ refused_waybill 205 w1
+example_receive_third = refl
+
+-- whatever fits nothing that is here: fewer pieces, less weight, or less than a tenth for each of those to come
+example_amend_pieces : reply received (amending fra jfk 9 1000) noon ≡ refused_waybill 226 w1
+example_amend_pieces = refl
+
+example_amend_weight : reply received (amending fra jfk 10 999) noon ≡ refused_waybill 226 w1
+example_amend_weight = refl
+
+example_amend_rest : reply received (amending fra jfk 12 1001) noon ≡ refused_waybill 226 w1
+example_amend_rest = refl
+
+example_amend_rest_fits : reply received (amending fra jfk 12 1002) noon ≡ Ok 12
+example_amend_rest_fits = refl
+
+-- what was found counts too
+example_amend_found : reply with_found (amending fra jfk 11 20000) noon ≡ refused_waybill 226 w1
+example_amend_found = refl
+
+example_amend_with_found : reply with_found (amending fra jfk 12 10000) noon ≡ Ok 12
+example_amend_with_found = refl
+
+-- received here, it keeps its origin, until all went back
+example_amend_origin : reply received (amending (codes "MUC") jfk 10 1000) noon ≡ refused_waybill 204 w1
+example_amend_origin = refl
+
+example_amend_withdrawn : reply withdrawn (amending (codes "MUC") jfk 1 0) noon ≡ Ok 1
+example_amend_withdrawn = refl
+
+example_amend_built : reply manifested (amending fra jfk 12 1200) noon ≡ refused_waybill 225 w1
+example_amend_built = refl
+
+example_amend_left : reply left (amending fra jfk 12 1200) noon ≡ refused_waybill 225 w1
+example_amend_left = refl
+
+example_amend_too_much : reply manifested (amending fra jfk 10_000 10_000) noon ≡ refused_waybill 217 w1
+example_amend_too_much = refl
+
+example_amend_unknown : reply fresh (amending fra jfk 10 1000) noon ≡ refused_waybill 201 w1
+example_amend_unknown = refl
+
 -- A manifest announces ten pieces here, of which seven, twelve or none are counted.
 
 abbrev line : List ℕ → ℕ → ℕ → Option ℕ → InboundLine
@@ -316,6 +382,75 @@ example_none = refl
 example_none_messages : events announced (counting 0) half_past_two ≡ (event.Differs (lh_on 400) half_past_two discrepancy.Missing, amount 10 1000) ∷ []
 unfolding days_of_years days_of_months day_count days_from_civil
 example_none_messages = refl
+
+-- Three are struck off, since they were counted before. The other seven are expected still.
+
+abbrev striking : ℕ → ShipmentCommand
+striking pieces = order.Desk (desk.Strike w1 (lh_on 400) pieces)
+
+example_strike : reply announced (striking 3) noon ≡ Ok 3
+unfolding days_of_years days_of_months day_count days_from_civil
+example_strike = refl
+
+example_strike_moves_nothing : moves announced (striking 3) noon ≡ []
+unfolding days_of_years days_of_months day_count days_from_civil
+example_strike_moves_nothing = refl
+
+example_strike_tells_nothing : events announced (striking 3) noon ≡ []
+unfolding days_of_years days_of_months day_count days_from_civil
+example_strike_tells_nothing = refl
+
+abbrev fewer : Cargo
+fewer = after announced (striking 3) noon
+
+example_fewer : fewer.expected (lh_on 400) w1 ≡ Some (record { pieces = 7; tenths = 700; checked = false })
+unfolding days_of_years days_of_months day_count days_from_civil
+example_fewer = refl
+
+example_fewer_counted : moves fewer (counting 7) half_past_two ≡ (Hand, Free, amount 7 700) ∷ []
+unfolding days_of_years days_of_months day_count days_from_civil
+example_fewer_counted = refl
+
+-- where all are struck, the line is closed as it stood
+abbrev closed_line : Cargo
+closed_line = after fewer (striking 7) noon
+
+example_closed_line : closed_line.expected (lh_on 400) w1 ≡ Some (record { pieces = 7; tenths = 700; checked = true })
+unfolding days_of_years days_of_months day_count days_from_civil
+example_closed_line = refl
+
+example_count_closed : reply closed_line (counting 7) noon ≡ refused_waybill 212 w1
+unfolding days_of_years days_of_months day_count days_from_civil
+example_count_closed = refl
+
+example_strike_closed : reply closed_line (striking 1) noon ≡ refused_waybill 212 w1
+unfolding days_of_years days_of_months day_count days_from_civil
+example_strike_closed = refl
+
+example_strike_counted : reply short (striking 1) noon ≡ refused_waybill 212 w1
+unfolding days_of_years days_of_months day_count days_from_civil
+example_strike_counted = refl
+
+example_strike_too_many : reply announced (striking 11) noon ≡ refused_waybill 224 w1
+unfolding days_of_years days_of_months day_count days_from_civil
+example_strike_too_many = refl
+
+example_strike_elsewhere : reply announced (order.Desk (desk.Strike w1 (lh_on 401) 1)) noon ≡ refused_waybill 211 w1
+unfolding days_of_years days_of_months day_count days_from_civil
+example_strike_elsewhere = refl
+
+example_strike_unknown : reply there (striking 1) noon ≡ refused_waybill 201 w1
+unfolding days_of_years days_of_months day_count days_from_civil
+example_strike_unknown = refl
+
+-- a further part adds to what is left of an open line, and is refused where all is struck
+example_part_after_strike : expected_amount ((after fewer (manifest 2 (line jfk 2 200 None ∷ [])) noon).expected (lh_on 400) w1) ≡ amount 9 900
+unfolding days_of_years days_of_months day_count days_from_civil
+example_part_after_strike = refl
+
+example_part_after_close : reply closed_line (manifest 2 (line jfk 2 200 None ∷ [])) noon ≡ refused_waybill 214 w1
+unfolding days_of_years days_of_months day_count days_from_civil
+example_part_after_close = refl
 
 example_part_again : reply announced (manifest 1 (line jfk 9 900 None ∷ [])) noon
     ≡ Err (record { number = 213; detail = detail.Part (record { flight = lh_on 400; airport = fra; number = 1 }) })

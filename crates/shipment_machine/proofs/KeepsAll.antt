@@ -26,8 +26,8 @@ use Rattle.shipment_machine.proofs.PlainMoves.{lawful_after}
 use Rattle.shipment_machine.proofs.FlightMoves.{offloaded}
 use Rattle.shipment_machine.proofs.Departed.{noted_load}
 use Rattle.shipment_machine.proofs.KeepsMoves.{is_known, with_moves, may_move, inside_back, inside_fits, outside_fits, came_inside, fits_parts}
-use Rattle.shipment_machine.proofs.KeepsFlights.{keeps_check_in, keeps_manifest, keeps_reroute, keeps_depart}
-use Rattle.shipment_machine.proofs.KeepsRows.{keeps_book, keeps_fwb, keeps_ffm, keeps_fsu, here_have_pieces}
+use Rattle.shipment_machine.proofs.KeepsFlights.{keeps_check_in, keeps_strike, keeps_manifest, keeps_reroute, keeps_depart}
+use Rattle.shipment_machine.proofs.KeepsRows.{keeps_book, keeps_amend, keeps_fwb, keeps_ffm, keeps_fsu, here_have_pieces}
 
 -- what a command of the desk makes of a lawful state is lawful
 abbrev Keeps : Cargo → DeskCommand → Type 0
@@ -121,6 +121,7 @@ keeps_found s w p t flight at text law = by_refusals s (order.Desk (desk.Found w
 
 pub keeps_lawful : KeepsLawful
 keeps_lawful s (order.Desk (desk.Book w origin destination p t goods)) at text law proper = keeps_book s w origin destination p t goods at text proper law
+keeps_lawful s (order.Desk (desk.Amend w origin destination p t goods)) at text law proper = keeps_amend s w origin destination p t goods at text proper law
 keeps_lawful s (order.Desk (desk.Receive w p t name)) at text law proper = keeps_receive s w p t name at text law
 keeps_lawful s (order.Desk (desk.Withdraw w p name)) at text law proper = keeps_withdraw s w p name at text law
 keeps_lawful s (order.Desk (desk.Manifest w flight unload p)) at text law proper = keeps_manifest s w p flight unload at text law
@@ -128,6 +129,7 @@ keeps_lawful s (order.Desk (desk.Offload w flight p)) at text law proper = keeps
 keeps_lawful s (order.Desk (desk.Reroute flight unload)) at text law proper = keeps_reroute s flight unload at text law
 keeps_lawful s (order.Desk (desk.Depart flight)) at text law proper = keeps_depart s flight at text law
 keeps_lawful s (order.Desk (desk.CheckIn w flight counted)) at text law proper = keeps_check_in s w flight counted at text law
+keeps_lawful s (order.Desk (desk.Strike w flight p)) at text law proper = keeps_strike s w flight p at text law
 keeps_lawful s (order.Desk (desk.Notify w name)) at text law proper = keeps_notify s w name at text law
 keeps_lawful s (order.Desk (desk.Deliver w p name)) at text law proper = keeps_deliver s w p name at text law
 keeps_lawful s (order.Desk (desk.Transfer w p airline)) at text law proper = keeps_transfer s w p airline at text law

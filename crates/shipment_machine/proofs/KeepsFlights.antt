@@ -1,10 +1,10 @@
--- Check-in, manifest, rerouting and departure keep a state lawful.
+-- Check-in, striking, manifest, rerouting and departure keep a state lawful.
 use Rattle.std.proofs.Common.{◌≡◌, ℕ, ◌+◌, ◌-◌, ◌<◌, ◌≤◌, Bool, true, false, ◌&&◌, ◌==◌, nat_lt, nat_le, Option, Some, None, is_none, IsSome, IfSome, IfOk, List, [], ◌∷◌, ◌++◌, length, refl, sym, ap, subst, ◌∙◌, arith, append_assoc, true≢false, inl, inr}
 use Rattle.std.specs.Prelude.{is_some}
 use Rattle.std.proofs.lemmas.List.{length-map, append-nil}
 use Rattle.std.specs.Bool.{if◌then◌else◌}
 use Rattle.std.specs.Str.{bytes_eq}
-use Rattle.std.proofs.lemmas.Bool.{leb-true, leb-false, ltb-false}
+use Rattle.std.proofs.lemmas.Bool.{leb-true, leb-false, ltb-true, ltb-false}
 use Rattle.std.proofs.lemmas.Bool.Decides.{nat_tests}
 use Rattle.imp_fields.specs.Amount.{share_of}
 use Rattle.station_days.specs.Date.{LocalMinute}
@@ -22,7 +22,7 @@ use Rattle.shipment_machine.specs.Amount.{part, less, plus}
 use Rattle.shipment_machine.specs.Book.{pieces_of, tenths_of, free, built, taken_and_found, waybills_on}
 use Rattle.shipment_machine.specs.Cargo.{Cargo, written_all}
 use Rattle.shipment_machine.specs.Views.{declaration}
-use Rattle.shipment_machine.specs.Effect.{effect, carried_out, move_of, is_closed, unload_of, expected_amount, counted_in, uncounted, counted_more, check_in_moves}
+use Rattle.shipment_machine.specs.Effect.{effect, carried_out, move_of, is_closed, unload_of, expected_amount, counted_in, uncounted, counted_more, check_in_moves, struck}
 use Rattle.shipment_machine.specs.Lawful.{IsLawful, IsLawfulAmount, IsNoted}
 use Rattle.shipment_machine.proofs.FlightKeys.{same-refl}
 use Rattle.shipment_machine.proofs.OnFlight.{is_in-waybills_on}
@@ -35,7 +35,7 @@ use Rattle.shipment_machine.proofs.FlightMoves.{with_note, noted_open, manifeste
 use Rattle.shipment_machine.proofs.Departed.{sent_off, departed_lawful, depart_moves_are}
 use Rattle.imp_fields.proofs.ShareLemmas.{share_heavy, share_leaves}
 use Rattle.shipment_machine.proofs.WrittenRows.{expects}
-use Rattle.shipment_machine.proofs.KeepsMoves.{is_known, with_moves, may_move, inside_fits, outside_fits, came_with, fits_parts}
+use Rattle.shipment_machine.proofs.KeepsMoves.{is_known, with_moves, rests, may_move, inside_fits, outside_fits, came_with, fits_parts}
 
 -- Check-in.
 
@@ -93,6 +93,31 @@ keeps_check_in s w flight counted at text law = by_refusals s (order.Desk (desk.
   where
     join : (a b c d : List Move) → ((a ++ b) ++ c) ++ d ≡ a ++ ((b ++ c) ++ d)
     join a b c d = ap (λ (xs : List Move). xs ++ d) (append_assoc {A = Move} a b c) ∙ append_assoc {A = Move} a (b ++ c) d
+
+-- Strike.
+
+-- what is left where pieces are below, or not
+abbrev struck_where : Bool → Amount → ℕ → Expected
+struck_where below e p =
+    let rest = less e (part e p) in
+    if below then record { pieces = rest.pieces; tenths = rest.tenths; checked = false } else record { pieces = e.pieces; tenths = e.tenths; checked = true }
+
+struck_fine : (e : Amount) (p : ℕ) → IsLawfulAmount e.pieces e.tenths → IsLawfulAmount (struck e p).pieces (struck e p).tenths
+struck_fine e p law = elim (nat_lt p e.pieces) as (λ b. nat_lt p e.pieces ≡ b → IsLawfulAmount (struck_where b e p).pieces (struck_where b e p).tenths) [
+  | true ↦ λ t.
+      let below : p < e.pieces = ltb-true _ _ t in
+      let l = share_leaves e.pieces e.tenths p law.tenth_a_piece (omega arith) in
+      let rest : e.pieces - p ≤ e.tenths - share_of e.pieces e.tenths p = l.1 in
+      let few : e.pieces ≤ 9999 = law.not_more in
+      let light : e.tenths ≤ 999999 = law.not_heavier in
+      record { some = omega arith; not_more = omega arith; tenth_a_piece = rest; not_heavier = omega arith }
+  | false ↦ λ _. law
+] refl
+
+pub keeps_strike : (s : Cargo) (w : ℕ) (flight : FlightDate) (p : ℕ) (at : LocalMinute) (text : List ℕ) → IsLawful s → IfOk (effect s (order.Desk (desk.Strike w flight p)) at) (λ done. IsLawful (carried_out text done s))
+keeps_strike s w flight p at text law = by_refusals s (order.Desk (desk.Strike w flight p)) at _ (λ none.
+    let fine = expected_fine (s.expected flight w) _ none.1.0 (law.expectations flight w) in
+    expects text (with_moves s []) flight w (struck (expected_amount (s.expected flight w)) p) (struck_fine (expected_amount (s.expected flight w)) p fine) (is_known (s.declared w) none.0) (rests s law))
 
 -- Manifest.
 

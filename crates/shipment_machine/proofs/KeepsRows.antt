@@ -31,7 +31,7 @@ use Rattle.shipment_machine.specs.Cargo.{Cargo, written, written_all}
 use Rattle.shipment_machine.specs.Views.{declaration_view}
 use Rattle.shipment_machine.specs.Effect.{effect, carried_out, first_refusal, unless_refused, then_write, declaring, declare, dated, declared_by, all_pieces, booked, expected_amount, expected_after, row_changes, line_refusals, line_changes, lines_changes, lines_for, inbound_flight, inbound_part, announced}
 use Rattle.shipment_machine.specs.Lawful.{IsLawful, IsLawfulAmount, HasPieces}
-use Rattle.shipment_machine.proofs.Keeps.{NoneHolds, none_holds, by_refusals}
+use Rattle.shipment_machine.proofs.Keeps.{NoneHolds, none_holds, by_refusals, declares}
 use Rattle.imp_fields.proofs.ShareLemmas.{share_heavy}
 use Rattle.shipment_machine.proofs.WrittenRows.{declared_rows, known_after, expects, notes_part, trails}
 use Rattle.shipment_machine.proofs.KeepsMoves.{is_known, with_moves, rests, fits_parts}
@@ -46,6 +46,15 @@ keeps_declaring text s w d some heavy none law =
 pub keeps_book : (s : Cargo) (w : ℕ) (origin destination : List ℕ) (p t : ℕ) (goods : List ℕ) (at : LocalMinute) (text : List ℕ) → 1 ≤ p → IsLawful s → IfOk (effect s (order.Desk (desk.Book w origin destination p t goods)) at) (λ done. IsLawful (carried_out text done s))
 keeps_book s w origin destination p t goods at text some law = by_refusals s (order.Desk (desk.Book w origin destination p t goods)) at _ (λ none.
     keeps_declaring text s w (dated at.day (booked origin destination p t goods)) some (heavier t p) none law)
+  where
+    heavier : (t p : ℕ) → p ≤ max t p
+    heavier t p = omega arith
+
+pub keeps_amend : (s : Cargo) (w : ℕ) (origin destination : List ℕ) (p t : ℕ) (goods : List ℕ) (at : LocalMinute) (text : List ℕ) → 1 ≤ p → IsLawful s → IfOk (effect s (order.Desk (desk.Amend w origin destination p t goods)) at) (λ done. IsLawful (carried_out text done s))
+keeps_amend s w origin destination p t goods at text some law = by_refusals s (order.Desk (desk.Amend w origin destination p t goods)) at _ (λ none.
+    let d : Declared = dated at.day (booked origin destination p t goods) in
+    let room = fits_parts (amount d.pieces d.tenths) none.1.1.0 in
+    declares (with_moves s []) w d (record { some = some; not_more = room.0; tenth_a_piece = heavier t p; not_heavier = room.1 }) (rests s law))
   where
     heavier : (t p : ℕ) → p ≤ max t p
     heavier t p = omega arith

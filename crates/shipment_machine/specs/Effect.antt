@@ -314,6 +314,32 @@ declaring view w d = record {
   outcome = does [] [] (declare view.holder w d) d.pieces;
 }
 
+-- whether an amount holds a part of it, and a tenth for each piece that it has besides
+abbrev pub has_room : Amount → Amount → Bool
+has_room whole part =
+    nat_le part.pieces whole.pieces
+    && nat_le (part.tenths + (whole.pieces - part.pieces)) whole.tenths
+
+-- whether pieces that were taken over at their origin, here, would have another
+abbrev pub loses_origin : List ℕ → WaybillView → List ℕ → Bool
+loses_origin here view origin =
+    nat_lt 0 view.balances.taken.pieces
+    && bytes_eq (declared_as view.declared).origin here
+    && not (bytes_eq origin here)
+
+-- Amend: what is declared is replaced, while all that came in is free and fits in it.
+abbrev pub amending : List ℕ → WaybillView → ℕ → Declared → Rule
+amending here view w d =
+    let free = view.balances.free in
+    record {
+      refusals = (is_none view.declared, about 201 w)
+          ∷ (loses_origin here view d.origin, about 204 w)
+          ∷ (not (fits (amount d.pieces d.tenths)), about 217 w)
+          ∷ (nat_lt free.pieces (came_in view.balances).pieces, about 225 w)
+          ∷ (not (has_room (amount d.pieces d.tenths) free), about 226 w) ∷ [];
+      outcome = does [] [] (Declare w d ∷ []) d.pieces;
+    }
+
 -- Receive: pieces are taken over, with at least a tenth each.
 abbrev pub receiving : List ℕ → WaybillView → ℕ → ℕ → ℕ → List ℕ → LocalMinute → Rule
 receiving here view w p t name at =
@@ -453,6 +479,26 @@ checking_in here view expected w flight counted at =
           ∷ []) counted;
     }
 
+-- Strike: pieces are struck off what is expected. The line is closed as it stands where none of it
+-- would be left.
+abbrev pub struck : Amount → ℕ → Expected
+struck e p =
+    let rest = less e (part e p) in
+    if nat_lt p e.pieces
+    then record { pieces = rest.pieces; tenths = rest.tenths; checked = false }
+    else record { pieces = e.pieces; tenths = e.tenths; checked = true }
+
+abbrev pub striking : Option Declared → Option Expected → ℕ → FlightDate → ℕ → Rule
+striking declared expected w flight p =
+    let e = expected_amount expected in
+    record {
+      refusals = (is_none declared, about 201 w)
+          ∷ (is_none expected, about 211 w)
+          ∷ (is_checked expected, about 212 w)
+          ∷ (nat_lt e.pieces p, about 224 w) ∷ [];
+      outcome = does [] [] (Expect flight w (struck e p) ∷ []) p;
+    }
+
 -- Notify: the consignee is notified of all that is free.
 abbrev pub notifying : List ℕ → WaybillView → ℕ → List ℕ → LocalMinute → Rule
 notifying here view w name at =
@@ -567,6 +613,7 @@ noting_status declared w lines = record {
 
 abbrev pub reads : DeskCommand → RowsKey
 reads (desk.Book w origin destination p t goods) = key.Declaration w
+reads (desk.Amend w origin destination p t goods) = key.Waybill w
 reads (desk.Receive w p t name) = key.Waybill w
 reads (desk.Withdraw w p name) = key.Waybill w
 reads (desk.Manifest w flight unload p) = key.Manifest w flight
@@ -574,6 +621,7 @@ reads (desk.Offload w flight p) = key.Offload w flight
 reads (desk.Reroute flight unload) = key.Departure flight
 reads (desk.Depart flight) = key.Departure flight
 reads (desk.CheckIn w flight counted) = key.CheckIn w flight
+reads (desk.Strike w flight p) = key.CheckIn w flight
 reads (desk.Notify w name) = key.Waybill w
 reads (desk.Deliver w p name) = key.Waybill w
 reads (desk.Transfer w p airline) = key.Waybill w
@@ -584,6 +632,8 @@ reads (desk.Confirm upto) = key.Messages
 abbrev pub desk_rule : List ℕ → Rows → DeskCommand → LocalMinute → Rule
 desk_rule here (rows.Declaration view) (desk.Book w origin destination p t goods) at =
     declaring view w (dated at.day (booked origin destination p t goods))
+desk_rule here (rows.Waybill view) (desk.Amend w origin destination p t goods) at =
+    amending here view w (dated at.day (booked origin destination p t goods))
 desk_rule here (rows.Waybill view) (desk.Receive w p t name) at = receiving here view w p t name at
 desk_rule here (rows.Waybill view) (desk.Withdraw w p name) at = withdrawing here view w p at
 desk_rule here (rows.Manifest view on) (desk.Manifest w flight unload p) at =
@@ -596,6 +646,8 @@ desk_rule here (rows.Departure outbound loads) (desk.Depart flight) at =
     departing here outbound loads flight at
 desk_rule here (rows.CheckIn view expected) (desk.CheckIn w flight counted) at =
     checking_in here view expected w flight counted at
+desk_rule here (rows.CheckIn view expected) (desk.Strike w flight p) at =
+    striking view.declared expected w flight p
 desk_rule here (rows.Waybill view) (desk.Notify w name) at = notifying here view w name at
 desk_rule here (rows.Waybill view) (desk.Deliver w p name) at = delivering here view w p name at
 desk_rule here (rows.Waybill view) (desk.Transfer w p airline) at = transferring here view w p at

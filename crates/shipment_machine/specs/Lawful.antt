@@ -105,6 +105,7 @@ HasPieces l = 1 ≤ l.cargo.pieces
 
 abbrev pub IsProper : ShipmentCommand → Type 0
 IsProper (order.Desk (desk.Book w origin destination pieces tenths goods)) = 1 ≤ pieces
+IsProper (order.Desk (desk.Amend w origin destination pieces tenths goods)) = 1 ≤ pieces
 IsProper (order.Desk _) = ⊤
 IsProper (order.Fwb c) = 1 ≤ c.pieces
 IsProper (order.Ffm f) = All HasPieces f.lines

@@ -1,18 +1,18 @@
 //! What is declared and taken over, and what goes back.
 ghost use Rattle.std.specs.Prelude.{◌≡◌, ℕ, ◌≤◌, ◌++◌, Some, None, OnOk, if◌then◌else◌};
 ghost use Rattle.shipment_machine.specs.Amount.{IsHeld, amount, fits};
-ghost use Rattle.shipment_machine.specs.Effect.{decided, at_desk_or_void, booked, dated, declare, declared_by, declaring, receiving, withdrawing};
+ghost use Rattle.shipment_machine.specs.Effect.{decided, at_desk_or_void, amending, booked, dated, declare, declared_by, declaring, has_room, receiving, withdrawing};
 ghost use Rattle.shipment_machine.specs.Agreement.{IsAnswer};
 ghost use Rattle.shipment_machine.specs.Claims.{claimed};
 ghost use Rattle.imp_fields.specs.Amount.{most_pieces};
 
 use crate::amount::{Amount, is_within, part_of};
 use crate::command::CargoLine;
-use crate::moves::{Declared, Place};
+use crate::moves::{Balances, Declared, Place};
 use crate::notice::Event;
 use crate::plan_parts::{
     PlanContext, add_move, add_notice, blank, fits_with, is_same, pieces_of, refuse_free,
-    refuse_waybill, tenths_of,
+    refuse_waybill, tenths_of, widened,
 };
 use crate::plans::{Change, Plan, PlanFault};
 use crate::view::{DeclarationView, WaybillView};
@@ -152,6 +152,55 @@ pub(crate) fn book<'a>(
     }
     let mut plan = blank(on.alloc, claim.pieces);
     add_declaration(&mut plan.changes, view.holder, awb, declared)?;
+    Ok(plan)
+}
+
+/// Whether an amount holds a part of it, and a tenth for each piece that it has besides.
+fn has_room(whole: Amount, part: Amount) -> bool
+    ensures { result ≡ has_room whole part }
+{
+    part.pieces <= whole.pieces
+        && widened(part.tenths) + widened(whole.pieces - part.pieces) <= widened(whole.tenths)
+}
+
+/// Replaces what is declared of a waybill, while all that came in is free and fits in it.
+pub(crate) fn amend<'a>(
+    on: &PlanContext,
+    view: &WaybillView,
+    awb: Awb,
+    claim: &ProposedDeclaration,
+) -> Result<Plan<'a>, PlanFault>
+    requires { 1 ≤ claim.now.pieces }
+    ensures { IsAnswer result (decided
+        (amending on.now.here view.now awb (dated on.now.at.day (claimed claim.now)))) }
+{
+    let Some(old) = &view.declared else {
+        return Err(refuse_waybill(201, awb));
+    };
+    let Balances {
+        taken,
+        found,
+        free,
+        ..
+    } = view.balances;
+    if taken.pieces > 0 && is_same(old.origin, on.here) && !is_same(claim.origin, on.here) {
+        return Err(refuse_waybill(204, awb));
+    }
+    let Some(declared) = declared_as(claim, on.at) else {
+        return Err(refuse_waybill(217, awb));
+    };
+    if widened(free.pieces) < widened(taken.pieces) + widened(found.pieces) {
+        return Err(refuse_waybill(225, awb));
+    }
+    let whole = Amount {
+        pieces: declared.pieces.number(),
+        tenths: declared.tenths.number(),
+    };
+    if !has_room(whole, free) {
+        return Err(refuse_waybill(226, awb));
+    }
+    let mut plan = blank(on.alloc, claim.pieces);
+    plan.changes.push(Change::Declare { awb, declared })?;
     Ok(plan)
 }
 

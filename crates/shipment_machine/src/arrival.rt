@@ -1,7 +1,7 @@
 //! What a flight brought.
 ghost use Rattle.std.specs.Prelude.{◌≡◌, ◌+◌, ◌-◌, ◌*◌, ◌/◌, ◌≤◌, ◌<◌, ◌^◌, Some, None, IfSome, IfOk, if◌then◌else◌};
-ghost use Rattle.shipment_machine.specs.Amount.{GoesWith, IsHeld, IsPartOf, plus, fits};
-ghost use Rattle.shipment_machine.specs.Effect.{decided, came_in, expected_amount, counted_in, uncounted, counted_more, check_in_moves, check_in_notices, checking_in};
+ghost use Rattle.shipment_machine.specs.Amount.{GoesWith, IsHeld, IsPartOf, amount, plus, fits};
+ghost use Rattle.shipment_machine.specs.Effect.{decided, came_in, expected_amount, counted_in, uncounted, counted_more, check_in_moves, check_in_notices, checking_in, struck, striking};
 ghost use Rattle.shipment_machine.specs.Agreement.{IsAnswer};
 ghost use Rattle.shipment_machine.specs.declared.notice.Event.TheVariants as event;
 ghost use Rattle.imp_fields.specs.Amount.{most_pieces};
@@ -12,12 +12,13 @@ use crate::flight::FlightDate;
 use crate::moves::{Balances, Declared, Expected, Move, Place};
 use crate::notice::{Event, Notice};
 use crate::plan_parts::{
-    PlanContext, add_move, add_notice, blank, fits_with, refuse_waybill, together, widened,
+    PlanContext, add_move, add_notice, blank, fits_with, pieces_of, refuse_waybill, tenths_of,
+    together, widened,
 };
 use crate::plans::{Change, Plan, PlanFault};
 use crate::view::WaybillView;
 use awb_number::Awb;
-use imp_fields::{Discrepancy, share};
+use imp_fields::{Discrepancy, Pieces, share};
 use station_days::Moment;
 use std::alloc::AllocError;
 
@@ -221,6 +222,65 @@ pub(crate) fn check_in<'a>(
             checked: true,
             ..*row
         },
+    })?;
+    Ok(plan)
+}
+
+/// What is expected once pieces are struck off. The line is closed as it stands where none of it
+/// would be left.
+fn struck(row: &Expected, pieces: u32) -> Expected
+    requires held { IsHeld (amount row.now.pieces row.now.tenths) }
+    requires within { pieces ≤ row.now.pieces }
+    ensures { result ≡ struck (amount row.now.pieces row.now.tenths) pieces }
+{
+    let whole = Amount {
+        pieces: row.pieces.number(),
+        tenths: row.tenths.number(),
+    };
+    if pieces >= whole.pieces {
+        return Expected {
+            checked: true,
+            ..*row
+        };
+    }
+    let rest = rest_of(whole, pieces);
+    Expected {
+        pieces: pieces_of(rest.pieces),
+        tenths: tenths_of(rest.tenths),
+        checked: false,
+    }
+}
+
+/// Strikes pieces off what a flight is to bring of a waybill, without a move.
+pub(crate) fn strike<'a>(
+    on: &PlanContext,
+    declared: &Option<Declared>,
+    expected: &Option<Expected>,
+    awb: Awb,
+    flight: &FlightDate,
+    pieces: Pieces,
+) -> Result<Plan<'a>, PlanFault>
+    requires { IsHeld (expected_amount expected.now) }
+    ensures { IsAnswer result
+        (decided (striking declared.now expected.now awb flight.now pieces)) }
+{
+    if declared.is_none() {
+        return Err(refuse_waybill(201, awb));
+    }
+    let Some(row) = expected else {
+        return Err(refuse_waybill(211, awb));
+    };
+    if row.checked {
+        return Err(refuse_waybill(212, awb));
+    }
+    if row.pieces.number() < pieces.number() {
+        return Err(refuse_waybill(224, awb));
+    }
+    let mut plan = blank(on.alloc, pieces.number());
+    plan.changes.push(Change::Expect {
+        flight: *flight,
+        awb,
+        expected: struck(row, pieces.number()),
     })?;
     Ok(plan)
 }

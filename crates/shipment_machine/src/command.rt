@@ -144,6 +144,15 @@ pub enum DeskCommand {
         tenths: Tenths,
         goods: Goods,
     },
+    /// Replaces what is declared of a waybill.
+    Amend {
+        awb: Awb,
+        origin: Airport,
+        destination: Airport,
+        pieces: Pieces,
+        tenths: Tenths,
+        goods: Goods,
+    },
     /// Takes pieces over from the shipper or an agent.
     Receive {
         awb: Awb,
@@ -184,6 +193,12 @@ pub enum DeskCommand {
         awb: Awb,
         flight: FlightDate,
         counted: PieceCount,
+    },
+    /// Strikes pieces off what a flight is to bring of a waybill.
+    Strike {
+        awb: Awb,
+        flight: FlightDate,
+        pieces: Pieces,
     },
     /// Notifies the consignee.
     Notify {
@@ -228,6 +243,7 @@ impl DeskCommand {
     {
         match self {
             DeskCommand::Book { awb, .. } => RowsKey::Declaration(*awb),
+            DeskCommand::Amend { awb, .. } => RowsKey::Waybill(*awb),
             DeskCommand::Receive { awb, .. } => RowsKey::Waybill(*awb),
             DeskCommand::Withdraw { awb, .. } => RowsKey::Waybill(*awb),
             DeskCommand::Manifest { awb, flight, .. } => RowsKey::Manifest(*awb, *flight),
@@ -235,6 +251,7 @@ impl DeskCommand {
             DeskCommand::Reroute { flight, .. } => RowsKey::Departure(*flight),
             DeskCommand::Depart { flight } => RowsKey::Departure(*flight),
             DeskCommand::CheckIn { awb, flight, .. } => RowsKey::CheckIn(*awb, *flight),
+            DeskCommand::Strike { awb, flight, .. } => RowsKey::CheckIn(*awb, *flight),
             DeskCommand::Notify { awb, .. } => RowsKey::Waybill(*awb),
             DeskCommand::Deliver { awb, .. } => RowsKey::Waybill(*awb),
             DeskCommand::Transfer { awb, .. } => RowsKey::Waybill(*awb),

@@ -9,9 +9,9 @@ ghost use Rattle.shipment_machine.specs.Effect.{effect, expected_amount, lines_f
 ghost use Rattle.shipment_machine.specs.Lawful.{IsProper};
 ghost use Rattle.shipment_machine.specs.Agreement.{AreRowsOf, AreSound, FitsCommand, IsAnswer, IsOnBoard, IsViewOf, RefusesAs, StaysLawful, meant_by, outcome_of, rows_answer};
 
-use crate::acceptance::{book, booked, claim_of, receive, withdraw};
+use crate::acceptance::{amend, book, booked, claim_of, receive, withdraw};
 use crate::amount::Amount;
-use crate::arrival::check_in;
+use crate::arrival::{check_in, strike};
 use crate::command::{DeskCommand, InboundLine, ShipmentCommand};
 use crate::departure::depart;
 use crate::handover::{deliver, notify, transfer};
@@ -172,6 +172,17 @@ fn plan_desk<'a>(
             _ => Err(PlanFault::Unfit),
         },
         Rows::Waybill { waybill } => match command {
+            DeskCommand::Amend {
+                awb,
+                origin,
+                destination,
+                pieces,
+                tenths,
+                goods,
+            } => {
+                let claim = booked(*origin, *destination, *pieces, *tenths, *goods);
+                amend(on, waybill, *awb, &claim)
+            }
             DeskCommand::Receive {
                 awb,
                 pieces,
@@ -234,6 +245,11 @@ fn plan_desk<'a>(
                 flight,
                 counted,
             } => check_in(on, waybill, expected, *awb, flight, *counted),
+            DeskCommand::Strike {
+                awb,
+                flight,
+                pieces,
+            } => strike(on, &waybill.declared, expected, *awb, flight, *pieces),
             _ => Err(PlanFault::Unfit),
         },
         Rows::Messages { confirmed, last } => match command {

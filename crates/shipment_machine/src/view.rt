@@ -149,7 +149,7 @@ pub enum Rows {
     Declaration {
         waybill: DeclarationView,
     },
-    /// A receipt, a notice, a delivery, missing or found pieces: the waybill.
+    /// An amendment, a receipt, a notice, a delivery, missing or found pieces: the waybill.
     Waybill {
         waybill: WaybillView,
     },
@@ -169,7 +169,7 @@ pub enum Rows {
         outbound: Option<Outbound>,
         loads: Loads,
     },
-    /// A check-in: the waybill, and what the flight brings of it.
+    /// A check-in, or pieces that are struck: the waybill, and what the flight brings of it.
     CheckIn {
         waybill: WaybillView,
         expected: Option<Expected>,

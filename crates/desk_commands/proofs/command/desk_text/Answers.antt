@@ -16,6 +16,9 @@ returns-in-Depart c = told_of c.depart_text.result _ _ c.in-Depart.is c.depart_t
 pub returns-in-CheckIn : goal.returns-in-CheckIn
 returns-in-CheckIn c = told_of c.check_in_text.result _ _ c.in-CheckIn.is c.check_in_text.ensures
 
+pub returns-in-Strike : goal.returns-in-Strike
+returns-in-Strike c = told_of c.strike_text.result _ _ c.in-Strike.is c.strike_text.ensures
+
 pub returns-in-Missing : goal.returns-in-Missing
 returns-in-Missing c = told_of c.missing_text.result _ _ c.in-Missing.is c.missing_text.ensures
 
