@@ -1,5 +1,5 @@
 -- The end of a call over a file.
-use Rattle.std.specs.Prelude.{◌≡◌, ◌<◌, ◌≤◌, ◌↔◌, ℕ, IsTrue, Option, None, IfSome}
+use Rattle.std.specs.Prelude.{◌≡◌, ◌<◌, ◌≤◌, ◌↔◌, ℕ, IsTrue, Result, IfErr, IfOk, OnErr, OnOk}
 use Rattle.sqlite.specs.Closing.{IsCopied}
 use Rattle.sqlite.specs.Held.{state, Held}
 use Rattle.sqlite_disk.specs.declared.Disk.{Ghosts}
@@ -28,20 +28,23 @@ IsCopiedTwice conn files = IsCopied conn files × IsCopiedByList conn files
 
 -- A call that ended with this status closed its file. Behind a fault the log stays, and nothing is
 -- reported again. Otherwise the files are as they are copied, if the disk returned what was
--- written, or the store's fault is reported.
-pub record HasClosed {D E : Type 0} (g : Ghosts D) (IsCopiedTo : Files D → Type 0) (told : E → Given)
-    (old new : ℕ × E) (files : Option (Files D)) : Type 0 where
-  pub stopped : 1 < old.0 → (new ≡ old) × (files ≡ None)
-  pub closed : old.0 ≤ 1 → IfSome files (λ _. new ≡ old)
-  pub copied : IfSome files (λ files. AreClean g files.log files.db → IsCopiedTo files)
-  pub failed : old.0 ≤ 1 → files ≡ None
-      → (new.0 ≡ 3) × HasTold (fault.Run run.Store) (told old.1) (told new.1)
+-- written, or the store's fault is reported. Where the files aren't copied, what a crash may leave
+-- of their store is what it could leave before.
+pub record HasClosed {D E : Type 0} (g : Ghosts D) (IsCopiedTo : Files D → Type 0)
+    (IsLeft : FileStore D g → Type 0) (told : E → Given) (old new : ℕ × E)
+    (files : Result (Files D) (FileStore D g)) : Type 0 where
+  pub stopped : 1 < old.0 → (new ≡ old) × OnOk files ⊥
+  pub closed : old.0 ≤ 1 → IfOk files (λ _. new ≡ old)
+  pub copied : IfOk files (λ files. AreClean g files.log files.db → IsCopiedTo files)
+  pub left : IfErr files IsLeft
+  pub failed : old.0 ≤ 1 → OnErr files
+      ((new.0 ≡ 3) × HasTold (fault.Run run.Store) (told old.1) (told new.1))
 
 -- A line's call over a file: it ran over the connection, whose file was closed behind it.
-pub record HasCalledFile {D S I W E : Type 0} {g : trees.Ghosts S}
-    (Closes : Held S → ℕ × E → ℕ × E → Option (Files D) → Type 0) (line : Line)
+pub record HasCalledFile {D S I W E : Type 0} {disk : Ghosts D} {g : trees.Ghosts S}
+    (Closes : Held S → ℕ × E → ℕ × E → Result (Files D) (FileStore D disk) → Type 0) (line : Line)
     (k : Keeping (Station S g)) (e : Ends I W E) (at : LocalMinute) (conn : Held S)
-    (reached : Reached I W E × Reached I W E) (result : FileEnd D) : Type 0 where
+    (reached : Reached I W E × Reached I W E) (result : FileEnd D disk) : Type 0 where
   pub ran : ℕ × Held S
   pub behind : Reached I W E
   pub called : HasCalled line k e at conn reached.0 behind ran

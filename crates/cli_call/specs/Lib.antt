@@ -1,6 +1,7 @@
 pub mod Closed
 pub mod Ended
 pub mod Migrated
+pub mod OneFile
 pub mod Opened
 pub mod Ran
 pub mod Version

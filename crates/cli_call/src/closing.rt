@@ -1,5 +1,6 @@
 //! A call over a file, from its command to the end of its file.
 ghost use Rattle.cli_call.specs.Closed.{HasCalledFile, HasClosed, IsCopiedTwice};
+ghost use Rattle.sqlite.specs.Files.{IsClosed};
 ghost use Rattle.station_core.specs.Keeping.{keeping};
 ghost use Rattle.cli_run.specs.Ends.{ends, reached};
 
@@ -11,7 +12,7 @@ use sqlite::{Connection, FileStore};
 use sqlite_disk::{Disk, Files};
 use station_core::{ByteOut, Keeper};
 use station_days::Moment;
-use station_files::close_files;
+use station_files::{close_files, give_back};
 use station_schema::has_station;
 use station_tables::Station;
 use std::alloc::Global;
@@ -25,32 +26,32 @@ pub struct FileEnd<D: Disk> {
     pub status: u8,
     /// Whether the file's tables are declared as `init` declares them.
     pub is_declared: bool,
-    /// The closed files, with the log copied into the database file; `None` where a fault stopped
-    /// the call, or the log couldn't be copied.
-    pub files: Option<Files<D>>,
+    /// The closed files, with the log copied into the database file; or their store, where a fault
+    /// stopped the call, or the log couldn't be copied.
+    pub files: Result<Files<D>, FileStore<D>>,
 }
 
 /// Ends a call over a file that ended with this status. Behind a run that no fault stopped, the
 /// log is copied into the database file, and the files are given back. Behind any other, the log
-/// stays: the next opening reads it.
+/// stays: the store is given back, and the next opening reads the log.
 ///
-/// Returns status 3, and reports the fault on `errors`, if the log can't be copied.
+/// Returns status 3 and the store, and reports the fault on `errors`, if the log can't be copied.
 pub fn close_file<D: Disk + Drop, E: ByteOut>(
     conn: Connection<FileStore<D>>,
     status: u8,
     errors: &mut E,
-) -> (u8, Option<Files<D>>)
-    ensures { HasClosed D.Disk (IsCopiedTwice conn) E.taken (status, errors.old)
+) -> (u8, Result<Files<D>, FileStore<D>>)
+    ensures { HasClosed D.Disk (IsCopiedTwice conn) (IsClosed conn) E.taken (status, errors.old)
         (result.0, errors.new) result.1 }
 {
     if status > 1 {
-        return (status, None);
+        return (status, Err(give_back(conn)));
     }
     match close_files(conn) {
-        Ok(files) => (status, Some(files)),
+        Ok(files) => (status, Ok(files)),
         Err(store) => {
-            drop(store.close());
-            (end(errors, Err(DeskFault::Run(RunFault::Store))), None)
+            let status = end(errors, Err(DeskFault::Run(RunFault::Store)));
+            (status, Err(store))
         }
     }
 }
@@ -66,7 +67,8 @@ pub fn run_file<D: Disk + Drop, I: Inputs + Read, W: ByteOut, E: ByteOut>(
     errors: &mut E,
     at: Moment,
 ) -> FileEnd<D>
-    ensures { HasCalledFile (λ ran. HasClosed D.Disk (IsCopiedTwice ran) E.taken) line.now
+    ensures { HasCalledFile (λ ran. HasClosed D.Disk (IsCopiedTwice ran) (IsClosed ran) E.taken)
+        line.now
         (keeping ⟦<Station<FileStore<D>> as Keeper>⟧.keeps
         ⟦<Station<FileStore<D>> as Keeper>⟧.is_clean
         ⟦<Station<FileStore<D>> as Keeper>⟧.is_sound

@@ -1,7 +1,7 @@
 //! A call over a file of which only the trees of a list are shown.
 ghost use Rattle.sqlite.specs.Held.{state};
 ghost use Rattle.cli_call.specs.Closed.{HasCalledFile, HasClosed};
-ghost use Rattle.station_files.specs.OwnFiles.{IsCopiedOwn};
+ghost use Rattle.station_files.specs.OwnFiles.{IsClosedOwn, IsCopiedOwn};
 ghost use Rattle.station_core.specs.Keeping.{keeping};
 ghost use Rattle.cli_run.specs.Ends.{ends, reached};
 
@@ -15,7 +15,7 @@ use sqlite_disk::{Disk, Files};
 use sqlite_trees::store::Store;
 use station_core::{ByteOut, Keeper};
 use station_days::Moment;
-use station_files::{OwnTrees, close_beside};
+use station_files::{OwnTrees, close_beside, give_back_beside};
 use station_schema::has_station;
 use station_tables::Station;
 use std::alloc::Global;
@@ -27,19 +27,20 @@ pub fn close_file_beside<D: Disk + Drop, E: ByteOut>(
     conn: Connection<OwnTrees<FileStore<D>>>,
     status: u8,
     errors: &mut E,
-) -> (u8, Option<Files<D>>)
+) -> (u8, Result<Files<D>, FileStore<D>>)
     ensures { HasClosed D.Disk
-        (IsCopiedOwn D.Disk (state ⟦<OwnTrees<FileStore<D>> as Store>⟧ conn)) E.taken
+        (IsCopiedOwn D.Disk (state ⟦<OwnTrees<FileStore<D>> as Store>⟧ conn))
+        (IsClosedOwn (state ⟦<OwnTrees<FileStore<D>> as Store>⟧ conn)) E.taken
         (status, errors.old) (result.0, errors.new) result.1 }
 {
     if status > 1 {
-        return (status, None);
+        return (status, Err(give_back_beside(conn)));
     }
     match close_beside(conn) {
-        Ok(files) => (status, Some(files)),
+        Ok(files) => (status, Ok(files)),
         Err(store) => {
-            drop(store.close());
-            (end(errors, Err(DeskFault::Run(RunFault::Store))), None)
+            let status = end(errors, Err(DeskFault::Run(RunFault::Store)));
+            (status, Err(store))
         }
     }
 }
@@ -55,7 +56,8 @@ pub fn run_file_beside<D: Disk + Drop, I: Inputs + Read, W: ByteOut, E: ByteOut>
     at: Moment,
 ) -> FileEnd<D>
     ensures { HasCalledFile (λ ran. HasClosed D.Disk
-        (IsCopiedOwn D.Disk (state ⟦<OwnTrees<FileStore<D>> as Store>⟧ ran)) E.taken) line.now
+        (IsCopiedOwn D.Disk (state ⟦<OwnTrees<FileStore<D>> as Store>⟧ ran))
+        (IsClosedOwn (state ⟦<OwnTrees<FileStore<D>> as Store>⟧ ran)) E.taken) line.now
         (keeping ⟦<Station<OwnTrees<FileStore<D>>> as Keeper>⟧.keeps
         ⟦<Station<OwnTrees<FileStore<D>>> as Keeper>⟧.is_clean
         ⟦<Station<OwnTrees<FileStore<D>>> as Keeper>⟧.is_sound

@@ -8,6 +8,7 @@ pub mod Done
 pub mod Ended
 pub mod Ends
 pub mod Explained
+pub mod Left
 pub mod Feed
 pub mod Looked
 pub mod Place

@@ -1,13 +1,20 @@
-//! What the lines of `acts` make together.
-ghost use Rattle.std.specs.Prelude.{◌≡◌, ℕ, Bool, false, List};
+//! What the lines of `acts` make together, and what each command leaves.
+ghost use Rattle.std.specs.Prelude.{◌≡◌, ℕ, Bool, false, List, Result};
 ghost use Rattle.station_days.specs.Date.{LocalMinute};
 ghost use Rattle.station_core.specs.Step.{State};
 ghost use Rattle.cli_run.specs.Acts.{HasAnsweredLine};
 ghost use Rattle.cli_run.specs.ActsLaw.{HasRunActs};
 ghost use Rattle.station_core.specs.Keeping.{keeping};
 ghost use Rattle.cli_run.specs.InTurn.{AreAnswered, Come};
+ghost use Rattle.cli_run.specs.Done.{HasDone};
+ghost use Rattle.cli_run.specs.Ends.{ends, Reached};
+ghost use Rattle.cli_run.specs.Left.{AsksAt, HasLeft};
+ghost use Rattle.cli_words.specs.declared.line.LineCommand.{LineCommand as Command};
+ghost use Rattle.stock_list.specs.declared.answer.RunFault.{RunFault};
 
+use crate::inputs::Inputs;
 use station_core::{ByteOut, Keeper};
+use std::io::Read;
 
 /// The answered lines of `acts` are a run of the station over what they ask: they leave the state
 /// after all of it, what is written is the lines of the answers, and the run is good exactly if
@@ -20,4 +27,16 @@ pub fn acts_law<K: Keeper, E: ByteOut>()
         → (s : State) → K.keeps old.keeper s → K.is_broken old.keeper ≡ false
         → K.is_sound new.keeper
         → HasRunActs 1 s at lines old.sent.bytes new.sent.bytes (K.keeps new.keeper) good }
+{}
+
+/// Whatever a command returns, a reopening behind it finds the state after the inputs that it
+/// answered and, where the store failed, at most one more.
+pub fn left_law<K: Keeper, I: Inputs + Read, W: ByteOut, E: ByteOut>()
+    ensures { (command : Command) (here : List ℕ) (at : LocalMinute) (s : State)
+        (old new : K × Reached I W E) (result : Result Bool RunFault)
+        → K.keeps old.0 s → K.is_broken old.0 ≡ false → K.is_sound new.0
+        → HasDone command here
+        (keeping K.keeps K.is_clean K.is_sound K.is_broken K.may_find K.may_fail)
+        (ends I.remaining I.given I.turned W.taken E.taken) at old new result
+        → HasLeft (AsksAt command at) s (K.may_find new.0) result }
 {}

@@ -29,7 +29,7 @@ pub use answer::{answer_bad, answer_bad_line, answer_refusal, named_line};
 pub use asked::{Asked, command_asked, telegram_asked};
 pub use feed::Feed;
 pub use inputs::{Inputs, Turns};
-pub use law::acts_law;
+pub use law::{acts_law, left_law};
 pub use place::{airport_of_line, is_migration, is_opening};
 pub use reading::read_input;
 pub use run::run_over;

@@ -192,7 +192,7 @@ fn run(alloc: Global, bytes: &mut FileBytes, line: &Line<'_>, input: &str) -> Op
         is_declared,
         files,
     } = end;
-    if let Some(files) = files {
+    if let Ok(files) = files {
         bytes.take(alloc, &files)?;
     }
     let (taken, told) = (output.into_inner().into_taken(), errors.into_inner());

@@ -8,6 +8,7 @@ use Rattle.sqlite_wal.specs.Recovery.{Image}
 use Rattle.sqlite_pages.specs.PageMap.{PageMap}
 use Rattle.sqlite_pool.specs.Stored.{Recovers}
 use Rattle.sqlite_trees.specs.Tree.{Trees}
+use Rattle.sqlite_trees.specs.View.{IsClean}
 use Rattle.sqlite_trees.specs.declared.schema.Object.{Object}
 use Rattle.sqlite_store.specs.FileStore.{recovers, state, view}
 use Rattle.sqlite_store.specs.Listing.{file_trees, listed_from, read_by, IsOurs}
@@ -62,6 +63,16 @@ module _ {D : Type 0} {g : Ghosts D} where
   abbrev pub LeavesOwn : FileStore D g → List ℕ → Type 0
   LeavesOwn it numbers = (image : Image) → (state it).may_leave image
       → ∥ ((db : Trees) × may_leave_own it numbers db × HoldsOwn image db) ∥₁
+
+  -- A store that a connection with this state gave back: a crash of it has no new outcome, by those
+  -- of its trees that were shown, and each one is a database.
+  pub record IsClosedOwn (s : State) (last : FileStore D g) : Type 0 where
+    pub numbers : List ℕ
+    pub few : length numbers < 65536
+    pub low : (t : ℕ) → t < length numbers → slice_index numbers t < 65536
+    pub clean : IsClean (view last) → HasCleanDisk s
+    pub outcomes : (db : Trees) → may_leave_own last numbers db → s.may_leave db
+    pub sound : IsClean (view last) → AreDatabases (may_leave_own last numbers)
 
   -- The store shows what the files recover to, as some list of their trees reads it.
   pub record IsReadByTheirs (files : Files D) (it : FileStore D g) : Type 0 where

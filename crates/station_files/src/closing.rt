@@ -1,10 +1,11 @@
 //! Files that are closed.
-ghost use Rattle.std.specs.Prelude.{IfOk};
+ghost use Rattle.std.specs.Prelude.{IfErr, IfOk};
 ghost use Rattle.sqlite.specs.Closing.{IsCopied};
+ghost use Rattle.sqlite.specs.Files.{IsClosed};
 ghost use Rattle.sqlite.specs.Held.{state};
 ghost use Rattle.sqlite_wal.specs.Reads.{AreClean};
 ghost use Rattle.station_files.specs.ByList.{IsCopiedByList};
-ghost use Rattle.station_files.specs.OwnFiles.{IsCopiedOwn};
+ghost use Rattle.station_files.specs.OwnFiles.{IsClosedOwn, IsCopiedOwn};
 
 use crate::own_trees::OwnTrees;
 use sqlite::{Connection, FileStore};
@@ -19,6 +20,8 @@ pub fn close_files<D: Disk + Drop>(conn: Connection<FileStore<D>>) -> Result<Fil
         → IsCopied conn files) }
     ensures by_list { IfOk result (λ files. AreClean D.Disk files.log files.db
         → IsCopiedByList conn files) }
+    // A crash has no new outcome, and each one is a database.
+    ensures left { IfErr result (λ store. IsClosed conn store) }
 {
     match conn.close_files() {
         Ok(files) => Ok(files),
@@ -26,12 +29,22 @@ pub fn close_files<D: Disk + Drop>(conn: Connection<FileStore<D>>) -> Result<Fil
     }
 }
 
+/// Rolls back and gives the store back, without copying the log: what a crash of it may leave, the
+/// connection may.
+pub fn give_back<D: Disk + Drop>(conn: Connection<FileStore<D>>) -> FileStore<D>
+    ensures { IsClosed conn result }
+{
+    conn.into_store()
+}
+
 /// As `close_files`, of a connection to some trees of its files.
 pub fn close_beside<D: Disk + Drop>(
     conn: Connection<OwnTrees<FileStore<D>>>,
 ) -> Result<Files<D>, FileStore<D>>
-    ensures { IfOk result (λ files. AreClean D.Disk files.log files.db
+    ensures copied { IfOk result (λ files. AreClean D.Disk files.log files.db
         → IsCopiedOwn D.Disk (state ⟦<OwnTrees<FileStore<D>> as Store>⟧ conn) files) }
+    ensures left { IfErr result (λ store.
+        IsClosedOwn (state ⟦<OwnTrees<FileStore<D>> as Store>⟧ conn) store) }
 {
     let mut store = conn.into_store().into_inner();
     // Again, for what only this store's rollback says of the log.
@@ -40,4 +53,11 @@ pub fn close_beside<D: Disk + Drop>(
         Ok(()) => Ok(store.close()),
         Err(_) => Err(store),
     }
+}
+
+/// As `give_back`, of a connection to some trees of its files.
+pub fn give_back_beside<D: Disk + Drop>(conn: Connection<OwnTrees<FileStore<D>>>) -> FileStore<D>
+    ensures { IsClosedOwn (state ⟦<OwnTrees<FileStore<D>> as Store>⟧ conn) result }
+{
+    conn.into_store().into_inner()
 }

@@ -7,5 +7,6 @@ returns-in-Ok g c = record {
   stopped = search rules;
   closed = search rules;
   copied = search rules;
+  left = search rules;
   failed = search rules;
 }

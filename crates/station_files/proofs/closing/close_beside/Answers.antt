@@ -16,8 +16,8 @@ use Rattle.station_files.proofs.OwnFiles.{copied_own}
 use Rattle.station_files.proofs.closing.close_beside.Goals as goal
 
 -- as the library closes its own connections
-pub returns-in-Ok : goal.returns-in-Ok
-returns-in-Ok g c honest =
+pub returns-in-Ok-clause-copied : goal.returns-in-Ok-clause-copied
+returns-in-Ok-clause-copied g c honest =
     let from = c.args.conn.store in
     let start = own_view from.numbers.items from.layouts.items from.before.items (view from.store) in
     let named = c.into_store.result in
@@ -55,4 +55,28 @@ returns-in-Ok g c honest =
       was_open = first.was_open (second.was_open h);
       seen = each _ (stays _, stays _);
       left = each;
+    }
+
+-- behind a checkpoint that failed a crash leaves no more than behind the rollbacks
+pub returns-in-Err-clause-left : goal.returns-in-Err-clause-left
+returns-in-Err-clause-left g c =
+    let from = c.args.conn.store in
+    let start = own_view from.numbers.items from.layouts.items from.before.items (view from.store) in
+    let named = c.into_store.result in
+    let numbers = named.numbers.items in
+    let same = sym c.into_inner-store.ensures in
+    let gave = c.into_store.ensures in
+    let falls = subst (λ (s : FileStore g.row.D.Denot g.D.Disk). doubt start.is_clean ≤ doubt (view s).is_clean) same gave.quiet.clean in
+    let outcomes = subst (λ (s : FileStore g.row.D.Denot g.D.Disk). (db : Trees) → may_leave_own s numbers db → may_leave_own from.store from.numbers.items db) same gave.quiet.outcomes in
+    let databases = subst (λ (s : FileStore g.row.D.Denot g.D.Disk). IsClean (view s) → AreDatabases (may_leave_own s numbers)) same gave.sound in
+    let last = c.checkpoint.new.self in
+    let q = c.checkpoint.ensures.quiet in
+    record {
+      numbers = numbers;
+      few = named.few;
+      low = named.low;
+      clean = λ none. omega (arith, falls, c.rollback.ensures.quiet.clean, q.clean, none);
+      outcomes = λ db found. outcomes db (found.0, c.rollback.ensures.quiet.outcomes found.0 (q.outcomes found.0 found.1), found.2);
+      sound = λ none db found.
+          databases (omega (arith, c.rollback.ensures.quiet.clean, q.clean, none)) db (found.0, c.rollback.ensures.quiet.outcomes found.0 (q.outcomes found.0 found.1), found.2);
     }

@@ -1,0 +1,329 @@
+-- Calls of the program over one file: from one to the next, and all of them.
+use Rattle.std.proofs.Common.{◌<◌, ◌≤◌, length, ◌≡◌, ◌⊎◌, ℕ, zero, suc, ◌+◌, Bool, true, false, IsTrue, inl, inr, Option, Some, None, Result, Ok, Err, List, [], ◌∷◌, ◌++◌, take, refl, sym, ap, subst, ◌∙◌, arith}
+use Rattle.std.specs.Prelude.{OnOk}
+use Rattle.std.proofs.Math.Logic.{∥∥₁_elim, ∥∥₁_map}
+use Rattle.shipment_machine.proofs.Conserved.{is_conserved}
+use Rattle.shipment_machine.proofs.Shown.{are_balances}
+use Rattle.sqlite.proofs.Theorems.{next_run}
+use Rattle.sqlite.specs.Effect.{Database}
+use Rattle.sqlite.specs.Files.{file_state, image_of, over_files, IsClosed}
+use Rattle.sqlite.specs.Held.{state, Held}
+use Rattle.sqlite.specs.Start.{FindsIn}
+use Rattle.sqlite.specs.State as conn
+use Rattle.sqlite_disk.specs.declared.Disk.{Ghosts}
+use Rattle.sqlite_disk.specs.declared.Files.{Files}
+use Rattle.sqlite_store.specs.FileStore.{recovers, view}
+use Rattle.sqlite_store.specs.declared.store.FileStore.{FileStore}
+use Rattle.sqlite_trees.specs.Tree.{Trees}
+use Rattle.sqlite_wal.specs.Recovery.{Image}
+use Rattle.station_days.specs.Date.{LocalMinute}
+use Rattle.station_core.specs.Given.{Given}
+use Rattle.station_core.specs.declared.answer.Answer.{Answer}
+use Rattle.station_core.specs.declared.answer.ActFault.TheVariants as fault
+use Rattle.station_core.specs.declared.input.Input.{Input}
+use Rattle.station_core.specs.Keeping.{Keeping}
+use Rattle.station_core.specs.Retries.{RetryEvent, World, after_events, world_after, ActsOnce, committed}
+use Rattle.station_core.specs.Step.{State, IsLawfulState, step, after_all}
+use Rattle.station_tables.specs.Attached.{connection_in}
+use Rattle.station_tables.specs.Called.{GoesOn, HasFound, HasReleased}
+use Rattle.station_tables.specs.Lives.{Life, AreCounted, AreLives, Counts, in_order, IsAfterLife, IsAfterLives}
+use Rattle.station_tables.specs.declared.fault.AttachFault.{AttachFault}
+use Rattle.station_tables.specs.declared.station.Station.{Station}
+use Rattle.stock_list.specs.declared.answer.RunFault.{RunFault}
+use Rattle.cli_words.specs.declared.line.LineCommand.{LineCommand}
+use Rattle.cli_run.specs.Done.{HasDone}
+use Rattle.cli_run.specs.Ends.{reached, Ends, Reached}
+use Rattle.cli_run.specs.Left.{station_fault, AsksAt, HasLeft}
+use Rattle.cli_run.specs.Place.{here_of}
+use Rattle.cli_call.specs.Closed.{HasClosed, IsCopiedTwice}
+use Rattle.cli_call.specs.Ended.{run_ended, status_of, HasNoStation}
+use Rattle.cli_call.specs.Opened.{HasOpened}
+use Rattle.cli_call.specs.Ran.{HasEndedCall, HasRunLine}
+use Rattle.cli_call.specs.OneFile.{life_events, may_hold, was_true, opened_by, AreCallsOn, AreEventsOf, AreLivesOf, AreVain, CallOn, HaveLed, IsAfterCalls, IsLifeOf, last_of, RunOn, VainOn}
+
+abbrev Inputs : Type 0
+Inputs = List (Input × LocalMinute)
+
+either : {X : Type 0} → X ⊎ ⊥ → X
+either (inl x) = x
+either (inr never) = absurd never
+
+-- what counts of some lives
+
+after_append : (s : State) (xs ys : Inputs) → after_all s (xs ++ ys) ≡ after_all (after_all s xs) ys
+after_append s [] ys = refl
+after_append s (x ∷ xs) ys = after_append (step s x.0 x.1).state xs ys
+
+abbrev value_or : State → Option State → State
+value_or s None = s
+value_or s (Some t) = t
+
+some_is : (a b : State) → Some a ≡ Some b → a ≡ b
+some_is a b is = ap (value_or a) is
+
+record Counted (s : State) (life : Life) (found : State) : Type 0 where
+  pub inputs : Inputs
+  pub counts : Counts life inputs
+  pub state : found ≡ after_all s inputs
+
+counted : (s : State) (life : Life) (found : State) → IsAfterLife s life found → Counted s life found
+counted s life found (inl is) = record { inputs = take life.answered life.inputs; counts = inl refl; state = some_is _ _ is }
+counted s life found (inr (stopped, more, is)) = record { inputs = take (life.answered + 1) life.inputs; counts = inr (stopped, more, refl); state = some_is _ _ is }
+
+record AllCounted (s : State) (lives : List Life) (found : State) : Type 0 where
+  pub counted : List Inputs
+  pub each : AreCounted lives counted
+  pub state : found ≡ after_all s (in_order counted)
+
+all_counted : (s : State) (lives : List Life) (found : State) → AreLives s lives found → AllCounted s lives found
+all_counted s [] found is = record { counted = []; each = tt; state = is }
+all_counted s (life ∷ lives) found (mid, first, more) =
+    let one = counted s life mid first in
+    let rest = all_counted mid lives found more in
+    record {
+      counted = one.inputs ∷ rest.counted;
+      each = (one.counts, rest.each);
+      state = rest.state ∙ ap (λ t. after_all t (in_order rest.counted)) one.state ∙ sym (after_append s one.inputs (in_order rest.counted));
+    }
+
+after_lives : (first : State) (lives : List Life) (found : State) → IsLawfulState found → AreLives first lives found → IsAfterLives first lives found
+after_lives first lives found lawful is =
+    let all = all_counted first lives found is in
+    record {
+      counted = all.counted;
+      each = all.each;
+      state = all.state;
+      lawful = lawful;
+      conserved = λ w. is_conserved found.cargo w lawful.cargo;
+      shown = λ w. are_balances found.cargo w lawful.cargo;
+    }
+
+-- the events of some lives
+
+abbrev up : State → List (Input × Answer) → World
+up s told = record { state = s; is_up = true; told = told }
+
+events_append : (w : World) (xs ys : List RetryEvent) → after_events w (xs ++ ys) ≡ after_events (after_events w xs) ys
+events_append w [] ys = refl
+events_append w (x ∷ xs) ys = events_append (world_after w x) xs ys
+
+abbrev so_many : ℕ → Bool → ℕ
+so_many n false = n
+so_many n true = suc n
+
+abbrev IsUp : State → World → Type 0
+IsUp s w = (told : List (Input × Answer)) × (w ≡ up s told)
+
+after_life : (n : ℕ) (cut : Bool) (xs : Inputs) (s : State) (told : List (Input × Answer)) → IsUp (after_all s (take (so_many n cut) xs)) (after_events (up s told) (life_events n cut xs))
+after_life zero false xs s told = (told, refl)
+after_life zero true [] s told = (told, refl)
+after_life zero true (x ∷ xs) s told = (told, refl)
+after_life (suc n) false [] s told = (told, refl)
+after_life (suc n) true [] s told = (told, refl)
+after_life (suc n) false (x ∷ xs) s told = after_life n false xs (step s x.0 x.1).state (told ++ (x.0, (step s x.0 x.1).answer) ∷ [])
+after_life (suc n) true (x ∷ xs) s told = after_life n true xs (step s x.0 x.1).state (told ++ (x.0, (step s x.0 x.1).answer) ∷ [])
+
+record Events (s : State) (lives : List Life) (found : State) (told : List (Input × Answer)) : Type 0 where
+  pub events : List RetryEvent
+  pub stand : AreEventsOf lives events
+  pub led : IsUp found (after_events (up s told) events)
+
+-- of one life, in front of those of the others
+events_by : (s mid : State) (life : Life) (lives : List Life) (found : State) (told : List (Input × Answer)) → ((told : List (Input × Answer)) → Events mid lives found told)
+    → (cut : Bool) → (cut ≡ true → life.ended ≡ Some fault.Store) → mid ≡ after_all s (take (so_many life.answered cut) life.inputs) → Events s (life ∷ lives) found told
+events_by s mid life lives found told others cut why is =
+    let here = after_life life.answered cut life.inputs s told in
+    let rest = others here.0 in
+    let events = life_events life.answered cut life.inputs in
+    record {
+      events = events ++ rest.events;
+      stand = (cut, (rest.events, why, refl, rest.stand));
+      led = (
+        rest.led.0,
+        events_append (up s told) events rest.events ∙ ap (λ w. after_events w rest.events) (here.1 ∙ ap (λ t. up t here.0) (sym is)) ∙ rest.led.1,
+      );
+    }
+
+one_more : (n : ℕ) → n + 1 ≡ suc n
+one_more n = omega arith
+
+events_life : (s mid : State) (life : Life) (lives : List Life) (found : State) (told : List (Input × Answer)) → ((told : List (Input × Answer)) → Events mid lives found told)
+    → IsAfterLife s life mid → Events s (life ∷ lives) found told
+events_life s mid life lives found told others (inl is) = events_by s mid life lives found told others false (λ never. absurd (cc)) (some_is _ _ is)
+events_life s mid life lives found told others (inr (stopped, less, is)) =
+    events_by s mid life lives found told others true (λ _. stopped) (some_is _ _ is ∙ ap (λ n. after_all s (take n life.inputs)) (one_more life.answered))
+
+events_of : (s : State) (lives : List Life) (found : State) (told : List (Input × Answer)) → AreLives s lives found → Events s lives found told
+events_of s [] found told is = record { events = []; stand = refl; led = (told, ap (λ t. up t told) (sym is)) }
+events_of s (life ∷ lives) found told (mid, first, more) = events_life s mid life lives found told (λ t. events_of mid lives found t more) first
+
+after_calls : ((start : State) (events : List RetryEvent) → ActsOnce start events) → (first : State) (lives : List Life) (found : State) → IsLawfulState found → AreLives first lives found → IsAfterCalls first lives found
+after_calls once first lives found lawful is =
+    let all = events_of first lives found [] is in
+    let acts = once first all.events in
+    record {
+      after = after_lives first lives found lawful is;
+      events = all.events;
+      stand = all.stand;
+      once = acts;
+      state = sym (ap (λ (w : World). w.state) all.led.1) ∙ acts.state;
+    }
+
+-- a call that ended well answered all that it was given
+ends_well : (ended : Result Bool RunFault) (inputs : Inputs) (answered status ran : ℕ) → ran ≡ status_of (run_ended ended) → (1 < ran → status ≡ ran) → OnOk ended (answered ≡ length inputs)
+    → status ≤ 1 → (answered ≡ length inputs) × (station_fault ended ≡ None)
+ends_well (Ok good) inputs answered status ran is stays all low = (all, refl)
+ends_well (Err e) inputs answered status ran is stays all low =
+    let failed : 1 < ran = omega (arith, is) in
+    absurd (omega (arith, low, stays failed, is))
+
+-- what a close leaves is what the connection could leave, for the next opening
+module _ {D : Type 0} {disk : Ghosts D} (stays : (it : FileStore D disk) → IsTrue (view it).is_open → recovers it (view it).committed) where
+  record Closes (ran : Held (FileStore D disk)) (files : Result (Files D) (FileStore D disk)) : Type 0 where
+    pub clean : conn.HasCleanDisk (file_state ran)
+    pub next : (image : Image) → may_hold files image → (other : Held (FileStore D disk)) → FindsIn image (file_state other) → ∥ recovers ran.store (file_state other).committed.trees ∥₁
+
+  closes : {E : Type 0} (told : E → Given) (ran : Held (FileStore D disk)) (old new : ℕ × E) (files : Result (Files D) (FileStore D disk))
+      → HasClosed disk (IsCopiedTwice ran) (IsClosed ran) told old new files → was_true files → Closes ran files
+  closes told ran old new (Ok files) closed honest =
+      let copied = (closed.copied honest).0 in
+      record {
+        clean = copied.was_clean;
+        next = λ image may other finds. ∥∥₁_map (copied.left image may).both (λ held. subst (recovers ran.store) (sym (finds.holds _ held)) (stays ran.store copied.was_open));
+      }
+  closes told ran old new (Err it) closed (honest, numbered) =
+      let left = closed.left in
+      record {
+        clean = omega (arith, left.quiet.clean, honest);
+        next = λ image may other finds. ∥∥₁_map (next_run it numbered (left.sound honest) image may (file_state other) finds) (λ found. left.quiet.outcomes _ found);
+      }
+
+-- one call, and the next
+module _ {D I W E : Type 0} {disk : Ghosts D} (k : Keeping (Station (FileStore D disk) over_files)) (e : Ends I W E)
+    (stays : (it : FileStore D disk) → IsTrue (view it).is_open → recovers it (view it).committed)
+    (settles : (it : FileStore D disk) (db : Trees) → IsTrue (view it).is_open → recovers it db → db ≡ (view it).committed)
+    (clean_is : (it : Station (FileStore D disk) over_files) → conn.HasCleanDisk (state over_files (connection_in it)) → k.is_clean it)
+    (clean_was : (it : Station (FileStore D disk) over_files) → k.is_clean it → conn.HasCleanDisk (state over_files (connection_in it)))
+    (lawful : (it : Station (FileStore D disk) over_files) (s : State) → k.is_sound it → k.may_find it (Some s) → IsLawfulState s)
+    (left_of : (c : LineCommand) (here : List ℕ) (at : LocalMinute) (s : State) (old new : Station (FileStore D disk) over_files × Reached I W E) (r : Result Bool RunFault)
+    → k.keeps old.0 s → k.is_broken old.0 ≡ false → k.is_sound new.0 → HasDone c here k e at old new r → HasLeft (AsksAt c at) s (k.may_find new.0) r)
+    (goes_on : (last : Station (FileStore D disk) over_files) (ran other : Held (FileStore D disk)) (opened : Result (Station (FileStore D disk) over_files) (Held (FileStore D disk) × AttachFault))
+    → k.is_sound last → HasReleased k.keeps k.is_sound k.may_find last ran → conn.HasCleanDisk (state over_files ran) → (state over_files ran).may_leave (state over_files other).now.trees
+    → HasFound over_files k.keeps k.is_sound k.is_broken other opened → GoesOn over_files k.keeps k.is_sound k.is_broken k.may_find last opened) where
+  -- what the opening of a call found, and what it came to
+  found_as : (c : CallOn k e) (o : Result (Station (FileStore D disk) over_files) (Held (FileStore D disk) × AttachFault)) → opened_by c ≡ o → HasFound over_files k.keeps k.is_sound k.is_broken c.conn o
+  found_as c o is =
+      let has = c.has.called.called c.runs in
+      subst (λ o. HasFound over_files k.keeps k.is_sound k.is_broken c.conn o) is
+      (subst (λ new. HasOpened over_files k.keeps k.is_sound k.is_broken new c.conn (here_of c.line.station) has.opened) c.old has.opens)
+
+  ended_as : (c : CallOn k e) (o : Result (Station (FileStore D disk) over_files) (Held (FileStore D disk) × AttachFault)) → opened_by c ≡ o → HasEndedCall c.line k e c.at o c.from c.has.behind c.has.ran
+  ended_as c o is =
+      let has = c.has.called.called c.runs in
+      subst (λ o. HasEndedCall c.line k e c.at o c.from c.has.behind c.has.ran) is has.ended
+
+  found_by : (c : RunOn k e) → HasFound over_files k.keeps k.is_sound k.is_broken c.call.conn (Ok c.station)
+  found_by c = found_as c.call (Ok c.station) c.found
+
+  ran_by : (c : RunOn k e) → HasRunLine c.call.line k e c.call.at c.station c.call.from c.call.has.behind c.call.has.ran
+  ran_by c = ended_as c.call (Ok c.station) c.found
+
+  closed_by : (c : CallOn k e) → was_true c.end.files → Closes stays c.has.ran.1 c.end.files
+  closed_by c honest = closes stays e.told c.has.ran.1 _ _ c.end.files c.has.closed honest
+
+  last_clean : (c : RunOn k e) → was_true c.call.end.files → k.is_clean (ran_by c).last
+  last_clean c honest = clean_is _ ((ran_by c).released.clean (closed_by c.call honest).clean)
+
+  station_clean : (c : RunOn k e) → was_true c.call.end.files → conn.HasCleanDisk (state over_files (connection_in c.station))
+  station_clean c honest = clean_was _ ((ran_by c).ran.premise.clean (last_clean c honest))
+
+  -- files that hold this have only what a connection could leave
+  abbrev Has : Held (FileStore D disk) → Image → Type 0
+  Has ran image = (other : Held (FileStore D disk)) → FindsIn image (file_state other) → ∥ recovers ran.store (file_state other).committed.trees ∥₁
+
+  finds_by : (c : CallOn k e) → FindsIn (image_of disk c.files) (file_state c.conn)
+  finds_by c = record { holds = c.finds.holds; reads = c.finds.reads }
+
+  -- a vain call leaves what it found
+  vain_leaves : (v : VainOn k e) → was_true v.call.end.files → (db : Trees) → recovers v.call.has.ran.1.store db → db ≡ (file_state v.call.conn).committed.trees
+  vain_leaves v honest db may =
+      let ended : HasNoStation e.told v.none v.call.from v.call.has.behind v.call.has.ran = ended_as v.call (Err v.none) v.found in
+      let found = found_as v.call (Err v.none) v.found in
+      let clean = subst (λ (c : Held (FileStore D disk)). conn.HasCleanDisk (file_state c)) ended.conn (closed_by v.call honest).clean in
+      let there = subst (λ (c : Held (FileStore D disk)). recovers c.store db) ended.conn may in
+      settles v.call.conn.store db v.call.opens.is_open (either (found.unwritten_at_err.crash clean db there))
+
+  through : (ran : Held (FileStore D disk)) (from : Result (Files D) (FileStore D disk)) (vs : List (VainOn k e)) (image : Image) → ((i : Image) → may_hold from i → Has ran i) → AreVain from vs image → Has ran image
+  through ran from [] image base may = base image may
+  through ran from (v ∷ vs) image base (may, honest, rest) =
+      through ran v.call.end.files vs image (λ i may_i other finds.
+      ∥∥₁_elim ((closed_by v.call honest).next i may_i other finds) squash₁ (λ left.
+      subst (λ (db : Trees). ∥ recovers ran.store db ∥₁) (sym (vain_leaves v honest _ left)) (base (image_of disk v.call.files) may v.call.conn (finds_by v.call)))) rest
+
+  record Next (s : State) (c d : RunOn k e) : Type 0 where
+    pub mid : State
+    pub kept : k.keeps d.station mid
+    pub sound : k.is_sound d.station
+    pub law : IsLawfulState mid
+    pub life : Life
+    pub of : IsLifeOf c life
+    pub is : IsAfterLife s life mid
+
+  next : (s : State) (c d : RunOn k e) (vs : List (VainOn k e)) → k.keeps c.station s → k.is_sound c.station → was_true c.call.end.files → AreVain c.call.end.files vs (image_of disk d.call.files) → was_true d.call.end.files → ∥ Next s c d ∥₁
+  next s c d vs kept sound honest may honest_d =
+      let run = ran_by c in
+      let last_sound = run.ran.premise.still sound (last_clean c honest) in
+      let found = found_by c in
+      let left = left_of c.call.line.command (here_of c.call.line.station) c.call.at s (c.station, c.call.from) (run.last, reached c.call.has.behind.reader c.call.has.behind.output run.ran.between) run.ran.ended kept found.works last_sound run.ran.done in
+      let closed = closed_by c.call honest in
+      ∥∥₁_map (through c.call.has.ran.1 c.call.end.files vs (image_of disk d.call.files) closed.next may d.call.conn (finds_by d.call)) (λ may_leave.
+      let shown = subst (λ (db : Database). recovers c.call.has.ran.1.store db.trees) (sym d.call.opens.clean) may_leave in
+      let on = goes_on run.last c.call.has.ran.1 d.call.conn (Ok d.station) last_sound run.released closed.clean shown (found_by d) in
+      let clean = station_clean d honest_d in
+      let it = on.found clean in
+      record {
+        mid = it.0;
+        kept = it.2;
+        sound = on.sound clean;
+        law = lawful run.last it.0 last_sound it.1;
+        life = record { inputs = left.inputs; answered = left.answered; ended = station_fault run.ran.ended };
+        of = record {
+          asked = left.asked;
+          whole = ends_well run.ran.ended left.inputs left.answered c.call.end.status c.call.has.ran.0 run.ran.told.status_is (λ more. ap (λ (p : ℕ × E). p.0) (c.call.has.closed.stopped more).0) left.all;
+        };
+        is = left.left (Some it.0) it.1;
+      })
+
+  record Chain (s : State) (c : RunOn k e) (ds : List (List (VainOn k e) × RunOn k e)) : Type 0 where
+    pub last : State
+    pub kept : k.keeps (last_of c ds).station last
+    pub law : IsLawfulState last
+    pub lives : List Life
+    pub each : AreLivesOf c ds lives
+    pub are : AreLives s lives last
+
+  first_true : (d : RunOn k e) (ds : List (List (VainOn k e) × RunOn k e)) → AreCallsOn d ds → was_true d.call.end.files
+  first_true d [] are = are
+  first_true d (more ∷ ds) are = are.0
+
+  chain : (s : State) (c : RunOn k e) (ds : List (List (VainOn k e) × RunOn k e)) → k.keeps c.station s → k.is_sound c.station → IsLawfulState s → AreCallsOn c ds → ∥ Chain s c ds ∥₁
+  chain s c [] kept sound law are = ∣ record { last = s; kept = kept; law = law; lives = []; each = tt; are = refl } ∣₁
+  chain s c (d ∷ ds) kept sound law (honest, may, are) =
+      ∥∥₁_elim (next s c d.1 d.0 kept sound honest may (first_true d.1 ds are)) squash₁ (λ one.
+      ∥∥₁_map (chain one.mid d.1 ds one.kept one.sound one.law are) (λ rest. record {
+        last = rest.last;
+        kept = rest.kept;
+        law = rest.law;
+        lives = one.life ∷ rest.lives;
+        each = (one.of, rest.each);
+        are = (one.mid, one.is, rest.are);
+      }))
+
+  pub have_led : ((start : State) (events : List RetryEvent) → ActsOnce start events) → (first : State) (c : RunOn k e) (ds : List (List (VainOn k e) × RunOn k e)) → IsLawfulState first → k.keeps c.station first → k.is_sound c.station → AreCallsOn c ds → ∥ HaveLed first c ds ∥₁
+  have_led once first c ds law kept sound are = ∥∥₁_map (chain first c ds kept sound law are) (λ all. record {
+    last = all.last;
+    kept = all.kept;
+    lives = all.lives;
+    each = all.each;
+    are = after_calls once first all.lives all.last all.law all.are;
+  })

@@ -1,0 +1,49 @@
+//! What holds of the calls of the program over one file.
+ghost use Rattle.std.specs.Prelude.{List};
+ghost use Rattle.station_core.specs.Keeping.{keeping};
+ghost use Rattle.station_core.specs.Step.{State, IsLawfulState};
+ghost use Rattle.cli_run.specs.Ends.{ends};
+ghost use Rattle.cli_call.specs.OneFile.{AreCallsOn, HaveLed, RunOn, VainOn};
+
+use cli_run::{Inputs, left_law};
+use sqlite::FileStore;
+use sqlite_disk::Disk;
+use station_core::laws::retry_law;
+use station_core::{ByteOut, Keeper};
+use station_tables::{Station, next_call_law};
+use std::io::Read;
+
+/// Any number of calls over one file, vain ones among them, each of which finds in the files what
+/// the one before it may have left there: the last one's station goes on from the state after every input that was
+/// answered and, for each call whose store failed, at most one more. There the pieces and the
+/// tenths are conserved, and each accepted input acted once.
+pub fn calls_over_file_law<D: Disk + Drop, I: Inputs + Read, W: ByteOut, E: ByteOut>()
+    ensures { (first : State) (run : RunOn (keeping ⟦<Station<FileStore<D>> as Keeper>⟧.keeps
+        ⟦<Station<FileStore<D>> as Keeper>⟧.is_clean
+        ⟦<Station<FileStore<D>> as Keeper>⟧.is_sound
+        ⟦<Station<FileStore<D>> as Keeper>⟧.is_broken
+        ⟦<Station<FileStore<D>> as Keeper>⟧.may_find
+        ⟦<Station<FileStore<D>> as Keeper>⟧.may_fail)
+        (ends I.remaining I.given I.turned W.taken E.taken))
+        (runs : List (List (VainOn (keeping ⟦<Station<FileStore<D>> as Keeper>⟧.keeps
+        ⟦<Station<FileStore<D>> as Keeper>⟧.is_clean
+        ⟦<Station<FileStore<D>> as Keeper>⟧.is_sound
+        ⟦<Station<FileStore<D>> as Keeper>⟧.is_broken
+        ⟦<Station<FileStore<D>> as Keeper>⟧.may_find
+        ⟦<Station<FileStore<D>> as Keeper>⟧.may_fail)
+        (ends I.remaining I.given I.turned W.taken E.taken))
+        × RunOn (keeping ⟦<Station<FileStore<D>> as Keeper>⟧.keeps
+        ⟦<Station<FileStore<D>> as Keeper>⟧.is_clean
+        ⟦<Station<FileStore<D>> as Keeper>⟧.is_sound
+        ⟦<Station<FileStore<D>> as Keeper>⟧.is_broken
+        ⟦<Station<FileStore<D>> as Keeper>⟧.may_find
+        ⟦<Station<FileStore<D>> as Keeper>⟧.may_fail)
+        (ends I.remaining I.given I.turned W.taken E.taken)))
+        → IsLawfulState first → ⟦<Station<FileStore<D>> as Keeper>⟧.keeps run.station first
+        → ⟦<Station<FileStore<D>> as Keeper>⟧.is_sound run.station
+        → AreCallsOn run runs → ∥ HaveLed first run runs ∥₁ }
+{
+    left_law::<Station<FileStore<D>>, I, W, E>();
+    next_call_law::<FileStore<D>>();
+    retry_law();
+}

@@ -1,0 +1,48 @@
+-- What a run of a command makes of its station, whatever it returns: which inputs acted.
+use Rattle.std.specs.Prelude.{◌≡◌, ℕ, Bool, Option, Some, None, Result, Err, OnOk, List, length}
+use Rattle.std.specs.List.{AllByRecursion}
+use Rattle.station_days.specs.Date.{LocalMinute}
+use Rattle.agent_stock.specs.declared.stock.Order.{Order}
+use Rattle.station_core.specs.declared.answer.ActFault.{ActFault}
+use Rattle.station_core.specs.declared.answer.ActFault.TheVariants as act
+use Rattle.station_core.specs.declared.input.Input.{Input}
+use Rattle.station_core.specs.Keeping.{IsAfterAnswered}
+use Rattle.station_core.specs.Step.{State}
+use Rattle.stock_list.specs.declared.answer.RunFault.{RunFault}
+use Rattle.stock_list.specs.declared.answer.RunFault.TheVariants as fault
+use Rattle.stock_list.specs.Lines.{input_of, Row}
+use Rattle.stock_list.specs.Row.{row_asks}
+use Rattle.cli_words.specs.declared.line.LineCommand.{LineCommand}
+use Rattle.cli_words.specs.declared.line.LineCommand.TheVariants as command
+use Rattle.cli_run.specs.declared.asked.Asked.TheVariants as asked
+use Rattle.cli_run.specs.ActLine.{IsActAsked}
+use Rattle.cli_run.specs.Asked.{IsCommandAsked, IsTelegramAsked}
+
+-- some row, body, telegram or line of a command asks this of the station; the other commands ask
+-- nothing of it
+abbrev pub Asks : LineCommand → Input → Type 0
+Asks command.Stock i = (row : Row) × ((order : List ℕ × Order) × (row_asks row ≡ Some order) × (i ≡ input_of order))
+Asks (command.Take paths) i = (bytes : List ℕ) × IsTelegramAsked bytes (asked.Input i)
+Asks (command.Act verb key) i = (bytes : List ℕ) × IsCommandAsked verb key bytes (asked.Input i)
+Asks command.Acts i = (line : List ℕ) × IsActAsked line (asked.Input i)
+Asks _ i = ⊥
+
+-- it does so at this moment
+abbrev pub AsksAt : LineCommand → LocalMinute → Input × LocalMinute → Type 0
+AsksAt c at one = (one.1 ≡ at) × Asks c one.0
+
+-- the fault of the station that ended a run: its store failed
+abbrev pub station_fault : Result Bool RunFault → Option ActFault
+station_fault (Err fault.Store) = Some act.Store
+station_fault _ = None
+
+-- So many of the inputs that a command asks were answered, all of them where it ran to its end. A
+-- reopening finds the state after these and, where the store failed, at most one more.
+pub record HasLeft (Asked : Input × LocalMinute → Type 0) (s : State) (may_find : Option State → Type 0)
+    (result : Result Bool RunFault) : Type 0 where
+  pub inputs : List (Input × LocalMinute)
+  pub asked : AllByRecursion Asked inputs
+  pub answered : ℕ
+  pub all : OnOk result (answered ≡ length inputs)
+  pub left : (found : Option State) → may_find found
+      → IsAfterAnswered s inputs answered (station_fault result) found
