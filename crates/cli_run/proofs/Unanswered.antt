@@ -49,8 +49,8 @@ works_still fault.Write broken other works = works
 works_still fault.Memory broken other works = works
 works_still fault.Store broken other works = absurd (other refl)
 
-no_store : (e : RunFault) → (e ≡ fault.Write) ⊎ (e ≡ fault.Memory) → e ≡ fault.Store → ⊥
-no_store e why is = ⊎_elim (λ write. let both : fault.Write ≡ fault.Store = sym write ∙ is in cc) (λ memory. let both : fault.Memory ≡ fault.Store = sym memory ∙ is in cc) why
+no_store : {A : Type 0} (e : RunFault) → (e ≡ fault.Write) ⊎ ((e ≡ fault.Memory) × A) → e ≡ fault.Store → ⊥
+no_store e why is = ⊎_elim (λ write. let both : fault.Write ≡ fault.Store = sym write ∙ is in cc) (λ memory. let both : fault.Memory ≡ fault.Store = sym memory.0 ∙ is in cc) why
 
 pub works_unasked : (line : List ℕ) (old new : Given) (r : Result Bool RunFault) (broken : Bool) → IfErr r (HasToldPart line old new) → broken ≡ false
     → IfErr r (λ e. IsShutAfter e broken)

@@ -34,8 +34,8 @@ pub record HasNotHeard {K E : Type 0} (old new : Come K E) (result : Result Bool
 
 -- What is asked was done and answered by a line of this number, or the run stopped there. The
 -- writer is named exactly where it failed or took no byte, and the store exactly where the station
--- has to be opened again. A station that has to be opened again is asked nothing. Why it can't be
--- read went to the errors.
+-- has to be opened again. At any fault but the writer's nothing was written. A station that has to
+-- be opened again is asked nothing. Why it can't be read went to the errors.
 pub record HasAnswered {K E : Type 0} (k : Keeping K) (at : LocalMinute) (taken : E → Given)
     (number : Option ℕ) (asks : Asked) (old new : Come K E) (result : Result Bool RunFault) : Type 0 where
   pub answered : (s : State) → k.keeps old.keeper s → k.is_broken old.keeper ≡ false
@@ -52,6 +52,7 @@ pub record HasAnswered {K E : Type 0} (k : Keeping K) (at : LocalMinute) (taken 
   pub write_cause : WriteHasCause result old.sent new.sent
   pub write_told : IfErr result (λ e. (e ≡ fault.Write) ⊎ IsUntroubled old.sent new.sent)
   pub untroubled : OnOk result (IsUntroubled old.sent new.sent)
+  pub unwritten : IfErr result (λ e. (e ≡ fault.Write) ⊎ (new.sent ≡ old.sent))
   pub same : k.is_broken old.keeper ≡ true → new.keeper ≡ old.keeper
   pub reopen : k.is_broken old.keeper ≡ true → IsAnsweredShut number asks old.sent new.sent result
   pub explained : HasExplained number k asks at taken old new result

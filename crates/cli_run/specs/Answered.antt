@@ -7,7 +7,7 @@ use Rattle.stock_list.specs.declared.answer.RunFault.{RunFault}
 use Rattle.stock_list.specs.declared.answer.RunFault.TheVariants as fault
 use Rattle.stock_list.specs.Ended.{IsShutAfter, IsUntroubled, WriteHasCause}
 use Rattle.cli_run.specs.declared.asked.Asked.{Asked}
-use Rattle.cli_run.specs.Came.{HasFailed}
+use Rattle.cli_run.specs.Came.{most_come, HasFailed, IsWithin}
 use Rattle.cli_run.specs.Ended.{HasRun}
 use Rattle.station_core.specs.Keeping.{Keeping}
 use Rattle.cli_run.specs.InTurn.{Come}
@@ -15,7 +15,8 @@ use Rattle.cli_run.specs.Shut.{HasRunShut}
 
 -- What the input asks was done and answered, or the run stopped there or before. A reader or a
 -- writer is named exactly where it failed, and the store exactly where the station has to be opened
--- again. A station that has to be opened again is asked nothing.
+-- again. At any fault but the writer's nothing was written, and of an input that is too long only a
+-- beginning is read. A station that has to be opened again is asked nothing.
 pub record HasAnsweredAsked {K E : Type 0} (IsAsked : List ℕ → Asked → Type 0) (k : Keeping K)
     (at : LocalMinute) (old new : Come K E × Given) (result : Result Bool RunFault) : Type 0 where
   pub ran : (s : State) → k.keeps old.0.keeper s → k.is_broken old.0.keeper ≡ false
@@ -27,6 +28,8 @@ pub record HasAnsweredAsked {K E : Type 0} (IsAsked : List ℕ → Asked → Typ
   pub write_cause : WriteHasCause result old.0.sent new.0.sent
   pub write_told : IfErr result (λ e. (e ≡ fault.Write) ⊎ IsUntroubled old.0.sent new.0.sent)
   pub untroubled : OnOk result (IsUntroubled old.0.sent new.0.sent)
+  pub unwritten : IfErr result (λ e. (e ≡ fault.Write) ⊎ (new.0.sent ≡ old.0.sent))
+  pub most : IsWithin most_come old.1 new.1
   pub breaks : k.is_broken old.0.keeper ≡ false
       → IfErr result (λ e. IsShutAfter e (k.is_broken new.0.keeper))
   pub same : k.is_broken old.0.keeper ≡ true → new.0.keeper ≡ old.0.keeper

@@ -14,10 +14,10 @@ use Rattle.station_core.specs.Keeping.{Keeping}
 use Rattle.cli_run.specs.Ends.{kept_by}
 use Rattle.cli_run.specs.InTurn.{Come}
 
--- A beginning of a line went out: the writer failed or took no byte, or memory for the line ran
--- out.
+-- A beginning of a line went out: the writer failed or took no byte. Or memory for the line ran
+-- out, and nothing of it did.
 pub record HasToldPart (line : List ℕ) (old new : Given) (e : RunFault) : Type 0 where
-  pub why : (e ≡ fault.Write) ⊎ (e ≡ fault.Memory)
+  pub why : (e ≡ fault.Write) ⊎ ((e ≡ fault.Memory) × (new.bytes ≡ old.bytes))
   pub sent : ℕ
   pub part : new.bytes ≡ old.bytes ++ take sent line
   pub cause : e ≡ fault.Write → HasCause old new

@@ -28,7 +28,7 @@ heard_by request most old new a (Err e) answered is = inl (a, answered, is)
 -- its line's beginning, which is nothing
 pub unsent : (line : List ℕ) (old : Given) → HasToldPart line old old fault.Memory
 unsent line old = record {
-  why = inr refl;
+  why = inr (refl, refl);
   sent = 0;
   part = sym (append-nil old.bytes);
   cause = λ (is : fault.Memory ≡ fault.Write). cc;

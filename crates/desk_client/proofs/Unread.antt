@@ -23,7 +23,7 @@ use Rattle.desk_client.specs.declared.ask.AskFault.TheVariants as vain
 use Rattle.desk_client.specs.declared.line.Heard.{Heard}
 
 no_part : {line : List ℕ} {old new : Given} → HasToldPart line old new fault.Read → ⊥
-no_part part = ⊎_elim (λ (is : fault.Read ≡ fault.Write). cc) (λ (is : fault.Read ≡ fault.Memory). cc) part.why
+no_part part = ⊎_elim (λ (is : fault.Read ≡ fault.Write). cc) (λ p. let is : fault.Read ≡ fault.Memory = p.0 in cc) part.why
 
 no_service : (f : AskFault) → fault.Read ≡ service_fault f → ⊥
 no_service vain.Memory is = cc

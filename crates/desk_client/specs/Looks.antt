@@ -40,18 +40,23 @@ HasShown text good old new (Err e) = (e ≡ fault.Write) × HasSent text old new
 abbrev pub HasShownNothing : Given → Given → Result Bool RunFault → Type 0
 HasShownNothing old new result = (new ≡ old) × (result ≡ Err fault.Store)
 
--- an answer with rows: they are written as they came
+-- a desk's answer with rows
+abbrev pub HasRows : Answer → Type 0
+HasRows a = (a.status ≡ 200) × (has_end (body_of a) ≡ true)
+
+-- an answer with rows: they are written as they came; of any other answer nothing is
 abbrev pub HasShownRows : Answer → Given → Given → Result Bool RunFault → Type 0
 HasShownRows a old new result =
-    ((a.status ≡ 200) × (has_end (body_of a) ≡ true) × HasShown (body_of a) true old new result)
-    ⊎ HasShownNothing old new result
+    (HasRows a × HasShown (body_of a) true old new result)
+    ⊎ ((¬ HasRows a) × HasShownNothing old new result)
 
--- an answer to a look-up: the object is written on a line, or that nothing is known
+-- an answer to a look-up: the object is written on a line, or that nothing is known; of any other
+-- answer nothing is
 abbrev pub HasShownFound : Answer → Given → Given → Result Bool RunFault → Type 0
 HasShownFound a old new result =
     ((a.status ≡ 200) × HasShown (body_of a ++ 10 ∷ []) true old new result)
     ⊎ (((is_unknown a ≡ true) × HasShown (codes "unknown\n") false old new result)
-    ⊎ HasShownNothing old new result)
+    ⊎ ((¬ (a.status ≡ 200)) × (is_unknown a ≡ false) × HasShownNothing old new result))
 
 -- the service was asked, and its answer shown so; or it didn't answer, and nothing was written
 abbrev pub HasLooked : (Answer → Given → Given → Result Bool RunFault → Type 0) → ℕ → List ℕ → Shown → Shown
