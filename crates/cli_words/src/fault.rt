@@ -44,21 +44,20 @@ pub(crate) enum BadValue<'a> {
     Beside,
 }
 
-/// What is wanted where a key stands.
+/// What is expected as a key.
 const KEY: &str =
-    "KEY is wanted: 1 to 40 printable characters, no blank; the body comes on standard input";
+    "expected 1 to 40 printable characters without spaces; the body is read from standard input";
 
-/// What is wanted where a waybill number stands.
+/// What is expected as a waybill number.
 const NUMBER: &str =
-    "AWB is wanted: three digits, a hyphen, seven digits and their check digit, as 020-12345675";
+    "expected three digits, a hyphen, seven digits and their check digit, such as 020-12345675";
 
-/// What is wanted where a number with a wrong check digit stands.
-const CHECK_DIGIT: &str =
-    "AWB is wanted, and its check digit is wrong: it is the seven digits before it modulo 7";
+/// What is expected of a number with a wrong check digit.
+const CHECK_DIGIT: &str = "wrong check digit, expected the seven digits before it modulo 7";
 
-/// What is wanted where no report's name stands.
+/// The names of reports.
 const REPORT_NAME: &str =
-    "NAME is wanted: stock, shed, flights, expected, irregularities, movements, trail or manifest";
+    "expected stock, shed, flights, expected, irregularities, movements, trail or manifest";
 
 /// Which part of which report can be had.
 const PART: &str =
@@ -67,40 +66,51 @@ const PART: &str =
 
 /// What `--at` doesn't go with.
 const BESIDE: &str =
-    "--at asks the service that runs, which has its own file, airport and zone: it \
-    goes with no --db, --station or --zone, and not with init, migrate or serve";
+    "--at can't be used with --db, --station, --zone, init, migrate or serve: the service has its \
+    own file, airport and zone";
 
 /// What is expected as the flight of a manifest.
-const FLIGHT: &str = "FLIGHT is wanted: a flight, a slash and its day, as LH400/2026-01-12";
+const FLIGHT: &str = "expected a flight, a slash and its day, such as LH400/2026-01-12";
 
-/// The word and what is wanted in its place.
-fn told_of(alloc: Global, word: &str, wanted: &str) -> Result<String, AllocError> {
-    format!(in alloc; "'{word}' stands where {wanted}")
+/// The words for a text that isn't what its place takes.
+fn invalid(alloc: Global, place: &str, text: &str, expected: &str) -> Result<String, AllocError> {
+    format!(in alloc; "invalid {place} '{text}': {expected}")
 }
 
 impl BadValue<'_> {
     /// What is said of it.
     fn told(self, alloc: Global) -> Result<String, AllocError> {
-        let (word, wanted) = match self {
-            BadValue::Station(word) => (word, "--station wants an airport: three letters, A to Z"),
-            BadValue::At(word) => (word, "--at wants a port: a number from 1 to 65535"),
-            BadValue::Verb(word) => (word, "VERB is wanted: `cargo_desk act --help` lists them"),
-            BadValue::Key(word) => (word, KEY),
-            BadValue::ReportName(word) => (word, REPORT_NAME),
-            BadValue::Number(word) => (word, NUMBER),
-            BadValue::CheckDigit(word) => (word, CHECK_DIGIT),
-            BadValue::Agent(word) => (
-                word,
-                "--agent wants a code: 1 to 11 upper-case letters or digits",
+        let (place, text, expected) = match self {
+            BadValue::Station(text) => (
+                "--station",
+                text,
+                "expected an airport: three letters, A to Z",
             ),
-            BadValue::After(word) => (word, "--after wants a number from 0 to 4294967295"),
-            BadValue::Last(word) => (word, "--last wants a number from 0 to 4294967295"),
-            BadValue::Flight(word) => (word, FLIGHT),
+            BadValue::At(text) => ("--at", text, "expected a port: a number from 1 to 65535"),
+            BadValue::Key(text) => ("KEY", text, KEY),
+            BadValue::Number(text) => ("AWB", text, NUMBER),
+            BadValue::CheckDigit(text) => ("AWB", text, CHECK_DIGIT),
+            BadValue::Agent(text) => (
+                "--agent",
+                text,
+                "expected a code: 1 to 11 upper-case letters or digits",
+            ),
+            BadValue::After(text) => ("--after", text, "expected a number from 0 to 4294967295"),
+            BadValue::Last(text) => ("--last", text, "expected a number from 0 to 4294967295"),
+            BadValue::Flight(text) => ("FLIGHT", text, FLIGHT),
+            BadValue::Port(text) => ("--port", text, "expected a number from 1 to 65535"),
+            BadValue::Count(text) => ("--count", text, "expected a number from 1 to 4294967295"),
+            BadValue::Verb(text) => {
+                return format!(in alloc;
+                    "unknown verb '{text}'; `cargo_desk act --help` lists the verbs"
+                );
+            }
+            BadValue::ReportName(text) => {
+                return format!(in alloc; "unknown report '{text}'; {REPORT_NAME}");
+            }
             BadValue::Part(name) => {
                 return format!(in alloc; "report {name}: {PART}");
             }
-            BadValue::Port(word) => (word, "--port wants a number from 1 to 65535"),
-            BadValue::Count(word) => (word, "--count wants a number from 1 to 4294967295"),
             BadValue::Init => {
                 return String::from_str(alloc, "init needs --db FILE and --station AAA before it");
             }
@@ -112,7 +122,7 @@ impl BadValue<'_> {
             }
             BadValue::Beside => return String::from_str(alloc, BESIDE),
         };
-        told_of(alloc, word, wanted)
+        invalid(alloc, place, text, expected)
     }
 }
 

@@ -16,17 +16,17 @@ fault_line fault.Store = codes "fault service\n"
 
 -- what is wrong with a service that answers as no desk does
 abbrev pub no_desk : List ℕ
-no_desk = codes "the answer isn't a cargo desk's; give --at the port of the service"
+no_desk = codes "the answer isn't a cargo desk's; pass the port of the service to --at"
 
 -- what went wrong at a try, and what to do
 abbrev pub fault_why : AskFault → Option (List ℕ)
-fault_why vain.Refused = Some (codes "nothing listens here; start the service on this port, or give --at the port that it has")
+fault_why vain.Refused = Some (codes "connection refused; start the service on this port, or pass its port to --at")
 fault_why vain.Write = Some (codes "the connection ended before the whole answer; call again, with the same keys")
 fault_why vain.Read = Some (codes "the connection ended before the whole answer; call again, with the same keys")
 fault_why vain.Late = Some (codes "no answer in time; the service is busy or hangs: call again later, with the same keys")
 fault_why vain.Memory = None
 fault_why vain.Cut = Some (codes "the connection ended before the whole answer; call again, with the same keys")
-fault_why vain.Long = Some (codes "the answer is longer than a cargo desk's; give --at the port of the service")
+fault_why vain.Long = Some (codes "the answer is longer than a cargo desk's; pass the port of the service to --at")
 fault_why vain.Foreign = Some no_desk
 
 -- the same by how the last try ended; a desk that answers 503 says why on its own output

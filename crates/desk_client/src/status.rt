@@ -11,16 +11,16 @@ use station_core::ByteOut;
 use stock_list::RunFault;
 
 const REFUSED: &str =
-    "nothing listens here; start the service on this port, or give --at the port that it has";
+    "connection refused; start the service on this port, or pass its port to --at";
 
 const ENDED: &str = "the connection ended before the whole answer; call again, with the same keys";
 
 const LATE: &str =
     "no answer in time; the service is busy or hangs: call again later, with the same keys";
 
-const LONG: &str = "the answer is longer than a cargo desk's; give --at the port of the service";
+const LONG: &str = "the answer is longer than a cargo desk's; pass the port of the service to --at";
 
-const FOREIGN: &str = "the answer isn't a cargo desk's; give --at the port of the service";
+const FOREIGN: &str = "the answer isn't a cargo desk's; pass the port of the service to --at";
 
 /// The status of a desk that can't answer now. Its own output says why.
 const UNAVAILABLE: u16 = 503;

@@ -17,43 +17,40 @@ pub const MOST_LINE: usize = imp_fields::MOST_BYTES + 4_096;
 /// The members of a command's line.
 const COMMAND: &[&str] = &["verb", "key", "body"];
 
-/// What is said of a text that isn't JSON.
+/// The words for a text that isn't JSON.
 fn json_words(alloc: Global, error: &Error) -> Result<String, AllocError> {
     if error.is_memory() {
         return Err(AllocError);
     }
     let column = error.column();
     if error.is_eof() {
-        format!(in alloc; "no JSON: it breaks off in column {column}")
+        format!(in alloc; "the JSON ends too early: column {column}")
     } else {
-        format!(in alloc; "no JSON: column {column}")
+        format!(in alloc; "invalid JSON: column {column}")
     }
 }
 
-/// What is said of a line that has a telegram.
+/// The words for a malformed line that has a telegram.
 fn telegram_words(alloc: Global, telegram: &Value) -> Result<String, AllocError> {
     if telegram.as_str().is_some() {
-        return String::from_str(
-            alloc,
-            "a line of a telegram has \"telegram\" and no other member",
-        );
+        return String::from_str(alloc, "unexpected member besides \"telegram\"");
     }
     let kind = kind_words(alloc, telegram)?;
-    format!(in alloc; "\"telegram\" is {kind}, a text in quotes is wanted")
+    format!(in alloc; "\"telegram\": expected a text in quotes, found {kind}")
 }
 
-/// What is said of a member that is missing, or that no line has.
+/// The words for a missing member, or for one that no line has.
 fn members_words(alloc: Global, line: &Value) -> Result<Option<String>, AllocError> {
     let Some(members) = line.as_object() else {
         let kind = kind_words(alloc, line)?;
-        let words = format!(in alloc; "it is {kind}, an object is wanted")?;
+        let words = format!(in alloc; "expected an object, found {kind}")?;
         return Ok(Some(words));
     };
     for (key, _value) in members.iter() {
         if !COMMAND.iter().any(|name| *name == key.as_str()) {
             let key = quoted(alloc, key.as_bytes())?;
             let words = format!(in alloc;
-                "no member of a line is called {key}; it has verb, key and body, or telegram"
+                "unknown member {key}; a line has verb, key and body, or telegram"
             )?;
             return Ok(Some(words));
         }
@@ -61,7 +58,7 @@ fn members_words(alloc: Global, line: &Value) -> Result<Option<String>, AllocErr
     for name in COMMAND {
         if line.get(*name).is_none() {
             let words = format!(in alloc;
-                "\"{name}\" is missing; a line has verb, key and body, or telegram"
+                "missing member \"{name}\"; a line has verb, key and body, or telegram"
             )?;
             return Ok(Some(words));
         }
@@ -69,13 +66,13 @@ fn members_words(alloc: Global, line: &Value) -> Result<Option<String>, AllocErr
     Ok(None)
 }
 
-/// What is said of a member that isn't a text.
+/// The words for a member that isn't a text.
 fn no_text(alloc: Global, name: &str, value: &Value) -> Result<String, AllocError> {
     let kind = kind_words(alloc, value)?;
-    format!(in alloc; "\"{name}\" is {kind}, a text in quotes is wanted")
+    format!(in alloc; "\"{name}\": expected a text in quotes, found {kind}")
 }
 
-/// What is said of a line with a verb, a key and a body.
+/// The words for a malformed line with a verb, a key and a body.
 fn command_words(
     alloc: Global,
     verb: &Value,
@@ -87,7 +84,7 @@ fn command_words(
     };
     let Some(verb) = Verb::read(word.as_bytes()) else {
         let word = quoted(alloc, word.as_bytes())?;
-        return format!(in alloc; "\"verb\" is {word}, `cargo_desk act --help` lists the verbs");
+        return format!(in alloc; "unknown verb {word}; `cargo_desk act --help` lists the verbs");
     };
     let Some(key) = key.as_str() else {
         return no_text(alloc, "key", key);
@@ -95,13 +92,13 @@ fn command_words(
     if station_core::Key::read(key.as_bytes()).is_none() {
         let key = quoted(alloc, key.as_bytes())?;
         return format!(in alloc;
-            "\"key\" is {key}, 1 to 40 printable characters without spaces are wanted"
+            "\"key\": expected 1 to 40 printable characters without spaces, found {key}"
         );
     }
     value_words(alloc, verb, body)
 }
 
-/// What is said of a line that is JSON.
+/// The words for a malformed line that is JSON.
 fn object_words(alloc: Global, line: &Value) -> Result<String, AllocError> {
     if let Some(telegram) = line.get("telegram") {
         return telegram_words(alloc, telegram);

@@ -10,31 +10,31 @@ use imp_fields::MOST_BYTES;
 use serde_json::{Error, Value};
 use std::alloc::{AllocError, Global};
 
-/// What is said of a text that is no JSON.
+/// The words for a text that isn't JSON.
 fn json_words(alloc: Global, error: &Error) -> Result<String, AllocError> {
     if error.is_memory() {
         return Err(AllocError);
     }
     let (line, column) = (error.line(), error.column());
     if error.is_eof() {
-        format!(in alloc; "no JSON: it breaks off in line {line}, column {column}")
+        format!(in alloc; "the JSON ends too early: line {line}, column {column}")
     } else {
-        format!(in alloc; "no JSON: line {line}, column {column}")
+        format!(in alloc; "invalid JSON: line {line}, column {column}")
     }
 }
 
-/// What is said of a key that is no field's.
+/// The words for a key that isn't a field's.
 fn unknown_words(alloc: Global, verb: Verb, key: &str) -> Result<String, AllocError> {
     let (word, key) = (verb.word(), quoted(alloc, key.as_bytes())?);
     let fields = fields_words(alloc, verb)?;
-    format!(in alloc; "no field of `{word}` is called {key}; it takes {fields}")
+    format!(in alloc; "unknown field {key}; `{word}` takes {fields}")
 }
 
-/// What is said of a field that is missing.
+/// The words for a missing field.
 fn missing_words(alloc: Global, verb: Verb, field: Field) -> Result<String, AllocError> {
     let (word, name) = (verb.word(), field.name());
     let fields = fields_words(alloc, verb)?;
-    format!(in alloc; "\"{name}\" is missing; `{word}` takes {fields}")
+    format!(in alloc; "missing field \"{name}\"; `{word}` takes {fields}")
 }
 
 /// Whether a key is that of a field of the verb.
@@ -49,11 +49,11 @@ fn may_lack(field: Field, body: &Value) -> bool {
         && body.get("date").is_none()
 }
 
-/// What is said of the first key that is no field's.
+/// The words for the first key that isn't a field's.
 fn keys_words(alloc: Global, verb: Verb, body: &Value) -> Result<Option<String>, AllocError> {
     let Some(members) = body.as_object() else {
         let kind = kind_words(alloc, body)?;
-        let words = format!(in alloc; "it is {kind}, an object is wanted")?;
+        let words = format!(in alloc; "expected an object, found {kind}")?;
         return Ok(Some(words));
     };
     for (key, _value) in members.iter() {
@@ -64,7 +64,7 @@ fn keys_words(alloc: Global, verb: Verb, body: &Value) -> Result<Option<String>,
     Ok(None)
 }
 
-/// What is said of the first field that is missing, or that holds something else.
+/// The words for the first field that is missing, or that holds something else.
 fn fields_fault(alloc: Global, verb: Verb, body: &Value) -> Result<Option<String>, AllocError> {
     for field in verb.fields() {
         if body.get(field.name()).is_none() && !may_lack(*field, body) {
@@ -90,7 +90,7 @@ pub(crate) fn value_words(alloc: Global, verb: Verb, body: &Value) -> Result<Str
         return Ok(words);
     }
     let word = verb.word();
-    format!(in alloc; "it says no command of `{word}`")
+    format!(in alloc; "these fields make no `{word}`")
 }
 
 /// What is wrong with a body.
@@ -99,7 +99,7 @@ fn body_words(alloc: Global, verb: Verb, bytes: &[u8]) -> Result<String, AllocEr
         return String::from_str(alloc, "more than 65,536 bytes");
     }
     if bytes.iter().all(|b| b.is_ascii_whitespace()) {
-        return String::from_str(alloc, "it is empty, an object of JSON is wanted");
+        return String::from_str(alloc, "expected a JSON object, found nothing");
     }
     match Value::from_slice(alloc, bytes) {
         Ok(body) => value_words(alloc, verb, &body),

@@ -6,7 +6,7 @@ use imp_fields::{Airport, Flight, Goods, MOST_MESSAGE_TENTHS, MOST_PIECES, Name}
 use shipment_machine::Airline;
 use std::alloc::{AllocError, Global};
 
-/// What stands behind a field in the list of a verb's fields.
+/// The mark after a field in the list of a verb's fields, with `behind` fields still to come.
 fn mark_behind(behind: usize) -> &'static str {
     match behind {
         0 => "",
@@ -53,23 +53,20 @@ pub(crate) fn range(field: Field) -> Option<(u64, u64)> {
     }
 }
 
-/// What is wanted of a text.
+/// The text that a field takes.
 pub(crate) fn wanted(field: Field) -> &'static str {
     match field {
-        Field::Prefix => "3 digits are wanted",
-        Field::Serial => "7 digits are wanted",
-        Field::Agent => "1 to 11 upper-case letters or digits are wanted",
-        Field::Awb => "a waybill number as 020-12345675 is wanted",
-        Field::Origin | Field::Destination | Field::Unload =>
-            "an airport of three letters A to Z is wanted",
-        Field::Goods => "up to 15 characters of printable ASCII are wanted, the last no space",
-        Field::Name => "up to 35 characters of printable ASCII are wanted, the last no space",
-        Field::Flight | Field::FlightIfAny => "a flight as LH400 is wanted",
-        Field::Date | Field::DateIfAny =>
-            "a day from 2000-01-01 to 2099-12-31 is wanted, as 2026-01-12",
-        Field::Airline => "the two characters of an airline are wanted, as BA",
-        Field::Count | Field::Pieces | Field::Tenths | Field::Counted | Field::Upto =>
-            "a number is wanted",
+        Field::Prefix => "3 digits",
+        Field::Serial => "7 digits",
+        Field::Agent => "1 to 11 upper-case letters or digits",
+        Field::Awb => "a waybill number such as 020-12345675",
+        Field::Origin | Field::Destination | Field::Unload => "an airport of three letters A to Z",
+        Field::Goods => "up to 15 printable ASCII characters, the last not a space",
+        Field::Name => "up to 35 printable ASCII characters, the last not a space",
+        Field::Flight | Field::FlightIfAny => "a flight such as LH400",
+        Field::Date | Field::DateIfAny => "a day from 2000-01-01 to 2099-12-31, such as 2026-01-12",
+        Field::Airline => "an airline code of two characters, such as BA",
+        Field::Count | Field::Pieces | Field::Tenths | Field::Counted | Field::Upto => "a number",
     }
 }
 

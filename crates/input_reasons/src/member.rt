@@ -23,7 +23,7 @@ pub(crate) fn kind_words(alloc: Global, value: &Value) -> Result<String, AllocEr
     }
 }
 
-/// What is said of a number that is none of its range.
+/// The words for a value that isn't a number within its range.
 fn number_words(
     alloc: Global,
     field: Field,
@@ -38,7 +38,7 @@ fn number_words(
     }
     let (name, kind) = (field.name(), kind_words(alloc, value)?);
     let words = format!(in alloc;
-        "\"{name}\" is {kind}, a whole number from {least} to {most} is wanted"
+        "\"{name}\": expected a whole number from {least} to {most}, found {kind}"
     )?;
     Ok(Some(words))
 }
@@ -49,7 +49,7 @@ fn check_digit(text: &[u8; 12]) -> Option<u8> {
     Some(check(serial))
 }
 
-/// What is said of a waybill number that is none.
+/// The words for a text that isn't a waybill number.
 fn awb_words(alloc: Global, text: &[u8]) -> Result<Option<String>, AllocError> {
     if let Ok(bytes) = <[u8; 12]>::try_from(text) {
         match Awb::read(&bytes) {
@@ -57,7 +57,9 @@ fn awb_words(alloc: Global, text: &[u8]) -> Result<Option<String>, AllocError> {
             Err(AwbFault::Check) => {
                 if let Some(digit) = check_digit(&bytes) {
                     let text = cut(alloc, text)?;
-                    let words = format!(in alloc; "the check digit of \"awb\" {text} is {digit}")?;
+                    let words = format!(in alloc;
+                        "\"awb\": wrong check digit in {text}, expected {digit}"
+                    )?;
                     return Ok(Some(words));
                 }
             }
@@ -67,17 +69,17 @@ fn awb_words(alloc: Global, text: &[u8]) -> Result<Option<String>, AllocError> {
     Ok(Some(other_words(alloc, Field::Awb, text)?))
 }
 
-/// What is said of a text that may not stand there.
+/// The words for a text that its field doesn't take.
 fn other_words(alloc: Global, field: Field, text: &[u8]) -> Result<String, AllocError> {
     let (name, wanted) = (field.name(), wanted(field));
     let text = quoted(alloc, text)?;
-    format!(in alloc; "\"{name}\" is {text}, {wanted}")
+    format!(in alloc; "\"{name}\": expected {wanted}, found {text}")
 }
 
-/// What is said of a text that isn't so many digits.
+/// The words for a text that isn't `width` digits.
 fn code_words(
     alloc: Global,
-    what: &str,
+    place: &str,
     text: &[u8],
     width: usize,
 ) -> Result<Option<String>, AllocError> {
@@ -85,10 +87,10 @@ fn code_words(
         return Ok(None);
     }
     let wanted = format!(in alloc; "{width}")?;
-    Ok(Some(digits_words(alloc, what, text, wanted.as_str())?))
+    Ok(Some(digits_words(alloc, place, text, wanted.as_str())?))
 }
 
-/// What is said of a text, where it isn't what its field wants.
+/// The words for a text, if its field doesn't take it.
 fn text_words(alloc: Global, field: Field, text: &[u8]) -> Result<Option<String>, AllocError> {
     match field {
         Field::Prefix => code_words(alloc, "\"prefix\"", text, 3),
@@ -104,13 +106,13 @@ fn text_words(alloc: Global, field: Field, text: &[u8]) -> Result<Option<String>
     }
 }
 
-/// What is said of a value that is no text where one is wanted.
+/// The words for a value that isn't a text.
 fn no_text_words(alloc: Global, field: Field, value: &Value) -> Result<String, AllocError> {
     let (name, kind) = (field.name(), kind_words(alloc, value)?);
-    format!(in alloc; "\"{name}\" is {kind}, a text in quotes is wanted")
+    format!(in alloc; "\"{name}\": expected a text in quotes, found {kind}")
 }
 
-/// What is said of a member, where it isn't what its field wants.
+/// The words for a member, if its field doesn't take it.
 pub(crate) fn member_words(
     alloc: Global,
     field: Field,

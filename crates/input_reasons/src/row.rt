@@ -11,43 +11,35 @@ use std::alloc::{AllocError, Global};
 /// How many fields a row has.
 const FIELDS: usize = 6;
 
-/// What is said of a row with another number of fields.
+/// The words for a row with a different number of fields.
 fn count_words(alloc: Global, count: usize) -> Result<String, AllocError> {
-    if count == 1 {
-        String::from_str(alloc, "six fields are wanted, here is 1")
-    } else {
-        format!(in alloc; "six fields are wanted, here are {count}")
-    }
+    format!(in alloc; "expected six fields, found {count}")
 }
 
-/// What is said of a key that is none.
+/// The words for a text that isn't a key.
 fn key_words(alloc: Global, key: &[u8]) -> Result<String, AllocError> {
     let key = quoted(alloc, key)?;
     format!(in alloc;
-        "the key is {key}, 1 to 40 characters of printable ASCII without a space are wanted"
+        "key: expected 1 to 40 printable ASCII characters without spaces, found {key}"
     )
 }
 
-/// What is said of a verb that is none of a row.
+/// The words for a text that isn't a row's verb.
 fn verb_words(alloc: Global, verb: &[u8]) -> Result<String, AllocError> {
-    if verb.is_empty() {
-        let words = "the verb is empty; take-in, issue, return or void is wanted";
-        return String::from_str(alloc, words);
-    }
     let verb = quoted(alloc, verb)?;
-    format!(in alloc; "{verb} is no verb; take-in, issue, return or void is wanted")
+    format!(in alloc; "verb: expected take-in, issue, return or void, found {verb}")
 }
 
-/// What is said of an agent where a verb takes none.
+/// The words for an agent after a verb that takes none.
 fn no_agent_words(alloc: Global, verb: &[u8], agent: &[u8]) -> Result<String, AllocError> {
     let (verb, agent) = (cut(alloc, verb)?, quoted(alloc, agent)?);
-    format!(in alloc; "the agent is {agent}, and `{verb}` takes none")
+    format!(in alloc; "agent: `{verb}` takes no agent, found {agent}")
 }
 
-/// What is said of an agent that is none.
+/// The words for a text that isn't an agent's code.
 fn agent_words(alloc: Global, agent: &[u8]) -> Result<String, AllocError> {
     let agent = quoted(alloc, agent)?;
-    format!(in alloc; "the agent is {agent}, 1 to 11 upper-case letters or digits are wanted")
+    format!(in alloc; "agent: expected 1 to 11 upper-case letters or digits, found {agent}")
 }
 
 /// Whether a text has from so many to so many digits, and nothing else.
@@ -66,18 +58,18 @@ fn takes_agent(verb: &[u8]) -> Option<bool> {
     }
 }
 
-/// What is said of a run that is none: prefix, serial and count.
+/// The words for prefix, serial or count, if one of them is malformed.
 fn run_words(alloc: Global, row: &ByteRecord) -> Result<Option<String>, AllocError> {
     let (prefix, serial) = (field(row, 2), field(row, 3));
     let count = field(row, 4);
     if !is_number(prefix, 3, 3) {
-        return Ok(Some(digits_words(alloc, "the prefix", prefix, "3")?));
+        return Ok(Some(digits_words(alloc, "prefix", prefix, "3")?));
     }
     if !is_number(serial, 7, 7) {
-        return Ok(Some(digits_words(alloc, "the serial", serial, "7")?));
+        return Ok(Some(digits_words(alloc, "serial", serial, "7")?));
     }
     if !is_number(count, 1, 7) {
-        return Ok(Some(digits_words(alloc, "the count", count, "1 to 7")?));
+        return Ok(Some(digits_words(alloc, "count", count, "1 to 7")?));
     }
     Ok(None)
 }
@@ -108,7 +100,7 @@ fn row_words(alloc: Global, row: &ByteRecord) -> Result<String, AllocError> {
     if takes_agent && AgentCode::read(agent).is_none() {
         return agent_words(alloc, agent);
     }
-    String::from_str(alloc, "it is no row of a stock list")
+    String::from_str(alloc, "not a row of a stock list")
 }
 
 /// Why a row of a stock list is bad, which begins on this line of the list.

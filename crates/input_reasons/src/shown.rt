@@ -81,27 +81,19 @@ pub(crate) fn cut(alloc: Global, text: &[u8]) -> Result<String, AllocError> {
     }
 }
 
-/// The same in quotes; of an empty text, that it is empty.
+/// The same in quotes.
 pub(crate) fn quoted(alloc: Global, text: &[u8]) -> Result<String, AllocError> {
-    if text.is_empty() {
-        return String::from_str(alloc, "empty");
-    }
     let text = cut(alloc, text)?;
     format!(in alloc; "\"{text}\"")
 }
 
-/// What is said of a text that must be so many digits, as `7`.
+/// The words for a text at `place` that isn't `wanted` digits, such as `7`.
 pub(crate) fn digits_words(
     alloc: Global,
-    what: &str,
+    place: &str,
     text: &[u8],
     wanted: &str,
 ) -> Result<String, AllocError> {
-    let count = text.len();
-    if count > 1 && text.iter().all(|b| b.is_ascii_digit()) {
-        let text = cut(alloc, text)?;
-        return format!(in alloc; "{what} {text} has {count} digits, {wanted} are wanted");
-    }
     let text = quoted(alloc, text)?;
-    format!(in alloc; "{what} is {text}, {wanted} digits are wanted")
+    format!(in alloc; "{place}: expected {wanted} digits, found {text}")
 }

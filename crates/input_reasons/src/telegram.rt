@@ -21,21 +21,21 @@ fn fault_words(why: Why) -> &'static str {
         Why::Lines => "it has more than 1,000 lines",
         Why::Byte => "it has a byte that isn't printable ASCII",
         Why::Long => "it has more than 255 bytes",
-        Why::Kind => "none of its first eleven lines begins with FWB/, FFM/ or FSU/ (302)",
+        Why::Kind => "no line among the first eleven begins with FWB/, FFM/ or FSU/ (302)",
         Why::Ending => {
-            "a message must not end here: an FFM ends with LAST or CONT and nothing after it, an FWB has a second line, an FSU a third"
+            "the message ends too early, or goes on after its end: an FFM ends with LAST or CONT, an FWB has at least two lines, an FSU three"
         }
-        Why::Head => "FWB, FFM or FSU, a slash and one to three digits are wanted, as FFM/8",
+        Why::Head => "expected FWB, FFM or FSU, a slash and one to three digits, such as FFM/8",
         Why::Consignment => {
-            "a waybill number, two airports and a slash are wanted in front, as 020-12345675FRAJFK/"
+            "expected a waybill number, two airports and a slash at the start, such as 020-12345675FRAJFK/"
         }
         Why::Number => "the check digit of the waybill number is wrong",
         Why::Quantity =>
-            "a quantity such as T10K100.0 is wanted after the airports: 1 to 9999 pieces, and at most 7 digits and points of weight",
-        Why::Weight => "the quantity has no weight, as T10K100.0 has one",
-        Why::Date => "a date is wanted that means a day, as 12JAN or 12JAN1030",
-        Why::Flight => "part, flight, date and airport are wanted, as 1/LH400/12JAN/FRA",
-        Why::Order => "a consignment stands before the first point of unloading",
+            "expected a quantity such as T10K100.0 after the airports: 1 to 9999 pieces, and at most 7 digits and points of weight",
+        Why::Weight => "expected a weight in the quantity, as in T10K100.0",
+        Why::Date => "expected an existing date, such as 12JAN or 12JAN1030",
+        Why::Flight => "expected part, flight, date and airport, such as 1/LH400/12JAN/FRA",
+        Why::Order => "consignment before the first point of unloading",
         Why::Memory => "it can't be read",
     }
 }
