@@ -10,3 +10,4 @@ abbrev pub server_fault : ServerFault → DeskFault
 server_fault server.Listener = fault.Run run.Read
 server_fault server.Clock = fault.Clock
 server_fault server.Store = fault.Run run.Store
+server_fault server.Memory = fault.Run run.Memory

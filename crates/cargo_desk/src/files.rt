@@ -17,6 +17,10 @@ use stock_list::RunFault;
 /// that it changed as a whole.
 const PAGE_LEN: usize = 1024;
 
+/// The fewest pages of a file that are kept in memory, and the most.
+const LEAST_CACHE: u64 = 2000;
+const MOST_CACHE: u64 = 65_536;
+
 /// What is said of a file whose tables aren't declared as `init` declares them.
 const NOT_AS_INIT: &str =
     "init declares the tables otherwise, so the promises about a power failure aren't proved \
@@ -90,7 +94,7 @@ fn is_no_file(path: &str) -> bool {
 /// Opens a file that has the trees that `init` makes, in their order, and no other, with one
 /// recovery of its log.
 fn open_in_order(rt: &HostRuntime, path: &str) -> Option<Connection<FileStore<File>>> {
-    let options = options(rt).ok()?;
+    let options = options(rt, path).ok()?;
     let files = sqlite_std_file::open(rt, path, Unknown).ok()?;
     let mut conn = open_listed(rt.alloc(), files, options, &station_trees()).ok()?;
     conn.set_clock(rt);
@@ -104,7 +108,7 @@ fn open_among_others(
     path: &str,
     made: usize,
 ) -> Option<Connection<OwnTrees<FileStore<File>>>> {
-    let options = options(rt).ok()?;
+    let options = options(rt, path).ok()?;
     let files = sqlite_std_file::open(rt, path, Unknown).ok()?;
     let mut conn = open_beside(rt.alloc(), files, options, &station_trees(), made).ok()?;
     conn.set_clock(rt);
@@ -157,10 +161,29 @@ fn is_blank(rt: &HostRuntime, path: &str) -> io::Result<bool> {
     }
 }
 
-/// What a log's salts are made from: a random number.
-fn options(rt: &HostRuntime) -> Result<Options, FileFault> {
+/// How many pages of a file are kept in memory: a quarter of those that it has. An opening looks
+/// each row up by its key, so the keys have to fit, or each look-up reads a page anew.
+fn cache_for(rt: &HostRuntime, path: &str) -> usize {
+    let pages = match fs::metadata(rt, path) {
+        Ok(found) => found.len() / PAGE_LEN as u64,
+        Err(_) => 0,
+    };
+    (pages / 4).max(LEAST_CACHE).min(MOST_CACHE) as usize
+}
+
+/// How a file is read and written: the pages kept in memory, and a random number, from which a
+/// log's salts are made.
+fn options(rt: &HostRuntime, path: &str) -> Result<Options, FileFault> {
     match RandomState::new(rt) {
-        Ok(state) => Ok(Options::new(state.hash_one(&0u8))),
+        Ok(state) => {
+            let usual = Options::new(state.hash_one(&0u8));
+            Ok(Options {
+                cache_pages: cache_for(rt, path),
+                spill_pages: usual.spill_pages,
+                checkpoint_frames: usual.checkpoint_frames,
+                seed: usual.seed,
+            })
+        }
         Err(_) => Err(FileFault::Store(ErrorCode::SystemIoFailure)),
     }
 }
@@ -172,7 +195,7 @@ pub fn make_file(rt: &HostRuntime, path: &str) -> Result<FileConnection, FileFau
         return Ok(FileConnection::Whole(open_any(rt, path)?));
     }
     let size = PageSize::new(PAGE_LEN).unwrap();
-    let options = options(rt)?;
+    let options = options(rt, path)?;
     let files = match sqlite_std_file::open(rt, path, Unknown) {
         Ok(files) => files,
         Err(error) => return Err(unopened(&error)),

@@ -6,7 +6,7 @@ use crate::files::{is_undeclared, tell_undeclared};
 use cli_call::{DeskFault, end, open_station};
 use cli_words::Line;
 use desk_clock::Zone;
-use desk_server::{ServerFault, serve};
+use desk_server::{ServerFault, Setting, serve};
 use sqlite::{Alter, Connection};
 use station_core::{Counted, Keeper};
 use std::net::TcpListener;
@@ -28,6 +28,7 @@ fn server_fault(fault: ServerFault) -> DeskFault
         ServerFault::Listener => DeskFault::Run(RunFault::Read),
         ServerFault::Clock => DeskFault::Clock,
         ServerFault::Store => DeskFault::Run(RunFault::Store),
+        ServerFault::Memory => DeskFault::Run(RunFault::Memory),
     }
 }
 
@@ -45,7 +46,12 @@ fn run_service<K: Keeper>(
         zone,
         count,
     } = service;
-    match serve(rt.alloc(), rt, zone, keeper, listener, count) {
+    let setting = Setting {
+        alloc: rt.alloc(),
+        clock: rt,
+        zone,
+    };
+    match serve(rt, &setting, keeper, listener, count) {
         Ok(()) => Ok(true),
         Err(fault) => Err(server_fault(fault)),
     }

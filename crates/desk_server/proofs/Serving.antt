@@ -11,7 +11,7 @@ use Rattle.http_desk.specs.declared.serve.ServeFault.{ServeFault}
 use Rattle.http_desk.specs.declared.serve.ServeFault.TheVariants as serve
 use Rattle.http_desk.specs.StationAfter.{station_after}
 use Rattle.http_desk.specs.Serving.{HasServed}
-use Rattle.desk_server.specs.Served.{HasServedOne, HaveServed}
+use Rattle.desk_server.specs.Served.{AtMost, HasServedOne, HaveServed}
 
 pub unserved : {K : Type 0} (k : Keeping K) (at : LocalMinute) (keeper : K)
     → HasServedOne k at keeper keeper
@@ -50,10 +50,6 @@ one_more k n zero old mid new first more =
 one_more k n (suc m) old mid new first (last, before, one) =
     let joined = one_more k n m old mid last first before in
     (suc joined.0, (last, joined.1, one), omega (arith, joined.2))
-
--- at most so many connections
-abbrev pub AtMost : {K : Type 0} → Keeping K → ℕ → K → K → Type 0
-AtMost k most old new = (n : ℕ) × HaveServed k n old new × (n ≤ most)
 
 pub then_more : {K : Type 0} (k : Keeping K) (a b : ℕ) (old mid new : K)
     → AtMost k a old mid

@@ -1,5 +1,5 @@
 -- What the connections of a service leave of its station.
-use Rattle.std.specs.Prelude.{◌≡◌, ℕ, zero, suc, false, List, Result}
+use Rattle.std.specs.Prelude.{◌≡◌, ◌≤◌, ℕ, zero, suc, false, List, Result}
 use Rattle.station_days.specs.Date.{LocalMinute}
 use Rattle.station_core.specs.Given.{Given, nothing_given}
 use Rattle.station_core.specs.Keeping.{Keeping, KeepsPremise, StaysIfBroken}
@@ -26,3 +26,7 @@ abbrev pub HaveServed : {K : Type 0} → Keeping K → ℕ → K → K → Type 
 HaveServed k zero old new = new ≡ old
 HaveServed {K} k (suc n) old new =
     (mid : K) × HaveServed k n old mid × ((at : LocalMinute) × HasServedOne k at mid new)
+
+-- At most so many connections were served.
+abbrev pub AtMost : {K : Type 0} → Keeping K → ℕ → K → K → Type 0
+AtMost k most old new = (n : ℕ) × HaveServed k n old new × (n ≤ most)

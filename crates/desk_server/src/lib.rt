@@ -1,8 +1,9 @@
 //! The desk of a station over HTTP, on a port of this machine.
 #![tactic(auto)]
 
+mod connections;
+mod held;
 mod paced;
 mod server;
-mod timed;
 
-pub use server::{ServerFault, listen, serve};
+pub use server::{ServerFault, Setting, listen, serve};

@@ -1,11 +1,13 @@
 //! The writer of a connection's answer, which its peer has to read in time.
 ghost use Rattle.std.specs.Prelude.{◌≡◌, ◌⊎◌, ◌≤◌, ◌/◌};
 
-use crate::server::MOST_WAIT;
 use std::io;
 use std::io::{ErrorKind, Write};
 use std::net::TcpStream;
 use std::time::{Clock, Duration};
+
+/// How long a write may wait, in seconds.
+const MOST_WAIT: u64 = 10;
 
 /// How long any answer may take from its first byte on, in seconds.
 const MOST_ANSWER: u64 = 30;
@@ -45,13 +47,22 @@ impl<'a, C: Clock> Paced<'a, C> {
         }
     }
 
+    /// The time of the first write, from which on writes wait.
+    fn begin(&mut self, now: Duration) -> io::Result<Duration> {
+        if let Some(begun) = self.begun {
+            return Ok(begun);
+        }
+        self.stream.set_nonblocking(false)?;
+        self.begun = Some(now);
+        Ok(now)
+    }
+
     /// How long the next write may wait.
     ///
     /// Returns an error if no time is left, or the clock can't be read.
     fn wait(&mut self) -> io::Result<Duration> {
         let now = self.clock.monotonic()?;
-        let begun = self.begun.unwrap_or(now);
-        self.begun = Some(begun);
+        let begun = self.begin(now)?;
         let gone = now.saturating_sub(begun);
         let all = Duration::from_secs(seconds_for(self.sent));
         if gone >= all {

@@ -1,48 +1,31 @@
-//! One connection after another.
-ghost use Rattle.std.specs.Prelude.{◌≡◌, ◌≤◌, ℕ, ⊤, true, MatchOption};
+//! Connections that are read side by side, and answered one after another.
+ghost use Rattle.std.specs.Prelude.{◌≡◌, ◌≤◌, ℕ, ⊤, true, false, Ok, Err, IfOk, MatchOption};
 ghost use Rattle.station_core.specs.Keeping.{keeping};
-ghost use Rattle.desk_server.specs.Served.{HasServedOne, HaveServed};
+ghost use Rattle.desk_server.specs.Served.{AtMost, HasServedOne, HaveServed};
 
+use crate::connections::Connections;
+use crate::held::{Arrival, Held};
 use crate::paced::Paced;
-use crate::timed::{Timed, Waits};
 use desk_clock::{Zone, moment_now};
 use http_desk::{ServeFault, Served, serve_one};
 use station_core::{Counted, Keeper};
 use station_days::Moment;
 use std::alloc::Global;
 use std::io;
-use std::io::{ErrorKind, Read};
-use std::net::{Ipv4Addr, Net, Shutdown, SocketAddr, TcpListener, TcpStream};
+use std::net::{Ipv4Addr, Net, SocketAddr, TcpListener};
 use std::time::{Clock, Duration};
-
-/// How long a connection may wait for its first byte, in milliseconds. Others wait meanwhile, and
-/// most that send nothing by then never do: eight of them hold the next one up for 1.6 seconds.
-const MOST_SILENCE: u64 = 200;
-
-/// How long a read after the first byte, or a write, may wait, in seconds.
-pub(crate) const MOST_WAIT: u64 = 10;
-
-/// How long a request may take to come, in seconds.
-const MOST_REQUEST: u64 = 30;
-
-/// How long a read behind the answer may wait, in seconds.
-const MOST_LINGER: u64 = 1;
-
-/// How long the peer may take to close behind its answer, in seconds.
-const MOST_CLOSE: u64 = 2;
-
-/// The most reads behind an answer.
-const MOST_LEFT: u32 = 64;
 
 /// Why the service ends before its end.
 #[derive(Clone, Copy, Debug, PartialEq, Eq)]
 pub enum ServerFault {
-    /// The listening socket failed.
+    /// The listening socket failed, or the system can't wait for connections.
     Listener,
     /// The clock can't be read, or shows a day before 2000-01-01 or after 2099-12-31.
     Clock,
     /// The station has to be opened again.
     Store,
+    /// Memory ran out.
+    Memory,
 }
 
 /// Listens on a port of 127.0.0.1. For port 0 the system picks one.
@@ -52,80 +35,130 @@ pub fn listen<N: Net>(net: &N, port: u16) -> io::Result<N::Listener> {
     TcpListener::bind(net, SocketAddr::from((Ipv4Addr::LOCALHOST, port)))
 }
 
-/// The reader of a connection's request.
-fn timed<'a, C: Clock>(clock: &'a C, stream: &'a TcpStream) -> io::Result<Timed<'a, C>> {
-    stream.set_nodelay(true)?;
-    let waits = Waits {
-        first: Duration::from_millis(MOST_SILENCE),
-        next: Duration::from_secs(MOST_WAIT),
-        all: Duration::from_secs(MOST_REQUEST),
-    };
-    Timed::new(clock, stream, waits)
+/// The clock and the zone of a service, and where it allocates.
+#[derive(Drop)]
+pub struct Setting<'a, C: Clock> {
+    pub alloc: Global,
+    pub clock: &'a C,
+    pub zone: &'a Zone,
 }
 
-/// Ends the answer, and reads what the peer still sends: a close over unread bytes would take the
-/// answer back.
-fn finish<C: Clock>(clock: &C, stream: &TcpStream) -> io::Result<()> {
-    stream.shutdown(Shutdown::Write)?;
-    let waits = Waits {
-        first: Duration::from_secs(MOST_LINGER),
-        next: Duration::from_secs(MOST_LINGER),
-        all: Duration::from_secs(MOST_CLOSE),
-    };
-    let mut reader = Timed::new(clock, stream, waits)?;
-    let mut room = [0; 4096];
-    for _ in 0..MOST_LEFT {
-        if reader.read(&mut room)? == 0 {
-            break;
-        }
-    }
-    Ok(())
+/// What happens next to a connection from which something came.
+#[derive(Clone, Copy, PartialEq, Eq)]
+enum Next {
+    /// More of its request is waited for.
+    Waits,
+    /// It was answered, and is read to its end.
+    Drains,
+    /// It is closed.
+    Ends,
 }
 
-/// Answers a connection at a moment.
+/// Answers a connection at a moment, if its request has come whole.
 fn answer<C: Clock, K: Keeper>(
-    alloc: Global,
-    clock: &C,
+    setting: &Setting<'_, C>,
     keeper: &mut K,
-    stream: &TcpStream,
+    held: &Held,
     at: Moment,
 ) -> Result<Served, ServeFault>
-    ensures { HasServedOne (keeping K.keeps K.is_clean K.is_sound K.is_broken K.may_find K.may_fail)
+    ensures served { HasServedOne
+        (keeping K.keeps K.is_clean K.is_sound K.is_broken K.may_find K.may_fail)
         at keeper.old keeper.new }
+    // Nothing was written or changed before the request is whole.
+    ensures unread { result ≡ Err ServeFault.Read → keeper.new ≡ keeper.old }
 {
-    let Ok(reader) = timed(clock, stream) else {
-        return Err(ServeFault::Read);
-    };
-    let served = serve_one(
-        alloc,
+    serve_one(
+        setting.alloc,
         keeper,
-        &mut Counted::new(reader),
-        &mut Counted::new(Paced::new(clock, stream)),
+        &mut Counted::new(held.bytes()),
+        &mut Counted::new(Paced::new(setting.clock, held.stream())),
         at,
-    )?;
-    let _finished = finish(clock, stream);
-    Ok(served)
+    )
 }
 
-/// Serves a connection, at the moment that the clock shows now. A read or a write that fails, or an
-/// answer that isn't read in time, ends the connection alone.
-fn serve_stream<C: Clock, K: Keeper>(
-    alloc: Global,
-    clock: &C,
-    zone: &Zone,
+/// Reads what came of a request, and answers it if it is whole, at the moment that the clock shows
+/// then. A write that fails, or an answer that isn't read in time, ends the connection alone.
+fn serve_held<C: Clock, K: Keeper>(
+    setting: &Setting<'_, C>,
     keeper: &mut K,
-    stream: &TcpStream,
-) -> Result<(), ServerFault>
-    ensures { (n : ℕ) × HaveServed (keeping K.keeps K.is_clean K.is_sound K.is_broken K.may_find
-        K.may_fail) n keeper.old keeper.new × (n ≤ 1) }
+    held: &mut Held,
+    now: Duration,
+) -> Result<Next, ServerFault>
+    ensures most { AtMost (keeping K.keeps K.is_clean K.is_sound K.is_broken K.may_find K.may_fail)
+        1 keeper.old keeper.new }
+    ensures waits { result ≡ Ok Next.Waits → keeper.new ≡ keeper.old }
 {
-    let Some(at) = moment_now(clock, zone) else {
+    let arrival = held.read_request(now);
+    if arrival == Arrival::Lost {
+        return Ok(Next::Ends);
+    }
+    let Some(at) = moment_now(setting.clock, setting.zone) else {
         return Err(ServerFault::Clock);
     };
-    match answer(alloc, clock, keeper, stream, at) {
-        Ok(served) if served.reopen => Err(ServerFault::Store),
-        _ => Ok(()),
+    match answer(setting, keeper, held, at) {
+        Ok(served) => {
+            let is_open = held.end_answer(now).is_ok() && held.drain(now);
+            if served.reopen {
+                return Err(ServerFault::Store);
+            }
+            Ok(if is_open { Next::Drains } else { Next::Ends })
+        }
+        Err(ServeFault::Read) if arrival == Arrival::Open => Ok(Next::Waits),
+        Err(_) => Ok(Next::Ends),
     }
+}
+
+/// Serves the connection at a place, from which something came. Returns whether it needs no more
+/// answer.
+fn serve_place<C: Clock, K: Keeper>(
+    setting: &Setting<'_, C>,
+    keeper: &mut K,
+    connections: &mut Connections<'_>,
+    place: usize,
+) -> Result<bool, ServerFault>
+    ensures most { AtMost (keeping K.keeps K.is_clean K.is_sound K.is_broken K.may_find K.may_fail)
+        1 keeper.old keeper.new }
+    ensures same { result ≡ Ok false → keeper.new ≡ keeper.old }
+{
+    let now = connections.now();
+    let Some(held) = connections.waiting_at(place, now) else {
+        return Ok(false);
+    };
+    match serve_held(setting, keeper, held, now)? {
+        Next::Waits => Ok(false),
+        Next::Drains => Ok(true),
+        Next::Ends => {
+            connections.close(place);
+            Ok(true)
+        }
+    }
+}
+
+/// Serves the connections from which something came, of which so many may still be answered.
+/// Returns how many were.
+fn serve_places<C: Clock, K: Keeper>(
+    setting: &Setting<'_, C>,
+    keeper: &mut K,
+    connections: &mut Connections<'_>,
+    places: &[usize],
+    most: usize,
+) -> Result<usize, ServerFault>
+    ensures most { AtMost (keeping K.keeps K.is_clean K.is_sound K.is_broken K.may_find K.may_fail)
+        most keeper.old keeper.new }
+    ensures answered { IfOk result (λ answered. (answered ≤ most)
+        × AtMost (keeping K.keeps K.is_clean K.is_sound K.is_broken K.may_find K.may_fail)
+        answered keeper.old keeper.new) }
+{
+    let mut answered = 0;
+    for &place in places {
+        if answered >= most {
+            return Ok(answered);
+        }
+        if serve_place(setting, keeper, connections, place)? {
+            answered += 1;
+        }
+    }
+    Ok(answered)
 }
 
 /// How many connections are served at most.
@@ -138,15 +171,15 @@ fn most_of(count: Option<u32>) -> usize
     }
 }
 
-/// Serves one connection after another: without a count for good, else so many. The clock is read
-/// once for each.
+/// Serves connections: without a count for good, else so many. All are read as their bytes come,
+/// and each request is answered when it is whole, one at a time, at the moment that the clock shows
+/// then. So a connection that sends slowly, or nothing, holds no other up.
 ///
-/// A connection that was given up before its turn counts as one. Returns a [`ServerFault`] where
-/// the service can't go on.
-pub fn serve<C: Clock, K: Keeper>(
-    alloc: Global,
-    clock: &C,
-    zone: &Zone,
+/// A connection that was given up counts as one. Returns a [`ServerFault`] where the service can't
+/// go on.
+pub fn serve<N: Net, C: Clock, K: Keeper>(
+    net: &N,
+    setting: &Setting<'_, C>,
     keeper: &mut K,
     listener: &TcpListener,
     count: Option<u32>,
@@ -155,11 +188,20 @@ pub fn serve<C: Clock, K: Keeper>(
     ensures { (n : ℕ) × HaveServed (keeping K.keeps K.is_clean K.is_sound K.is_broken K.may_find
         K.may_fail) n keeper.old keeper.new × MatchOption count ⊤ (λ most. n ≤ most) }
 {
-    for _ in 0..most_of(count) {
-        match listener.accept() {
-            Ok((stream, _)) => serve_stream(alloc, clock, zone, keeper, &stream)?,
-            Err(error) if error.kind() == ErrorKind::ConnectionAborted => {}
-            Err(_) => return Err(ServerFault::Listener),
+    let most = most_of(count);
+    let mut connections = Connections::new(net, setting.alloc, listener)?;
+    let mut left = most;
+    for _ in 0..usize::MAX {
+        if connections.is_over(most) {
+            return Ok(());
+        }
+        let places = connections.wait(setting.clock, most)?;
+        match serve_places(setting, keeper, &mut connections, places.as_slice(), left) {
+            Ok(answered) => left -= answered,
+            Err(fault) => {
+                connections.drain_all(setting.clock);
+                return Err(fault);
+            }
         }
     }
     Ok(())

@@ -8,7 +8,7 @@ mod failing;
 
 use clock::Stepped;
 use desk_clock::Zone;
-use desk_server::{ServerFault, listen, serve};
+use desk_server::{ServerFault, Setting, listen, serve};
 use failing::Failing;
 use imp_fields::Airport;
 use plain_station::PlainStation;
@@ -83,7 +83,12 @@ fn serve_all<K: Keeper>(
         return Err(io::Error::from(ErrorKind::InvalidInput));
     };
     let count = u32::try_from(count).ok();
-    Ok(serve(rt.alloc(), clock, &zone, station, &listener, count))
+    let setting = Setting {
+        alloc: rt.alloc(),
+        clock,
+        zone: &zone,
+    };
+    Ok(serve(rt, &setting, station, &listener, count))
 }
 
 /// Serves a station to a connection for each request.
