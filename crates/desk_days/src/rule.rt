@@ -101,13 +101,14 @@ fn booking_text(alloc: Global, awb: Awb) -> Option<String> {
 fn outbound_text(alloc: Global, rule: &mut Rule, awb: Awb) -> Option<String> {
     let pieces = rule.between(1, 5);
     let day = rule.between(12, 13);
-    match rule.between(0, 8) {
+    match rule.between(0, 9) {
         0 | 1 => format!(in alloc; "receive\n{awb}\n{pieces}\n250\nACME").ok(),
         2 | 3 => { format!(in alloc; "manifest\n{awb}\nLH400\n2026-01-{day}\nJFK\n{pieces}").ok() }
         4 => format!(in alloc; "offload\n{awb}\nLH400\n2026-01-{day}\n{pieces}").ok(),
         5 => format!(in alloc; "transfer\n{awb}\n{pieces}\nBA").ok(),
         6 => format!(in alloc; "withdraw\n{awb}\n{pieces}\nACME").ok(),
         7 => format!(in alloc; "reroute\nLH400\n2026-01-{day}\nCDG").ok(),
+        8 => format!(in alloc; "amend\n{awb}\nFRA\nCDG\n{pieces}\n500\nCARGO").ok(),
         _ => format!(in alloc; "depart\nLH400\n2026-01-{day}").ok(),
     }
 }
@@ -115,12 +116,13 @@ fn outbound_text(alloc: Global, rule: &mut Rule, awb: Awb) -> Option<String> {
 /// The text of a command on what came in.
 fn inbound_text(alloc: Global, rule: &mut Rule, awb: Awb) -> Option<String> {
     let pieces = rule.between(1, 6);
-    match rule.between(0, 6) {
+    match rule.between(0, 7) {
         0 | 1 => format!(in alloc; "check-in\n{awb}\nLH401\n2026-01-12\n{pieces}").ok(),
         2 => format!(in alloc; "notify\n{awb}\nSMITH").ok(),
         3 => format!(in alloc; "deliver\n{awb}\n{pieces}\nSMITH").ok(),
         4 => format!(in alloc; "missing\n{awb}\n1\nLH401\n2026-01-12").ok(),
         5 => format!(in alloc; "found\n{awb}\n{pieces}\n33\n\n").ok(),
+        6 => format!(in alloc; "strike\n{awb}\nLH401\n2026-01-12\n1").ok(),
         _ => format!(in alloc; "confirm\n{pieces}").ok(),
     }
 }
