@@ -4,6 +4,7 @@ use cli_call::DeskFault;
 use cli_run::is_opening;
 use cli_words::Line;
 use sqlite::{Alter, Connection, Error, ErrorCode, File, FileStore, Options, Unknown};
+use sqlite_disk::Files;
 use sqlite_wal::PageSize;
 use station_files::{OLD_TREES, OwnTrees, open_beside, open_listed, open_new, station_trees};
 use station_schema::has_station;
@@ -91,34 +92,66 @@ fn is_no_file(path: &str) -> bool {
     path == ":memory:" || path.starts_with("file:")
 }
 
+/// Opens the two files of a path. Returns `None` if the library has to say why they can't be opened.
+///
+/// Returns [`FileFault::Busy`] if another program has them, and [`FileFault::Memory`].
+fn files_of(rt: &HostRuntime, path: &str) -> Result<Option<Files<File>>, FileFault> {
+    match sqlite_std_file::open(rt, path, Unknown) {
+        Ok(files) => Ok(Some(files)),
+        Err(error) => match unopened(&error) {
+            FileFault::Store(_) | FileFault::NoStation => Ok(None),
+            fault => Err(fault),
+        },
+    }
+}
+
 /// Opens a file that has the trees that `init` makes, in their order, and no other, with one
-/// recovery of its log.
-fn open_in_order(rt: &HostRuntime, path: &str) -> Option<Connection<FileStore<File>>> {
-    let options = options(rt, path).ok()?;
-    let files = sqlite_std_file::open(rt, path, Unknown).ok()?;
-    let mut conn = open_listed(rt.alloc(), files, options, &station_trees()).ok()?;
-    conn.set_clock(rt);
-    Some(conn)
+/// recovery of its log. Returns `None` for any other file.
+///
+/// Returns the fault of a file that another program has, or if memory ran out.
+fn open_in_order(
+    rt: &HostRuntime,
+    path: &str,
+) -> Result<Option<Connection<FileStore<File>>>, FileFault> {
+    let options = options(rt, path)?;
+    let Some(files) = files_of(rt, path)? else {
+        return Ok(None);
+    };
+    match open_listed(rt.alloc(), files, options, &station_trees()) {
+        Ok(mut conn) => {
+            conn.set_clock(rt);
+            Ok(Some(conn))
+        }
+        Err(_) => Ok(None),
+    }
 }
 
 /// Opens a file that has the first `made` of the trees that `init` makes, in any order, and may
-/// have trees of other programs beside them.
+/// have trees of other programs beside them. Returns `None` for any other file.
+///
+/// Returns the fault of a file that another program has, or if memory ran out.
 fn open_among_others(
     rt: &HostRuntime,
     path: &str,
     made: usize,
-) -> Option<Connection<OwnTrees<FileStore<File>>>> {
-    let options = options(rt, path).ok()?;
-    let files = sqlite_std_file::open(rt, path, Unknown).ok()?;
-    let mut conn = open_beside(rt.alloc(), files, options, &station_trees(), made).ok()?;
-    conn.set_clock(rt);
-    Some(conn)
+) -> Result<Option<Connection<OwnTrees<FileStore<File>>>>, FileFault> {
+    let options = options(rt, path)?;
+    let Some(files) = files_of(rt, path)? else {
+        return Ok(None);
+    };
+    match open_beside(rt.alloc(), files, options, &station_trees(), made) {
+        Ok(mut conn) => {
+            conn.set_clock(rt);
+            Ok(Some(conn))
+        }
+        Err(_) => Ok(None),
+    }
 }
 
 /// Opens a file by the first `made` of the trees that `init` makes, in any order and beside others,
 /// and any other file as the library does, with two recoveries of its log.
 fn open_or_any(rt: &HostRuntime, path: &str, made: usize) -> Result<FileConnection, FileFault> {
-    match open_among_others(rt, path, made) {
+    match open_among_others(rt, path, made)? {
         Some(conn) => Ok(FileConnection::Beside(conn)),
         None => Ok(FileConnection::Whole(open_any(rt, path)?)),
     }
@@ -131,13 +164,13 @@ fn open(rt: &HostRuntime, path: &str, is_migration: bool) -> Result<FileConnecti
     if is_no_file(path) {
         return Ok(FileConnection::Whole(open_any(rt, path)?));
     }
-    if let Some(conn) = open_in_order(rt, path) {
+    if let Some(conn) = open_in_order(rt, path)? {
         return Ok(FileConnection::Whole(conn));
     }
     if !is_migration {
         return open_or_any(rt, path, station_trees().len());
     }
-    match open_among_others(rt, path, station_trees().len()) {
+    match open_among_others(rt, path, station_trees().len())? {
         Some(conn) => Ok(FileConnection::Beside(conn)),
         None => open_or_any(rt, path, OLD_TREES),
     }
@@ -228,7 +261,8 @@ pub fn open_file(
 /// system's, so that the file is opened once more to have it.
 pub fn tell_unopened(rt: &HostRuntime, path: &str, fault: FileFault) {
     let _told = match fault {
-        FileFault::NoStation | FileFault::Memory => Ok(()),
+        FileFault::Memory => Ok(()),
+        FileFault::NoStation => eprint!(rt; "{path}: no station is in this file; init makes one\n"),
         FileFault::Busy => eprint!(rt;
             "{path}: another program has this file; wait until that ends, or ask the service that has \
             it by --at PORT\n"

@@ -23,7 +23,7 @@ use std::process::ExitCode;
 use std::{env, io};
 use stock_list::RunFault;
 use task::{Task, end_call, faulted, run_over};
-use telegram_files::{Telegrams, owned_paths, tell_unopened};
+use telegram_files::{Telegrams, owned_paths, tell_unread};
 
 /// What is said of a text that is no zone's rule.
 const NO_ZONE: &str = "--zone takes a POSIX rule, as UTC0 or CET-1CEST,M3.5.0,M10.5.0/3";
@@ -85,10 +85,10 @@ fn take_files<'a>(
     way: Way,
 ) -> u8 {
     let turns = Turns::new();
-    let unopened = RefCell::new(None);
-    let reader = Telegrams::new(rt, paths, &turns, &unopened, first);
+    let unread = RefCell::new(None);
+    let reader = Telegrams::new(rt, paths, &turns, &unread, first);
     let status = run_inputs(rt, line, way, reader, &turns);
-    tell_unopened(rt, paths, &unopened);
+    tell_unread(rt, paths, &unread);
     status
 }
 
@@ -112,16 +112,25 @@ fn run_way(rt: &HostRuntime, line: &Line<'_>, way: Way) -> u8 {
     }
 }
 
+/// Writes what the desk would read of the telegram in an open file.
+fn read_open(rt: &HostRuntime, paths: &[String], file: File) -> u8 {
+    let (turns, unread) = (Turns::new(), RefCell::new(None));
+    let mut reader = Counted::new(Telegrams::new(rt, paths, &turns, &unread, file));
+    let mut output = Counted::new(rt.stdout());
+    let mut errors = Counted::new(rt.stderr());
+    let seen = run_read(rt.alloc(), &mut reader, &mut output, &mut errors);
+    let status = end_call(rt, ran(seen));
+    tell_unread(rt, paths, &unread);
+    status
+}
+
 /// Writes what the desk would read of a telegram's file, without a station.
 fn read_file(rt: &HostRuntime, path: &str) -> u8 {
     match File::open(rt, path) {
-        Ok(file) => {
-            let mut reader = Counted::new(file);
-            let mut output = Counted::new(rt.stdout());
-            let mut errors = Counted::new(rt.stderr());
-            let seen = run_read(rt.alloc(), &mut reader, &mut output, &mut errors);
-            end_call(rt, ran(seen))
-        }
+        Ok(file) => match owned_paths(rt.alloc(), &[path]) {
+            Ok(paths) => read_open(rt, paths.as_slice(), file),
+            Err(_) => faulted(rt, RunFault::Memory),
+        },
         Err(error) => {
             let status = faulted(rt, RunFault::Read);
             let _told = eprint!(rt; "{path}: {error}\n");

@@ -16,9 +16,9 @@ pub fn owned_paths(alloc: Global, paths: &[&str]) -> Result<Vec<String>, AllocEr
     Ok(owned)
 }
 
-/// Why a file wasn't opened, and which one.
+/// Why a file wasn't opened or read, and which one.
 #[derive(Drop)]
-pub struct Unopened {
+pub struct Unread {
     place: usize,
     error: io::Error,
 }
@@ -29,7 +29,7 @@ pub struct Telegrams<'a> {
     rt: &'a HostRuntime,
     paths: &'a [String],
     turns: &'a Turns,
-    unopened: &'a RefCell<Option<Unopened>>,
+    unread: &'a RefCell<Option<Unread>>,
     /// How many files were opened; the last of them is open.
     opened: usize,
     file: File,
@@ -41,17 +41,25 @@ impl<'a> Telegrams<'a> {
         rt: &'a HostRuntime,
         paths: &'a [String],
         turns: &'a Turns,
-        unopened: &'a RefCell<Option<Unopened>>,
+        unread: &'a RefCell<Option<Unread>>,
         file: File,
     ) -> Telegrams<'a> {
         Telegrams {
             rt,
             paths,
             turns,
-            unopened,
+            unread,
             opened: 1,
             file,
         }
+    }
+
+    /// Remembers why the file at a place wasn't opened or read.
+    fn fail(&self, place: usize, error: io::Error) -> io::Error {
+        if let Ok(mut unread) = self.unread.try_borrow_mut() {
+            *unread = Some(Unread { place, error });
+        }
+        io::ErrorKind::Other.into()
     }
 
     /// Opens the next file, where its turn has come.
@@ -69,13 +77,7 @@ impl<'a> Telegrams<'a> {
                 self.opened = turn;
                 Ok(())
             }
-            Err(error) => {
-                let place = self.opened;
-                if let Ok(mut unopened) = self.unopened.try_borrow_mut() {
-                    *unopened = Some(Unopened { place, error });
-                }
-                Err(io::ErrorKind::Other.into())
-            }
+            Err(error) => Err(self.fail(self.opened, error)),
         }
     }
 }
@@ -83,16 +85,21 @@ impl<'a> Telegrams<'a> {
 impl Read for Telegrams<'_> {
     fn read(&mut self, buf: &mut [u8]) -> io::Result<usize> {
         self.open_next()?;
-        self.file.read(buf)
+        match self.file.read(buf) {
+            Err(error) if error.kind() != io::ErrorKind::Interrupted => {
+                Err(self.fail(self.opened.saturating_sub(1), error))
+            }
+            read => read,
+        }
     }
 }
 
-/// Tells why a file wasn't opened, behind the line of its fault.
-pub fn tell_unopened(rt: &HostRuntime, paths: &[String], unopened: &RefCell<Option<Unopened>>) {
-    let Ok(unopened) = unopened.try_borrow() else {
+/// Tells why a file wasn't opened or read, after the line of its fault.
+pub fn tell_unread(rt: &HostRuntime, paths: &[String], unread: &RefCell<Option<Unread>>) {
+    let Ok(unread) = unread.try_borrow() else {
         return;
     };
-    if let Some(Unopened { place, error }) = &*unopened {
+    if let Some(Unread { place, error }) = &*unread {
         if let Some(path) = paths.get(*place) {
             let _told = eprint!(rt; "{path}: {error}\n");
         }
