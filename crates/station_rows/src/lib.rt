@@ -1,7 +1,7 @@
 //! The tables of a station in `sqlite`: a value for each SQL statement.
 //!
-//! A statement says what it does to typed tables, with no word of SQL. `TableStore` runs statements,
-//! and `Rows` is the implementation over a connection.
+//! A statement says what it does to typed tables, with no word of SQL. `TableStore` runs
+//! statements, and `Rows` is the implementation over a connection.
 #![tactic(auto)]
 
 mod listings;

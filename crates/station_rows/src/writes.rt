@@ -76,7 +76,8 @@ pub struct InsertKept<'a> {
 }
 
 impl Write for InsertKept<'_> {
-    ghost change = { λ it. with_kept it.id.now (record { command = it.command.now; count = it.count }) };
+    ghost change = { λ it. with_kept it.id.now
+        (record { command = it.command.now; count = it.count }) };
 
     ghost runs = { λ _ _. Unit {0} };
 
@@ -209,7 +210,8 @@ pub struct InsertExpected<'a> {
 }
 
 impl Write for InsertExpected<'_> {
-    ghost change = { λ it. with_expected (it.flight.now, (it.day, it.awb)) (expected_meant it.row.now) };
+    ghost change = { λ it. with_expected (it.flight.now, (it.day, it.awb))
+        (expected_meant it.row.now) };
 
     ghost runs = { λ _ _. Unit {0} };
 
@@ -232,7 +234,8 @@ pub struct UpdateExpected<'a> {
 }
 
 impl Write for UpdateExpected<'_> {
-    ghost change = { λ it. changing_expected (it.flight.now, (it.day, it.awb)) (expected_meant it.row.now) };
+    ghost change = { λ it. changing_expected (it.flight.now, (it.day, it.awb))
+        (expected_meant it.row.now) };
 
     ghost runs = { λ _ _. Unit {0} };
 
@@ -365,7 +368,8 @@ pub struct InsertPart<'a> {
 }
 
 impl Write for InsertPart<'_> {
-    ghost change = { λ it. with_part (it.flight.now, (it.day, (it.airport.now, it.seq))) it.body.now };
+    ghost change = { λ it. with_part (it.flight.now, (it.day, (it.airport.now, it.seq)))
+        it.body.now };
 
     ghost runs = { λ _ _. Unit {0} };
 
