@@ -1,7 +1,10 @@
 //! The rows of a station's tables.
 use crate::tables::Fresh;
 use sqlite::{Alter, Connection};
-use station_rows::{CreateFault, Rows, StockRow, StoreFault, TableStore};
+use station_rows::{
+    AllStock, CreateFault, InsertKept, InsertStock, KeptUnder, Rows, StockBetween, StockRow,
+    StoreFault, TableStore, UpdateStock,
+};
 use std::alloc::Global;
 use std::str::SplitWhitespace;
 use test_kit::{count_said, next_whole, runs_said, say, shown};
@@ -129,13 +132,19 @@ fn called<R: TableStore>(alloc: Global, rows: &mut R, asked: &str, text: &str) -
         "begin" => done(alloc, rows.begin()),
         "commit" => done(alloc, rows.commit()),
         "is-autocommit" => say(alloc, if rows.is_autocommit() { "yes" } else { "no" }),
-        "insert" => done(alloc, rows.insert_stock(&stock_row(alloc, &mut words)?)),
-        "update" => done(alloc, rows.update_stock(&stock_row(alloc, &mut words)?)),
+        "insert" => {
+            let row = stock_row(alloc, &mut words)?;
+            done(alloc, rows.write(InsertStock { row: &row }))
+        }
+        "update" => {
+            let row = stock_row(alloc, &mut words)?;
+            done(alloc, rows.write(UpdateStock { row: &row }))
+        }
         "insert-kept" => insert_kept(alloc, rows, &mut words),
         "kept" => kept(alloc, rows, text),
         "between" => between(alloc, rows, &mut words),
-        "all" => rows_said(alloc, rows.all_stock()),
-        "how-many" => match rows.all_stock() {
+        "all" => rows_said(alloc, rows.read(AllStock)),
+        "how-many" => match rows.read(AllStock) {
             Ok(all) => count_said(alloc, true, all.len()),
             Err(_) => count_said(alloc, false, 0),
         },
@@ -171,15 +180,17 @@ fn insert_kept<R: TableStore>(
     words: &mut SplitWhitespace<'_>,
 ) -> Option<String> {
     let (key, count) = (words.next()?, next_whole(words)?);
-    done(
-        alloc,
-        rows.insert_kept(key, words.next().unwrap_or(""), count),
-    )
+    let kept = InsertKept {
+        id: key,
+        command: words.next().unwrap_or(""),
+        count,
+    };
+    done(alloc, rows.write(kept))
 }
 
 /// The command and the count of a key.
 fn kept<R: TableStore>(alloc: Global, rows: &mut R, key: &str) -> Option<String> {
-    match rows.kept_row(key) {
+    match rows.read(KeptUnder { id: key }) {
         Ok(Some(kept)) => format!(in alloc; "{} {}", kept.command, kept.count).ok(),
         Ok(None) => say(alloc, "none"),
         Err(_) => say(alloc, "fault"),
@@ -195,7 +206,12 @@ fn between<R: TableStore>(
     let prefix = next_whole(words)?;
     let first = next_whole(words)?;
     let last = next_whole(words)?;
-    rows_said(alloc, rows.stock_between(prefix, first, last))
+    let asked = StockBetween {
+        prefix,
+        first,
+        last,
+    };
+    rows_said(alloc, rows.read(asked))
 }
 
 /// How many rows there are, and each.
@@ -230,7 +246,7 @@ pub fn runs_of_row<S: Fresh>(alloc: Global, text: &[u8]) -> Option<String> {
 /// The runs of the stock of tables after a row is inserted.
 fn runs_with<R: TableStore>(alloc: Global, rows: &mut R, row: &StockRow) -> Option<String> {
     rows.begin().ok()?;
-    rows.insert_stock(row).ok()?;
+    rows.write(InsertStock { row }).ok()?;
     rows.commit().ok()?;
     match stock_tables::runs(alloc, rows) {
         Ok(runs) => runs_said(alloc, &runs),

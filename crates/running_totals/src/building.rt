@@ -14,7 +14,9 @@ use crate::known::{BuildSum, KnownSums};
 use crate::tally::{Tally, build_tally, pieces_found};
 use awb_number::Awb;
 use shipment_machine::{Amount, FlightDate, Move};
-use station_rows::{BuildRow, StoreFault, TableStore};
+use station_rows::{
+    BuildOn, BuildRow, DeleteBuild, InsertBuild, StoreFault, TableStore, UpdateBuild,
+};
 use std::alloc::Global;
 
 /// A row of `build`.
@@ -55,7 +57,7 @@ fn at_flight<S: TableStore>(
     ensures rests { RestsIfSound (S.view store.old) (S.view store.new) }
     ensures survives { Survives (S.view store.old) (S.view store.new) }
 {
-    match store.build_row(flight, day, awb)? {
+    match store.read(BuildOn { flight, day, awb })? {
         Some(row) => Ok(Some(build_tally(&row))),
         None => Ok(None),
     }
@@ -76,13 +78,13 @@ fn put_build<S: TableStore>(
     ensures survives { Survives (S.view store.old) (S.view store.new) }
 {
     if sum.is_nothing() {
-        return store.delete_build(flight, day, awb);
+        return store.write(DeleteBuild { flight, day, awb });
     }
     let row = row_of(alloc, flight, day, awb, sum)?;
     if is_there {
-        store.update_build(&row)
+        store.write(UpdateBuild { row: &row })
     } else {
-        store.insert_build(&row)
+        store.write(InsertBuild { row: &row })
     }
 }
 

@@ -18,7 +18,9 @@ use crate::tally::{Tally, count_tally, pieces_found};
 use awb_number::Awb;
 use row_codec::place_code;
 use shipment_machine::{Amount, Balances, Move, Place};
-use station_rows::{CountRow, StoreFault, TableStore};
+use station_rows::{
+    CountRow, CountsOf, DeleteCount, InsertCount, StoreFault, TableStore, UpdateCount,
+};
 
 /// The first row of a place.
 fn first_at(rows: &[CountRow], place: i64) -> Option<&CountRow>
@@ -64,13 +66,13 @@ fn put_count<S: TableStore>(
     ensures survives { Survives (S.view store.old) (S.view store.new) }
 {
     if sum.is_nothing() {
-        return store.delete_count(awb, place);
+        return store.write(DeleteCount { awb, place });
     }
     let row = row_of(awb, place, sum);
     if is_there {
-        store.update_count(&row)
+        store.write(UpdateCount { row: &row })
     } else {
-        store.insert_count(&row)
+        store.write(InsertCount { row: &row })
     }
 }
 
@@ -91,7 +93,7 @@ fn counted<S: TableStore>(
     if let Some(sum) = known {
         return Ok(sum.row());
     }
-    let rows = store.counts_of(awb)?;
+    let rows = store.read(CountsOf { awb })?;
     Ok(at_place(&rows, place))
 }
 
@@ -238,7 +240,7 @@ pub fn balances<S: TableStore>(
     ensures survives { Survives (S.view store.old) (S.view store.new) }
 {
     let number = number_of(awb);
-    let rows = store.counts_of(number)?;
+    let rows = store.read(CountsOf { awb: number })?;
     let balances = balances_by(&rows)?;
     known.counts = Some(CountSums {
         awb: *awb,

@@ -14,7 +14,7 @@ use crate::counting::balances_by;
 use crate::fields::awb_of;
 use shipment_machine::Move;
 use station_core::WaybillBalances;
-use station_rows::{CountRow, StoreFault, TableStore};
+use station_rows::{AllCounts, CountRow, StoreFault, TableStore};
 use std::alloc::Global;
 
 /// How many rows in front are a waybill's.
@@ -84,6 +84,6 @@ pub fn all_balances<S: TableStore>(
     ensures rests { RestsIfSound (S.view store.old) (S.view store.new) }
     ensures survives { Survives (S.view store.old) (S.view store.new) }
 {
-    let rows = store.all_counts()?;
+    let rows = store.read(AllCounts)?;
     Ok(waybills_by(alloc, &rows)?)
 }

@@ -11,7 +11,7 @@ use crate::fields::{awb_of, whole, written};
 use crate::tally::build_tally;
 use shipment_machine::{FlightDate, Move};
 use station_core::Load;
-use station_rows::{BuildRow, StoreFault, TableStore};
+use station_rows::{BuildRow, BuildsOn, PiecesOn, StoreFault, TableStore};
 use std::alloc::Global;
 
 /// Whether there are pieces in a row.
@@ -73,7 +73,10 @@ pub fn aboard<S: TableStore>(
 {
     let text = written(alloc, &flight.flight)?;
     let day = whole(flight.day.number());
-    let rows = store.builds_on(text.as_str(), day)?;
+    let rows = store.read(BuildsOn {
+        flight: text.as_str(),
+        day,
+    })?;
     let loads = loads_in(alloc, &rows)?;
     Ok(loads)
 }
@@ -104,6 +107,9 @@ pub fn waybills_on<S: TableStore>(
 {
     let text = written(alloc, &flight.flight)?;
     let day = whole(flight.day.number());
-    let pieces = store.pieces_on(text.as_str(), day)?;
+    let pieces = store.read(PiecesOn {
+        flight: text.as_str(),
+        day,
+    })?;
     Ok(count_loaded(&pieces))
 }

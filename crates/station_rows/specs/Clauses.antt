@@ -1,8 +1,9 @@
 -- The forms of the clauses of `TableStore`: what the store showed before, and what it shows now.
 use Rattle.std.specs.Prelude.{◌≡◌, ◌⊎◌, Bool, true, List, OnOk, IfOk, IsErr, Result}
 use Rattle.station_schema.specs.Tables.{Tables}
-use Rattle.station_schema.specs.Store.{View, Seen, inside, IsShowing, Rests}
-use Rattle.row_sinks.specs.Handed.{Hands}
+use Rattle.station_schema.specs.Store.{View, Seen, inside, IsShowing, Rests, Survives}
+use Rattle.row_laws.specs.Streams.{taking}
+use Rattle.row_sinks.specs.Handed.{Hands, HandedOut}
 
 -- a write in a transaction: whatever it showed, it now shows this with one change
 abbrev pub ShowsChange : {X E : Type 0} → View → View → Result X E → (Tables → Tables) → Type 0
@@ -33,3 +34,25 @@ HandsOf old new result takes rows from to = (seen : Seen) → IsShowing old seen
 -- a store that is shut hands out nothing, and the call fails
 abbrev pub HandsIfOpen : {S X E : Type 0} → View → View → Result X E → S → S → Type 0
 HandsIfOpen old new result from to = new.IsSound → (old.is_open ≡ true) ⊎ (IsErr result × (to ≡ from))
+
+-- a statement that reads: this holds of what the store showed and of what was read, which changes nothing
+pub record Reads {X E : Type 0} (old new : View) (result : Result X E) (Is : Tables → X → Type 0) : Type 0 where
+  pub read : TellsOf old new result Is
+  pub same : ShowsStill old new result
+  pub was_open : WasOpen old new result
+  pub rests : RestsIfSound old new
+  pub survives : Survives old new
+
+-- a statement that writes: the store shows this with one change, in the transaction that was open
+pub record Changes {X E : Type 0} (old new : View) (result : Result X E) (change : Tables → Tables) : Type 0 where
+  pub done : ShowsChange old new result change
+  pub survives : Survives old new
+
+-- a statement whose rows are handed out: they are these of what the store showed
+pub record HandsOut {S T X E : Type 0} (old new : View) (result : Result (Unit {0}) E) (means : X → T → Type 0) (takes : S → T → Bool → S → Type 0)
+    (rows : Tables → List X) (from to : S) : Type 0 where
+  pub hands : HandsOf old new result (taking means takes) rows from to
+  pub shut : HandsIfOpen old new result from to
+  pub took : (given : List T) × HandedOut takes given from to
+  pub rests : RestsIfSound old new
+  pub survives : Survives old new

@@ -1,11 +1,11 @@
 ghost use Rattle.std.specs.Prelude.{◌≡◌, pos, map, filter, option_map, string_bytes};
 ghost use Rattle.std.specs.FinMap.{get, entries};
 ghost use Rattle.sqlite_keyed.specs.Keyed.{get_by};
-ghost use Rattle.station_schema.specs.Tables.{Tables, station_id, waybill_id};
-ghost use Rattle.station_schema.specs.Calls.{LeavesAll, Tells};
+ghost use Rattle.station_schema.specs.Tables.{station_id, waybill_id};
 ghost use Rattle.table_rows.specs.Meant.{waybill_meant, flight_meant, noted_flight_meant, move_meant, is_of, expected_meant, listed_waybill_meant, count_meant, counts_for, build_meant, is_on, pieces_in, kept_meant};
 ghost use Rattle.station_rows.specs.Meant.{stock_meant, is_between, last_up_to, last_rows_up_to, station_meant};
 
+use crate::statements::Read;
 use crate::station::StationRow;
 use crate::stock::StockRow;
 use crate::{station, stock};
@@ -15,26 +15,15 @@ use table_rows::{
     WaybillRow,
 };
 
-/// A statement that reads, with what it asks for.
-pub(crate) trait Read: Drop {
-    /// What is read.
-    type Found;
-
-    /// What was read, of the tables.
-    ghost tells: { Self → Tables → Self.Found → Type 0 };
-
-    /// Runs the statement.
-    fn run<S: Alter>(self, conn: &mut Connection<S>) -> Result<Self::Found, Error>
-        ensures read { Tells S.Store conn.old conn.new result (tells self) }
-        ensures survives { LeavesAll S.Store conn.old conn.new };
-}
-
 /// The rows of a prefix whose `low` is from the first number to the second.
 #[derive(Drop)]
-pub(crate) struct StockBetween {
-    pub(crate) prefix: i64,
-    pub(crate) first: i64,
-    pub(crate) last: i64,
+pub struct StockBetween {
+    /// The airline prefix.
+    pub prefix: i64,
+    /// The lowest `low`.
+    pub first: i64,
+    /// The highest `low`.
+    pub last: i64,
 }
 
 impl Read for StockBetween {
@@ -50,9 +39,11 @@ impl Read for StockBetween {
 
 /// The last row of a prefix whose `low` is this one at most.
 #[derive(Drop)]
-pub(crate) struct StockUpTo {
-    pub(crate) prefix: i64,
-    pub(crate) low: i64,
+pub struct StockUpTo {
+    /// The airline prefix.
+    pub prefix: i64,
+    /// The highest `low`.
+    pub low: i64,
 }
 
 impl Read for StockUpTo {
@@ -68,10 +59,13 @@ impl Read for StockUpTo {
 
 /// The last rows of a prefix whose `low` is this one at most, so many at most.
 #[derive(Drop)]
-pub(crate) struct LastStockUpTo {
-    pub(crate) prefix: i64,
-    pub(crate) low: i64,
-    pub(crate) count: u32,
+pub struct LastStockUpTo {
+    /// The airline prefix.
+    pub prefix: i64,
+    /// The highest `low`.
+    pub low: i64,
+    /// How many rows at most.
+    pub count: u32,
 }
 
 impl Read for LastStockUpTo {
@@ -87,7 +81,7 @@ impl Read for LastStockUpTo {
 
 /// All rows of the stock.
 #[derive(Drop)]
-pub(crate) struct AllStock;
+pub struct AllStock;
 
 impl Read for AllStock {
     type Found = Vec<StockRow>;
@@ -101,8 +95,9 @@ impl Read for AllStock {
 
 /// The row of a key in `kept_key`.
 #[derive(Drop)]
-pub(crate) struct KeptUnder<'a> {
-    pub(crate) id: &'a str,
+pub struct KeptUnder<'a> {
+    /// The key.
+    pub id: &'a str,
 }
 
 impl Read for KeptUnder<'_> {
@@ -117,7 +112,7 @@ impl Read for KeptUnder<'_> {
 
 /// The row of `station`.
 #[derive(Drop)]
-pub(crate) struct TheStation;
+pub struct TheStation;
 
 impl Read for TheStation {
     type Found = Option<StationRow>;
@@ -132,8 +127,9 @@ impl Read for TheStation {
 
 /// The row of a waybill.
 #[derive(Drop)]
-pub(crate) struct WaybillOf {
-    pub(crate) awb: i64,
+pub struct WaybillOf {
+    /// The waybill's number.
+    pub awb: i64,
 }
 
 impl Read for WaybillOf {
@@ -149,9 +145,11 @@ impl Read for WaybillOf {
 
 /// The row of a flight of a day.
 #[derive(Drop)]
-pub(crate) struct FlightOn<'a> {
-    pub(crate) flight: &'a str,
-    pub(crate) day: i64,
+pub struct FlightOn<'a> {
+    /// The flight, as it is written.
+    pub flight: &'a str,
+    /// Its day.
+    pub day: i64,
 }
 
 impl Read for FlightOn<'_> {
@@ -167,7 +165,7 @@ impl Read for FlightOn<'_> {
 
 /// Each flight of each day.
 #[derive(Drop)]
-pub(crate) struct AllFlights;
+pub struct AllFlights;
 
 impl Read for AllFlights {
     type Found = Vec<NotedFlightRow>;
@@ -181,8 +179,9 @@ impl Read for AllFlights {
 
 /// The moves of a waybill.
 #[derive(Drop)]
-pub(crate) struct MovesOf {
-    pub(crate) awb: i64,
+pub struct MovesOf {
+    /// The waybill's number.
+    pub awb: i64,
 }
 
 impl Read for MovesOf {
@@ -198,10 +197,13 @@ impl Read for MovesOf {
 
 /// What a flight is to bring of a waybill.
 #[derive(Drop)]
-pub(crate) struct ExpectedOn<'a> {
-    pub(crate) flight: &'a str,
-    pub(crate) day: i64,
-    pub(crate) awb: i64,
+pub struct ExpectedOn<'a> {
+    /// The flight, as it is written.
+    pub flight: &'a str,
+    /// Its day.
+    pub day: i64,
+    /// The waybill's number.
+    pub awb: i64,
 }
 
 impl Read for ExpectedOn<'_> {
@@ -217,7 +219,7 @@ impl Read for ExpectedOn<'_> {
 
 /// What each flight is to bring of each waybill.
 #[derive(Drop)]
-pub(crate) struct AllExpected;
+pub struct AllExpected;
 
 impl Read for AllExpected {
     type Found = Vec<ListedWaybillRow>;
@@ -232,8 +234,9 @@ impl Read for AllExpected {
 
 /// What a waybill has at each place.
 #[derive(Drop)]
-pub(crate) struct CountsOf {
-    pub(crate) awb: i64,
+pub struct CountsOf {
+    /// The waybill's number.
+    pub awb: i64,
 }
 
 impl Read for CountsOf {
@@ -249,7 +252,7 @@ impl Read for CountsOf {
 
 /// What each waybill has at each place.
 #[derive(Drop)]
-pub(crate) struct AllCounts;
+pub struct AllCounts;
 
 impl Read for AllCounts {
     type Found = Vec<CountRow>;
@@ -263,10 +266,13 @@ impl Read for AllCounts {
 
 /// What a flight carries of a waybill.
 #[derive(Drop)]
-pub(crate) struct BuildOn<'a> {
-    pub(crate) flight: &'a str,
-    pub(crate) day: i64,
-    pub(crate) awb: i64,
+pub struct BuildOn<'a> {
+    /// The flight, as it is written.
+    pub flight: &'a str,
+    /// Its day.
+    pub day: i64,
+    /// The waybill's number.
+    pub awb: i64,
 }
 
 impl Read for BuildOn<'_> {
@@ -283,9 +289,11 @@ impl Read for BuildOn<'_> {
 
 /// What a flight of a day carries.
 #[derive(Drop)]
-pub(crate) struct BuildsOn<'a> {
-    pub(crate) flight: &'a str,
-    pub(crate) day: i64,
+pub struct BuildsOn<'a> {
+    /// The flight, as it is written.
+    pub flight: &'a str,
+    /// Its day.
+    pub day: i64,
 }
 
 impl Read for BuildsOn<'_> {
@@ -301,9 +309,11 @@ impl Read for BuildsOn<'_> {
 
 /// The pieces of what a flight of a day carries.
 #[derive(Drop)]
-pub(crate) struct PiecesOn<'a> {
-    pub(crate) flight: &'a str,
-    pub(crate) day: i64,
+pub struct PiecesOn<'a> {
+    /// The flight, as it is written.
+    pub flight: &'a str,
+    /// Its day.
+    pub day: i64,
 }
 
 impl Read for PiecesOn<'_> {
@@ -319,11 +329,15 @@ impl Read for PiecesOn<'_> {
 
 /// The text of one part of a manifest.
 #[derive(Drop)]
-pub(crate) struct PartBody<'a> {
-    pub(crate) flight: &'a str,
-    pub(crate) day: i64,
-    pub(crate) airport: &'a str,
-    pub(crate) seq: i64,
+pub struct PartBody<'a> {
+    /// The flight, as it is written.
+    pub flight: &'a str,
+    /// Its day.
+    pub day: i64,
+    /// The airport.
+    pub airport: &'a str,
+    /// The number of the part.
+    pub seq: i64,
 }
 
 impl Read for PartBody<'_> {
@@ -339,8 +353,9 @@ impl Read for PartBody<'_> {
 
 /// The count that was answered to a text.
 #[derive(Drop)]
-pub(crate) struct KeptTextCount<'a> {
-    pub(crate) body: &'a str,
+pub struct KeptTextCount<'a> {
+    /// The text.
+    pub body: &'a str,
 }
 
 impl Read for KeptTextCount<'_> {

@@ -1,9 +1,11 @@
 -- What a store shows after a call, from what it showed before.
 use Rattle.std.proofs.Common.{◌≡◌, Some, ap, ◌∙◌}
+use Rattle.std.specs.Prelude.{Result, Ok, Err}
 use Rattle.std.specs.FinMap.{FinMap, get}
 use Rattle.row_laws.specs.Laws.{adjust_there}
 use Rattle.station_schema.specs.Store.{View, Seen, IsShowing, IsUnchanged, Survives, Writes, inside}
 use Rattle.station_schema.specs.Tables.{Tables, Stock, StockKey, stock_cmp}
+use Rattle.station_rows.specs.Clauses.{ShowsStill}
 use Rattle.station_rows.specs.Meant.{with_stock, changing_stock}
 
 module _ (old new : View) where
@@ -18,6 +20,11 @@ module _ (old new : View) where
         committed_is = step.committed_is ∙ was.committed_is;
         mode = step.mode ∙ was.mode;
       }
+
+  -- what it showed it still shows, whatever is made of what was read
+  pub shown_on : {X E : Type 0} (r : Result X E) → ((x : Seen) → IsShowing old x → IsShowing new x) → ShowsStill old new r
+  shown_on (Ok a) same x showing = same x showing
+  shown_on (Err e) same x showing = tt
 
   -- a write in a transaction
   pub shows_written : (change : Tables → Tables) (before t : Tables) → IsShowing old (inside before t) → (new.IsSound → old.IsSound) → (new.IsSound → Writes old new (change old.now)) → IsShowing new (inside before (change t))

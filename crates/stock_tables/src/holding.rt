@@ -10,7 +10,7 @@ ghost use Rattle.stock_tables.specs.Stocked.{Stocked};
 use agent_stock::Holder;
 use awb_number::Awb;
 use row_codec::run_by;
-use station_rows::{StockRow, StoreFault, TableStore};
+use station_rows::{StockRow, StockUpTo, StoreFault, TableStore};
 
 /// The holder in a row, where the row reaches a number. A fault: the row is out of range.
 fn holder_in(row: &StockRow, awb: &Awb) -> Result<Option<Holder>, StoreFault>
@@ -28,7 +28,6 @@ fn holder_in(row: &StockRow, awb: &Awb) -> Result<Option<Holder>, StoreFault>
 
 /// Who holds a number: `None` where it isn't in stock. Inside a transaction or outside. A fault:
 /// the database call failed, or an earlier one did; outside a transaction it changes nothing.
-#[tactic(auto, using(crate::proofs::Showing::still_shows))]
 pub fn holder<S: TableStore>(store: &mut S, awb: &Awb) -> Result<Option<Holder>, StoreFault>
     ensures value { (x : Seen) → IsShowing (S.view store.old) x → (S.view store.new).IsSound
         → Stocked x.now
@@ -38,7 +37,10 @@ pub fn holder<S: TableStore>(store: &mut S, awb: &Awb) -> Result<Option<Holder>,
     ensures rests { RestsIfSound (S.view store.old) (S.view store.new) }
     ensures survives { Survives (S.view store.old) (S.view store.new) }
 {
-    let row = store.stock_up_to(i64::from(awb.prefix()), i64::from(awb.serial()))?;
+    let row = store.read(StockUpTo {
+        prefix: i64::from(awb.prefix()),
+        low: i64::from(awb.serial()),
+    })?;
     match row {
         Some(row) => holder_in(&row, awb),
         None => Ok(None),

@@ -11,7 +11,7 @@ ghost use Rattle.stock_tables.specs.Stocked.{Stocked};
 use crate::maximal_runs;
 use crate::near::with_rows;
 use agent_stock::StockRun;
-use station_rows::{StockRow, StoreFault, TableStore};
+use station_rows::{AllStock, StockRow, StoreFault, TableStore};
 use std::alloc::Global;
 
 /// The maximal runs of rows. A fault: a row is out of range, or memory runs out.
@@ -32,7 +32,6 @@ fn runs_of(alloc: Global, rows: &[StockRow]) -> Result<Vec<StockRun>, StoreFault
 /// The stock, as its maximal runs of one holder, ascending. Inside a transaction or outside. A
 /// fault: the database call failed, an earlier one did, a row stands for no number or names no
 /// holder, or memory runs out; outside a transaction it changes nothing.
-#[tactic(auto, using(crate::proofs::Showing::still_shows))]
 pub fn runs<S: TableStore>(alloc: Global, store: &mut S) -> Result<Vec<StockRun>, StoreFault>
     ensures value { (x : Seen) → IsShowing (S.view store.old) x → (S.view store.new).IsSound
         → Stocked x.now
@@ -42,6 +41,6 @@ pub fn runs<S: TableStore>(alloc: Global, store: &mut S) -> Result<Vec<StockRun>
     ensures rests { RestsIfSound (S.view store.old) (S.view store.new) }
     ensures survives { Survives (S.view store.old) (S.view store.new) }
 {
-    let rows = store.all_stock()?;
+    let rows = store.read(AllStock)?;
     runs_of(alloc, &rows)
 }

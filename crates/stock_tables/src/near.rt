@@ -12,7 +12,7 @@ ghost use Rattle.stock_tables.specs.Stocked.{Stocked, IsCut, EndsBehind, BeginsA
 use crate::row::end_key;
 use agent_stock::{Holder, Run, StockRun};
 use row_codec::run_by;
-use station_rows::{StockRow, StoreFault, TableStore};
+use station_rows::{LastStockUpTo, StockBetween, StockRow, StockUpTo, StoreFault, TableStore};
 use std::alloc::Global;
 use std::slice;
 
@@ -84,7 +84,6 @@ fn are_all_near(run: &Run, rows: &[StockRun]) -> bool
 }
 
 /// The rows that a run touches, in ascending order, by one statement. `None`: there may be more.
-#[tactic(auto, using(crate::proofs::Showing::still_shows))]
 fn near_at_once<S: TableStore>(
     alloc: Global,
     store: &mut S,
@@ -99,7 +98,11 @@ fn near_at_once<S: TableStore>(
     ensures survives { Survives (S.view store.old) (S.view store.new) }
 {
     let end = i64::from(run.first.serial()) + i64::from(run.count.number());
-    let rows = store.last_stock_up_to(i64::from(run.first.prefix()), end, ROWS_AT_ONCE)?;
+    let rows = store.read(LastStockUpTo {
+        prefix: i64::from(run.first.prefix()),
+        low: end,
+        count: ROWS_AT_ONCE,
+    })?;
     let Some(rows) = with_rows(alloc, &[], &rows) else {
         return Err(StoreFault);
     };
@@ -114,7 +117,6 @@ fn near_at_once<S: TableStore>(
 
 /// The rows that a run touches, in ascending order, by two statements: the last row that begins
 /// before it, and all that begin in it or right behind it.
-#[tactic(auto, using(crate::proofs::Showing::still_shows))]
 fn near_by_two<S: TableStore>(
     alloc: Global,
     store: &mut S,
@@ -129,8 +131,15 @@ fn near_by_two<S: TableStore>(
 {
     let prefix = i64::from(run.first.prefix());
     let first = i64::from(run.first.serial());
-    let row = store.stock_up_to(prefix, first - 1)?;
-    let rows = store.stock_between(prefix, first, first + i64::from(run.count.number()))?;
+    let row = store.read(StockUpTo {
+        prefix,
+        low: first - 1,
+    })?;
+    let rows = store.read(StockBetween {
+        prefix,
+        first,
+        last: first + i64::from(run.count.number()),
+    })?;
     let ahead = reaching_run(alloc, run, &row)?;
     match with_rows(alloc, &ahead, &rows) {
         Some(near) => Ok(near),

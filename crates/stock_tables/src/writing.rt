@@ -15,7 +15,7 @@ use crate::Joined;
 use crate::row::row_of;
 use agent_stock::StockRun;
 use awb_number::Awb;
-use station_rows::{StockRow, StoreFault, TableStore};
+use station_rows::{DeleteStock, InsertStock, StockRow, StoreFault, TableStore, UpdateStock};
 use std::alloc::Global;
 
 /// Whether one of the rows begins with a number.
@@ -54,7 +54,10 @@ fn clear_row<S: TableStore>(store: &mut S, row: &StockRun, new: &Joined) -> Resu
         return Ok(());
     }
     let prefix = i64::from(row.first.prefix());
-    store.delete_stock(prefix, i64::from(row.first.serial()))?;
+    store.write(DeleteStock {
+        prefix,
+        low: i64::from(row.first.serial()),
+    })?;
     Ok(())
 }
 
@@ -84,9 +87,9 @@ fn write<S: TableStore>(store: &mut S, row: &StockRow, there: bool) -> Result<()
     ensures survives { Survives (S.view store.old) (S.view store.new) }
 {
     if there {
-        store.update_stock(row)?;
+        store.write(UpdateStock { row })?;
     } else {
-        store.insert_stock(row)?;
+        store.write(InsertStock { row })?;
     }
     Ok(())
 }

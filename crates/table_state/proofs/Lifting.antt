@@ -113,24 +113,6 @@ module _ (old new : View) (here : List ℕ) (counted : Counted) (confirmed : ℕ
   reads_so (Ok a) x was survives same up = reads_on x was survives same up
   reads_so (Err e) x was survives same up = tt
 
-  -- a read that was answered, and left all as it was
-  pub reads_unchanged : (x : Seen) → Shows old here counted confirmed x → row.Survives old new → (new.IsSound → row.IsUnchanged old new) → Shows new here counted confirmed x
-  reads_unchanged x was survives same sound =
-      let k = was (survives.sound sound) in
-      let d = same sound in
-      record {
-        holds = record {
-          inside = λ _. d.is_open;
-          stands = λ _. stands_on x (k.holds.stands d.was_open) d.now_is d.committed_is d.mode;
-          found = λ t left. k.holds.found t (survives.crash sound t left);
-        };
-        knows = k.knows;
-        kept = k.kept;
-      }
-
-  pub told_before : (x : Seen) → Shows old here counted confirmed x → row.Survives old new → (new.IsSound → row.IsUnchanged old new) → new.IsSound → Means old.now (Some x.now)
-  told_before x was survives same sound = ((was (survives.sound sound)).holds.stands (same sound).was_open).now
-
   -- a read between two transactions, whatever it answered
   pub rests_on : (s : State) → Shows old here counted confirmed (at_rest s) → row.Survives old new → (new.IsSound → row.Rests old new) → Shows new here counted confirmed (at_rest s)
   rests_on s was survives rests sound =

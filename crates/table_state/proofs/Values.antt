@@ -1,5 +1,5 @@
 -- What was read of a row is what the state has that is shown.
-use Rattle.std.proofs.Common.{◌≡◌, ℕ, ℤ, pos, Bool, true, List, length, Option, Some, None, option_map, is_some, map, filter, sym, ap, subst, ◌∙◌}
+use Rattle.std.proofs.Common.{◌≡◌, ℕ, ℤ, pos, Bool, true, List, length, Option, Some, option_map, is_some, map, filter, sym, ap, subst, ◌∙◌}
 use Rattle.std.specs.Prelude.{nat_lt}
 use Rattle.std.specs.FinMap.{entries, get}
 use Rattle.std.proofs.lemmas.List.{length-map}
@@ -25,7 +25,7 @@ use Rattle.station_core.specs.Step.{State}
 use Rattle.station_core.specs.declared.rows.Expectation.{Expectation}
 use Rattle.station_core.specs.declared.rows.NotedFlight.{NotedFlight}
 use Rattle.station_schema.specs.Store as row
-use Rattle.station_schema.specs.Store.{View, IsShowing, IsUnchanged}
+use Rattle.station_schema.specs.Store.{View, IsShowing}
 use Rattle.station_schema.specs.Tables.{waybill_id}
 use Rattle.table_rows.specs.declared.waybills.WaybillRow.{WaybillRow}
 use Rattle.table_rows.specs.declared.flights.FlightRow.{FlightRow}
@@ -45,15 +45,14 @@ use Rattle.row_codec.proofs.Reading.{declared_read, outbound_read, expected_read
 use Rattle.row_codec.proofs.Telling.{holders_told, book_told}
 use Rattle.row_codec.proofs.Noted.{expectations_told, noted_told}
 use Rattle.state_store.specs.Store.{Seen, at_rest}
-use Rattle.station_core.specs.Told.{AreAllBalances, kept_of, loads_on}
-use Rattle.station_core.specs.declared.stored.KeptReply.{KeptReply}
+use Rattle.station_core.specs.Told.{AreAllBalances, loads_on}
 use Rattle.station_core.specs.declared.stored.WaybillBalances.{WaybillBalances}
 use Rattle.running_totals.specs.Known.{AreKnown}
 use Rattle.running_totals.specs.declared.known.KnownSums.{KnownSums}
 use Rattle.table_state.specs.declared.counted.Counted.{Counted}
 use Rattle.table_state.specs.declared.open_lines.OpenLines.{OpenLines}
 use Rattle.table_state.specs.Shown.{AreBoarded, HasOpen, HaveAsked, Shows}
-use Rattle.table_state.proofs.Lifting.{keeps_number, rests_on, seen_in, told, told_before}
+use Rattle.table_state.proofs.Lifting.{keeps_number, rests_on, seen_in, told}
 use Rattle.table_state.proofs.HasMoves.{any_move}
 
 module _ (old new : View) (here : List ℕ) (counted : Counted) (confirmed : ℕ) (x : Seen) (was : Shows old here counted confirmed x) (survives : row.Survives old new) where
@@ -75,6 +74,12 @@ module _ (old new : View) (here : List ℕ) (counted : Counted) (confirmed : ℕ
     expected_is f w name day awb found is_name is_day is_awb may tells =
         let r = told old new here counted confirmed (λ t. option_map expected_meant found ≡ get t.expected (name, (day, awb))) x was survives tells up sound in
         expected_read old.now x.now r.1 f w found may (r.0 ∙ (λ i. get old.now.expected (is_name i, (is_day i, is_awb i))))
+
+    pub kept_key_is : (key name : List ℕ) (found : Option KeptRow) → name ≡ key → (IsShowing old (seen_in old) → new.IsSound → option_map kept_meant found ≡ get old.now.kept name)
+        → option_map (λ (row : KeptRow). kept_by (kept_meant row)) found ≡ x.now.kept_keys key
+    kept_key_is key name found is tells =
+        let r = told old new here counted confirmed (λ t. option_map kept_meant found ≡ get t.kept name) x was survives tells up sound in
+        kept_key_read old.now x.now r.1 key found (r.0 ∙ ap (get old.now.kept) is)
 
     pub kept_text_is : (text name : List ℕ) (found : Option ℤ) → name ≡ text → (IsShowing old (seen_in old) → new.IsSound → found ≡ get old.now.kept_texts name) → option_map natural found ≡ x.now.kept_texts text
     kept_text_is text name found is tells =
@@ -155,13 +160,6 @@ module _ (old new : View) (here : List ℕ) (counted : Counted) (confirmed : ℕ
     waybills_are f number tells =
         let r = told old new here counted confirmed (λ t. (book : List Move) → AreBuilds t.builds book → number ≡ length (waybills_on book f)) x was survives tells up sound in
         r.0 (book_in old.now.moves) r.1.0.builds ∙ ap (λ book. length (waybills_on book f)) (book_told old.now x.now r.1)
-
-  module _ (same : new.IsSound → IsUnchanged old new) (sound : new.IsSound) where
-    pub none_kept : (key : List ℕ) → (new.IsSound → None ≡ get old.now.kept key) → None ≡ x.now.kept_keys key
-    none_kept key tells = kept_key_read old.now x.now (told_before old new here counted confirmed x was survives same sound) key None (tells sound)
-
-    pub some_kept : (key : List ℕ) (row_is : KeptRow) (reply : KeptReply) → kept_of reply ≡ kept_by (kept_meant row_is) → (new.IsSound → Some (kept_meant row_is) ≡ get old.now.kept key) → Some (kept_of reply) ≡ x.now.kept_keys key
-    some_kept key row_is reply by tells = ap Some by ∙ kept_key_read old.now x.now (told_before old new here counted confirmed x was survives same sound) key (Some row_is) (tells sound)
 
 -- a read of the balances of a waybill between two transactions, after which more is known of sums
 pub balances_read : (old new : View) (here : List ℕ) (counted : Counted) (confirmed : ℕ) (s : State) → Shows old here counted confirmed (at_rest s) → row.Survives old new → (new.IsSound → row.Rests old new) → (new.IsSound → old.is_open ≡ true)

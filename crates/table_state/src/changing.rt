@@ -16,7 +16,7 @@ use row_codec::{
 };
 use shipment_machine::{Declared, Expected, FlightDate, Outbound, Part, TrailLine};
 use state_store::StoreFault;
-use station_rows::TableStore;
+use station_rows::{InsertPart, InsertTrailLine, TableStore, UpdateConfirmed};
 
 impl<S: TableStore> TableState<S> {
     /// What is declared of a waybill from now on.
@@ -118,7 +118,13 @@ impl<S: TableStore> TableState<S> {
             return Err(StoreFault);
         };
         let (day, number) = (day_number(part.flight.day), i64::from(part.number.number()));
-        self.store.insert_part(&name, day, &airport, number, body)
+        self.store.write(InsertPart {
+            flight: &name,
+            day,
+            airport: &airport,
+            seq: number,
+            body,
+        })
     }
 
     /// A line joins the trail of a waybill.
@@ -132,7 +138,7 @@ impl<S: TableStore> TableState<S> {
     {
         let number = self.counted.sizes.lines.checked_add(1).ok_or(StoreFault)?;
         let row = trail_row(self.alloc, number, awb, line)?;
-        self.store.insert_trail_line(&row)?;
+        self.store.write(InsertTrailLine { row: &row })?;
         self.counted.sizes.lines = number;
         Ok(())
     }
@@ -146,7 +152,9 @@ impl<S: TableStore> TableState<S> {
             self.new.confirmed (inside before (on_cargo (written [] (Confirm upto)) s))) }
         ensures survives { Survives (S.view self.old.store) (S.view self.new.store) }
     {
-        self.store.update_confirmed(i64::from(upto))?;
+        self.store.write(UpdateConfirmed {
+            confirmed: i64::from(upto),
+        })?;
         self.confirmed = upto;
         Ok(())
     }

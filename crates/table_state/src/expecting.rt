@@ -12,7 +12,7 @@ use crate::open_lines::OpenLines;
 use crate::state::TableState;
 use state_store::StoreFault;
 use station_core::{Expectation, ExpectedQuery, expectations_for};
-use station_rows::TableStore;
+use station_rows::{AllExpected, TableStore};
 
 impl<S: TableStore> TableState<S> {
     /// All that flights are to bring: one pass over all rows.
@@ -28,7 +28,7 @@ impl<S: TableStore> TableState<S> {
             self.new.confirmed (at_rest s) }
         ensures survives { Survives (S.view self.old.store) (S.view self.new.store) }
     {
-        let rows = self.store.all_expected()?;
+        let rows = self.store.read(AllExpected)?;
         waybills_expected(self.alloc, &rows)
     }
 

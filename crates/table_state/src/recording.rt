@@ -11,7 +11,7 @@ ghost use Rattle.table_state.specs.Recorded.{Recorded};
 use row_codec::move_row;
 use running_totals::{KnownSums, post_move};
 use shipment_machine::Move;
-use station_rows::{StoreFault, TableStore};
+use station_rows::{InsertMove, StoreFault, TableStore};
 use std::alloc::Global;
 
 /// Writes a move under its number, and what it changes of the running counts, in a transaction, and
@@ -38,6 +38,6 @@ pub(crate) fn record_move<S: TableStore>(
     ensures survives { Survives (S.view store.old) (S.view store.new) }
 {
     let row = move_row(alloc, number, movement)?;
-    store.insert_move(&row)?;
+    store.write(InsertMove { row: &row })?;
     post_move(alloc, store, known, movement)
 }

@@ -30,7 +30,10 @@ use station_core::{
     BookQuery, BookRow, Expectation, ExpectedQuery, KeptReply, Key, Load, Message, NotedFlight,
     Sink, Sizes, TrailQuery, TrailRow, WaybillBalances,
 };
-use station_rows::TableStore;
+use station_rows::{
+    AllFlights, ExpectedOn, FlightOn, InsertKept, InsertKeptText, InsertMessage, KeptTextCount,
+    KeptUnder, LinesFor, MessagesAfter, MovesFor, MovesOf, PartBody, TableStore, WaybillOf,
+};
 use std::alloc::Global;
 
 /// The state of a station in the tables of a store.
@@ -128,9 +131,9 @@ impl<S: TableStore> StateStore for TableState<S> {
         self.store.commit()
     }
 
-    #[tactic(auto, using(crate::proofs::Lifting::reads_unchanged, crate::proofs::Lifting::survives_so, crate::proofs::Values::none_kept, crate::proofs::Values::some_kept))]
+    #[tactic(auto, using(crate::proofs::Lifting::survives_so))]
     fn kept_key(&mut self, key: &Key) -> Result<Option<KeptReply>, StoreFault> {
-        match self.store.kept_row(key.as_str())? {
+        match self.store.read(KeptUnder { id: key.as_str() })? {
             None => Ok(None),
             Some(row) => Ok(Some(kept_by(row).ok_or(StoreFault)?)),
         }
@@ -141,7 +144,7 @@ impl<S: TableStore> StateStore for TableState<S> {
         let Ok(text) = std::str::from_utf8(text) else {
             return Err(StoreFault);
         };
-        match self.store.kept_text_count(text)? {
+        match self.store.read(KeptTextCount { body: text })? {
             None => Ok(None),
             Some(count) => Ok(Some(count_of(count).ok_or(StoreFault)?)),
         }
@@ -149,7 +152,7 @@ impl<S: TableStore> StateStore for TableState<S> {
 
     #[tactic(auto, using(crate::proofs::Lifting::rests_on, crate::proofs::Lifting::survives_so))]
     fn declared(&mut self, awb: &Awb) -> Result<Option<Declared>, StoreFault> {
-        match self.store.waybill_row(awb_key(awb))? {
+        match self.store.read(WaybillOf { awb: awb_key(awb) })? {
             None => {
                 self.missed.note_waybill(awb);
                 Ok(None)
@@ -165,7 +168,8 @@ impl<S: TableStore> StateStore for TableState<S> {
 
     #[tactic(auto, using(crate::proofs::Lifting::rests_on, crate::proofs::Lifting::survives_so))]
     fn has_moves(&mut self, awb: &Awb) -> Result<bool, StoreFault> {
-        Ok(!self.store.moves_of(awb_key(awb))?.is_empty())
+        let moves = self.store.read(MovesOf { awb: awb_key(awb) })?;
+        Ok(!moves.is_empty())
     }
 
     #[tactic(auto, using(crate::proofs::Lifting::rests_on, crate::proofs::Lifting::survives_so))]
@@ -205,7 +209,10 @@ impl<S: TableStore> StateStore for TableState<S> {
     #[tactic(auto, using(crate::proofs::Lifting::rests_on, crate::proofs::Lifting::survives_so))]
     fn outbound(&mut self, flight: &FlightDate) -> Result<Option<Outbound>, StoreFault> {
         let text = flight_text(self.alloc, &flight.flight)?;
-        match self.store.flight_row(&text, day_number(flight.day))? {
+        match self.store.read(FlightOn {
+            flight: &text,
+            day: day_number(flight.day),
+        })? {
             None => {
                 self.missed.note_flight(flight);
                 Ok(None)
@@ -217,10 +224,11 @@ impl<S: TableStore> StateStore for TableState<S> {
     #[tactic(auto, using(crate::proofs::Lifting::rests_on, crate::proofs::Lifting::survives_so))]
     fn expected(&mut self, flight: &FlightDate, awb: &Awb) -> Result<Option<Expected>, StoreFault> {
         let text = flight_text(self.alloc, &flight.flight)?;
-        match self
-            .store
-            .expected_row(&text, day_number(flight.day), awb_key(awb))?
-        {
+        match self.store.read(ExpectedOn {
+            flight: &text,
+            day: day_number(flight.day),
+            awb: awb_key(awb),
+        })? {
             None => {
                 self.missed.note_expected(flight, awb);
                 Ok(None)
@@ -238,7 +246,12 @@ impl<S: TableStore> StateStore for TableState<S> {
         };
         let day = day_number(part.flight.day);
         let seq = i64::from(part.number.number());
-        let body = self.store.part_body(&flight, day, airport, seq)?;
+        let body = self.store.read(PartBody {
+            flight: &flight,
+            day,
+            airport,
+            seq,
+        })?;
         Ok(body.is_some())
     }
 
@@ -296,7 +309,7 @@ impl<S: TableStore> StateStore for TableState<S> {
             .checked_add(1)
             .ok_or(StoreFault)?;
         let row = message_row(self.alloc, number, text)?;
-        self.store.insert_message(&row)?;
+        self.store.write(InsertMessage { row: &row })?;
         self.counted.sizes.messages = number;
         Ok(())
     }
@@ -304,8 +317,11 @@ impl<S: TableStore> StateStore for TableState<S> {
     #[tactic(auto, using(crate::proofs::Lifting::survives_so))]
     fn keep_key(&mut self, key: &Key, request: &str, count: u32) -> Result<(), StoreFault> {
         let _text = request.as_bytes();
-        self.store
-            .insert_kept(key.as_str(), request, i64::from(count))
+        self.store.write(InsertKept {
+            id: key.as_str(),
+            command: request,
+            count: i64::from(count),
+        })
     }
 
     #[tactic(auto, using(crate::proofs::Lifting::survives_so))]
@@ -313,7 +329,10 @@ impl<S: TableStore> StateStore for TableState<S> {
         let Ok(text) = std::str::from_utf8(text) else {
             return Err(StoreFault);
         };
-        self.store.insert_kept_text(text, i64::from(count))
+        self.store.write(InsertKeptText {
+            body: text,
+            count: i64::from(count),
+        })
     }
 
     #[tactic(auto, using(crate::proofs::Lifting::survives_so))]
@@ -336,7 +355,7 @@ impl<S: TableStore> StateStore for TableState<S> {
 
     #[tactic(auto, using(crate::proofs::Lifting::rests_on, crate::proofs::Lifting::survives_so))]
     fn noted(&mut self) -> Result<Vec<NotedFlight>, StoreFault> {
-        let rows = self.store.all_flights()?;
+        let rows = self.store.read(AllFlights)?;
         flights_noted(self.alloc, &rows)
     }
 
@@ -356,16 +375,19 @@ impl<S: TableStore> StateStore for TableState<S> {
     ) -> Result<(), StoreFault> {
         let asked = move_query(self.alloc, *query, self.counted.sizes.moves)?;
         let mut telling = Telling::new(sink);
-        let read = self.store.hand_out_moves(&asked, &mut telling);
+        let read = self
+            .store
+            .hand_out(MovesFor { query: &asked }, &mut telling);
         ended(read, telling.is_stuck())
     }
 
     #[tactic(auto, using(crate::proofs::Lifting::rests_on, crate::proofs::Lifting::survives_so))]
     fn pending<K: Sink<Message>>(&mut self, sink: &mut K) -> Result<(), StoreFault> {
         let mut telling = Telling::new(sink);
-        let read = self
-            .store
-            .hand_out_after(i64::from(self.confirmed), &mut telling);
+        let sent = MessagesAfter {
+            number: i64::from(self.confirmed),
+        };
+        let read = self.store.hand_out(sent, &mut telling);
         ended(read, telling.is_stuck())
     }
 
@@ -377,7 +399,7 @@ impl<S: TableStore> StateStore for TableState<S> {
     ) -> Result<(), StoreFault> {
         let asked = line_query(*query, self.counted.sizes.lines);
         let mut telling = Telling::new(sink);
-        let read = self.store.hand_out_trail(asked, &mut telling);
+        let read = self.store.hand_out(LinesFor { query: asked }, &mut telling);
         ended(read, telling.is_stuck())
     }
 

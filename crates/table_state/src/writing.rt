@@ -4,7 +4,10 @@ ghost use Rattle.table_rows.specs.Meant.{waybill_meant, flight_meant, with_fligh
 ghost use Rattle.station_rows.specs.Clauses.{ShowsChange};
 ghost use Rattle.table_state.specs.Put.{putting_waybill};
 
-use station_rows::{StoreFault, TableStore};
+use station_rows::{
+    ExpectedOn, FlightOn, InsertExpected, InsertFlight, InsertWaybill, StoreFault, TableStore,
+    UpdateExpected, UpdateFlight, UpdateWaybill, WaybillOf,
+};
 use table_rows::{ExpectedRow, FlightRow, WaybillRow};
 
 /// Writes what is declared of a waybill. A row that is known to be missing isn't looked for.
@@ -18,12 +21,12 @@ pub(crate) fn put_waybill<S: TableStore>(
     ensures survives { Survives (S.view store.old) (S.view store.new) }
 {
     if is_missing {
-        return store.insert_waybill(row);
+        return store.write(InsertWaybill { row });
     }
-    if store.waybill_row(row.awb)?.is_some() {
-        store.update_waybill(row)
+    if store.read(WaybillOf { awb: row.awb })?.is_some() {
+        store.write(UpdateWaybill { row })
     } else {
-        store.insert_waybill(row)
+        store.write(InsertWaybill { row })
     }
 }
 
@@ -40,12 +43,12 @@ pub(crate) fn put_flight<S: TableStore>(
     ensures survives { Survives (S.view store.old) (S.view store.new) }
 {
     if is_missing {
-        return store.insert_flight(flight, day, row);
+        return store.write(InsertFlight { flight, day, row });
     }
-    if store.flight_row(flight, day)?.is_some() {
-        store.update_flight(flight, day, row)
+    if store.read(FlightOn { flight, day })?.is_some() {
+        store.write(UpdateFlight { flight, day, row })
     } else {
-        store.insert_flight(flight, day, row)
+        store.write(InsertFlight { flight, day, row })
     }
 }
 
@@ -64,11 +67,26 @@ pub(crate) fn put_expected<S: TableStore>(
     ensures survives { Survives (S.view store.old) (S.view store.new) }
 {
     if is_missing {
-        return store.insert_expected(flight, day, awb, row);
+        return store.write(InsertExpected {
+            flight,
+            day,
+            awb,
+            row,
+        });
     }
-    if store.expected_row(flight, day, awb)?.is_some() {
-        store.update_expected(flight, day, awb, row)
+    if store.read(ExpectedOn { flight, day, awb })?.is_some() {
+        store.write(UpdateExpected {
+            flight,
+            day,
+            awb,
+            row,
+        })
     } else {
-        store.insert_expected(flight, day, awb, row)
+        store.write(InsertExpected {
+            flight,
+            day,
+            awb,
+            row,
+        })
     }
 }

@@ -2,7 +2,6 @@ use Rattle.std.proofs.Common.{◌≡◌, ◌∙◌, ◌+◌, ◌+ℤ◌, ℤ, po
 use Rattle.std.proofs.lemmas.Int.{ints}
 use Rattle.std.specs.FinMap.{entries}
 use Rattle.awb_number.specs.Number.{prefix_of, serial_of}
-use Rattle.station_schema.specs.Tables.{Tables}
 use Rattle.station_rows.specs.Meant.{stock_meant, last_rows_up_to}
 use Rattle.stock_tables.specs.Reads.{reaches, are_enough}
 use Rattle.row_codec.specs.Stock.{run_in}
@@ -11,17 +10,14 @@ use Rattle.stock_tables.proofs.near.near_at_once.Goals as goal
 
 pub returns-in-Some-reaching_rows-clause-rows : goal.returns-in-Some-reaching_rows-clause-rows
 returns-in-Some-reaching_rows-clause-rows g c = λ seen showing sound stocked.
-    let old = g.S.TableStore.view c.args.store.now in
     let run = c.args.run.now in
-    let shown = showing (c.last_stock_up_to.ensures.survives.sound sound) in
     let p : ℤ = to_z w64 (of_z w64 c.from-3.result) in
     let e : ℤ = to_z w64 (of_z w64 (to_z w64 (of_z w64 c.from.result) +ℤ to_z w64 (of_z w64 c.from-2.result))) in
     let prefix : p ≡ pos (prefix_of run.first) = omega (arith, ints, c.from-3.ensures, c.prefix.ensures.value) in
     let last : e ≡ pos (serial_of run.first + run.count) = omega (arith, ints, c.from.ensures, c.serial.ensures.value, c.serial.ensures.bound, c.from-2.ensures, c.number.ensures.value, c.number.ensures.in_range) in
     let items = c.in_ok-rows.rows.items in
     let read : map stock_meant items ≡ last_rows_up_to (pos (prefix_of run.first)) (pos (serial_of run.first + run.count)) 3 (entries seen.now.stock) =
-    c.in_ok-rows.ensures.rows sound ∙ ap₂ (λ (n l : ℤ). last_rows_up_to n l 3 (entries old.now.stock)) prefix last
-    ∙ ap (λ (t : Tables). last_rows_up_to (pos (prefix_of run.first)) (pos (serial_of run.first + run.count)) 3 (entries t.stock)) shown.now_is in
+    c.in_ok-rows.ensures.read seen showing sound ∙ ap₂ (λ (n l : ℤ). last_rows_up_to n l 3 (entries seen.now.stock)) prefix last in
     let rows : c.in-Some.rows.items ≡ map run_in (map stock_meant items) = c.in-Some.ensures ∙ ap (λ l. map run_in (map stock_meant l)) c.deref.ensures.value in
     let enough : are_enough 3 run (map run_in (map stock_meant items)) ≡ true =
     sym (c.are_all_near.ensures ∙ ap (are_enough 3 run) (c.deref-2.ensures.value ∙ rows)) ∙ c.if-not-are_all_near.false in

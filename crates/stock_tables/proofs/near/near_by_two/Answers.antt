@@ -3,7 +3,6 @@ use Rattle.std.proofs.lemmas.Int.{ints}
 use Rattle.std.specs.FinMap.{entries}
 use Rattle.awb_number.specs.Number.{prefix_of, serial_of}
 use Rattle.agent_stock.specs.declared.runs.StockRun.{StockRun}
-use Rattle.station_schema.specs.Tables.{Tables}
 use Rattle.station_rows.specs.declared.stock.StockRow.{StockRow}
 use Rattle.station_rows.specs.Meant.{stock_meant, is_between, last_up_to}
 use Rattle.row_codec.specs.Stock.{run_in}
@@ -12,13 +11,8 @@ use Rattle.stock_tables.proofs.near.near_by_two.Goals as goal
 
 pub returns-in-Some-clause-rows : goal.returns-in-Some-clause-rows
 returns-in-Some-clause-rows g c = λ seen showing sound stocked.
-    let view = g.S.TableStore.view in
-    let old = view c.args.store.now in
-    let mid = view c.stock_up_to.new.self in
     let run = c.args.run.now in
-    let down = c.stock_between.ensures.survives.sound sound in
-    let shown = showing (c.stock_up_to.ensures.survives.sound down) in
-    let same : mid.now ≡ seen.now = (c.in_ok-row.ensures.same down).now_is ∙ shown.now_is in
+    let down = c.read-2.ensures.survives.sound sound in
     let p : ℤ = to_z w64 (of_z w64 c.from-prefix.result) in
     let f : ℤ = to_z w64 (of_z w64 c.from-first.result) in
     let z : ℤ = to_z w64 (of_z w64 (to_z w64 (of_z w64 c.from-first.result) -ℤ pos 1)) in
@@ -28,11 +22,12 @@ returns-in-Some-clause-rows g c = λ seen showing sound stocked.
     let low : z +ℤ pos 1 ≡ pos (serial_of run.first) = omega (arith, ints, c.from-first.ensures, c.serial.ensures.value, c.serial.ensures.bound) in
     let last : e ≡ pos (serial_of run.first + run.count) = omega (arith, ints, c.from-first.ensures, c.serial.ensures.value, c.serial.ensures.bound, c.from.ensures, c.number.ensures.value, c.number.ensures.in_range) in
     let read : option_map stock_meant c.in_ok-row.row ≡ last_up_to (pos (prefix_of run.first)) z (entries seen.now.stock) =
-    c.in_ok-row.ensures.row down ∙ ap (λ (n : ℤ). last_up_to n z (entries old.now.stock)) prefix
-    ∙ ap (λ (t : Tables). last_up_to (pos (prefix_of run.first)) z (entries t.stock)) shown.now_is in
+    c.in_ok-row.ensures.read seen showing down ∙ ap (λ (n : ℤ). last_up_to n z (entries seen.now.stock)) prefix in
     let rows : map stock_meant c.in_ok-rows.rows.items ≡ filter (is_between (pos (prefix_of run.first)) (pos (serial_of run.first)) (pos (serial_of run.first + run.count))) (entries seen.now.stock) =
-    c.in_ok-rows.ensures.rows sound ∙ (λ i. filter (is_between (prefix i) (first i) (last i)) (entries mid.now.stock))
-    ∙ ap (λ (t : Tables). filter (is_between (pos (prefix_of run.first)) (pos (serial_of run.first)) (pos (serial_of run.first + run.count))) (entries t.stock)) same in
+    c.in_ok-rows.ensures.read seen (c.in_ok-row.ensures.same seen showing) sound ∙ (λ i. filter (is_between (prefix i) (first i) (last i)) (entries seen.now.stock)) in
     c.in-Some.ensures
     ∙ ap₂ (λ (a : List StockRun) (b : List StockRow). a ++ map run_in (map stock_meant b)) (c.deref.ensures.value ∙ c.in_ok-ahead.ensures) c.deref-2.ensures.value
     ∙ near_is seen.now.stock stocked run z low c.in_ok-row.row read c.in_ok-rows.rows.items rows
+
+pub returns-in-Some-clause-same : goal.returns-in-Some-clause-same
+returns-in-Some-clause-same g c = λ seen showing. c.in_ok-rows.ensures.same seen (c.in_ok-row.ensures.same seen showing)

@@ -19,4 +19,4 @@ returns-clause-done g c = λ before now showing.
     let low : to_z w64 (of_z w64 c.from.result) ≡ pos (serial_of row.first) = omega (arith, ints, c.from.ensures, c.serial.ensures.value) in
     let same : remove now.stock (to_z w64 (of_z w64 c.from-prefix.result), to_z w64 (of_z w64 c.from.result)) ≡ without new row now.stock =
     (λ i. remove now.stock (prefix i, low i)) ∙ sym (ap (λ (b : Bool). cond b now.stock (remove now.stock (key_of row.first))) gone) in
-    subst (λ (m : FinMap stock_cmp Stock). IsShowing (g.S.TableStore.view c.delete_stock.new.self) (inside before (restocked m now))) same (c.in_ok-delete_stock.ensures.done before now showing)
+    subst (λ (m : FinMap stock_cmp Stock). IsShowing (g.S.TableStore.view c.write.new.self) (inside before (restocked m now))) same (c.in_ok-write.ensures.made.done before now showing)

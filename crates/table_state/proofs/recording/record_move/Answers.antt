@@ -9,9 +9,9 @@ returns-clause-done g c = λ before now showing book counts builds known.
       is = c.in_ok-row.ensures.value;
       fits = c.in_ok-row.ensures.lawful;
       again = c.in_ok-row.ensures.again;
-      posted = rw is at (c.post_move.ensures.done before (with_move (move_meant c.in_ok-row.row) now) (c.in_ok-insert_move.ensures.done before now showing) book counts builds known);
+      posted = rw is at (c.post_move.ensures.done before (with_move (move_meant c.in_ok-row.row) now) (c.in_ok-write.ensures.made.done before now showing) book counts builds known);
     })
 
 pub returns-clause-before : goal.returns-clause-before
 returns-clause-before g c = λ before now showing book counts builds known.
-    c.post_move.ensures.before before (with_move (move_meant c.in_ok-row.row) now) (c.in_ok-insert_move.ensures.done before now showing) book counts builds known
+    c.post_move.ensures.before before (with_move (move_meant c.in_ok-row.row) now) (c.in_ok-write.ensures.made.done before now showing) book counts builds known

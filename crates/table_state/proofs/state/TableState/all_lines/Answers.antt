@@ -11,6 +11,6 @@ use Rattle.table_state.proofs.state.TableState.all_lines.Goals as goal
 pub returns-clause-value : goal.returns-clause-value
 returns-clause-value g c = λ s shown sound.
     told_so _ _ c.waybills_expected.result
-    (λ all are. expectations_are _ _ _ _ _ (at_rest s) shown c.in_ok-rows.ensures.survives c.in_ok-rows.ensures.open sound c.in_ok-rows.rows.items all.items
+    (λ all are. expectations_are _ _ _ _ _ (at_rest s) shown c.in_ok-rows.ensures.survives c.in_ok-rows.ensures.was_open sound c.in_ok-rows.rows.items all.items
     (are ∙ ap (map (λ (row : ListedWaybillRow). expectation_by (listed_waybill_meant row))) c.deref.ensures.value) (c.in_ok-rows.ensures.read (seen_in (g.S.TableStore.view c.args.self.now.store))))
     c.waybills_expected.ensures

@@ -7,4 +7,4 @@ pub returns-clause-done : goal.returns-clause-done
 returns-clause-done g c = λ before s shown.
     let fits : SFits w64 c.from.result = search rules in
     let small : c.args.upto < 4_294_967_296 = search rules in
-    confirms_on _ _ _ _ _ before s shown c.in_ok-update_confirmed.ensures.survives [] _ c.args.upto (to_z-of_z w64 c.from.result fits ∙ c.from.ensures) (mark_fits c.args.upto small) (c.in_ok-update_confirmed.ensures.done _ _)
+    confirms_on _ _ _ _ _ before s shown c.in_ok-write.ensures.made.survives [] _ c.args.upto (to_z-of_z w64 c.from.result fits ∙ c.from.ensures) (mark_fits c.args.upto small) (c.in_ok-write.ensures.made.done _ _)

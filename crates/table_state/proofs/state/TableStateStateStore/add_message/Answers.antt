@@ -5,4 +5,4 @@ use Rattle.table_state.proofs.state.TableStateStateStore.add_message.Goals as go
 pub returns-clause-done : goal.returns-clause-done
 returns-clause-done g c = λ before s shown.
     let next : c.in_ok-number.number ≡ c.args.self.now.counted.sizes.messages + 1 = search rules in
-    adds_message_on _ _ _ _ _ before s shown c.in_ok-insert_message.ensures.survives c.in_ok-number.number c.args.text.now _ c.in_ok-row.ensures.value c.in_ok-row.ensures.lawful next _ refl refl refl refl refl (c.in_ok-insert_message.ensures.done _ _)
+    adds_message_on _ _ _ _ _ before s shown c.in_ok-write.ensures.made.survives c.in_ok-number.number c.args.text.now _ c.in_ok-row.ensures.value c.in_ok-row.ensures.lawful next _ refl refl refl refl refl (c.in_ok-write.ensures.made.done _ _)

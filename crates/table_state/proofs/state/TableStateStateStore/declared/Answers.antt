@@ -11,22 +11,22 @@ pub returns-in-None-clause-value : goal.returns-in-None-clause-value
 returns-in-None-clause-value g c = λ x shown sound.
     let awb_fits : SFits w64 c.awb_key.result = search rules in
     ap (option_map (λ (r : WaybillRow). declared_by (waybill_meant r))) (sym c.in-None.is)
-    ∙ declared_is _ _ _ _ _ x shown c.in_ok-waybill_row.ensures.survives c.in_ok-waybill_row.ensures.open sound c.args.awb.now _ c.in_ok-waybill_row.field-0 (to_z-of_z w64 c.awb_key.result awb_fits ∙ c.awb_key.ensures.value) (c.in_ok-waybill_row.ensures.read (seen_in (g.S.TableStore.view c.args.self.now.store)))
+    ∙ declared_is _ _ _ _ _ x shown c.in_ok-read.ensures.survives c.in_ok-read.ensures.was_open sound c.args.awb.now _ c.in_ok-read.field-0 (to_z-of_z w64 c.awb_key.result awb_fits ∙ c.awb_key.ensures.value) (c.in_ok-read.ensures.read (seen_in (g.S.TableStore.view c.args.self.now.store)))
 
 pub returns-in-None-clause-same : goal.returns-in-None-clause-same
-returns-in-None-clause-same g c = λ x shown. reads_on _ _ _ _ _ x shown c.in_ok-waybill_row.ensures.survives c.in_ok-waybill_row.ensures.same c.in_ok-waybill_row.ensures.open
+returns-in-None-clause-same g c = λ x shown. reads_on _ _ _ _ _ x shown c.in_ok-read.ensures.survives c.in_ok-read.ensures.same c.in_ok-read.ensures.was_open
 
 pub returns-in_ok-ok_or-in-Some-clause-value : goal.returns-in_ok-ok_or-in-Some-clause-value
 returns-in_ok-ok_or-in-Some-clause-value g c = λ x shown sound.
     let awb_fits : SFits w64 c.awb_key.result = search rules in
     ap Some (rw c.in_ok-ok_or-in-Some.ensures.ok_part at c.waybill_by.ensures.declared) ∙ ap (option_map (λ (r : WaybillRow). declared_by (waybill_meant r))) (sym c.in-Some.is)
-    ∙ declared_is _ _ _ _ _ x shown c.in_ok-waybill_row.ensures.survives c.in_ok-waybill_row.ensures.open sound c.args.awb.now _ c.in_ok-waybill_row.field-0 (to_z-of_z w64 c.awb_key.result awb_fits ∙ c.awb_key.ensures.value) (c.in_ok-waybill_row.ensures.read (seen_in (g.S.TableStore.view c.args.self.now.store)))
+    ∙ declared_is _ _ _ _ _ x shown c.in_ok-read.ensures.survives c.in_ok-read.ensures.was_open sound c.args.awb.now _ c.in_ok-read.field-0 (to_z-of_z w64 c.awb_key.result awb_fits ∙ c.awb_key.ensures.value) (c.in_ok-read.ensures.read (seen_in (g.S.TableStore.view c.args.self.now.store)))
 
 pub returns-in_ok-ok_or-in-Some-clause-same : goal.returns-in_ok-ok_or-in-Some-clause-same
-returns-in_ok-ok_or-in-Some-clause-same g c = λ x shown. reads_on _ _ _ _ _ x shown c.in_ok-waybill_row.ensures.survives c.in_ok-waybill_row.ensures.same c.in_ok-waybill_row.ensures.open
+returns-in_ok-ok_or-in-Some-clause-same g c = λ x shown. reads_on _ _ _ _ _ x shown c.in_ok-read.ensures.survives c.in_ok-read.ensures.same c.in_ok-read.ensures.was_open
 
 pub returns-in_err-ok_or-in-Some-clause-rests : goal.returns-in_err-ok_or-in-Some-clause-rests
-returns-in_err-ok_or-in-Some-clause-rests g c = λ s shown. rests_on _ _ _ _ _ s shown c.in_ok-waybill_row.ensures.survives c.in_ok-waybill_row.ensures.rests
+returns-in_err-ok_or-in-Some-clause-rests g c = λ s shown. rests_on _ _ _ _ _ s shown c.in_ok-read.ensures.survives c.in_ok-read.ensures.rests
 
 pub returns-in_ok-ok_or-in-Some-clause-rests : goal.returns-in_ok-ok_or-in-Some-clause-rests
-returns-in_ok-ok_or-in-Some-clause-rests g c = λ s shown. rests_on _ _ _ _ _ s shown c.in_ok-waybill_row.ensures.survives c.in_ok-waybill_row.ensures.rests
+returns-in_ok-ok_or-in-Some-clause-rests g c = λ s shown. rests_on _ _ _ _ _ s shown c.in_ok-read.ensures.survives c.in_ok-read.ensures.rests

@@ -8,8 +8,8 @@ use Rattle.table_state.proofs.state.TableStateStateStore.has_moves.Goals as goal
 pub returns-clause-value : goal.returns-clause-value
 returns-clause-value g c = λ x shown sound.
     let awb_fits : SFits w64 c.awb_key.result = search rules in
-    let some : not c.is_empty.result ≡ nat_lt 0 (length c.in_ok-moves_of.field-0.items) = search rules in
-    moves_are _ _ _ _ _ x shown c.in_ok-moves_of.ensures.survives c.in_ok-moves_of.ensures.open sound c.in_ok-moves_of.field-0.items (not c.is_empty.result) c.args.awb.now _ (to_z-of_z w64 c.awb_key.result awb_fits ∙ c.awb_key.ensures.value) some (c.in_ok-moves_of.ensures.read (seen_in (g.S.TableStore.view c.args.self.now.store)))
+    let some : not c.is_empty.result ≡ nat_lt 0 (length c.in_ok-moves.moves.items) = search rules in
+    moves_are _ _ _ _ _ x shown c.in_ok-moves.ensures.survives c.in_ok-moves.ensures.was_open sound c.in_ok-moves.moves.items (not c.is_empty.result) c.args.awb.now _ (to_z-of_z w64 c.awb_key.result awb_fits ∙ c.awb_key.ensures.value) some (c.in_ok-moves.ensures.read (seen_in (g.S.TableStore.view c.args.self.now.store)))
 
 pub returns-clause-same : goal.returns-clause-same
-returns-clause-same g c = λ x shown. reads_on _ _ _ _ _ x shown c.in_ok-moves_of.ensures.survives c.in_ok-moves_of.ensures.same c.in_ok-moves_of.ensures.open
+returns-clause-same g c = λ x shown. reads_on _ _ _ _ _ x shown c.in_ok-moves.ensures.survives c.in_ok-moves.ensures.same c.in_ok-moves.ensures.was_open

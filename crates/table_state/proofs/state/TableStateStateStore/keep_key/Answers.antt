@@ -12,5 +12,5 @@ returns-clause-done g c = λ before s shown asked.
     let small : c.args.count < 4_294_967_296 = search rules in
     let valid : IsUtf8 c.args.request.now = search rules in
     let count = to_z-of_z w64 c.from.result fits ∙ c.from.ensures in
-    of_answer _ c.insert_kept.result (λ _ is. keeps_key_on _ _ _ _ _ before s shown c.insert_kept.ensures.survives _ c.args.key.now (record { request = c.args.request.now; count = c.args.count }) _ c.as_str.ensures.value
-    (λ i. record { command = c.args.request.now; count = count i }) c.as_str.ensures.valid (is_utf8-from_IsUtf8 _ valid) (mark_fits c.args.count small) asked (rw is at c.insert_kept.ensures.ok))
+    of_answer _ c.write.result (λ _ is. keeps_key_on _ _ _ _ _ before s shown c.write.ensures.made.survives _ c.args.key.now (record { request = c.args.request.now; count = c.args.count }) _ c.as_str.ensures.value
+    (λ i. record { command = c.args.request.now; count = count i }) c.as_str.ensures.valid (is_utf8-from_IsUtf8 _ valid) (mark_fits c.args.count small) asked (rw is at c.write.ensures.ok))

@@ -12,4 +12,4 @@ returns-clause-done g c = λ before s shown.
     let small : c.args.count < 4_294_967_296 = search rules in
     let name : c.in-Ok.text.now ≡ c.args.text.now = search rules in
     let valid : IsUtf8 c.args.text.now = search rules in
-    on_answer c.insert_kept_text.result (keeps_text_on _ _ _ _ _ before s shown c.insert_kept_text.ensures.survives _ c.args.text.now _ c.args.count name (to_z-of_z w64 c.from.result fits ∙ c.from.ensures) (is_utf8-from_IsUtf8 _ valid) (mark_fits c.args.count small)) (c.insert_kept_text.ensures.done _ _)
+    on_answer c.write.result (keeps_text_on _ _ _ _ _ before s shown c.write.ensures.made.survives _ c.args.text.now _ c.args.count name (to_z-of_z w64 c.from.result fits ∙ c.from.ensures) (is_utf8-from_IsUtf8 _ valid) (mark_fits c.args.count small)) (c.write.ensures.made.done _ _)

@@ -13,19 +13,19 @@ use Rattle.table_state.proofs.state.TableStateStateStore.trail_by.Goals as goal
 pub returns-clause-rows : goal.returns-clause-rows
 returns-clause-rows g c = λ s shown sound.
     let from = c.new-telling.result in
-    let to = c.hand_out_trail-read.new.sink in
+    let to = c.hand_out-read.new.sink in
     let handed : Hands g.K.Sink.takes (trail_by c.args.query.now s.cargo) from.sink.now to.sink.now c.ended.result =
-    given_on g.K.Sink.takes trail_row_by _ (λ old x go new h. subst (λ l. Tells g.K.Sink.takes (trail_row_by l) old go new) h.1 h.2) _ _ _ _ _ s shown c.hand_out_trail-read.ensures.survives (λ t. lines_for _ t.trail) (trail_by c.args.query.now s.cargo)
+    given_on g.K.Sink.takes trail_row_by _ (λ old x go new h. subst (λ l. Tells g.K.Sink.takes (trail_row_by l) old go new) h.1 h.2) _ _ _ _ _ s shown c.hand_out-read.ensures.survives (λ t. lines_for _ t.trail) (trail_by c.args.query.now s.cargo)
     (λ means knows. c.line_query-asked.ensures _ s means (sym (ap (λ (z : Sizes). z.lines) knows.sizes_are)))
-    from to c.hand_out_trail-read.result c.hand_out_trail-read.ensures.hands c.hand_out_trail-read.ensures.shut c.ended.result (rw c.is_stuck.ensures at c.ended.ensures) sound in
-    let name = (some_told g.K.Sink.takes (λ (row : TrailRow). trail_row_by (trail_meant row)) _ (λ old x go new h. h) _ from to c.hand_out_trail-read.ensures.took.1).0 in
+    from to c.hand_out-read.result c.hand_out-read.ensures.hands c.hand_out-read.ensures.shut c.ended.result (rw c.is_stuck.ensures at c.ended.ensures) sound in
+    let name = (some_told g.K.Sink.takes (λ (row : TrailRow). trail_row_by (trail_meant row)) _ (λ old x go new h. h) _ from to c.hand_out-read.ensures.took.1).0 in
     subst₂ (λ a b. Hands g.K.Sink.takes (trail_by c.args.query.now s.cargo) a b c.ended.result) c.new-telling.ensures.same (search rules) handed
 
 pub returns-clause-took : goal.returns-clause-took
 returns-clause-took g c =
     let from = c.new-telling.result in
-    let to = c.hand_out_trail-read.new.sink in
-    let told = some_told g.K.Sink.takes (λ (row : TrailRow). trail_row_by (trail_meant row)) _ (λ old x go new h. h) _ from to c.hand_out_trail-read.ensures.took.1 in
+    let to = c.hand_out-read.new.sink in
+    let told = some_told g.K.Sink.takes (λ (row : TrailRow). trail_row_by (trail_meant row)) _ (λ old x go new h. h) _ from to c.hand_out-read.ensures.took.1 in
     let values : List reader.TrailRow = told.1 in
     let handed : HandedOut g.K.Sink.takes values from.sink.now to.sink.now = told.2 in
     (values, search rules)

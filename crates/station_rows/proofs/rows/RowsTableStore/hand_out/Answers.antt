@@ -1,13 +1,13 @@
 use Rattle.sqlite.specs.Held.{state}
 use Rattle.station_rows.proofs.Views.{working_after, owned_after, so_true}
-use Rattle.station_rows.proofs.rows.RowsTableStore.hand_out_after.Goals as goal
+use Rattle.station_rows.proofs.rows.RowsTableStore.hand_out.Goals as goal
 
 pub invariant_of-self : goal.invariant_of-self
 invariant_of-self g c =
     let old = state g.S.Store c.args.self.now.conn in
-    let mid = state g.S.Store c.hand_out_after.new.conn in
+    let mid = state g.S.Store c.run.new.conn in
     let new = state g.S.Store c.goes_on.new.conn in
-    let one = c.hand_out_after.ensures.survives in
+    let one = c.run.ensures.survives in
     let two = c.goes_on.ensures.survives in
     let was = c.args.self.now.works c.if-self.false in
     record {

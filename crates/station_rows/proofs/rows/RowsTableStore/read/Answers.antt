@@ -1,6 +1,6 @@
 use Rattle.sqlite.specs.Held.{state}
 use Rattle.station_rows.proofs.Views.{working_after, owned_after, so_true}
-use Rattle.station_rows.proofs.rows.Rows.read.Goals as goal
+use Rattle.station_rows.proofs.rows.RowsTableStore.read.Goals as goal
 
 pub invariant_of-self : goal.invariant_of-self
 invariant_of-self g c =
