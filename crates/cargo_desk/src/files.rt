@@ -20,6 +20,7 @@ const PAGE_LEN: usize = 1024;
 
 /// The fewest pages of a file that are kept in memory, and the most.
 const LEAST_CACHE: u64 = 2000;
+
 const MOST_CACHE: u64 = 65_536;
 
 /// What is said of a file whose tables aren't declared as `init` declares them.

@@ -11,9 +11,14 @@ use std::net::{Net, TcpListener, TcpStream};
 use std::os::fd::AsRawFd;
 use std::time::{Clock, Duration};
 
-/// The most connections that are held at a time. When another one comes, the one that has sent
-/// nothing for longest is given up.
+/// The most connections that are held at a time. Others wait in the queue of the listening socket.
 const MOST_HELD: usize = 256;
+
+/// How long a connection may send nothing while others wait for a place, in milliseconds.
+const MOST_IDLE: u64 = 1000;
+
+/// How long a wait lasts at most while others wait for a place, in milliseconds.
+const MOST_PAUSE: u64 = 50;
 
 /// The name of the listening socket among what is waited for. A connection has its place's.
 const LISTENER: Token = Token(MOST_HELD);
@@ -29,6 +34,8 @@ pub(crate) struct Connections<'a> {
     places: Vec<Option<Held>>,
     /// How many connections were accepted, or were given up before.
     accepted: usize,
+    /// Whether connections may wait in the queue of the listening socket.
+    is_called: bool,
     /// The time when the last wait ended, on the clock that never goes back.
     now: Duration,
 }
@@ -62,6 +69,7 @@ impl<'a> Connections<'a> {
             events,
             places,
             accepted: 0,
+            is_called: false,
             now: Duration::ZERO,
         })
     }
@@ -129,19 +137,17 @@ impl<'a> Connections<'a> {
         clock: &C,
         most: usize,
     ) -> Result<Vec<usize>, ServerFault> {
+        self.accept_all(most)?;
         self.poll_until(clock)?;
         let mut ready = Vec::new(self.alloc);
-        let mut is_called = false;
         for event in self.events.iter() {
             if event.token() == LISTENER {
-                is_called = true;
+                self.is_called = true;
             } else if ready.push(event.token().0).is_err() {
                 return Err(ServerFault::Memory);
             }
         }
-        if is_called {
-            self.accept_all(clock, most)?;
-        }
+        self.accept_all(most)?;
         Ok(ready)
     }
 
@@ -149,16 +155,20 @@ impl<'a> Connections<'a> {
     fn poll_until<C: Clock>(&mut self, clock: &C) -> Result<(), ServerFault> {
         let first = self.first_deadline();
         let now = read_clock(clock)?;
-        let wait = first.map(|first| first.saturating_sub(now));
+        let mut wait = first.map(|first| first.saturating_sub(now));
+        if self.is_called {
+            let pause = Duration::from_millis(MOST_PAUSE);
+            wait = Some(wait.map_or(pause, |wait| wait.min(pause)));
+        }
         match self.poll.poll(&mut self.events, wait) {
             Ok(()) => {}
             Err(error) if error.kind() == ErrorKind::Interrupted => {}
             Err(_) => return Err(ServerFault::Listener),
         }
         self.now = read_clock(clock)?;
-        if let Some(first) = first {
+        if let Some(wait) = wait {
             if self.events.is_empty() {
-                self.now = self.now.max(first);
+                self.now = self.now.max(now.saturating_add(wait));
             }
         }
         self.give_up();
@@ -189,18 +199,23 @@ impl<'a> Connections<'a> {
         }
     }
 
-    /// Accepts the connections that wait, up to so many in all. One that was given up before counts
-    /// as well.
-    fn accept_all<C: Clock>(&mut self, clock: &C, most: usize) -> Result<(), ServerFault> {
+    /// Accepts the connections that wait, up to so many in all, while there are places. One that was
+    /// given up before counts as well.
+    fn accept_all(&mut self, most: usize) -> Result<(), ServerFault> {
         for _ in self.accepted..most {
+            if !self.is_called {
+                break;
+            }
+            let Some(place) = self.free_place() else {
+                break;
+            };
             match self.listener.accept() {
                 Ok((stream, _)) => {
                     self.accepted += 1;
-                    let now = read_clock(clock)?;
-                    self.hold(stream, now);
+                    self.hold(stream, place);
                 }
                 Err(error) if error.kind() == ErrorKind::ConnectionAborted => self.accepted += 1,
-                Err(error) if error.kind() == ErrorKind::WouldBlock => return Ok(()),
+                Err(error) if error.kind() == ErrorKind::WouldBlock => self.is_called = false,
                 Err(error) if error.kind() == ErrorKind::Interrupted => {}
                 Err(_) => return Err(ServerFault::Listener),
             }
@@ -208,16 +223,18 @@ impl<'a> Connections<'a> {
         Ok(())
     }
 
-    /// Holds a connection. One that can't be set up is closed.
-    fn hold(&mut self, stream: TcpStream, now: Duration) {
-        let place = self.free_place();
-        let Ok(held) = Held::new(self.alloc, stream, now) else {
+    /// Holds a connection at a free place. One that can't be set up is closed.
+    fn hold(&mut self, stream: TcpStream, place: usize) {
+        let Ok(held) = Held::new(self.alloc, stream, self.now) else {
             return;
         };
         let raw_fd = held.raw_fd();
         let mut source = SourceFd(&raw_fd);
         let registry = self.poll.registry();
-        if registry.register(&mut source, Token(place), Interest::READABLE).is_ok() {
+        if registry
+            .register(&mut source, Token(place), Interest::READABLE)
+            .is_ok()
+        {
             if let Some(free) = self.places.get_mut(place) {
                 *free = Some(held);
             }
@@ -225,21 +242,24 @@ impl<'a> Connections<'a> {
     }
 
     /// A place without a connection. If there is none, the place of the connection that has sent
-    /// nothing for longest, which is closed.
-    fn free_place(&mut self) -> usize {
+    /// nothing for longest, which is closed. Returns `None` if none has been idle for long enough.
+    fn free_place(&mut self) -> Option<usize> {
         let mut oldest = 0;
-        let mut since = None;
+        let mut since = self.now;
         for (at, place) in self.places.iter().enumerate() {
             let Some(held) = place else {
-                return at;
+                return Some(at);
             };
-            if since.map_or(true, |since| held.last() < since) {
+            if held.last() < since {
                 oldest = at;
-                since = Some(held.last());
+                since = held.last();
             }
         }
+        if self.now.saturating_sub(since) < Duration::from_millis(MOST_IDLE) {
+            return None;
+        }
         self.close(oldest);
-        oldest
+        Some(oldest)
     }
 }
 

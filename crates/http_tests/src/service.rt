@@ -124,8 +124,8 @@ fn long_request(rt: &HostRuntime, tens: u32) -> io::Result<String> {
     Ok(request)
 }
 
-/// Eight connections that send nothing stand before one that asks. It is answered before one read
-/// may have waited its ten seconds.
+/// Eight connections that send nothing come before one that asks. They are given up together, so the
+/// service ends before eight seconds are over.
 fn play_silent(rt: &HostRuntime, station: &mut PlainStation) -> io::Result<()> {
     println!(rt; "eight connections that send nothing")?;
     let listener = listen(rt, 0)?;
@@ -145,7 +145,7 @@ fn play_silent(rt: &HostRuntime, station: &mut PlainStation) -> io::Result<()> {
     println!(rt; "{ended:?}")
 }
 
-/// Requests that take too long: one whose first byte comes too late, and one whose end does.
+/// Requests whose time is over when they are read, by clocks that go on by so much at each reading.
 fn play_slow(rt: &HostRuntime, station: &mut PlainStation) -> io::Result<()> {
     let late = Stepped {
         step: 31,
