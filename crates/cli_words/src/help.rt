@@ -18,7 +18,7 @@ Examples:
   cargo_desk --db fra.db waybill 020-12345675
   cargo_desk --at 8080 act issue k9 < body.json
 
-`cargo_desk COMMAND --help` explains a command.";
+`cargo_desk COMMAND --help` explains a command, `cargo_desk help 203` a refusal.";
 
 pub(crate) const DB: &str = "The station's file; without it, a new station in memory";
 

@@ -8,6 +8,7 @@ mod line;
 mod number;
 mod part;
 mod read;
+mod refusals;
 mod version;
 mod words;
 

@@ -7,6 +7,7 @@ use crate::fault::{BadValue, WordsFault, value_fault};
 use crate::line::{Line, LineCommand};
 use crate::number::{read_count, read_port, read_row};
 use crate::part::{form_of, read_listing};
+use crate::refusals::refusal_help;
 use crate::words::{ReportWords, Request, Words, sort_words};
 use awb_number::{Awb, AwbFault};
 use desk_commands::Verb;
@@ -262,8 +263,8 @@ fn read_line<'a>(words: Words<'a>) -> Result<Line<'a>, BadValue<'a>>
 
 /// Reads the words of a call; the first is the program's name.
 ///
-/// Returns [`WordsFault::Help`] where the words ask for the help, and [`WordsFault::Version`] where
-/// they ask for the version; [`WordsFault::Usage`] for other words than a command's, a bad key,
+/// Returns [`WordsFault::Help`] where the words ask for the help, also on a refusal by its number,
+/// and [`WordsFault::Version`] where they ask for the version; [`WordsFault::Usage`] for other words than a command's, a bad key,
 /// number or option's value, an unknown verb or name, an option given twice, `init` without `--db`
 /// and `--station`, `migrate` without `--db`, and `--at` with an option or a command that it
 /// doesn't go with, but not for a text that is no zone's rule; [`WordsFault::Memory`] when out of
@@ -271,6 +272,9 @@ fn read_line<'a>(words: Words<'a>) -> Result<Line<'a>, BadValue<'a>>
 pub fn parse_words<'a, S: AsStr>(alloc: Global, words: &'a [S]) -> Result<Line<'a>, WordsFault>
     ensures { IfOk result IsLine }
 {
+    if let Some(help) = refusal_help(alloc, words) {
+        return Err(help);
+    }
     let words = sort_words(alloc, words)?;
     match read_line(words) {
         Ok(line) => Ok(line),
