@@ -3,10 +3,11 @@ ghost use Rattle.std.specs.Prelude.{◌≡◌};
 ghost use Rattle.cargo_desk.specs.Service.{server_fault};
 
 use crate::files::{is_undeclared, tell_undeclared};
-use cli_call::{DeskFault, end, open_station};
+use cli_call::{DeskFault, end};
 use cli_words::Line;
 use desk_clock::Zone;
 use desk_server::{ServerFault, Setting, serve};
+use line_opening::open_station;
 use sqlite::{Alter, Connection};
 use station_core::{Counted, Keeper};
 use std::net::TcpListener;

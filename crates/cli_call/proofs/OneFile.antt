@@ -37,7 +37,7 @@ use Rattle.cli_run.specs.Left.{station_fault, AsksAt, HasLeft}
 use Rattle.cli_run.specs.Place.{here_of}
 use Rattle.cli_call.specs.Closed.{HasClosed, IsCopiedTwice}
 use Rattle.cli_call.specs.Ended.{run_ended, status_of, HasNoStation}
-use Rattle.cli_call.specs.Opened.{HasOpened}
+use Rattle.line_opening.specs.Opened.{HasOpened}
 use Rattle.cli_call.specs.Ran.{HasEndedCall, HasRunLine}
 use Rattle.cli_call.specs.OneFile.{life_events, may_hold, was_true, opened_by, AreCallsOn, AreEventsOf, AreLivesOf, AreVain, CallOn, HaveLed, IsAfterCalls, IsLifeOf, last_of, RunOn, VainOn}
 

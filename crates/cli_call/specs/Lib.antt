@@ -2,6 +2,5 @@ pub mod Closed
 pub mod Ended
 pub mod Migrated
 pub mod OneFile
-pub mod Opened
 pub mod Ran
 pub mod Version

@@ -19,7 +19,7 @@ use Rattle.cli_run.specs.Place.{here_of, is_migration, is_new}
 use Rattle.cli_run.specs.Reasons.{HasGivenReasons}
 use Rattle.cli_call.specs.Ended.{HasNoStation, HasToldEnd}
 use Rattle.cli_call.specs.Migrated.{HasMigrated}
-use Rattle.cli_call.specs.Opened.{HasOpened}
+use Rattle.line_opening.specs.Opened.{HasOpened}
 
 -- The line's command ran over a keeper, and told why an input can't be read; behind that how it
 -- ended was reported.

@@ -7,7 +7,6 @@ mod closing_beside;
 mod ended;
 mod law;
 mod migrating;
-mod opening;
 mod run;
 mod version;
 
@@ -15,6 +14,5 @@ pub use closing::{FileEnd, close_file, run_file};
 pub use closing_beside::{close_file_beside, run_file_beside};
 pub use ended::{DeskFault, end};
 pub use law::calls_over_file_law;
-pub use opening::open_station;
 pub use run::{run_gathered, run_kept, run_line};
 pub use version::version_line;

@@ -6,9 +6,9 @@ ghost use Rattle.cli_call.specs.Ran.{HasCalled, HasCalledStation, HasEndedCall, 
 
 use crate::ended::{end_run, refuse_line};
 use crate::migrating::run_migrate;
-use crate::opening::open_station;
 use cli_run::{Inputs, is_migration, run_over};
 use cli_words::Line;
+use line_opening::open_station;
 use sqlite::{Alter, Connection};
 use station_core::{ByteIn, ByteOut, Gathered, Keeper};
 use station_days::Moment;
