@@ -1,75 +1,84 @@
 -- Connections that were served, one after another.
-use Rattle.std.proofs.Common.{◌≡◌, ◌≤◌, ◌+◌, refl, ℕ, zero, suc, false, Option, Some, None, MatchOption, Result, Err, List, [], subst, sym, arith}
+use Rattle.std.proofs.Common.{◌≡◌, ◌≤◌, ◌+◌, refl, ℕ, false, Option, Some, None, MatchOption, List, [], ◌∷◌, ◌++◌, length, All, subst, sym, arith}
 use Rattle.std.specs.Prelude.{⊤}
+use Rattle.std.proofs.lemmas.List.Elements.{All-append}
 use Rattle.station_days.specs.Date.{LocalMinute}
 use Rattle.station_core.specs.Given.{Given, nothing_given}
 use Rattle.station_core.specs.Keeping.{Keeping, KeepsPremise, StaysIfBroken}
 use Rattle.station_core.specs.Step.{State}
-use Rattle.station_core.proofs.Premise.{kept_at}
-use Rattle.http_desk.specs.declared.serve.Served.{Served}
-use Rattle.http_desk.specs.declared.serve.ServeFault.{ServeFault}
-use Rattle.http_desk.specs.declared.serve.ServeFault.TheVariants as serve
 use Rattle.http_desk.specs.StationAfter.{station_after}
 use Rattle.http_desk.specs.Serving.{HasServed}
-use Rattle.desk_server.specs.Served.{AtMost, HasServedOne, HaveServed}
-
-pub unserved : {K : Type 0} (k : Keeping K) (at : LocalMinute) (keeper : K)
-    → HasServedOne k at keeper keeper
-unserved k at keeper = record {
-  came = [];
-  sent = nothing_given;
-  ended = Err serve.Read;
-  served = λ s kept works sound. (works, kept);
-  same = λ broken. refl;
-  premise = kept_at keeper;
-}
+use Rattle.desk_server.specs.Served.{AtMost, End, GoesOn, HasServedOne, HaveServed}
 
 -- over ends that were fresh
 pub served_fresh : {K : Type 0} (k : Keeping K) (at : LocalMinute) (old new : K) (came : List ℕ) (sent_old sent : Given)
-    (ended : Result Served ServeFault) → sent_old ≡ nothing_given
+    (ended : End) → sent_old ≡ nothing_given
     → ((s : State) → k.keeps old s → k.is_broken old ≡ false → k.is_sound new
     → HasServed s at came sent_old sent (station_after k new) ended)
     → StaysIfBroken (k.is_broken old) old new → KeepsPremise k.is_clean k.is_sound old new
-    → HasServedOne k at old new
+    → HasServedOne k at ended old new
 served_fresh k at old new came sent_old sent ended none_sent served same premise = record {
   came = came;
   sent = sent;
-  ended = ended;
   served = λ s kept works good.
       subst (λ given. HasServed s at came given sent (station_after k new) ended) none_sent (served s kept works good);
   same = same;
   premise = premise;
 }
 
-pub one_more : {K : Type 0} (k : Keeping K) (n m : ℕ) (old mid new : K)
-    → HaveServed k n old mid
-    → HaveServed k m mid new
-    → (all : ℕ) × HaveServed k all old new × (all ≡ n + m)
-one_more k n zero old mid new first more =
-    (n, subst (λ last. HaveServed k n old last) (sym more) first, omega arith)
-one_more k n (suc m) old mid new first (last, before, one) =
-    let joined = one_more k n m old mid last first before in
-    (suc joined.0, (last, joined.1, one), omega (arith, joined.2))
+-- none was served
+pub none : {K : Type 0} (k : Keeping K) (most : ℕ) (is_good : Type 0) (old new : K)
+    → new ≡ old
+    → AtMost k most is_good old new
+none k most is_good old new same = ([], same, omega arith, λ good. tt)
 
-pub then_more : {K : Type 0} (k : Keeping K) (a b : ℕ) (old mid new : K)
-    → AtMost k a old mid
-    → AtMost k b mid new
-    → AtMost k (a + b) old new
-then_more k a b old mid new first more =
-    let all = one_more k first.0 more.0 old mid new first.1 more.1 in
-    (all.0, all.1, omega (arith, all.2, first.2, more.2))
+-- one was served
+pub one : {K : Type 0} (k : Keeping K) (at : LocalMinute) (ended : End) (is_good : Type 0) (old new : K)
+    → HasServedOne k at ended old new
+    → (is_good → GoesOn ended)
+    → AtMost k 1 is_good old new
+one k at ended is_good old new served goes =
+    (ended ∷ [], (old, refl, tt, (at, served)), omega arith, λ good. (goes good, tt))
 
-pub none_more : {K : Type 0} (k : Keeping K) (a : ℕ) (old mid new : K)
-    → new ≡ mid
-    → AtMost k a old mid
-    → AtMost k (a + 1) old new
-none_more k a old mid new same all =
-    (all.0, subst (λ last. HaveServed k all.0 old last) (sym same) all.1, omega (arith, all.2))
+joined : {K : Type 0} (k : Keeping K) (first more : List End) (old mid new : K)
+    → HaveServed k first old mid
+    → All GoesOn first
+    → HaveServed k more mid new
+    → HaveServed k (more ++ first) old new
+joined k first [] old mid new begun goes same = subst (λ last. HaveServed k first old last) (sym same) begun
+joined k first (ended ∷ more) old mid new begun goes (last, before, all, served) =
+    (last, joined k first more old mid last begun goes before, All-append GoesOn more first all goes, served)
 
-pub within : {K : Type 0} (k : Keeping K) (served most : ℕ) (count : Option ℕ) (old new : K)
-    → AtMost k served old new
-    → served ≤ most
+lengths : {X : Type 0} (xs ys : List X) → length (xs ++ ys) ≡ length xs + length ys
+lengths [] ys = refl
+lengths (x ∷ xs) ys = omega (arith, lengths xs ys)
+
+-- more were served after some that all went on
+pub then_more : {K : Type 0} (k : Keeping K) (a b : ℕ) (is_good : Type 0) (old mid new : K)
+    → AtMost k a ⊤ old mid
+    → AtMost k b is_good mid new
+    → AtMost k (a + b) is_good old new
+then_more k a b is_good old mid new (first, begun, few, goes) (more, after, least, all) = (
+  more ++ first,
+  joined k first more old mid new begun (goes tt) after,
+  omega (arith, lengths more first, few, least),
+  λ good. All-append GoesOn more first (all good) (goes tt),
+)
+
+-- within a bound that is wider
+pub wider : {K : Type 0} (k : Keeping K) (a b : ℕ) (is_good is_better : Type 0) (old new : K)
+    → a ≤ b
+    → (is_better → is_good)
+    → AtMost k a is_good old new
+    → AtMost k b is_better old new
+wider k a b is_good is_better old new low better (ends, served, few, goes) =
+    (ends, served, omega (arith, few, low), λ good. goes (better good))
+
+-- the count of a service
+pub counted : {K : Type 0} (k : Keeping K) (most : ℕ) (count : Option ℕ) (is_good : Type 0) (old new : K)
+    → AtMost k most is_good old new
     → MatchOption count ⊤ (λ c. most ≡ c)
-    → (n : ℕ) × HaveServed k n old new × MatchOption count ⊤ (λ c. n ≤ c)
-within k served most None old new all low is = (all.0, all.1, tt)
-within k served most (Some c) old new all low is = (all.0, all.1, omega (arith, all.2, low, is))
+    → (ends : List End) × HaveServed k ends old new × MatchOption count ⊤ (λ c. length ends ≤ c)
+    × (is_good → All GoesOn ends)
+counted k most None is_good old new (ends, served, few, goes) is = (ends, served, tt, goes)
+counted k most (Some c) is_good old new (ends, served, few, goes) is = (ends, served, omega (arith, few, is), goes)

@@ -1,7 +1,7 @@
 //! Connections that are read side by side, and answered one after another.
-ghost use Rattle.std.specs.Prelude.{◌≡◌, ◌≤◌, ℕ, ⊤, true, false, Ok, Err, IfOk, MatchOption};
+ghost use Rattle.std.specs.Prelude.{◌≡◌, ◌≤◌, ⊤, false, Ok, Err, IfOk, IsOk, MatchOption, length, List, All};
 ghost use Rattle.station_core.specs.Keeping.{keeping};
-ghost use Rattle.desk_server.specs.Served.{AtMost, HasServedOne, HaveServed};
+ghost use Rattle.desk_server.specs.Served.{AtMost, End, GoesOn, HasServedOne, HaveServed};
 
 use crate::connections::Connections;
 use crate::held::{Arrival, Held};
@@ -63,7 +63,7 @@ fn answer<C: Clock, K: Keeper>(
 ) -> Result<Served, ServeFault>
     ensures served { HasServedOne
         (keeping K.keeps K.is_clean K.is_sound K.is_broken K.may_find K.may_fail)
-        at keeper.old keeper.new }
+        at result keeper.old keeper.new }
     // Nothing was written or changed before the request is whole.
     ensures unread { result ≡ Err ServeFault.Read → keeper.new ≡ keeper.old }
 {
@@ -85,7 +85,7 @@ fn serve_held<C: Clock, K: Keeper>(
     now: Duration,
 ) -> Result<Next, ServerFault>
     ensures most { AtMost (keeping K.keeps K.is_clean K.is_sound K.is_broken K.may_find K.may_fail)
-        1 keeper.old keeper.new }
+        1 (IsOk result) keeper.old keeper.new }
     ensures waits { result ≡ Ok Next.Waits → keeper.new ≡ keeper.old }
 {
     let arrival = held.read_request(now);
@@ -117,7 +117,7 @@ fn serve_place<C: Clock, K: Keeper>(
     place: usize,
 ) -> Result<bool, ServerFault>
     ensures most { AtMost (keeping K.keeps K.is_clean K.is_sound K.is_broken K.may_find K.may_fail)
-        1 keeper.old keeper.new }
+        1 (IsOk result) keeper.old keeper.new }
     ensures same { result ≡ Ok false → keeper.new ≡ keeper.old }
 {
     let now = connections.now();
@@ -144,10 +144,10 @@ fn serve_places<C: Clock, K: Keeper>(
     most: usize,
 ) -> Result<usize, ServerFault>
     ensures most { AtMost (keeping K.keeps K.is_clean K.is_sound K.is_broken K.may_find K.may_fail)
-        most keeper.old keeper.new }
+        most (IsOk result) keeper.old keeper.new }
     ensures answered { IfOk result (λ answered. (answered ≤ most)
         × AtMost (keeping K.keeps K.is_clean K.is_sound K.is_broken K.may_find K.may_fail)
-        answered keeper.old keeper.new) }
+        answered ⊤ keeper.old keeper.new) }
 {
     let mut answered = 0;
     for &place in places {
@@ -184,9 +184,12 @@ pub fn serve<N: Net, C: Clock, K: Keeper>(
     listener: &TcpListener,
     count: Option<u32>,
 ) -> Result<(), ServerFault>
-    // The station changes by what its connections ask, at most so many, and by nothing else.
-    ensures { (n : ℕ) × HaveServed (keeping K.keeps K.is_clean K.is_sound K.is_broken K.may_find
-        K.may_fail) n keeper.old keeper.new × MatchOption count ⊤ (λ most. n ≤ most) }
+    // The station changes by what its connections ask, at most so many, and by nothing else. An
+    // answer that the station has to be opened again ends the service, with a fault.
+    ensures { (ends : List End) × HaveServed
+        (keeping K.keeps K.is_clean K.is_sound K.is_broken K.may_find K.may_fail)
+        ends keeper.old keeper.new × MatchOption count ⊤ (λ most. length ends ≤ most)
+        × (IsOk result → All GoesOn ends) }
 {
     let most = most_of(count);
     let mut connections = Connections::new(net, setting.alloc, listener)?;

@@ -1,7 +1,0 @@
-use Rattle.station_core.specs.Keeping.{keeping}
-use Rattle.desk_server.proofs.Serving.{AtMost}
-use Rattle.desk_server.proofs.server.serve.Given as goal
-
-abbrev pub invariant-loop : goal.invariant-loop
-invariant-loop g l =
-    AtMost (keeping g.K.Keeper.keeps g.K.Keeper.is_clean g.K.Keeper.is_sound g.K.Keeper.is_broken g.K.Keeper.may_find g.K.Keeper.may_fail) l.counter l.fn.keeper l.keeper
