@@ -1,5 +1,5 @@
 -- The worked rows of the cargo commands, computed.
-use Rattle.std.proofs.Common.{◌≡◌, ℕ, ◌+◌, ◌*◌, Option, Some, None, Result, Ok, Err, List, [], ◌∷◌, ◌++◌, refl}
+use Rattle.std.proofs.Common.{◌≡◌, ℕ, ◌+◌, ◌*◌, Option, Some, None, Result, Ok, Err, List, [], ◌∷◌, ◌++◌, refl, true, false}
 use Rattle.std.specs.Fmt.{digits}
 use Rattle.std.specs.Prelude.{codes, map}
 use Rattle.shipment_machine.specs.Amount.{amount, amount_text}
