@@ -1,6 +1,7 @@
 -- Whether a waybill has moves, by their rows.
-use Rattle.std.proofs.Common.{◌≡◌, ◌==◌, ℕ, suc, ℤ, pos, negsuc, Bool, true, false, cond, ◌&&◌, ◌||◌, List, [], ◌∷◌, length, filter, refl, sym, ap₂, ◌∙◌, arith}
-use Rattle.std.specs.Prelude.{nat_lt}
+use Rattle.std.proofs.Common.{rules, ◌≡◌, ◌==◌, ℕ, suc, ℤ, pos, negsuc, Bool, true, false, not, cond, ◌&&◌, ◌||◌, List, [], ◌∷◌, length, filter, refl, sym, ap₂, ◌∙◌, arith}
+use Rattle.std.specs.Prelude.{nat_lt, Vec, vec_len}
+use Rattle.std.specs.declared.alloc.Global.{Global}
 use Rattle.std.specs.Ordering.{int_eq}
 use Rattle.std.specs.List.{list_all}
 use Rattle.std.proofs.lemmas.Int.{ints}
@@ -44,3 +45,7 @@ any_move [] w h = refl
 any_move (row ∷ rows) w h =
     ap₂ ◌||◌ (of_this row w (first (is_move_row row) (list_all is_move_row rows) h)) (any_move rows w (second (is_move_row row) (list_all is_move_row rows) h))
     ∙ is_longer (is_of (pos w) row) row (filter (is_of (pos w)) rows)
+
+-- a vector that isn't empty has items
+pub has_items : {X : Type 0} (v : Vec X Global) → not (vec_len v == 0) ≡ nat_lt 0 (length v.items)
+has_items v = search rules

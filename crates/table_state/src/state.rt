@@ -168,8 +168,7 @@ impl<S: TableStore> StateStore for TableState<S> {
 
     #[tactic(auto, using(crate::proofs::Lifting::rests_on, crate::proofs::Lifting::survives_so))]
     fn has_moves(&mut self, awb: &Awb) -> Result<bool, StoreFault> {
-        let moves = self.store.read(MovesOf { awb: awb_key(awb) })?;
-        Ok(!moves.is_empty())
+        Ok(!self.store.read(MovesOf { awb: awb_key(awb) })?.is_empty())
     }
 
     #[tactic(auto, using(crate::proofs::Lifting::rests_on, crate::proofs::Lifting::survives_so))]
