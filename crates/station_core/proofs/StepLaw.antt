@@ -190,6 +190,7 @@ desk_quiet s c at = unless (first_refusal (rule s (shipment.Desk c) at).refusals
 
 desk_proper : (c : DeskCommand) → IsDeskCommand c → IsProper (shipment.Desk c)
 desk_proper (desk.Book w origin destination p t goods) range = range.3.0
+desk_proper (desk.Amend w origin destination p t goods) range = range.3.0
 desk_proper c range = tt
 
 lines_proper : (lines : List InboundLine) → AllByRecursion IsInboundLine lines → AllByRecursion HasPieces lines
