@@ -109,7 +109,7 @@ const REFUSALS: &[RefusalHelp] = &[
         number: 211,
         meaning: "not expected on that flight",
         detail: "the waybill",
-        advice: "take the FFM of the flight first, or check the flight and its day",
+        advice: "check the flight and its day, and take its FFM first; book pieces that come before their FFM with `found`, and `strike` them off when it comes",
     },
     RefusalHelp {
         number: 212,
@@ -121,13 +121,13 @@ const REFUSALS: &[RefusalHelp] = &[
         number: 213,
         meaning: "that part of the manifest was already taken",
         detail: "the part",
-        advice: "nothing; a corrected part can't replace the first",
+        advice: "have lines that it lacked sent as a further part, with another number; a corrected part can't replace the first",
     },
     RefusalHelp {
         number: 214,
         meaning: "a line's waybill is already checked in on that flight, or struck",
         detail: "the waybill",
-        advice: "its pieces are counted; report what differs with `found` or `missing`",
+        advice: "its pieces are counted; report what differs with `found` or `missing`. The part is refused whole: have its other lines sent as a part of their own",
     },
     RefusalHelp {
         number: 217,
