@@ -1,7 +1,8 @@
 -- Connections that were served, one after another.
 use Rattle.std.proofs.Common.{◌≡◌, ◌≤◌, ◌+◌, refl, ℕ, false, Option, Some, None, MatchOption, List, [], ◌∷◌, ◌++◌, length, All, subst, sym, arith}
 use Rattle.std.specs.Prelude.{⊤}
-use Rattle.std.proofs.lemmas.List.Elements.{All-append}
+use Rattle.std.proofs.lemmas.List.{length-append}
+use Rattle.std.proofs.lemmas.List.Elements.{All-nil, All-cons, All-append}
 use Rattle.station_days.specs.Date.{LocalMinute}
 use Rattle.station_core.specs.Given.{Given, nothing_given}
 use Rattle.station_core.specs.Keeping.{Keeping, KeepsPremise, StaysIfBroken}
@@ -30,15 +31,19 @@ served_fresh k at old new came sent_old sent ended none_sent served same premise
 pub none : {K : Type 0} (k : Keeping K) (most : ℕ) (is_good : Type 0) (old new : K)
     → new ≡ old
     → AtMost k most is_good old new
-none k most is_good old new same = ([], same, omega arith, λ good. tt)
+none k most is_good old new same = ([], same, omega arith, λ good. All-nil GoesOn)
 
 -- one was served
 pub one : {K : Type 0} (k : Keeping K) (at : LocalMinute) (ended : End) (is_good : Type 0) (old new : K)
     → HasServedOne k at ended old new
     → (is_good → GoesOn ended)
     → AtMost k 1 is_good old new
-one k at ended is_good old new served goes =
-    (ended ∷ [], (old, refl, tt, (at, served)), omega arith, λ good. (goes good, tt))
+one k at ended is_good old new served goes = (
+  ended ∷ [],
+  (old, refl, All-nil GoesOn, (at, served)),
+  omega arith,
+  λ good. All-cons GoesOn ended [] (goes good) (All-nil GoesOn),
+)
 
 joined : {K : Type 0} (k : Keeping K) (first more : List End) (old mid new : K)
     → HaveServed k first old mid
@@ -49,10 +54,6 @@ joined k first [] old mid new begun goes same = subst (λ last. HaveServed k fir
 joined k first (ended ∷ more) old mid new begun goes (last, before, all, served) =
     (last, joined k first more old mid last begun goes before, All-append GoesOn more first all goes, served)
 
-lengths : {X : Type 0} (xs ys : List X) → length (xs ++ ys) ≡ length xs + length ys
-lengths [] ys = refl
-lengths (x ∷ xs) ys = omega (arith, lengths xs ys)
-
 -- more were served after some that all went on
 pub then_more : {K : Type 0} (k : Keeping K) (a b : ℕ) (is_good : Type 0) (old mid new : K)
     → AtMost k a ⊤ old mid
@@ -61,7 +62,7 @@ pub then_more : {K : Type 0} (k : Keeping K) (a b : ℕ) (is_good : Type 0) (old
 then_more k a b is_good old mid new (first, begun, few, goes) (more, after, least, all) = (
   more ++ first,
   joined k first more old mid new begun (goes tt) after,
-  omega (arith, lengths more first, few, least),
+  omega (arith, length-append more first, few, least),
   λ good. All-append GoesOn more first (all good) (goes tt),
 )
 

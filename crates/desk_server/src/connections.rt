@@ -211,10 +211,12 @@ impl<'a> Connections<'a> {
             };
             match self.listener.accept() {
                 Ok((stream, _)) => {
-                    self.accepted += 1;
+                    self.accepted = self.accepted.saturating_add(1);
                     self.hold(stream, place);
                 }
-                Err(error) if error.kind() == ErrorKind::ConnectionAborted => self.accepted += 1,
+                Err(error) if error.kind() == ErrorKind::ConnectionAborted => {
+                    self.accepted = self.accepted.saturating_add(1);
+                }
                 Err(error) if error.kind() == ErrorKind::WouldBlock => self.is_called = false,
                 Err(error) if error.kind() == ErrorKind::Interrupted => {}
                 Err(_) => return Err(ServerFault::Listener),
