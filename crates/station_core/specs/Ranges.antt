@@ -1,4 +1,4 @@
--- The values that inputs have by their types.
+-- The ranges of inputs, guaranteed by their types.
 use Rattle.std.specs.Prelude.{◌≤◌, IsTrue, IfSome, List}
 use Rattle.std.specs.List.{AllByRecursion, list_all}
 use Rattle.imp_fields.specs.Characters.{is_line}
