@@ -1,18 +1,18 @@
-//! Rows that are picked out of those of a report.
+//! Rows selected from those of a report.
 ghost use Rattle.std.specs.Prelude.{◌≡◌, true, not};
 ghost use Rattle.reports.specs.Listings.{is_open, is_held_by, is_behind};
 
 use agent_stock::{AgentCode, Holder, StockRun};
 use station_core::{FlightRow, Message};
 
-/// Which rows are wanted.
+/// A selection of rows.
 pub(crate) trait Pick<Row> {
     ghost use Rattle.std.specs.Prelude.{Bool};
 
-    /// Whether a row is wanted.
+    /// True if a row is selected.
     ghost wanted: { Self → Row → Bool };
 
-    /// Whether a row is wanted.
+    /// Returns whether a row is selected.
     fn wants(&self, row: &Row) -> bool
         ensures { result ≡ wanted self.now row.now };
 }
@@ -58,7 +58,7 @@ impl Pick<StockRun> for OfAgent {
     }
 }
 
-/// The messages whose number is greater.
+/// The messages with a greater number.
 #[derive(Drop)]
 pub(crate) struct Behind {
     pub(crate) number: u32,

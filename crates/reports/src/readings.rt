@@ -1,4 +1,4 @@
-//! What a keeper hands out for each report.
+//! Readers of a keeper, for each report.
 ghost use Rattle.std.specs.Prelude.{◌≡◌};
 ghost use Rattle.agent_stock.specs.Runs.{AreStockRuns};
 ghost use Rattle.station_core.specs.Readers.{shed_rows, AreFlightRows, AreExpectedBy, irregular_rows, book_by, pending_messages, trail_by};
@@ -15,10 +15,10 @@ pub(crate) trait Reading<Row> {
     ghost use Rattle.shipment_machine.specs.Cargo.{Cargo};
     ghost use Rattle.station_core.specs.Keeping.{HandsOut, keeping};
 
-    /// The rows are these.
+    /// The relation of a cargo to its rows.
     ghost rows: { Self → Cargo → List Row → Type 0 };
 
-    /// Has a keeper hand out the rows.
+    /// Makes a keeper hand out the rows.
     fn hand_out<K: Keeper, S: Sink<Row>>(
         &self,
         keeper: &mut K,
@@ -76,7 +76,7 @@ impl Reading<FlightRow> for FlightReading {
     }
 }
 
-/// What flights are to bring.
+/// The expectations.
 #[derive(Drop)]
 pub(crate) struct ExpectedReading {
     pub(crate) query: ExpectedQuery,
@@ -94,7 +94,7 @@ impl Reading<ExpectedRow> for ExpectedReading {
     }
 }
 
-/// The waybills of which pieces are missing or were found.
+/// The waybills with missing or found pieces.
 #[derive(Drop)]
 pub(crate) struct IrregularReading;
 
