@@ -1,5 +1,4 @@
--- What it is, in the syntax of SQL, that a text selects columns of one table, in the order of the
--- first of them.
+-- SQL texts that select columns of one table, ordered by the first of them.
 use Rattle.std.specs.Prelude.{◌≡◌, ◌<◌, ℕ, List, [], ◌∷◌, length, false, None, Ok}
 use Rattle.sqlite_ast.specs.declared.Expr.{Expr, out-Expr}
 use Rattle.sqlite_ast.specs.declared.Expr.TheOpen.{Expr-F, Shown-F}
@@ -13,7 +12,7 @@ use Rattle.sqlite_ast.specs.declared.Statement.TheVariants as written
 use Rattle.sqlite_syntax.specs.declared.statement.Parsed.{Parsed}
 use Rattle.sqlite_resolve.specs.Compile.{first}
 
--- these columns and no more are shown, without AS
+-- exactly these columns are shown, without AS
 abbrev pub AreShown : List Shown → List (List ℕ) → Type 0
 AreShown [] [] = Unit {0}
 AreShown [] (n ∷ names) = ⊥
@@ -53,7 +52,7 @@ pub record IsPlainSelect (name : List ℕ) (names keys : List (List ℕ)) (sel :
   pub core_is : IsPlainCore name names (out-Select sel).first
   pub order_is : AreSorts (out-Select sel).order keys
 
--- SELECT names FROM name ORDER BY keys: each field is found by `refl`
+-- SELECT names FROM name ORDER BY keys; each field is proved by `refl`
 pub record IsSelect (text name : List ℕ) (names keys : List (List ℕ)) : Type 0 where
   pub p : Parsed
   pub sel : Select
