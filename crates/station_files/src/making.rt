@@ -60,8 +60,7 @@ fn store_begun<D: Disk>(
     }
 }
 
-/// Returns whether two files have no database, not even one that was started with pages of another
-/// size.
+/// Returns whether no database has been made in two files yet, with pages of this size.
 fn is_blank<D: Disk>(alloc: Global, files: &mut Files<D>, size: PageSize) -> Result<bool, ErrorCode>
     requires log { IsTrue (D.Disk.is_usable files.old.log) }
     requires db { IsTrue (D.Disk.is_usable files.old.db) }
