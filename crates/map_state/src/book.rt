@@ -18,7 +18,7 @@ use state_store::{FlightKey, StoreFault};
 use std::alloc::Global;
 use std::collections::BTreeMap;
 
-/// The movement book, with what its moves add up to by waybill, and by flight and waybill.
+/// The movement book, with the sums of its moves by waybill, and by flight and waybill.
 #[derive(Drop)]
 pub(crate) struct MovementBook {
     pub(crate) moves: Vec<Move>,
@@ -27,7 +27,7 @@ pub(crate) struct MovementBook {
     pub(crate) alloc: Global,
 }
 
-/// What moved of a waybill, by the flows of a flight.
+/// Returns the flow of a waybill among those of a flight.
 fn flow_of(flows: &BTreeMap<u64, Flow>, awb: &Awb) -> Flow
     ensures { result ≡ flow_in flows.now awb.now }
 {
@@ -37,7 +37,7 @@ fn flow_of(flows: &BTreeMap<u64, Flow>, awb: &Awb) -> Flow
     }
 }
 
-/// Adds a move to the flow of its waybill, where the flows are those of a place.
+/// Adds a move to the flow of its waybill at a place.
 fn post_flow(
     flows: &mut BTreeMap<u64, Flow>,
     place: &Place,
@@ -52,7 +52,7 @@ fn post_flow(
 }
 
 impl MovementBook {
-    /// The book without a move.
+    /// Returns an empty book.
     pub(crate) fn new(alloc: Global) -> MovementBook
         ensures moves { result.moves.items ≡ [] }
         ensures summed { IsSummed result }
@@ -65,7 +65,7 @@ impl MovementBook {
         }
     }
 
-    /// What moved of a waybill, by place.
+    /// Returns the flows of a waybill, by place.
     fn flows(&self, awb: &Awb) -> WaybillFlows
         ensures { result ≡ unwrap_or (get nat_cmp self.now.flows awb.now) no_flows }
     {
@@ -75,7 +75,7 @@ impl MovementBook {
         }
     }
 
-    /// What moved onto a flight of a waybill, and off it.
+    /// Returns the flow of a waybill on a flight.
     fn flow(&self, flight: &FlightKey, awb: &Awb) -> Flow
         ensures { result ≡ flow_at self.now.loads flight.now awb.now }
     {
@@ -97,7 +97,7 @@ impl MovementBook {
         Ok(())
     }
 
-    /// Takes out the flows of a flight, which may be none.
+    /// Removes the flows of a flight, and returns them.
     fn take_flows(&mut self, flight: &FlightKey) -> BTreeMap<u64, Flow>
         ensures taken { (w : ℕ) → flow_in result w ≡ flow_at self.old.loads flight.now w }
         ensures others { (k : AnyFlightKey) → is_at (by_key flight.now) k ≡ false
@@ -146,14 +146,14 @@ impl MovementBook {
         Ok(())
     }
 
-    /// Whether a waybill has a move.
+    /// Returns whether a waybill has a move.
     pub(crate) fn has_moves(&self, awb: &Awb) -> bool
         ensures { IsSummed self.now → result ≡ has_moves self.now.moves.items awb.now }
     {
         self.flows.contains_key(&awb.key())
     }
 
-    /// What the moves of a waybill add up to.
+    /// Returns the balances of a waybill.
     pub(crate) fn balances(&self, awb: &Awb) -> Result<Balances, StoreFault>
         ensures { IsSummed self.now → IfOk result (λ balances. balances
             ≡ balances_of self.now.moves.items awb.now) }
@@ -161,7 +161,7 @@ impl MovementBook {
         self.flows(awb).balances()
     }
 
-    /// What of a waybill is built on a flight.
+    /// Returns the amount of a waybill built on a flight.
     pub(crate) fn load(&self, awb: &Awb, flight: &FlightDate) -> Result<Amount, StoreFault>
         ensures { IsSummed self.now → IfOk result (λ load. load
             ≡ built self.now.moves.items awb.now flight.now) }

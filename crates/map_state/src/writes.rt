@@ -1,4 +1,4 @@
-//! Rows that are written.
+//! Writing rows.
 ghost use Rattle.std.specs.Prelude.{◌∷◌, [], OnOk};
 ghost use Rattle.shipment_machine.specs.Cargo.{written};
 ghost use Rattle.shipment_machine.specs.declared.plans.Change.TheVariants.{Confirm, Declare, Expect, NoteFlight, NotePart, Trail, UseUp};
@@ -13,7 +13,7 @@ use shipment_machine::{Declared, Expected, FlightDate, Move, Outbound, Part, Tra
 use state_store::{FlightKey, StoreFault};
 
 impl MapState {
-    /// A move joins the book.
+    /// Appends a move to the book.
     pub(crate) fn put_move(&mut self, movement: &Move) -> Result<(), StoreFault>
         ensures { (s : State) → Shows self.old s
             → OnOk result (Shows self.new (with_moves (movement.now ∷ []) s)) }
@@ -24,7 +24,7 @@ impl MapState {
         self.book.add(movement)
     }
 
-    /// What is declared of a waybill from now on.
+    /// Sets the declaration of a waybill.
     pub(crate) fn declare(&mut self, awb: &Awb, declared: Declared) -> Result<(), StoreFault>
         ensures { (s : State) → Shows self.old s
             → OnOk result (Shows self.new (on_cargo (written [] (Declare awb.now declared)) s)) }
@@ -34,7 +34,7 @@ impl MapState {
         Ok(())
     }
 
-    /// A number is used up.
+    /// Marks a number as used.
     pub(crate) fn use_up(&mut self, awb: &Awb) -> Result<(), StoreFault>
         ensures { (s : State) → Shows self.old s
             → OnOk result (Shows self.new (on_cargo (written [] (UseUp awb.now)) s)) }
@@ -43,7 +43,7 @@ impl MapState {
         Ok(())
     }
 
-    /// What is noted of an outbound flight from now on.
+    /// Sets the note of an outbound flight.
     pub(crate) fn note_flight(
         &mut self,
         flight: &FlightDate,
@@ -56,7 +56,7 @@ impl MapState {
         Ok(())
     }
 
-    /// What is expected of a waybill on a flight from now on.
+    /// Sets the expectation of a waybill on a flight.
     pub(crate) fn expect(
         &mut self,
         flight: &FlightDate,
@@ -70,7 +70,7 @@ impl MapState {
         Ok(())
     }
 
-    /// The telegram in work, which has this text, is this part.
+    /// Notes that the telegram with this text is this part.
     pub(crate) fn note_part(&mut self, part: &Part, text: &[u8]) -> Result<(), StoreFault>
         ensures { (s : State) → Shows self.old s → OnOk result (Shows self.new
             (on_cargo (written text.now (NotePart part.now)) s)) }
@@ -82,7 +82,7 @@ impl MapState {
         Ok(())
     }
 
-    /// A line joins the trail of a waybill.
+    /// Adds a line to the trail of a waybill.
     pub(crate) fn add_line(&mut self, awb: &Awb, line: &TrailLine<'_>) -> Result<(), StoreFault>
         ensures { (s : State) → Shows self.old s → OnOk result (Shows self.new
             (on_cargo (written [] (Trail awb.now line.now)) s)) }
@@ -95,7 +95,7 @@ impl MapState {
         Ok(())
     }
 
-    /// A message joins the outbox.
+    /// Appends a message to the outbox.
     pub(crate) fn put_message(&mut self, text: &[u8]) -> Result<(), StoreFault>
         ensures { (s : State) → Shows self.old s
             → OnOk result (Shows self.new (with_messages (text.now ∷ []) s)) }
@@ -108,7 +108,7 @@ impl MapState {
         Ok(())
     }
 
-    /// The messages up to this one are confirmed.
+    /// Confirms the messages up to this one.
     pub(crate) fn confirm(&mut self, upto: u32)
         ensures { (s : State) → Shows self.old s
             → Shows self.new (on_cargo (written [] (Confirm upto)) s) }
