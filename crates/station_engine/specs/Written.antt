@@ -1,4 +1,4 @@
--- What an accepted input writes.
+-- Writing the effect of an accepted input.
 use Rattle.std.specs.Prelude.{ℕ, List, map, Vec}
 use Rattle.shipment_machine.specs.declared.plans.Change.{Change}
 use Rattle.shipment_machine.specs.declared.plans.Plan.{Plan}
