@@ -1,4 +1,4 @@
-//! The station of a line.
+//! The station of a command line.
 ghost use Rattle.cli_run.specs.Place.{here_of, is_new};
 ghost use Rattle.cli_call.specs.Opened.{HasOpened};
 
@@ -9,7 +9,7 @@ use station_core::Keeper;
 use station_tables::{AttachFault, Station, attach, create};
 use std::alloc::Global;
 
-/// Opens the station of a line: a new one at its airport, or the one that is there.
+/// Opens the station of a command line: a new one at its airport, or the existing one.
 pub fn open_station<S: Alter>(
     alloc: Global,
     line: &Line<'_>,
