@@ -18,14 +18,14 @@ use shipment_machine::{InboundLine, TrailLine};
 use std::alloc::{AllocError, Global};
 use telegrams::Content;
 
-/// Whether no field is read of a line.
+/// Returns whether no field of a line is read.
 fn is_unread(part: &LinePart) -> bool
     ensures { result ≡ is_unread part.now }
 {
     matches!(part, LinePart::Status | LinePart::Passed)
 }
 
-/// Whether a line is doubtful, by what it is to the reader.
+/// Returns whether a line is doubtful.
 fn doubtful(alloc: Global, part: &LinePart, text: &[u8]) -> Result<bool, AllocError>
     ensures { IfOk result (λ answer. answer ≡ (is_unread part.now && is_doubtful text.now)) }
 {
@@ -36,7 +36,7 @@ fn doubtful(alloc: Global, part: &LinePart, text: &[u8]) -> Result<bool, AllocEr
     }
 }
 
-/// A line of a message.
+/// Returns a line of a message.
 fn seen_line<'a>(
     alloc: Global,
     number: u32,
@@ -54,7 +54,7 @@ fn seen_line<'a>(
     })
 }
 
-/// What the second line is, by what the message says.
+/// Returns how the second line is read.
 fn second_part(says: &Content<'_>) -> LinePart
     ensures { result ≡ second_part says.now }
 {
@@ -65,7 +65,7 @@ fn second_part(says: &Content<'_>) -> LinePart
     }
 }
 
-/// What a line of cargo says: the next of the lines that are left.
+/// Returns how a cargo line is read: as the next of the remaining lines.
 fn loaded_part(left: &[InboundLine]) -> LinePart
     ensures { result ≡ loaded_part left.now }
 {
@@ -75,7 +75,7 @@ fn loaded_part(left: &[InboundLine]) -> LinePart
     }
 }
 
-/// Whether a line begins with three digits and a hyphen, so that it is a consignment line.
+/// Returns whether a line begins with three digits and a hyphen, so that it is a consignment line.
 fn is_cargo_line(line: &[u8]) -> bool
     ensures { result ≡ is_cargo_line line.now }
 {
@@ -87,7 +87,7 @@ fn is_cargo_line(line: &[u8]) -> bool
     }
 }
 
-/// What a line of a manifest is, below its flight line.
+/// Returns how a line of a manifest after its flight line is read.
 fn manifest_part(left: &[InboundLine], line: &[u8], is_last: bool) -> LinePart
     ensures { result ≡ manifest_part left.now line.now is_last }
 {
@@ -102,7 +102,7 @@ fn manifest_part(left: &[InboundLine], line: &[u8], is_last: bool) -> LinePart
     }
 }
 
-/// What a line is below the second.
+/// Returns how a line after the second is read.
 fn lower_part(says: &Content<'_>, left: &[InboundLine], line: &[u8], is_last: bool) -> LinePart
     ensures { result ≡ lower_part says.now left.now line.now is_last }
 {
@@ -113,7 +113,7 @@ fn lower_part(says: &Content<'_>, left: &[InboundLine], line: &[u8], is_last: bo
     }
 }
 
-/// The cargo that is left behind a line.
+/// Returns the cargo that remains after a line.
 fn left_behind<'c>(line: &[u8], left: &'c [InboundLine]) -> &'c [InboundLine]
     ensures { result.now ≡ left_behind line.now left.now }
 {
@@ -126,7 +126,7 @@ fn left_behind<'c>(line: &[u8], left: &'c [InboundLine]) -> &'c [InboundLine]
     }
 }
 
-/// The cargo of a manifest.
+/// Returns the cargo of a manifest.
 fn cargo_of<'c>(says: &'c Content<'_>) -> &'c [InboundLine]
     ensures { result.now ≡ cargo_of says.now }
 {
@@ -136,7 +136,7 @@ fn cargo_of<'c>(says: &'c Content<'_>) -> &'c [InboundLine]
     }
 }
 
-/// Appends the lines below the second. The first of them is line 3.
+/// Appends the lines after the second. The first of them is line 3.
 fn put_lower<'a>(
     alloc: Global,
     says: &Content<'_>,
@@ -159,7 +159,7 @@ fn put_lower<'a>(
     Ok(())
 }
 
-/// What each line of a message is to its reader, by what the message says.
+/// Returns how each line of a message is read.
 pub(crate) fn seen_lines<'a>(
     alloc: Global,
     says: &Content<'_>,
