@@ -108,9 +108,8 @@ fn line_texts(alloc: Global, lines: &[SeenLine<'_>]) -> Result<String, AllocErro
     Ok(text)
 }
 
-/// What is seen of a telegram, for people. Each thing has a line, which ends with a newline: the
-/// message; each line before it; each consignment, with its weight in kilograms; each status
-/// line; each line that is passed over.
+/// Returns a dry run as lines for people, each ended by a newline: the message; each line before it;
+/// each consignment, with its weight in kilograms; each status line; each line that is ignored.
 ///
 /// ```text
 /// FFM LH400/12JAN from FRA, part 1
@@ -120,8 +119,7 @@ fn line_texts(alloc: Global, lines: &[SeenLine<'_>]) -> Result<String, AllocErro
 /// line 6 is passed over, doubtful:  020-12345686FRAJFK/T10K100
 /// ```
 ///
-/// # Errors
-/// [`AllocError`] when out of memory.
+/// It fails only if memory runs out.
 pub fn look_text(alloc: Global, look: &Look<'_>) -> Result<String, AllocError>
     ensures text { IfOk result (λ text. string_bytes text ≡ look_text look.now) }
 {
