@@ -108,8 +108,8 @@ fn line_texts(alloc: Global, lines: &[SeenLine<'_>]) -> Result<String, AllocErro
     Ok(text)
 }
 
-/// Returns a dry run as lines for people, each ended by a newline: the message; each line before it;
-/// each consignment, with its weight in kilograms; each status line; each line that is ignored.
+/// Returns a dry run as lines for people, each ended by a newline: the message; each line before
+/// it; each consignment, with its weight in kilograms; each status line; each line that is ignored.
 ///
 /// ```text
 /// FFM LH400/12JAN from FRA, part 1
