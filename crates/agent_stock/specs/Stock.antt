@@ -25,7 +25,6 @@ is_among first count q = nat_le first q && nat_lt q (first + count)
 abbrev pub covers : Run → ℕ → Bool
 covers run q = is_among run.first run.count q
 
--- the largest number of numbers in a run
 abbrev pub largest_run : ℕ
 largest_run = 1_000_000
 
@@ -50,21 +49,18 @@ lowest_failing h run test = find (λ q. not (passes test (h q))) (range_with_len
 abbrev pub assigned : Holders → Run → Holder → Holders
 assigned h run to q = if covers run q then Some to else h q
 
--- the run of an order
 abbrev pub run_of : Order → Run
 run_of (order.TakeIn run) = run
 run_of (order.Issue run agent) = run
 run_of (order.GiveBack run agent) = run
 run_of (order.Void run) = run
 
--- the test of an order
 abbrev pub test_of : Order → Test
 test_of (order.TakeIn run) = is.Absent
 test_of (order.Issue run agent) = is.Desk
 test_of (order.GiveBack run agent) = is.With agent
 test_of (order.Void run) = is.DeskOrAgent
 
--- the new holder
 abbrev pub holder_after : Order → Holder
 holder_after (order.TakeIn run) = Desk
 holder_after (order.Issue run agent) = Agent agent

@@ -22,7 +22,6 @@ pub struct StockRun {
 }
 
 impl StockRun {
-    /// Returns the run of one number.
     fn of_one(held: &Held) -> StockRun
         ensures { result ≡ record { first = held.now.number; count = 1; holder = held.now.holder } }
     {

@@ -25,7 +25,6 @@ pub enum Holder {
 }
 
 impl Holder {
-    /// Returns whether both are the same holder.
     pub(crate) fn is_same(&self, other: &Holder) -> bool
         ensures { IsTrue result ↔ (self.now ≡ other.now) }
     {

@@ -28,7 +28,6 @@ attach_line attach.Occupied = codes "fault 604\n"
 attach_line attach.Store = codes "fault store\n"
 attach_line attach.Memory = codes "fault memory\n"
 
--- the same for any fault
 abbrev pub fault_line : DeskFault → List ℕ
 fault_line fault.Clock = codes "fault clock\n"
 fault_line (fault.Run e) = run_line e

@@ -67,7 +67,6 @@ abbrev pub asked_good : State → Asked → LocalMinute → Bool
 asked_good s (asked.Input i) at = is_done (step s i at).answer
 asked_good s _ at = false
 
--- the state after it
 abbrev pub asked_after : State → Asked → LocalMinute → State
 asked_after s (asked.Input i) at = (step s i at).state
 asked_after s _ at = s

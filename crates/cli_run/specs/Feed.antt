@@ -7,6 +7,5 @@ use Rattle.station_core.specs.declared.ends.Counted.{Counted}
 abbrev pub fed_of : {R : Type 0} → Counted R → Given
 fed_of feed = given_of feed
 
--- the reader
 abbrev pub reader_of : {R : Type 0} → Counted R → R
 reader_of feed = inner_of feed

@@ -20,7 +20,6 @@ waybill_found w s = option_map (waybill_data w) (waybill_of s.cargo w)
 abbrev pub holder_found : ℕ → State → Option Data
 holder_found w s = option_map (holder_data w) (s.cargo.holders w)
 
--- the line with it
 abbrev pub found_line : Option Data → List ℕ
 found_line (Some d) = compact_text d ++ 10 ∷ []
 found_line None = codes "unknown\n"

@@ -91,7 +91,6 @@ pub fn named_line(
     }
 }
 
-/// Returns the line of an answer.
 fn answer_line(
     alloc: Global,
     number: Option<u64>,
@@ -105,7 +104,6 @@ fn answer_line(
     named_line(alloc, number, input, text.as_str())
 }
 
-/// Returns the line of a refusal.
 pub(crate) fn refusal_line(
     alloc: Global,
     number: Option<u64>,

@@ -17,7 +17,6 @@ use stock_list::{RunFault, keeper_fault, send_line};
 /// The line of an unknown number.
 const UNKNOWN: &str = "unknown\n";
 
-/// Returns the line of an object.
 fn object_line(alloc: Global, object: &str) -> Result<String, AllocError>
     ensures { IfOk result (λ line. string_bytes line ≡ object.now ++ 10 ∷ []) }
 {
@@ -44,7 +43,6 @@ fn tell_object<W: ByteOut>(
     Ok(true)
 }
 
-/// Writes that the number is unknown.
 fn tell_unknown<W: ByteOut>(output: &mut W) -> Result<bool, RunFault>
     ensures told { HasToldFound None (W.taken output.old) (W.taken output.new) result }
     ensures store { result ≡ Err RunFault.Store → ⊥ }
@@ -70,7 +68,6 @@ fn tell_waybill<W: ByteOut>(
     }
 }
 
-/// Writes the holder of a number.
 fn tell_holder<W: ByteOut>(
     alloc: Global,
     number: &Awb,

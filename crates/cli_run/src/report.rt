@@ -73,7 +73,6 @@ pub(crate) fn good_of(ended: Result<(), RunFault>) -> Result<bool, RunFault>
     }
 }
 
-/// Writes a report.
 fn send_report<K: Keeper, W: ByteOut>(
     alloc: Global,
     keeper: &mut K,

@@ -25,7 +25,6 @@ IsOpen report.Flights l = l ≡ listing.OpenFlights
 IsOpen report.Expected l = l ≡ listing.OpenExpected
 IsOpen _ l = ⊥
 
--- the numbers of an agent
 abbrev pub HasAgent : Report → List ℕ → Listing → Type 0
 HasAgent report.Stock code l = IsTrue (is_agent_code code) × (l ≡ listing.AgentStock code)
 HasAgent _ code l = ⊥

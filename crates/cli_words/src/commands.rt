@@ -76,7 +76,6 @@ pub(crate) const KEY: [Word; 1] = [Word {
     help: help::KEY,
 }];
 
-/// The word of a look-up.
 const LOOK_UP: [Word; 1] = [Word {
     name: "AWB",
     given: Given::Always,

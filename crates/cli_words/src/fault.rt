@@ -126,7 +126,6 @@ impl BadValue<'_> {
     }
 }
 
-/// Returns the fault for a bad value.
 pub(crate) fn value_fault(alloc: Global, bad: BadValue<'_>) -> WordsFault {
     match bad.told(alloc) {
         Ok(told) => usage_fault(alloc, told.as_str()),

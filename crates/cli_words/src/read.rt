@@ -131,7 +131,6 @@ fn read_outbox<'a>(after: Option<&'a str>, json: bool) -> Result<LineCommand<'a>
     }
 }
 
-/// Returns the requested command.
 fn read_command<'a>(
     request: Request<'a>,
     has_file: bool,

@@ -13,7 +13,6 @@ struct RefusalHelp {
     advice: &'static str,
 }
 
-/// The refusals, by their numbers.
 const REFUSALS: &[RefusalHelp] = &[
     RefusalHelp {
         number: 101,

@@ -77,7 +77,6 @@ fn arg_of<'a>(alloc: Global, word: &Word) -> Arg<'a> {
     }
 }
 
-/// Adds words to a command.
 fn with_words<'a>(
     alloc: Global,
     mut command: Command<'a>,
@@ -99,13 +98,11 @@ fn bare<'a>(
     Command::new(alloc, name).about(about).after_help(examples)
 }
 
-/// Returns the command of a verb.
 fn verb_command<'a>(alloc: Global, verb: Verb) -> Result<Command<'a>, AllocError> {
     let command = bare(alloc, verb.word(), verb.about(), help::FIELDS);
     with_words(alloc, command, &KEY)
 }
 
-/// Adds the verbs to a command.
 fn with_verbs<'a>(alloc: Global, command: Command<'a>) -> Result<Command<'a>, AllocError> {
     let mut command = command
         .override_usage("cargo_desk act <VERB> <KEY>")

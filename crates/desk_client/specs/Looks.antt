@@ -65,7 +65,6 @@ HasLooked Shows most request old new result =
     ⊎ ((f : AskFault) × IsAnswered most request old.talk new.talk (Err f) × (new.sent ≡ old.sent)
     × (result ≡ Err (service_fault f)))
 
--- the request of rows
 abbrev pub rows_request : List ℕ → List ℕ
 rows_request path = get_request path ++ []
 

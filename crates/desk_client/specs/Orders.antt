@@ -18,7 +18,6 @@ run_object count prefix serial =
     object (member (codes "count") (number (unsigned count))
     (member (codes "prefix") (string prefix) (member (codes "serial") (string serial) no_members)))
 
--- the same with an agent
 abbrev pub agents_object : List ℕ → ℕ → List ℕ → List ℕ → Data
 agents_object agent count prefix serial =
     object (member (codes "agent") (string agent) (member (codes "count") (number (unsigned count))

@@ -106,7 +106,6 @@ abbrev pub last_after : Result (Unit {0}) PrintFault → LastTry → LastTry
 last_after (Err (print.Rest e)) how = last.Failed e
 last_after _ how = how
 
--- the result of the call
 abbrev pub call_ended : Result (Unit {0}) PrintFault → Result Bool RunFault
 call_ended (Ok x) = Ok true
 call_ended (Err print.Write) = Err run.Write

@@ -37,7 +37,6 @@ length_line len = codes "Content-Length: " ++ (decimal len ++ codes "\r\n\r\n")
 abbrev pub command_head : List ℕ → List ℕ → ℕ → List ℕ
 command_head name key len = command_lines name ++ (key_line key ++ length_line len)
 
--- the head of a telegram
 abbrev pub telegram_head : ℕ → List ℕ
 telegram_head len =
     codes "POST /v1/telegrams HTTP/1.1\r\nHost: 127.0.0.1\r\nConnection: close\r\nContent-Length: " ++ decimal len ++ codes "\r\n\r\n"
@@ -67,7 +66,6 @@ listing_path (listing.TrailLast n) = codes "/v1/trail/last/" ++ decimal n
 listing_path (listing.PendingAfter n) = codes "/v1/outbox/after/" ++ decimal n
 listing_path (listing.Manifest f) = codes "/v1/flights/" ++ flight_date_text f
 
--- the path of rows in a form
 abbrev pub rows_path : Listing → Form → List ℕ
 rows_path l form.Text = listing_path l
 rows_path l form.Json = listing_path l ++ codes ".json"

@@ -80,7 +80,6 @@ fn understood(bytes: Vec<u8>, most: usize) -> Result<Answer, AskFault>
     }
 }
 
-/// Writes a request.
 fn send_request<O: ByteOut>(writer: &mut O, request: &[u8]) -> Result<(), AskFault>
     ensures { HasSent request.now (O.taken writer.old) (O.taken writer.new) result }
 {

@@ -83,7 +83,6 @@ fn question_of<'a>(posted: &'a Posted) -> Question<'a>
     }
 }
 
-/// Answers a line, from its value.
 fn answer_value<S: Ask, W: ByteOut, E: ByteOut>(
     alloc: Global,
     service: &mut S,

@@ -75,7 +75,6 @@ fn listing_path(alloc: Global, listing: &Listing) -> Result<String, AllocError>
     }
 }
 
-/// Returns the path of rows in a form.
 fn rows_path(alloc: Global, listing: &Listing, form: Form) -> Result<String, AllocError>
     ensures { IfOk result (λ path. string_bytes path ≡ rows_path listing.now form) }
 {
@@ -93,7 +92,6 @@ fn command_lines(alloc: Global, word: &str) -> Result<String, AllocError>
     format!(in alloc; "POST /v1/act/{word} HTTP/1.1\r\nHost: 127.0.0.1\r\nConnection: close\r\n")
 }
 
-/// Returns the line of a key.
 fn key_line(alloc: Global, key: &Key) -> Result<String, AllocError>
     ensures { IfOk result (λ text. string_bytes text ≡ key_line key.now) }
 {
@@ -126,7 +124,6 @@ fn telegram_head(alloc: Global, len: usize) -> Result<String, AllocError>
     )
 }
 
-/// Returns the GET request for a path.
 fn get_request(alloc: Global, path: &str) -> Result<String, AllocError>
     ensures { IfOk result (λ text. string_bytes text ≡ get_request path.now) }
 {
@@ -154,7 +151,6 @@ fn with_body(alloc: Global, head: &str, body: &[u8]) -> Result<Vec<u8>, AllocErr
     Ok(bytes)
 }
 
-/// Returns the request of a question.
 pub(crate) fn request_of(alloc: Global, question: &Question<'_>) -> Result<Vec<u8>, AllocError>
     ensures { IfOk result (λ bytes. bytes.items ≡ request_of question.now) }
 {

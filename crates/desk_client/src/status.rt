@@ -25,7 +25,6 @@ const FOREIGN: &str = "the answer isn't a cargo desk's; pass the port of the ser
 /// The status of a desk that is unavailable. Its own output says why.
 const UNAVAILABLE: u16 = 503;
 
-/// Returns the line of a fault.
 fn fault_line(fault: RunFault) -> &'static str
     ensures { result.now ≡ fault_line fault }
 {

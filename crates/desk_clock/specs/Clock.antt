@@ -11,7 +11,6 @@ use Rattle.jiff_core.specs.declared.civil.datetime.DateTime.{DateTime}
 use Rattle.jiff_tz.specs.Zone.{offset_at}
 use Rattle.desk_clock.specs.declared.zone.Zone.{Zone}
 
--- the zone has this rule
 abbrev pub FollowsRule : List ℕ → Zone → Type 0
 FollowsRule rule zone = IsPosixZone rule (plain_zone zone.zone)
 

@@ -53,7 +53,6 @@ abbrev pub text_value_if_any : List ℕ → Option FieldValue
 text_value_if_any [] = Some Absent
 text_value_if_any (b ∷ line) = Some (Text (b ∷ line))
 
--- the value of a line
 abbrev pub line_says : Kind → List ℕ → Option FieldValue
 line_says kind.Text line = Some (Text line)
 line_says kind.Number line = number_value line

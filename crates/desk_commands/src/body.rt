@@ -51,7 +51,6 @@ fn is_present(value: &FieldValue<'_>) -> bool
     !matches!(value, FieldValue::Absent)
 }
 
-/// Returns the number of fields present.
 fn present_count(values: &[FieldValue<'_>; 6]) -> usize
     ensures { result ≡ count_by is_present values.now }
 {

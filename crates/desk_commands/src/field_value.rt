@@ -13,7 +13,6 @@ use imp_fields::{Airport, Flight, Goods, Name, Pieces, Tenths};
 use shipment_machine::{Airline, FlightDate, PieceCount};
 use station_days::LocalDay;
 
-/// The value of a field.
 #[derive(Drop)]
 pub(crate) enum FieldValue<'a> {
     Text(Text<'a>),
@@ -174,7 +173,6 @@ pub(crate) fn run(
     Some(Run { first, count })
 }
 
-/// Returns the flight on its day.
 pub(crate) fn flight_date(flight: &FieldValue<'_>, day: &FieldValue<'_>) -> Option<FlightDate>
     ensures { result ≡ flight_date_in flight.now day.now }
 {

@@ -24,7 +24,6 @@ impl<'a> Text<'a> {
         Text { bytes }
     }
 
-    /// The bytes of the text.
     pub(crate) fn as_bytes(&self) -> &'a [u8]
         ensures { result.now ≡ self.now }
     {

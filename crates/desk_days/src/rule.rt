@@ -211,7 +211,6 @@ fn all_mixed(alloc: Global) -> Option<Vec<Asked>> {
     Some(all)
 }
 
-/// Returns the input of a text.
 fn input_of<'a>(alloc: Global, asked: &'a Asked) -> Option<Input<'a>> {
     match &asked.key {
         Some(key) => Some(Input::Keyed(

@@ -121,7 +121,6 @@ abbrev pub cargo_faults : List (List ℕ) → List (List ℕ) → List (Option W
 cargo_faults above [] = []
 cargo_faults above (line ∷ below) = cargo_fault above line ∷ cargo_faults (above ++ line ∷ []) below
 
--- the fault of each line that is read
 abbrev pub ffm_line_faults : List (List ℕ) → List (Option Why)
 ffm_line_faults [] = []
 ffm_line_faults (head ∷ []) = unless_true (is_head (codes "FFM") head) why.Head ∷ []
@@ -132,7 +131,6 @@ ffm_line_faults (head ∷ flight ∷ below) =
 abbrev pub ffm_fault : List (List ℕ) → Option TextFault
 ffm_fault lines = fault_in lines (ffm_line_faults lines) (has_last_line (drop 2 lines))
 
--- the values of a flight line
 abbrev pub part_of : Part → FlightLine
 part_of p = record { sequence = p.sequence; flight = p.flight; date = p.date; loaded = p.loaded }
 

@@ -23,7 +23,6 @@ line_text line = line ++ (13 ∷ 10 ∷ [])
 abbrev pub load_line : Load → List ℕ
 load_line l = consignment_text (cargo_of l)
 
--- its number and route
 abbrev pub route_text : Load → List ℕ
 route_text l = number_text l.awb ++ l.origin ++ l.destination ++ (47 ∷ [])
 

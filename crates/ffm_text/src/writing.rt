@@ -24,7 +24,6 @@ fn put(out: &mut Vec<u8>, text: &[u8]) -> Result<(), AllocError>
     out.extend_from_slice(text)
 }
 
-/// Appends a line.
 fn put_line(out: &mut Vec<u8>, line: &[u8]) -> Result<(), AllocError>
     ensures text { OnOk result (out.new.items ≡ out.old.items ++ line_text line.now) }
     ensures begins { Begins out.old.items out.new.items }
@@ -33,7 +32,6 @@ fn put_line(out: &mut Vec<u8>, line: &[u8]) -> Result<(), AllocError>
     put(out, b"\r\n")
 }
 
-/// Appends the flight line.
 fn put_flight_line(
     out: &mut Vec<u8>,
     flight: Flight,

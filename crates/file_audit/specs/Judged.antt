@@ -49,7 +49,6 @@ HasParts parts db = OfBefore table.Trail db (λ t. entries t.parts ≡ parts)
 abbrev pub HasSums : BookSums → Reading → Type 0
 HasSums sums db = OfBefore table.Expected db (λ t. AreSums (flights_of (entries t.flights)) sums (running (book_in t.moves)))
 
--- the number of moves
 abbrev pub HasMoves : ℕ → Reading → Type 0
 HasMoves count db = OfBefore table.Expected db (λ t. count ≡ length t.moves)
 

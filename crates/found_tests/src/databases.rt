@@ -106,7 +106,6 @@ impl<S: Fresh> FoundAnswers<S> {
         say(self.alloc, "noted")
     }
 
-    /// Returns the day's tables.
     fn day_tables(&self) -> Option<Connection<S>> {
         database(self.alloc, self.day.as_str())
     }

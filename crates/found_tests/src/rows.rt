@@ -215,7 +215,6 @@ fn between<R: TableStore>(
     rows_said(alloc, rows.read(asked))
 }
 
-/// Returns the number of rows, and each row.
 fn rows_said(alloc: Global, rows: Result<Vec<StockRow>, StoreFault>) -> Option<String> {
     let Ok(rows) = rows else {
         return say(alloc, "fault");

@@ -94,7 +94,6 @@ fn done(said: Option<String>) -> Option<Came> {
     Some(Came::Done(said?))
 }
 
-/// Executes statements.
 fn execute<S: Alter>(
     alloc: Global,
     conn: Connection<S>,
@@ -163,7 +162,6 @@ fn act<S: Alter>(
     serve_opened(alloc, conn, Giving { alloc, input, at })
 }
 
-/// Does the same with the input of a text.
 fn give<S: Alter>(
     alloc: Global,
     conn: Connection<S>,
@@ -193,7 +191,6 @@ fn repeat_input<S: Alter>(
     }
 }
 
-/// Does the same with the input of a text.
 fn repeat<S: Alter>(
     alloc: Global,
     conn: Connection<S>,

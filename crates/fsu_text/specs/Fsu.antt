@@ -40,7 +40,6 @@ IsFsu (head ∷ line ∷ []) u = ⊥
 IsFsu (head ∷ line ∷ next ∷ more) u =
     IsTrue (is_head (codes "FSU") head) × (consignment_of line ≡ Ok u.shipment) × (u.trail ≡ next ∷ more)
 
--- the fault of each line that is read
 abbrev pub fsu_line_faults : List (List ℕ) → List (Option Why)
 fsu_line_faults [] = []
 fsu_line_faults (head ∷ []) = unless_true (is_head (codes "FSU") head) why.Head ∷ []

@@ -41,7 +41,6 @@ fn carriage(code: &[u8]) -> Option<Carriage>
     }
 }
 
-/// Returns the discrepancy with a code.
 fn discrepancy(code: &[u8]) -> Option<Discrepancy>
     ensures { result ≡ discrepancy_of code.now }
 {
@@ -256,7 +255,6 @@ fn status_line<'a>(text: &Token<'a>) -> StatusLine<'a>
     }
 }
 
-/// Appends a line to the trail.
 fn join<'a>(trail: &mut Vec<StatusLine<'a>>, text: &Token<'a>) -> Result<(), AllocError>
     ensures texts { OnOk result
         (map (λ l. l.text) trail.new.items ≡ map (λ l. l.text) trail.old.items ++ text.now ∷ []) }
@@ -266,7 +264,6 @@ fn join<'a>(trail: &mut Vec<StatusLine<'a>>, text: &Token<'a>) -> Result<(), All
     trail.extend_from_slice(slice::from_ref(&line))
 }
 
-/// Returns the lines for the trail.
 fn trail<'a>(alloc: Global, lines: &[Token<'a>]) -> Result<Vec<StatusLine<'a>>, AllocError>
     ensures texts { IfOk result (λ trail. map (λ l. l.text) trail.items ≡ lines.now) }
     ensures read { IfOk result (λ trail. All IsRead trail.items) }

@@ -8,7 +8,6 @@ ghost use Rattle.fwb_text.specs.Fwb.{IsFwb, weighed_fault, fwb_fault, fwb_shipme
 use crate::Fwb;
 use imp_fields::{Consignment, Lines, TextFault, Why, fault_at, is_head, read_consignment};
 
-/// Reads a consignment line with a weight.
 fn weighed<'a>(line: &'a [u8]) -> Result<Consignment<'a>, Why>
     ensures read { IfOk result (λ c. (consignment_of line.now ≡ Ok (shipment_of c))
         × IsTrue (is_some c.quantity.weight)) }

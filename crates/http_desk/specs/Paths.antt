@@ -20,7 +20,6 @@ IsPath path = list_all is_path_byte path ≡ true
 abbrev pub IsName : List ℕ → Type 0
 IsName name = (0 < length name) × (has_slash name ≡ false)
 
--- the path of a report
 abbrev pub report_path : Report → List ℕ
 report_path report.Stock = codes "/v1/reports/stock"
 report_path report.Shed = codes "/v1/reports/shed"

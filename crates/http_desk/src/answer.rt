@@ -51,7 +51,6 @@ fn json_fields(alloc: Global, len: usize) -> Result<String, AllocError>
     )
 }
 
-/// Returns a JSON answer.
 pub(crate) fn json_answer(
     alloc: Global,
     status: u16,

@@ -75,7 +75,6 @@ fn read_body<I: ByteIn>(
     read_on(reader, bytes, whole, turns)
 }
 
-/// Reads one request.
 pub(crate) fn read_request<I: ByteIn>(
     alloc: Global,
     reader: &mut I,

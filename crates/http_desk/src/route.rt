@@ -32,7 +32,6 @@ pub enum Route {
     Report(Printout),
 }
 
-/// Returns the router of the desk.
 pub(crate) fn desk_router(alloc: Global) -> Result<Router<Page>, InsertError>
     ensures { IfOk result (λ r. r ≡ desk_rows) }
 {
@@ -76,7 +75,6 @@ fn as_text(report: Report) -> Printout
     }
 }
 
-/// Returns the route of a page at a path.
 fn route_at(page: Page, path: &str) -> Option<Route>
     ensures { option_map (place_told path.now) result ≡ place_at path.now page }
 {

@@ -113,7 +113,6 @@ fn got(route: Route, path: &str) -> Wanted<'static>
     }
 }
 
-/// Returns the route of a path.
 fn routed(alloc: Global, path: &str) -> Result<Option<Route>, AllocError>
     ensures { IfOk result (λ route. option_map (place_told path.now) route ≡ asked_place
         (routed path.now) path.now) }
@@ -124,7 +123,6 @@ fn routed(alloc: Global, path: &str) -> Result<Option<Route>, AllocError>
     }
 }
 
-/// The target of a request.
 fn target_of<'a>(bytes: &'a [u8], spans: &RequestSpans, headers: &[HeaderSpan]) -> &'a str
     requires within { IsRequestWithin bytes.now headers.now spans.now }
     requires head { IsRequestOf bytes.now headers.now spans.now }

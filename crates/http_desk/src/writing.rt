@@ -66,7 +66,6 @@ fn is_reopen(fault: &ActFault) -> bool
     }
 }
 
-/// Writes a report as the answer.
 fn answer_report<K: Keeper, O: ByteOut>(
     alloc: Global,
     keeper: &mut K,

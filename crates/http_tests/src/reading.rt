@@ -8,7 +8,6 @@ use station_core::Key;
 use station_days::Moment;
 use std::alloc::Global;
 
-/// A statement.
 #[derive(Clone, Copy, Debug, PartialEq, Eq)]
 enum Statement {
     Station(Airport),
@@ -65,7 +64,6 @@ fn care(rest: &str) -> Option<Care> {
     }
 }
 
-/// Reads a line as a statement.
 fn read_statement(line: &str) -> Option<Statement> {
     let (word, rest) = first_word(line);
     match word {
@@ -180,7 +178,6 @@ impl<'a> Script<'a> {
         }
     }
 
-    /// Adds one line of the script.
     fn add(&mut self, line: u32, text: &'a str) -> Result<(), ScriptFault> {
         if text.is_empty() || text.starts_with('#') {
             return Ok(());

@@ -97,7 +97,6 @@ fn tenths(unit: WeightUnit, numeral: &[u8]) -> Option<Tenths>
     }
 }
 
-/// Returns the unit of a letter.
 fn unit(letter: u8) -> Option<WeightUnit>
     ensures { result ≡ unit_of letter }
 {
@@ -108,7 +107,6 @@ fn unit(letter: u8) -> Option<WeightUnit>
     }
 }
 
-/// Returns the code of a letter.
 fn code(letter: u8) -> Option<ShipmentCode>
     ensures { result ≡ code_of letter }
 {
@@ -193,7 +191,6 @@ pub fn read_quantity(text: &[u8]) -> Option<Quantity>
     }
 }
 
-/// Returns the letter of a code.
 fn letter(code: ShipmentCode) -> u8
     ensures { result ≡ code_letter code }
 {
@@ -206,7 +203,6 @@ fn letter(code: ShipmentCode) -> u8
     }
 }
 
-/// Writes a count of pieces.
 #[tactic(auto, using(crate::proofs::PutLaws::length_decimal_short))]
 fn put_count(out: &mut [u8], at: usize, count: Pieces) -> usize
     requires { at + 4 ≤ length out.old }

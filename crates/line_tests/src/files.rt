@@ -26,7 +26,6 @@ enum Opened {
     Beside(Connection<OwnTrees<FileStore<Memory>>>),
 }
 
-/// Returns a file in memory with these bytes.
 fn file_of(alloc: Global, bytes: &[u8]) -> Option<Memory> {
     let mut file = Memory::new(alloc);
     file.write_at(0, bytes).ok()?;

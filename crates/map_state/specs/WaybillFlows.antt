@@ -42,7 +42,6 @@ no_flows = record {
   transferred = still;
 }
 
--- the balances by these flows
 abbrev pub balances_by : WaybillFlows → Balances
 balances_by flows = record {
   taken = drawn_of flows.hand;

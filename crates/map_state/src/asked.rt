@@ -82,7 +82,6 @@ pub(crate) fn movements(
     Ok(rows)
 }
 
-/// Appends a message with its number.
 fn put_message(
     alloc: Global,
     rows: &mut Vec<Message>,

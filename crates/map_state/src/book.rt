@@ -131,7 +131,6 @@ impl MovementBook {
         Ok(())
     }
 
-    /// Adds a move.
     pub(crate) fn add(&mut self, movement: &Move) -> Result<(), StoreFault>
         ensures moves { OnOk result
             (self.new.moves.items ≡ self.old.moves.items ++ movement.now ∷ []) }

@@ -26,7 +26,6 @@ impl MapStock {
         }
     }
 
-    /// Returns the holder of the number with this key.
     fn at(&self, key: u64) -> Option<Holder>
         ensures { result ≡ holders_of self.now key }
     {
@@ -36,7 +35,6 @@ impl MapStock {
         }
     }
 
-    /// Returns the holder of a number.
     pub(crate) fn get(&self, number: &Awb) -> Option<Holder>
         ensures { result ≡ holders_of self.now number.now }
     {

@@ -12,7 +12,6 @@ use awb_number::{Awb, SERIALS};
 use state_store::StoreFault;
 use std::alloc::Global;
 
-/// Returns whether both are the same holder.
 fn is_one(holder: &Holder, other: &Holder) -> bool
     ensures { IsTrue result ↔ (holder.now ≡ other.now) }
 {

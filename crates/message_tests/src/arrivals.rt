@@ -90,7 +90,6 @@ fn fault(alloc: Global, text: &[u8]) -> Option<String> {
     }
 }
 
-/// Returns the number of a refusal.
 fn number_said(alloc: Global, refusal: &Refusal) -> Option<String> {
     let number = refusal.number;
     format!(in alloc; "{number}").ok()

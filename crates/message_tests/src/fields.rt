@@ -71,7 +71,6 @@ fn booked(alloc: Global, text: &[u8]) -> Option<String> {
     format!(in alloc; "{}", book_weight(pieces, tenths)).ok()
 }
 
-/// Returns whether two texts are the same flight.
 fn is_one_flight(alloc: Global, text: &[u8]) -> Option<String> {
     let mut words = words(text)?;
     let first = Flight::read(words.next()?.as_bytes())?;

@@ -14,7 +14,6 @@ pub fn answer(alloc: Global, asked: &str, text: &[u8]) -> Option<String> {
     }
 }
 
-/// Reads a text as a message.
 fn message<'a>(alloc: Global, text: &'a [u8]) -> Option<Fsu<'a>> {
     let Ok(lines) = normal_text(alloc, text) else {
         return None;

@@ -219,7 +219,6 @@ fn is_manifest_notice_told(alloc: Global) -> bool {
     }
 }
 
-/// Returns the same for the notice of a receipt.
 fn is_receipt_notice_told(alloc: Global) -> bool {
     match receipt_text(alloc) {
         Some(text) => text.len() == 72,

@@ -97,7 +97,6 @@ fn total_out(book: &[Move], awb: &Awb, spot: &Spot) -> Total
     total
 }
 
-/// Returns the amount at a place.
 pub(crate) fn held(book: &[Move], awb: &Awb, place: &Place) -> Amount
     requires few { length book.now ≤ most_rows }
     requires within { IsWithin (held book.now awb.now (same_place place.now)) }

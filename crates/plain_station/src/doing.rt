@@ -74,7 +74,6 @@ impl PlainCargo {
         }
     }
 
-    /// Acts on a telegram.
     pub(crate) fn do_telegram<'a>(
         &mut self,
         telegram: &'a Telegram<'a>,

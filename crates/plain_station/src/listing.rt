@@ -49,7 +49,6 @@ impl PlainCargo {
         (pieces, tenths)
     }
 
-    /// Returns the row of a flight.
     fn flight_row(&self, noted: &NotedFlight) -> Result<FlightRow, AllocError>
         ensures { IfOk result (λ row. row ≡ flight_row (cargo_of self.now.lists) noted.now) }
     {
@@ -108,7 +107,6 @@ impl PlainCargo {
         Ok(all)
     }
 
-    /// Returns the row of an expectation.
     fn expected_row(&self, expectation: &Expectation) -> ExpectedRow
         requires declared { IsSome ((cargo_of self.now.lists).declared expectation.now.awb) }
         ensures { result ≡ expected_row (cargo_of self.now.lists) expectation.now }

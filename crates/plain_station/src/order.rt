@@ -31,7 +31,6 @@ fn compare(a: &FlightDate, b: &FlightDate) -> Ordering
     }
 }
 
-/// Compares two expectations.
 fn compare_expected(a: &Expectation, b: &Expectation) -> Ordering
     ensures order { result ≡ by_expectation (a.now.flight, a.now.awb) (b.now.flight, b.now.awb) }
     ensures same { result ≡ Equal → IsTrue (same_flight_date a.now.flight b.now.flight

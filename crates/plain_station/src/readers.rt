@@ -23,7 +23,6 @@ use station_core::{
 use std::alloc::AllocError;
 
 impl PlainCargo {
-    /// Returns the holder of a number.
     pub(crate) fn holder(&self, number: &Awb) -> Option<Holder>
         ensures { result ≡ (cargo_of self.now.lists).holders number.now }
     {
@@ -295,7 +294,6 @@ impl PlainCargo {
         Ok(())
     }
 
-    /// Returns a line of the trail with its number.
     fn line_of(&self, number: u32, row: &rows::TrailRow) -> Result<TrailRow, AllocError>
         ensures { IfOk result (λ line. line ≡ trail_row number (kept_line row.now)) }
     {

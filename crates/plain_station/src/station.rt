@@ -80,7 +80,6 @@ impl PlainStation {
         Ok(Reply { count })
     }
 
-    /// Acts on a new telegram.
     fn act_wire<'a>(&mut self, telegram: &'a Telegram<'a>, at: Moment) -> Result<Reply, ActFault>
         requires new_text { (state_of self.old).kept_texts telegram.now.text ≡ None }
         ensures acts { Acts (state_of self.old) (Wire telegram.now) at result

@@ -250,7 +250,6 @@ impl PlainCargo {
         })
     }
 
-    /// Returns the rows of a key.
     fn desk_rows(&self, key: &RowsKey) -> Result<Rows, AllocError>
         ensures { IfOk result (λ made. made ≡ rows_of (cargo_of self.now.lists) key.now) }
     {
@@ -271,7 +270,6 @@ impl PlainCargo {
         }
     }
 
-    /// Returns the view for a command.
     pub(crate) fn view(&self, command: &ShipmentCommand<'_>, at: Moment) -> Result<View, AllocError>
         ensures { IfOk result (λ view. view ≡ view_of (cargo_of self.now.lists) command.now at) }
     {

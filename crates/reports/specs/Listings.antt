@@ -85,7 +85,6 @@ IsTrail f s query text = text ≡ rows_text f trail_line trail_data (trail_by qu
 abbrev pub IsPendingAfter : Form → State → ℕ → List ℕ → Type 0
 IsPendingAfter f s n text = text ≡ rows_text f message_lines message_data (filter (is_behind n) (pending_messages s.cargo))
 
--- the manifest of a flight
 abbrev pub IsManifest : Form → State → FlightDate → List ℕ → Type 0
 IsManifest f s flight text = text ≡ rows_text f manifest_line manifest_data (manifest_rows s.cargo flight)
 
@@ -94,7 +93,6 @@ abbrev pub IsExpected : Form → State → ExpectedQuery → List ℕ → Type 0
 IsExpected f s query text =
     (rows : List ExpectedRow) × AreExpectedBy query s.cargo rows × (text ≡ rows_text f expected_line expected_data rows)
 
--- a whole report in a form
 abbrev pub IsWhole : Form → State → Report → List ℕ → Type 0
 IsWhole f s report.Stock text = (rows : List StockRun) × AreStockRuns s.cargo.holders rows × (text ≡ rows_text f stock_line stock_data rows)
 IsWhole f s report.Shed text = text ≡ rows_text f shed_line shed_data (shed_rows s.cargo)

@@ -51,7 +51,6 @@ fn manifest_of<K: Keeper>(
     }
 }
 
-/// The reading of a manifest.
 #[derive(Drop)]
 pub(crate) struct ManifestReading {
     pub(crate) alloc: Global,

@@ -187,7 +187,6 @@ fn flight_or_null(alloc: Global, flight: &Option<FlightDate>) -> Result<String, 
     }
 }
 
-/// Returns the last serial of a run.
 pub(crate) fn last_serial(run: &StockRun) -> [u8; 7]
     ensures value { result ≡ padded 7 (serial_of run.now.first + run.now.count - 1) }
     ensures ascii { IsAscii result }
@@ -208,7 +207,6 @@ fn serial_members(alloc: Global, run: &StockRun) -> Result<String, AllocError>
     format!(in alloc; "\"prefix\":{prefix},\"first\":{first},\"last\":{last}")
 }
 
-/// Returns the members of a holder.
 fn holder_members(alloc: Global, holder: &Holder) -> Result<String, AllocError>
     ensures { IfOk result (λ text. string_bytes text ≡ holder_members holder.now) }
 {

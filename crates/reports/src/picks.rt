@@ -17,7 +17,6 @@ pub(crate) trait Pick<Row> {
         ensures { result ≡ wanted self.now row.now };
 }
 
-/// Every row.
 #[derive(Drop)]
 pub(crate) struct EveryRow;
 

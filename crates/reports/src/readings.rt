@@ -76,7 +76,6 @@ impl Reading<FlightRow> for FlightReading {
     }
 }
 
-/// The expectations.
 #[derive(Drop)]
 pub(crate) struct ExpectedReading {
     pub(crate) query: ExpectedQuery,

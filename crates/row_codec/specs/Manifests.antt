@@ -47,7 +47,6 @@ part_key p = (flight_text p.flight.flight, (pos p.flight.day, (p.airport, pos p.
 abbrev pub parts_in : FinMap part_cmp (List ℕ) → Part → Option (List ℕ)
 parts_in rows p = if is_designator p.flight.flight then get rows (part_key p) else None
 
--- the part with a key
 abbrev pub part_by : PartKey → Option Part
 part_by key = option_map (λ f. record { flight = f; airport = key.1.1.0; number = natural key.1.1.1 }) (flight_date_of key.0 key.1.0)
 

@@ -14,7 +14,6 @@ use Rattle.row_codec.specs.Numbers.{natural, is_within, is_number, is_day}
 use Rattle.row_codec.specs.Flights.{is_flight_text, flight_date_of}
 use Rattle.imp_fields.specs.Amount.{most_pieces, most_tenths}
 
--- the code of a place
 abbrev pub place_code : Place → ℕ
 place_code Hand = 0
 place_code Surplus = 1
@@ -61,7 +60,6 @@ abbrev pub day_column : Option FlightDate → ℤ
 day_column None = pos 0
 day_column (Some f) = pos f.day
 
--- the row of a move
 abbrev pub move_row : ℕ → Move → table.Move
 move_row n m = record {
   number = pos n;

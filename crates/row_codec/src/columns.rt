@@ -75,7 +75,6 @@ pub(crate) fn airport_of(text: &str) -> Option<Airport>
     Airport::read(text.as_bytes())
 }
 
-/// Reads a goods text.
 #[tactic(auto, using(crate::proofs::Exact::same_tests))]
 pub(crate) fn goods_of(text: &str) -> Option<Goods>
     ensures exact { is_some result ≡ is_goods text.now }

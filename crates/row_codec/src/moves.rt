@@ -12,7 +12,6 @@ use station_days::Moment;
 use station_rows::{MoveRow, StoreFault};
 use std::alloc::Global;
 
-/// Returns the moment of a day and a minute.
 #[tactic(auto, using(crate::proofs::Exact::within_moment))]
 fn moment_by(day: i64, minute: i64) -> Option<Moment>
     ensures exact { is_some result ≡ is_day day && is_within 0 1439 minute }

@@ -32,7 +32,6 @@ fn holder_by(row: &StockRow) -> Option<Holder>
     }
 }
 
-/// Returns the number of a prefix and a serial.
 #[tactic(auto, using(crate::proofs::Exact::within_number_parts))]
 fn number_by(prefix: i64, serial: i64) -> Option<Awb>
     ensures exact { is_some result ≡ is_within 0 999 prefix && is_within 0 (serials - 1) serial }

@@ -23,7 +23,6 @@ use Rattle.shipment_machine.specs.Announced.{part_answer}
 
 -- Views of a state.
 
--- the rows that a command reads
 abbrev pub rows_for : Cargo → ShipmentCommand → LocalMinute → Rows
 rows_for s (order.Desk command) at = rows_of s (reads command)
 rows_for s (order.Fwb c) at = rows_of s (key.Declaration c.awb)
@@ -88,7 +87,6 @@ AreRowsOf (key.CheckIn w flight) (rows.CheckIn view expected) = IsHeld (expected
 AreRowsOf key.Messages (rows.Messages confirmed last) = ⊤
 AreRowsOf _ _ = ⊥
 
--- the rows fit the command
 abbrev pub FitsCommand : List ℕ → Rows → ShipmentCommand → Option ℕ → Type 0
 FitsCommand here read (order.Desk command) meant = AreRowsOf (reads command) read
 FitsCommand here read (order.Fwb c) meant = AreRowsOf (key.Declaration c.awb) read
@@ -99,7 +97,6 @@ FitsCommand here _ _ meant = ⊥
 
 -- Plans.
 
--- the outcome of a plan
 abbrev pub outcome_of : Plan → Outcome
 outcome_of plan =
     record {

@@ -3,7 +3,6 @@ use Rattle.std.specs.Prelude.{false, None}
 use Rattle.shipment_machine.specs.declared.moves.Declared.{Declared}
 use Rattle.shipment_machine.specs.declared.acceptance.ProposedDeclaration.{ProposedDeclaration}
 
--- the declaration that is proposed
 abbrev pub claimed : ProposedDeclaration → Declared
 claimed c =
     record {

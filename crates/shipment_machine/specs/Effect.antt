@@ -99,7 +99,6 @@ abbrev pub is_checked : Option Expected → Bool
 is_checked None = false
 is_checked (Some expected) = expected.checked
 
--- the expected amount
 abbrev pub expected_amount : Option Expected → Amount
 expected_amount None = amount 0 0
 expected_amount (Some expected) = amount expected.pieces expected.tenths

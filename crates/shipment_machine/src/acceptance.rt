@@ -60,7 +60,6 @@ pub(crate) fn add_declaration<'a>(
     Ok(())
 }
 
-/// Returns the local day of a moment.
 fn day_of(at: Moment) -> Option<LocalDay>
     ensures { result ≡ Some at.day }
 {

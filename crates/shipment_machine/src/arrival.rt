@@ -91,7 +91,6 @@ fn more_of(balances: &Balances, whole: Amount, counted: u32) -> Option<Amount>
     })
 }
 
-/// Returns a discrepancy on a flight.
 fn differs(flight: &FlightDate, at: Moment, discrepancy: Discrepancy) -> Event
     ensures { result ≡ event.Differs flight.now at discrepancy }
 {

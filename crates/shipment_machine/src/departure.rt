@@ -85,7 +85,6 @@ fn line_of(aboard: &FlightLoad) -> ManifestLine
     }
 }
 
-/// Returns the lines of the manifest.
 fn lines_of(on: &PlanContext, loads: &[FlightLoad]) -> Result<ManifestLines, AllocError>
     requires on_board { All IsOnBoard loads.now }
     requires few { length loads.now ≤ most_waybills }

@@ -55,7 +55,6 @@ pub(crate) fn refuse_free(free: Amount) -> PlanFault
     })
 }
 
-/// Returns whether two airports are the same.
 pub(crate) fn is_same(a: Airport, b: Airport) -> bool
     ensures { result ≡ bytes_eq a b }
 {
@@ -82,7 +81,6 @@ pub(crate) fn fits_with(balances: &Balances, pieces: u64, tenths: u64) -> bool
     )
 }
 
-/// Adds two amounts.
 pub(crate) fn together(a: Amount, b: Amount) -> Amount
     requires pieces { a.pieces + b.pieces ≤ most_pieces }
     requires tenths { a.tenths + b.tenths ≤ most_tenths }

@@ -76,7 +76,6 @@ fn count_for(here: Airport, lines: &[InboundLine]) -> usize
     lines.iter().filter(|line| line.unload == here).count()
 }
 
-/// Returns the number of lines for an airport.
 fn lines_for(here: Airport, lines: &[InboundLine]) -> usize
     ensures { result ≡ length (lines_for here lines.now) }
 {

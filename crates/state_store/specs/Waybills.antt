@@ -15,7 +15,6 @@ abbrev pub is_asked_for : WaybillQuery → Balances → Bool
 is_asked_for Stored b = nat_lt 0 (stored_of b).pieces
 is_asked_for Irregular b = nat_lt 0 b.missing.pieces || nat_lt 0 b.found.pieces
 
--- a waybill with its balances
 abbrev pub with_balances : List Move → ℕ → WaybillBalances
 with_balances book w = record { awb = w; balances = balances_of book w }
 

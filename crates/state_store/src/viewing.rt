@@ -135,7 +135,6 @@ fn offload_rows<S: StateStore>(
     })
 }
 
-/// Returns the rows for a departure.
 fn departure_rows<S: StateStore>(
     alloc: Global,
     store: &mut S,
@@ -195,7 +194,6 @@ fn message_rows<S: StateStore>(store: &S) -> Rows
     }
 }
 
-/// Returns the rows of a key.
 fn desk_rows<S: StateStore>(alloc: Global, store: &mut S, key: &RowsKey) -> Result<Rows, StoreFault>
     ensures value { (x : Seen) → S.shows store.old x → S.is_sound store.new
         → IfOk result (λ made. made ≡ rows_of x.now.cargo key.now) }
@@ -213,7 +211,6 @@ fn desk_rows<S: StateStore>(alloc: Global, store: &mut S, key: &RowsKey) -> Resu
     }
 }
 
-/// Returns the rows that a command reads.
 fn rows_for<S: StateStore>(
     alloc: Global,
     store: &mut S,

@@ -158,7 +158,6 @@ book_row n m = record { number = n; movement = m }
 abbrev pub book_rows : Cargo → List BookRow
 book_rows s = numbered book_row 1 s.book
 
--- true if the flight is named
 abbrev pub is_named : FlightDate → Option FlightDate → Bool
 is_named f None = false
 is_named f (Some g) = same_flight_date f g

@@ -67,7 +67,6 @@ left_of measure b = measure b.taken + measure b.found - (measure b.departed + me
 abbrev pub stored_of : Balances → Amount
 stored_of b = amount (left_of (λ a. a.pieces) b) (left_of (λ a. a.tenths) b)
 
--- the rows of a waybill with these balances
 abbrev pub irregular_by : Cargo → WaybillBalances → IrregularRow
 irregular_by s row = record {
   awb = row.awb;

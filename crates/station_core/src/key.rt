@@ -42,7 +42,6 @@ fn are_key_bytes(text: &[u8]) -> bool
     text.iter().all(|b| 0x21 <= *b && *b <= 0x7E)
 }
 
-/// Returns whether a text is a key.
 fn is_key(text: &[u8]) -> bool
     ensures { result ≡ is_key text.now }
 {

@@ -27,7 +27,6 @@ pub record IsRequestOf (i : Input) (text : List ℕ) : Type 0 where
   pub in_range : IsAsked i
   pub is : text ≡ request_of i
 
--- a plan or a refusal is the effect
 abbrev pub IsEffect : Result Outcome Refusal → Result Plan Refusal → Type 0
 IsEffect answer (Ok plan) = answer ≡ Ok (outcome_of plan)
 IsEffect answer (Err refusal) = answer ≡ Err refusal

@@ -161,7 +161,6 @@ fn do_order<S: StateStore>(
     }
 }
 
-/// Acts on a new input.
 fn act_anew<S: StateStore>(
     alloc: Global,
     store: &mut S,

@@ -101,7 +101,6 @@ fn described(
     Ok(row)
 }
 
-/// Returns the row of an object.
 fn row_for(alloc: Global, id: i64, object: &Object<'_>) -> Result<Row, AllocError> {
     described(
         alloc,

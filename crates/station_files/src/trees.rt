@@ -11,7 +11,6 @@ use station_schema::declarations::{
 /// The number of trees in a file of version 1: the first ones.
 pub const OLD_TREES: usize = 22;
 
-/// Returns a table with its text.
 fn table(name: &'static str, sql: &'static str) -> Object<'static> {
     Object {
         shape: Shape::Table,

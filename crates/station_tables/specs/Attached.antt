@@ -77,6 +77,5 @@ IsBreakdown fault.Store = ⊤
 IsBreakdown fault.Memory = ⊤
 IsBreakdown _ = ⊥
 
--- the connection of a station
 abbrev pub connection_in : {S : Type 0} {g : Ghosts S} → Station S g → Held S
 connection_in station = station.stored.store.store.conn

@@ -80,7 +80,6 @@ pub record HasFound {S : Type 0} (g : Ghosts S) (keeps : Station S g → State �
   -- the crash states are those from before
   pub leaves : IfErr opened (λ e. (connection_view g e.0).IsSound → (found : Option State)
       → Finds (connection_view g e.0) found → Finds (connection_view g conn) found)
-  -- opening never returns Occupied
   pub never : IfErr opened (λ e. e.1 ≢ fault.Occupied)
   -- nothing is written in any case; at Ok the connection shows what it showed
   pub unwritten : IfOk opened (λ station.

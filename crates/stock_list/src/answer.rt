@@ -53,7 +53,6 @@ pub fn answer_text(alloc: Global, answer: &Answer) -> Result<String, AllocError>
     }
 }
 
-/// Returns the line of an answer.
 fn answer_line(alloc: Global, key: &Key, answer: &Answer) -> Result<String, AllocError>
     ensures { IfOk result (λ line. string_bytes line ≡ answer_line key.now answer.now) }
 {

@@ -87,7 +87,6 @@ fn asked(
     Some((key, order))
 }
 
-/// Returns a field of a row.
 fn field(row: &ByteRecord, place: usize) -> &[u8]
     requires { place < length (fields_of row.now) }
     ensures { field_at (fields_of row.now) place ≡ Some result.now }

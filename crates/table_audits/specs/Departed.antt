@@ -9,7 +9,6 @@ use Rattle.shipment_machine.specs.Lawful.{departs_with, StaysDeparted}
 use Rattle.table_audits.specs.declared.sums.Spot.{Spot}
 use Rattle.table_audits.specs.declared.sums.Spot.TheVariants.{Plain, OnFlight}
 
--- true if a move departs with a flight
 abbrev pub departs_in : List Move → FlightDate → Bool
 departs_in book flight = list_any (departs_with flight) book
 

@@ -28,7 +28,6 @@ use Rattle.table_audits.specs.declared.name.TableName.{TableName}
 use Rattle.table_audits.specs.declared.name.TableName.TheVariants as table
 use Rattle.imp_fields.specs.Flight.{most_waybills}
 
--- the cargo in the tables
 abbrev pub cargo_in : Tables → Cargo
 cargo_in t = (meaning_of t).cargo
 

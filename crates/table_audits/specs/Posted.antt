@@ -23,7 +23,6 @@ pub record AreBeside (t : table.Tables) (waybills : List table.Waybill) (flights
   pub within : list_all is_flight_row (entries t.flights) ≡ true
   pub flights_are : entries t.flights ≡ flights
 
--- the flights in a table
 abbrev pub listed_in : table.Tables → List FlightDate
 listed_in t = flights_of (entries t.flights)
 
@@ -45,7 +44,6 @@ pub record IsGoodRow (t : table.Tables) (row : table.Move) : Type 0 where
   pub within : is_move_row row ≡ true
   pub lawful : IsLawfulMove (cargo_in t) (move_by row)
 
--- the posting of a row
 pub record IsPosted (t : table.Tables) (row : table.Move) (posting : Posting) : Type 0 where
   pub good : IsGoodRow t row
   pub posted : IsPosting (listed_in t) posting (move_by row)

@@ -26,7 +26,6 @@ use Rattle.table_audits.specs.declared.sums.Posting.{Posting}
 
 -- ---- tallies
 
--- the numbers of a tally
 abbrev pub meant : Tally → Running
 meant t = record { pieces = t.pieces; tenths = t.tenths }
 
@@ -92,7 +91,6 @@ abbrev pub IsSpot : List FlightDate → Spot → Place → Type 0
 IsSpot flights (Plain code) p = (is_built p ≡ false) × (code ≡ pos (place_code p))
 IsSpot flights (OnFlight i) p = (f : FlightDate) × (p ≡ Built f) × (slice_get flights i ≡ Some f)
 
--- the posting of a move
 pub record IsPosting (flights : List FlightDate) (posting : Posting) (m : Move) : Type 0 where
   pub awb_is : posting.awb ≡ pos m.awb
   pub from_is : IsSpot flights posting.from m.from

@@ -30,7 +30,6 @@ fn are_declared(waybills: &[WaybillRow], first: i64, last: i64) -> bool
     true
 }
 
-/// Returns whether the numbers of a run are used.
 fn is_used(run: &StockRun) -> bool
     ensures { IsTrue result ↔ (run.now.holder ≡ Used) }
 {

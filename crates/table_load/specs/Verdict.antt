@@ -30,7 +30,6 @@ pub data Verdict : Type 0 where
   -- the airport, and the number of the last confirmed message
   one_row : List ℕ → ℤ → Verdict
 
--- the number of a version
 abbrev pub version_number : FileVersion → ℤ
 version_number First = pos 1
 version_number Second = pos 2

@@ -27,7 +27,6 @@ fn part_members(alloc: Global, part: &PartContent) -> Result<String, AllocError>
     )
 }
 
-/// Returns the members of the message.
 fn message_members(alloc: Global, says: &Content<'_>) -> Result<String, AllocError>
     ensures { IfOk result (λ text. string_bytes text ≡ message_members says.now) }
 {
@@ -98,7 +97,6 @@ fn text_members(alloc: Global, text: &TrailLine<'_>, doubtful: bool) -> Result<S
     format!(in alloc; "\"text\":{text},\"doubtful\":{flag}")
 }
 
-/// Returns the object of a line and its text.
 fn text_object(alloc: Global, line: &SeenLine<'_>) -> Result<String, AllocError>
     ensures { IfOk result (λ object. string_bytes object ≡ text_object line.now.number line.now.text
         line.now.doubtful) }
@@ -107,7 +105,6 @@ fn text_object(alloc: Global, line: &SeenLine<'_>) -> Result<String, AllocError>
     format!(in alloc; "{{\"line\":{number},{members}}}")
 }
 
-/// Returns the object of a line that is read.
 fn read_object(alloc: Global, line: &SeenLine<'_>) -> Result<Option<String>, AllocError>
     ensures { IfOk result (λ object. option_map string_bytes object ≡ read_object line.now) }
 {
@@ -165,7 +162,6 @@ fn put_object(objects: &mut Vec<String>, object: Option<String>) -> Result<(), A
     }
 }
 
-/// Returns the objects of the lines that are read.
 fn read_objects(alloc: Global, lines: &[SeenLine<'_>]) -> Result<Vec<String>, AllocError>
     ensures { IfOk result (λ objects. map string_bytes objects.items ≡ filter_map read_object
         lines.now) }
@@ -189,7 +185,6 @@ fn passed_objects(alloc: Global, lines: &[SeenLine<'_>]) -> Result<Vec<String>, 
     Ok(objects)
 }
 
-/// Returns a list of objects.
 fn list_text(alloc: Global, objects: &[String]) -> Result<String, AllocError>
     ensures { IfOk result (λ text. string_bytes text ≡ list_text (map string_bytes objects.now)) }
 {

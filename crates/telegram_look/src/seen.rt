@@ -25,7 +25,6 @@ fn is_unread(part: &LinePart) -> bool
     matches!(part, LinePart::Status | LinePart::Passed)
 }
 
-/// Returns whether a line is doubtful.
 fn doubtful(alloc: Global, part: &LinePart, text: &[u8]) -> Result<bool, AllocError>
     ensures { IfOk result (λ answer. answer ≡ (is_unread part.now && is_doubtful text.now)) }
 {

@@ -84,7 +84,6 @@ pub record IsMeant (t : Meant) : Type 0 where
   pub kind : first_kind lines ≡ Some (kind_said t.content)
   pub content : Says lines t.content
 
--- the telegram in these bytes
 pub record IsTelegram (bytes : List ℕ) (t : Meant) : Type 0 where
   pub lines : List (List ℕ)
   pub normal : normal_lines bytes ≡ Ok lines

@@ -52,11 +52,9 @@ sent_load l = record {
   goods = l.goods;
 }
 
--- the lines of a manifest
 abbrev pub manifest_lines : List ℕ → FlightDate → List ℕ → List ManifestLine → List (List ℕ)
 manifest_lines here flight unload lines = ffm_lines flight.flight (date_on flight.day) here unload (map sent_load lines)
 
--- the lines of a notice
 abbrev pub notice_lines : Notice → List (List ℕ)
 notice_lines (notice.Status here consigned what pieces tenths) = fsu_lines (sent_update here consigned what pieces tenths)
 notice_lines (notice.Manifest here flight unload lines) = manifest_lines here flight unload lines

@@ -58,7 +58,6 @@ fn weight_told(weight: Option<Tenths>) -> Tenths
     }
 }
 
-/// Returns the values of a consignment line.
 fn cargo_line(consignment: &Consignment<'_>) -> CargoLine
     requires { IsTrue (has_plain_goods consignment.now) }
     ensures { result ≡ cargo_line (shipment_of consignment.now) }
@@ -123,7 +122,6 @@ fn trail_lines<'a>(
     Ok(lines)
 }
 
-/// Returns the content of an FWB.
 fn fwb_content<'a>(lines: &Lines<'a>) -> Result<Content<'a>, TelegramFault>
     ensures said { IfOk result (SaysAs kinds.Fwb (line_texts lines.now)) }
     ensures refused { IfErr result (RefusesAs (fwb_fault (line_texts lines.now))) }
@@ -134,7 +132,6 @@ fn fwb_content<'a>(lines: &Lines<'a>) -> Result<Content<'a>, TelegramFault>
     }
 }
 
-/// Returns the content of an FFM.
 fn ffm_content<'a>(alloc: Global, lines: &Lines<'a>) -> Result<Content<'a>, TelegramFault>
     ensures said { IfOk result (SaysAs kinds.Ffm (line_texts lines.now)) }
     ensures refused { IfErr result (RefusesAs (ffm_fault (line_texts lines.now))) }
@@ -155,7 +152,6 @@ fn ffm_content<'a>(alloc: Global, lines: &Lines<'a>) -> Result<Content<'a>, Tele
     }
 }
 
-/// Returns the content of an FSU.
 fn fsu_content<'a>(alloc: Global, lines: &Lines<'a>) -> Result<Content<'a>, TelegramFault>
     ensures said { IfOk result (SaysAs kinds.Fsu (line_texts lines.now)) }
     ensures refused { IfErr result (RefusesAs (fsu_fault (line_texts lines.now))) }

@@ -83,7 +83,6 @@ pub(crate) fn load_of(line: &ManifestLine) -> Load
     }
 }
 
-/// Returns the loads of a manifest.
 fn loads_of(alloc: Global, lines: &[ManifestLine]) -> Result<Vec<Load>, AllocError>
     ensures { IfOk result (λ loads. loads.items ≡ map sent_load lines.now) }
 {
@@ -105,7 +104,6 @@ fn status_text(alloc: Global, update: &SentUpdate) -> Result<Vec<u8>, AllocError
     Ok(text)
 }
 
-/// The text of a manifest.
 fn manifest_text(
     alloc: Global,
     here: Airport,
