@@ -5,6 +5,5 @@ use Rattle.std.specs.Prelude.{ℕ, ◌≤◌}
 abbrev pub largest_count : ℕ
 largest_count = 9_999_999
 
--- a count of an order
 abbrev pub IsRunCount : ℕ → Type 0
 IsRunCount count = count ≤ largest_count

@@ -26,7 +26,6 @@ pub record AreStockRuns (holders : Holders) (rows : List StockRun) : Type 0 wher
   pub rising : AreApart rows
   pub complete : (q : ℕ) → IsSome (holders q) → IsTrue (list_any (λ row. is_among row.first row.count q) rows)
 
--- the numbers are ascending
 abbrev pub AreRising : List Held → Type 0
 AreRising [] = Unit {0}
 AreRising (held ∷ []) = Unit {0}

@@ -49,7 +49,6 @@ impl PlainRows {
         })
     }
 
-    /// Returns the numbers in stock, ascending.
     fn in_stock(&self, alloc: Global) -> Result<Vec<Held>, AllocError>
         ensures rising { IfOk result (λ numbers. AreRising numbers.items) }
         ensures holders { IfOk result

@@ -5,7 +5,6 @@ use Rattle.std.proofs.Common.{length-append}
 use Rattle.std.proofs.lemmas.List.{length-take-le, take-append-drop, length-drop, length-replicate, drop-replicate}
 use Rattle.std.proofs.Math.Seq.{drop-append_seam, take-append_seam}
 
--- the padded text
 abbrev pub filled_up : ℕ → List ℕ → List ℕ
 filled_up width text = text ++ replicate (width - length text) 0
 

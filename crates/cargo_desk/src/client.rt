@@ -31,7 +31,6 @@ impl Link {
         }
     }
 
-    /// Reads from the open connection.
     fn read_open(&self, buf: &mut [u8]) -> io::Result<usize>
         ensures { ReadsAtMost result buf.new }
     {

@@ -187,7 +187,6 @@ fn run_now(rt: &HostRuntime, line: &Line<'_>) -> u8 {
     }
 }
 
-/// Runs a call from its words.
 fn run_words(rt: &HostRuntime, words: &[String]) -> u8 {
     match parse_words(rt.alloc(), words) {
         Ok(line) => run_now(rt, &line),
@@ -195,7 +194,6 @@ fn run_words(rt: &HostRuntime, words: &[String]) -> u8 {
     }
 }
 
-/// Returns the words of the call.
 fn words_of(rt: &HostRuntime) -> Result<Vec<String>, io::Error> {
     let words = env::args(rt)?.collect(rt.alloc())?;
     Ok(words)

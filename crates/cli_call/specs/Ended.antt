@@ -12,7 +12,6 @@ use Rattle.cli_call.specs.declared.ended.DeskFault.{DeskFault}
 use Rattle.cli_call.specs.declared.ended.DeskFault.TheVariants as fault
 use Rattle.cli_run.specs.Ends.{Reached}
 
--- the line of a run's fault
 abbrev pub run_line : RunFault → List ℕ
 run_line run.Read = codes "fault read\n"
 run_line run.Write = codes "fault write\n"

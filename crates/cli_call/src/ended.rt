@@ -32,7 +32,6 @@ fn run_ended(ended: Result<bool, RunFault>) -> Result<bool, DeskFault>
     }
 }
 
-/// Returns the line of a run's fault.
 fn run_line(fault: RunFault) -> &'static str
     ensures { result.now ≡ run_line fault }
 {

@@ -21,13 +21,11 @@ abbrev pub acts_after : State → List (ℕ × Asked) → LocalMinute → State
 acts_after s [] at = s
 acts_after s (one ∷ more) at = acts_after (asked_after s one.1 at) more at
 
--- the lines of the answers
 abbrev pub acts_lines : State → List (ℕ × Asked) → LocalMinute → List ℕ
 acts_lines s [] at = []
 acts_lines s (one ∷ more) at =
     asked_line (Some one.0) s one.1 at ++ acts_lines (asked_after s one.1 at) more at
 
--- true if each of them is good
 abbrev pub acts_good : State → List (ℕ × Asked) → LocalMinute → Bool
 acts_good s [] at = true
 acts_good s (one ∷ more) at = asked_good s one.1 at && acts_good (asked_after s one.1 at) more at

@@ -3,7 +3,6 @@ use Rattle.std.specs.Prelude.{◌≡◌, ◌⊎◌, ℕ, ◌+◌, ◌<◌, ◌�
 use Rattle.imp_fields.specs.TextSize.{most_bytes}
 use Rattle.station_core.specs.Given.{Given}
 
--- the size of one read
 abbrev pub most_read : ℕ
 most_read = 4_096
 

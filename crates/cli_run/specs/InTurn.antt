@@ -49,7 +49,6 @@ HasEndedAt {C} Step lines (Some line) old new e =
     (mid : C) × ((good : Bool) × AreAnswered Step 1 lines old mid good
     × Step (length lines + 1) line mid new (Err e))
 
--- the lines that were read
 abbrev pub lines_read : List (List ℕ) → Option (List ℕ) → List (List ℕ)
 lines_read lines None = lines
 lines_read lines (Some line) = lines ++ line ∷ []
@@ -59,12 +58,10 @@ abbrev pub in_front : ℕ → List (List ℕ) → List (List ℕ)
 in_front b [] = (b ∷ []) ∷ []
 in_front b (line ∷ lines) = (b ∷ line) ∷ lines
 
--- the lines of a text, each with its end
 abbrev pub lines_of : List ℕ → List (List ℕ)
 lines_of [] = []
 lines_of (b ∷ bs) = if b == 10 then (b ∷ []) ∷ lines_of bs else in_front b (lines_of bs)
 
--- they are the first lines of a text
 abbrev pub AreFirstLines : List (List ℕ) → List ℕ → Type 0
 AreFirstLines lines bytes = (more : List (List ℕ)) × (lines_of bytes ≡ lines ++ more)
 

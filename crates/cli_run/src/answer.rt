@@ -24,7 +24,6 @@ use stock_list::{RunFault, answer_text, keeper_fault, send_line};
 /// The line for a body that isn't a command of the verb.
 const BAD_BODY: &str = "body bad\n";
 
-/// Returns the line of an answer.
 fn plain_line(alloc: Global, text: &str) -> Result<String, AllocError>
     ensures { IfOk result (λ line. string_bytes line ≡ text.now ++ 10 ∷ []) }
 {

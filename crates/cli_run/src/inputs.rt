@@ -34,7 +34,6 @@ impl Turns {
         self.begun.get()
     }
 
-    /// Begins the next input.
     pub(crate) fn begin_next(&self) {
         self.begun.set(self.begun.get().saturating_add(1));
     }

@@ -14,7 +14,6 @@ use station_core::{ByteOut, Keeper, Waybill};
 use std::alloc::{AllocError, Global};
 use stock_list::{RunFault, keeper_fault, send_line};
 
-/// The line of an unknown number.
 const UNKNOWN: &str = "unknown\n";
 
 fn object_line(alloc: Global, object: &str) -> Result<String, AllocError>
@@ -51,7 +50,6 @@ fn tell_unknown<W: ByteOut>(output: &mut W) -> Result<bool, RunFault>
     Ok(false)
 }
 
-/// Writes the record of a waybill.
 fn tell_waybill<W: ByteOut>(
     alloc: Global,
     number: &Awb,

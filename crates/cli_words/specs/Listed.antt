@@ -15,7 +15,6 @@ use Rattle.reports.specs.declared.report.Report.TheVariants as report
 use Rattle.cli_words.specs.Number.{IsNumber}
 use Rattle.cli_words.specs.declared.words.ReportWords.{ReportWords}
 
--- the form of a report
 abbrev pub form_of : Bool → Form
 form_of json = if json then form.Json else form.Text
 

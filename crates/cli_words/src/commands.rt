@@ -19,7 +19,6 @@ pub(crate) enum Given {
     Flag,
 }
 
-/// A word of a command.
 #[derive(Clone, Copy)]
 pub(crate) struct Word {
     pub(crate) name: &'static str,
@@ -36,7 +35,6 @@ pub(crate) enum Takes {
     Verb,
 }
 
-/// A command, with its help.
 #[derive(Clone, Copy)]
 pub(crate) struct CommandWords {
     pub(crate) name: &'static str,

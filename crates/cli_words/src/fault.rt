@@ -44,7 +44,6 @@ pub(crate) enum BadValue<'a> {
     Beside,
 }
 
-/// The expectation for a key.
 const KEY: &str =
     "expected 1 to 40 printable characters without spaces; the body is read from standard input";
 
@@ -55,11 +54,9 @@ const NUMBER: &str =
 /// The expectation for a number with a wrong check digit.
 const CHECK_DIGIT: &str = "wrong check digit, expected the seven digits before it modulo 7";
 
-/// The names of reports.
 const REPORT_NAME: &str =
     "expected stock, shed, flights, expected, irregularities, movements, trail or manifest";
 
-/// The parts of each report.
 const PART: &str =
     "only flights and expected take --open, only stock takes --agent, only movements and trail \
     take --awb, --after or --last, only manifest takes FLIGHT; a report takes one of them";
@@ -69,7 +66,6 @@ const BESIDE: &str =
     "--at can't be used with --db, --station, --zone, init, migrate or serve: the service has its \
     own file, airport and zone";
 
-/// The expectation for the flight of a manifest.
 const FLIGHT: &str = "expected a flight, a slash and its day, such as LH400/2026-01-12";
 
 /// Returns the message for a text that isn't valid in its place.

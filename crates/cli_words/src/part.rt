@@ -12,14 +12,12 @@ use imp_fields::Flight;
 use reports::{Form, Listing, Report};
 use shipment_machine::FlightDate;
 
-/// Returns the requested form.
 pub(crate) fn form_of(json: bool) -> Form
     ensures { result ≡ form_of json }
 {
     if json { Form::Json } else { Form::Text }
 }
 
-/// Returns the open rows of a report.
 fn open_part(report: Report) -> Option<Listing>
     ensures { IfSome result (IsOpen report) }
 {
@@ -43,7 +41,6 @@ fn agent_part<'a>(report: Report, name: &'a str, code: &'a str) -> Result<Listin
     }
 }
 
-/// Returns the rows of a waybill.
 fn waybill_part<'a>(report: Report, name: &'a str, word: &'a str) -> Result<Listing, BadValue<'a>>
     ensures { IfOk result (IsOfWaybill report word.entry.now) }
 {
@@ -69,7 +66,6 @@ fn later_part<'a>(report: Report, name: &'a str, word: &'a str) -> Result<Listin
     }
 }
 
-/// Returns the last rows.
 fn last_part<'a>(report: Report, name: &'a str, word: &'a str) -> Result<Listing, BadValue<'a>>
     ensures { IfOk result (IsLast report word.entry.now) }
 {
@@ -83,7 +79,6 @@ fn last_part<'a>(report: Report, name: &'a str, word: &'a str) -> Result<Listing
     }
 }
 
-/// Returns the requested part of a report.
 fn read_part<'a>(report: Report, words: ReportWords<'a>) -> Result<Listing, BadValue<'a>>
     ensures { IfOk result (HasPart report words.entry) }
 {
@@ -118,7 +113,6 @@ fn read_flight(text: &str) -> Option<FlightDate>
     Some(FlightDate { flight, day })
 }
 
-/// Returns the manifest of a flight.
 fn read_manifest<'a>(words: ReportWords<'a>) -> Result<Listing, BadValue<'a>>
     ensures { IfOk result (HasManifest words.entry) }
 {

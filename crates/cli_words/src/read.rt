@@ -17,7 +17,6 @@ use station_core::Key;
 use std::alloc::Global;
 use std::convert::AsStr;
 
-/// Returns the command of a verb and a key.
 fn read_act<'a>(word: &'a str, key: &'a str) -> Result<LineCommand<'a>, BadValue<'a>>
     ensures { IfOk result (Means (Request.Act word.entry key.entry)) }
 {
@@ -40,7 +39,6 @@ fn number_of(text: &str) -> Result<Awb, AwbFault>
     }
 }
 
-/// Returns the waybill number in a word.
 pub(crate) fn read_number<'a>(word: &'a str) -> Result<Awb, BadValue<'a>>
     ensures { IfOk result (λ w. number_of word.entry.now ≡ Ok w) }
 {
@@ -51,7 +49,6 @@ pub(crate) fn read_number<'a>(word: &'a str) -> Result<Awb, BadValue<'a>>
     }
 }
 
-/// Returns the look-up of a waybill.
 fn read_waybill<'a>(word: &'a str) -> Result<LineCommand<'a>, BadValue<'a>>
     ensures { IfOk result (Means (Request.Waybill word.entry)) }
 {
@@ -61,7 +58,6 @@ fn read_waybill<'a>(word: &'a str) -> Result<LineCommand<'a>, BadValue<'a>>
     }
 }
 
-/// Returns the requested report.
 fn read_report<'a>(words: ReportWords<'a>) -> Result<LineCommand<'a>, BadValue<'a>>
     ensures { IfOk result (Means (Request.Report words.entry)) }
 {
@@ -71,7 +67,6 @@ fn read_report<'a>(words: ReportWords<'a>) -> Result<LineCommand<'a>, BadValue<'
     }
 }
 
-/// Returns the history of a waybill.
 fn read_history<'a>(word: &'a str) -> Result<LineCommand<'a>, BadValue<'a>>
     ensures { IfOk result (Means (Request.History word.entry)) }
 {
@@ -159,7 +154,6 @@ fn read_command<'a>(
     }
 }
 
-/// Returns the airport, if one is named.
 fn read_station<'a>(station: Option<&'a str>) -> Result<Option<Airport>, BadValue<'a>>
     ensures { IfOk result (IsStation (option_map (λ text. text.now) station.entry)) }
 {

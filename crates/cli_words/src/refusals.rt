@@ -220,7 +220,6 @@ const REFUSALS: &[RefusalHelp] = &[
     },
 ];
 
-/// Returns the lines of a refusal.
 fn text_of(alloc: Global, refusal: &RefusalHelp) -> Result<String, AllocError> {
     let RefusalHelp {
         number,

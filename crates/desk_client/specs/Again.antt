@@ -25,7 +25,6 @@ abbrev pub talk : {C I O : Type 0} → (C → ℕ) → (C → ℕ) → (I → Gi
 talk tried opened given taken s =
     record { tried = tried s.connections; opened = opened s.connections; sent = taken s.writer; come = given s.reader; last = s.last }
 
--- the outcome of a try
 abbrev pub last_of : Result Answer AskFault → LastTry
 last_of (Ok a) = last.Answered a.status
 last_of (Err e) = last.Failed e

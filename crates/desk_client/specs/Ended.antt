@@ -11,7 +11,6 @@ abbrev pub behind_digits : List ℕ → List ℕ
 behind_digits [] = []
 behind_digits (b ∷ bs) = if is_digit b then behind_digits bs else b ∷ bs
 
--- the text before the trailing digits
 abbrev pub before_digits : List ℕ → List ℕ
 before_digits text = reverse (behind_digits (reverse text))
 

@@ -45,7 +45,6 @@ abbrev pub HasAnsweredAsks : {E : Type 0} → (E → Given) → ℕ → Option (
 HasAnsweredAsks taken number None old new result = HasToldBadRow taken number old new result
 HasAnsweredAsks taken number (Some asked) old new result = HasAnsweredOrder taken number asked.0 asked.1 old new result
 
--- the row with this number was answered
 abbrev pub HasAnsweredRow : {E : Type 0} → (E → Given) → ℕ → Row → Come Talk E → Come Talk E → Result Bool RunFault → Type 0
 HasAnsweredRow taken number row old new result = HasAnsweredAsks taken number (row_asks row) old new result
 

@@ -41,7 +41,6 @@ abbrev pub telegram_head : ℕ → List ℕ
 telegram_head len =
     codes "POST /v1/telegrams HTTP/1.1\r\nHost: 127.0.0.1\r\nConnection: close\r\nContent-Length: " ++ decimal len ++ codes "\r\n\r\n"
 
--- the GET request for a path
 abbrev pub get_request : List ℕ → List ℕ
 get_request path = codes "GET " ++ path ++ codes " HTTP/1.1\r\nHost: 127.0.0.1\r\nConnection: close\r\n\r\n"
 
@@ -51,7 +50,6 @@ waybill_path w = codes "/v1/waybills/" ++ number_text w
 abbrev pub holder_path : ℕ → List ℕ
 holder_path w = codes "/v1/stock/" ++ number_text w
 
--- the path of rows as text
 abbrev pub listing_path : Listing → List ℕ
 listing_path (listing.All r) = report_path r
 listing_path listing.OpenFlights = codes "/v1/reports/open-flights"

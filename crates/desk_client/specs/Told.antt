@@ -19,7 +19,6 @@ refused_line number (b ∷ detail) = codes "refused " ++ decimal number ++ 32 �
 abbrev pub count_of : List ℕ → Data → Option ℕ
 count_of name d = option_and_then as_u64 (option_and_then as_number (get name d))
 
--- the number and the detail of a refusal
 abbrev pub refusal_told : Data → Option (ℕ × List ℕ)
 refusal_told d =
     option_and_then (λ number. option_map (λ detail. (number, detail)) (option_and_then as_str (get (codes "detail") d))) (count_of (codes "refused") d)

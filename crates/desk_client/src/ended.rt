@@ -2,7 +2,6 @@
 ghost use Rattle.std.specs.Prelude.{◌≡◌, ◌≤◌, codes, length, option_map};
 ghost use Rattle.desk_client.specs.Ended.{before_digits, has_count, has_count_in, has_end, is_before_count, is_before_json_count, without};
 
-/// Returns the text before its trailing digits.
 #[tactic(auto, using(crate::proofs::Ends::more_digits, crate::proofs::Ends::no_digit))]
 fn before_digits(text: &[u8]) -> &[u8]
     ensures value { result.now ≡ before_digits text.entry.now }

@@ -28,7 +28,6 @@ pub(crate) struct Heard {
 }
 
 impl Answer {
-    /// Returns the body of the answer.
     pub(crate) fn body(&self) -> &[u8]
         ensures { result.now ≡ body_of self.now }
     {

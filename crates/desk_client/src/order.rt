@@ -44,7 +44,6 @@ fn agents_value(
     json!(in alloc; {"agent": agent, "count": count, "prefix": prefix, "serial": serial})
 }
 
-/// Returns the text of that object.
 fn agents_text(
     alloc: Global,
     agent: &str,
@@ -71,7 +70,6 @@ fn run_body(alloc: Global, run: &Run) -> Result<String, AllocError>
     run_text(alloc, count, prefix, serial)
 }
 
-/// Returns the body of an order with an agent.
 fn agents_body(alloc: Global, run: &Run, agent: &AgentCode) -> Result<String, AllocError>
     ensures text { IfOk result
         (λ text. IsTextOf (agents_data run.now agent.now) (string_bytes text)) }

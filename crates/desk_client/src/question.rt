@@ -52,7 +52,6 @@ fn report_path(report: Report) -> &'static str
     }
 }
 
-/// Returns the path of rows as text.
 fn listing_path(alloc: Global, listing: &Listing) -> Result<String, AllocError>
     ensures { IfOk result (λ path. string_bytes path ≡ listing_path listing.now) }
 {
@@ -115,7 +114,6 @@ fn command_head(alloc: Global, word: &str, key: &Key, len: usize) -> Result<Stri
     format!(in alloc; "{lines}{key}{length}")
 }
 
-/// Returns the head before a telegram.
 fn telegram_head(alloc: Global, len: usize) -> Result<String, AllocError>
     ensures { IfOk result (λ text. string_bytes text ≡ telegram_head len) }
 {

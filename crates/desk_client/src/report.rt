@@ -16,7 +16,6 @@ use station_core::{ByteIn, ByteOut};
 use std::alloc::Global;
 use stock_list::RunFault;
 
-/// Writes the rows of a whole answer.
 fn show_rows<W: ByteOut>(answer: &Answer, output: &mut W) -> Result<bool, RunFault>
     ensures { HasShownRows answer.now (W.taken output.old) (W.taken output.new) result }
 {

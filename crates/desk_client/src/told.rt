@@ -33,7 +33,6 @@ fn refused_line(alloc: Global, number: u64, detail: &str) -> Result<String, Allo
     format!(in alloc; "refused {number} {detail}")
 }
 
-/// Returns the number and the detail of a refusal.
 fn refusal_told(value: &Value) -> Option<(u64, &str)>
     ensures { option_map (λ told. (told.0, told.1.now)) result ≡ refusal_told (view value.now) }
 {

@@ -28,7 +28,6 @@ impl Zone {
         }
     }
 
-    /// Returns the local date and time at an instant.
     fn local(&self, now: Timestamp) -> DateTime
         ensures { Shows self.now now.nanosecond result }
     {

@@ -30,7 +30,6 @@ IsMember d key (Flight f) =
     (text : List ℕ) × (get key d ≡ Some (string text)) × (flight_of text ≡ Some f)
 IsMember d key Absent = get key d ≡ None
 
--- the fields' keys have these values
 abbrev pub AreMembers : Data → List Field → List FieldValue → Type 0
 AreMembers d [] [] = ⊤
 AreMembers d [] (value ∷ values) = ⊥

@@ -176,7 +176,6 @@ Writes result text = IfOk result (λ made. string_bytes made ≡ text)
 abbrev pub fields_text : List FieldValue → List ℕ
 fields_text values = join_with_byte 10 (map line_of values)
 
--- the verb and the fields, one a line
 abbrev pub text_of : Verb → List FieldValue → List ℕ
 text_of verb values = join_with_byte 10 (word verb ∷ map line_of values)
 
@@ -299,7 +298,6 @@ command_in verb.Confirm upto _ _ _ _ _ = do
   n ← number_in upto
   Some (Cargo (Confirm n))
 
--- the same for a list of six values
 abbrev pub command_of : Verb → List FieldValue → Option Command
 command_of verb (a ∷ b ∷ c ∷ d ∷ e ∷ f ∷ []) = command_in verb a b c d e f
 command_of verb _ = None

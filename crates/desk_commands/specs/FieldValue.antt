@@ -59,7 +59,6 @@ digits_of width text =
 abbrev pub digits_in : ℕ → FieldValue → Option ℕ
 digits_in width value = text_in value >>= digits_of width
 
--- a waybill number
 abbrev pub awb_of : List ℕ → Option ℕ
 awb_of text = where_true (length text == 12) text >>= λ bytes. result_ok (number_of bytes)
 

@@ -20,7 +20,6 @@ is_end b = b == 10
 abbrev pub lines_of : List ℕ → List (List ℕ)
 lines_of text = slice_split is_end text
 
--- the lines of the remaining text
 abbrev pub lines_left : Option (List ℕ) → List (List ℕ)
 lines_left None = []
 lines_left (Some text) = lines_of text
@@ -35,7 +34,6 @@ is_number text =
 abbrev pub number_of : List ℕ → Option ℕ
 number_of text = where_true (is_number text) (decimal_value text)
 
--- a flight in its written form
 abbrev pub written_flight_of : List ℕ → Option Designator
 written_flight_of line = flight_of line >>= λ f. where_true (bytes_eq (flight_text f) line) f
 

@@ -90,7 +90,6 @@ fn field_value(field: Option<Field>, body: &Value) -> Option<FieldValue<'_>>
     }
 }
 
-/// Returns the values of all six places.
 fn field_values(places: [Option<Field>; 6], body: &Value) -> Option<[FieldValue<'_>; 6]>
     ensures { result ≡ fields_say places (view body.now) }
 {

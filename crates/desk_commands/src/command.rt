@@ -155,7 +155,6 @@ fn desk_text(alloc: Global, command: &DeskCommand) -> Result<String, AllocError>
     }
 }
 
-/// Returns the text of a waybill number.
 fn number_bytes(awb: &Awb) -> [u8; 12]
     ensures text { result ≡ number_text awb.now }
     ensures in_range { IsNumber awb.now }

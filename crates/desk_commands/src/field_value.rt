@@ -34,7 +34,6 @@ fn digits(text: &[u8], width: usize) -> Option<u32>
     decimal(text)
 }
 
-/// Returns the waybill number in twelve bytes.
 fn read_twelve(bytes: &[u8; 12]) -> Option<Awb>
     ensures { result ≡ result_ok (number_of bytes.now) }
 {
@@ -102,7 +101,6 @@ impl FieldValue<'_> {
         RunCount::new(self.number()?)
     }
 
-    /// Returns the waybill number.
     pub(crate) fn awb(&self) -> Option<Awb>
         ensures { result ≡ awb_in self.now }
     {

@@ -100,7 +100,6 @@ fn place<'a>(field: Option<Field>, line: Option<Text<'a>>) -> Option<FieldValue<
     }
 }
 
-/// Returns the values of all six places.
 pub(crate) fn field_values<'a>(
     places: [Option<Field>; 6],
     line_0: Option<Text<'a>>,

@@ -164,7 +164,6 @@ fn word_among<'a>(verbs: &'a [Verb], text: &[u8]) -> Option<&'a Verb>
     verbs.iter().find(|verb| is_word(**verb, text))
 }
 
-/// Returns whether a text is the verb's word.
 fn is_word(verb: Verb, text: &[u8]) -> bool
     ensures { result ≡ is_word text.now verb }
 {

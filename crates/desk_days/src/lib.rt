@@ -102,7 +102,6 @@ fn verdict(
     format!(in alloc; "{name}: {told} lines as told, opened again {openings} times\n")
 }
 
-/// Plays a day on each keeper.
 fn play_on_all(alloc: Global, name: &str, day: &Day<'_>) -> Result<Played, DayFault> {
     let mut played = Played::new(alloc);
     play::play(alloc, name, day, Kind::Plain, &mut played)?;
@@ -153,7 +152,6 @@ pub fn run_file(rt: &HostRuntime, file: &str) -> Result<bool, io::Error> {
     Ok(is_told)
 }
 
-/// Returns the output for inputs by a rule.
 fn rule_told(given: Inputs, are_equal: Option<bool>) -> &'static str {
     match (are_equal, given) {
         (Some(true), Inputs::Mixed) => "200 inputs with equal answers and rows",

@@ -49,7 +49,6 @@ fn fault_word(fault: &ActFault) -> &'static str {
     }
 }
 
-/// Returns the output for a fault.
 fn fault_text(alloc: Global, fault: &ActFault) -> Result<String, AllocError> {
     match fault {
         ActFault::Refused(refusal) => refusal_text(alloc, refusal),
@@ -57,7 +56,6 @@ fn fault_text(alloc: Global, fault: &ActFault) -> Result<String, AllocError> {
     }
 }
 
-/// Returns the output for an answer.
 fn answer_text(alloc: Global, answer: &Result<Answer, ActFault>) -> Result<String, AllocError> {
     match answer {
         Ok(Answer::Done(reply)) => reply_text(alloc, reply),

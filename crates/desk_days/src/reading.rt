@@ -96,7 +96,6 @@ impl<'a> Script<'a> {
         }
     }
 
-    /// Adds a statement.
     fn add_ask(&mut self, line: u32, ask: Ask, body: &'a str) -> Result<(), DayFault> {
         if self.here.is_none() {
             return self.begin(line, ask);
@@ -139,7 +138,6 @@ impl<'a> Script<'a> {
         }
     }
 
-    /// Adds one line of the script.
     fn add(&mut self, line: u32, text: &'a str) -> Result<(), DayFault> {
         if text.is_empty() || text.starts_with('#') {
             return Ok(());

@@ -37,7 +37,6 @@ impl Inputs {
 /// The number of inputs of every kind.
 const MIXED: u32 = 200;
 
-/// The number of orders on the stock.
 const ORDERS: u32 = 2_000;
 
 /// The first and the last serial of their waybills.
@@ -76,7 +75,6 @@ struct Asked {
     text: String,
 }
 
-/// Returns the text of an order on the stock.
 fn order_text(alloc: Global, rule: &mut Rule) -> Option<String> {
     let serial = rule.between(FIRST, FIRST + 11);
     let count = rule.between(1, 4);

@@ -134,7 +134,6 @@ ffm_fault lines = fault_in lines (ffm_line_faults lines) (has_last_line (drop 2 
 abbrev pub part_of : Part → FlightLine
 part_of p = record { sequence = p.sequence; flight = p.flight; date = p.date; loaded = p.loaded }
 
--- the values of a message
 abbrev pub unloaded_of : FfmLine → Unloaded
 unloaded_of l = record { unload = l.unload; shipment = shipment_of l.consignment }
 
@@ -166,7 +165,6 @@ abbrev pub ffm_lines : Designator → CalendarDay → List ℕ → List ℕ → 
 ffm_lines flight date here unload loads =
     (codes "FFM/8" ∷ flight_line_text flight date here ∷ unload ∷ map (λ l. consignment_text (cargo_of l)) loads) ++ codes "LAST" ∷ []
 
--- the values of these lines
 abbrev pub manifest_written : Designator → CalendarDay → List ℕ → List ℕ → List Load → Manifest
 manifest_written flight date here unload loads = record {
   part = record { sequence = 1; flight = flight; date = date; loaded = here };

@@ -7,7 +7,6 @@ use Rattle.ffm_text.specs.Ffm.{last_point, is_cargo_line, IsCargo, unloaded_of}
 use Rattle.ffm_text.specs.declared.FfmLine.{FfmLine}
 use Rattle.ffm_text.specs.declared.cargo.ManifestScan.{ManifestScan}
 
--- the lines of tokens
 abbrev pub texts_of : List Token → List (List ℕ)
 texts_of tokens = map (λ t. t.text.now) tokens
 

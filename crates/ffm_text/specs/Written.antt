@@ -15,18 +15,15 @@ use Rattle.ffm_text.specs.Ffm.{cargo_of}
 abbrev pub Begins : List ℕ → List ℕ → Type 0
 Begins front text = take (length front) text ≡ front
 
--- a line and its end
 abbrev pub line_text : List ℕ → List ℕ
 line_text line = line ++ (13 ∷ 10 ∷ [])
 
--- the consignment line of a load
 abbrev pub load_line : Load → List ℕ
 load_line l = consignment_text (cargo_of l)
 
 abbrev pub route_text : Load → List ℕ
 route_text l = number_text l.awb ++ l.origin ++ l.destination ++ (47 ∷ [])
 
--- its quantity
 abbrev pub amount_text : Load → List ℕ
 amount_text l = quantity_text (cargo_of l).code l.pieces l.tenths (cargo_of l).total
 

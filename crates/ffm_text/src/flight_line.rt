@@ -54,7 +54,6 @@ fn fields(line: &[u8]) -> Option<LineFields<'_>>
     }
 }
 
-/// Returns the airport in the fourth field.
 fn loaded(field: Option<&[u8]>) -> Option<Airport>
     ensures { result ≡ option_and_then airport_of (option_copied field.entry) }
 {

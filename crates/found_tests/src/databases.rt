@@ -216,7 +216,6 @@ impl<S: Fresh> FoundAnswers<S> {
         }
     }
 
-    /// Returns the answer to an input.
     fn give(&mut self, input: &Input<'_>) -> Option<String> {
         self.call(Call::Act(input))
     }

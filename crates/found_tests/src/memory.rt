@@ -227,7 +227,6 @@ fn give<S: Fresh>(alloc: Global, run: Run, input: &Input<'_>) -> Option<Given<S>
     Some(Given { answer, made, conn })
 }
 
-/// Returns all rows before an input.
 fn rows_before<S: Fresh>(alloc: Global, run: Run) -> Option<String> {
     all_rows(alloc, &mut tables::<S>(alloc, run)?)
 }

@@ -60,7 +60,6 @@ impl RepeatAnswers {
         }
     }
 
-    /// Executes statements.
     fn execute(&mut self, text: &[u8]) -> Option<String> {
         let statements = statements(self.alloc, text)?;
         self.work_on(&Work::Execute(statements.as_str()))

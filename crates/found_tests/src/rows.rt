@@ -53,7 +53,6 @@ impl<S: Fresh> RowAnswers<S> {
         say(self.alloc, "ok")
     }
 
-    /// Opens the tables of a connection.
     fn open(&mut self, conn: Connection<S>) -> Option<String> {
         match Rows::opened(conn) {
             Ok(rows) => {

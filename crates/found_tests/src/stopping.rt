@@ -109,7 +109,6 @@ fn remains_of(whole: &Whole, found: &str) -> Remains {
     }
 }
 
-/// Returns whether an attempt may leave these remains.
 fn may_remain(attempt: Attempt, remains: Remains) -> bool {
     match attempt {
         Attempt::NotBegun => remains == Remains::Before,

@@ -50,7 +50,6 @@ fsu_line_faults (head ∷ line ∷ trail) =
 abbrev pub fsu_fault : List (List ℕ) → Option TextFault
 fsu_fault lines = fault_in lines (fsu_line_faults lines) (nat_le 3 (length lines))
 
--- the values of a message
 abbrev pub reading_of : Status → Reading
 reading_of (status.Handled event at airport quantity name) = Handled event at airport quantity name
 reading_of (status.ReceivedFromFlight flight at airport quantity) = ReceivedFromFlight flight at airport quantity

@@ -30,7 +30,6 @@ fn put(out: &mut [u8], at: usize, text: &[u8]) -> usize
     at + text.len()
 }
 
-/// Writes a slash and a field.
 fn put_field(out: &mut [u8], at: usize, text: &[u8]) -> usize
     requires { at + length text.now + 1 ≤ length out.old }
     ensures place { result ≡ at + length text.now + 1 }
@@ -40,7 +39,6 @@ fn put_field(out: &mut [u8], at: usize, text: &[u8]) -> usize
     put(out, at, text)
 }
 
-/// Writes a slash and a flight.
 fn put_flight(out: &mut [u8], at: usize, flight: &Flight) -> usize
     requires { at + 8 ≤ length out.old }
     ensures bound { result ≤ at + 8 }
@@ -236,7 +234,6 @@ fn put_differs(
     put_update(out, at, update)
 }
 
-/// Writes the status line.
 fn put_status(out: &mut [u8], at: usize, update: &SentUpdate) -> usize
     requires { at + 72 ≤ length out.old }
     ensures bound { result ≤ at + 72 }

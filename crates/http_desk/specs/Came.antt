@@ -10,7 +10,6 @@ use Rattle.http_desk.specs.Reading.{HasNoHead}
 use Rattle.http_desk.specs.Request.{head_asks, key_of}
 use Rattle.http_desk.specs.Wanted.{HasWants}
 
--- the body of the head is complete
 abbrev pub HasBody : HeadWants → ℕ → List ℕ → Type 0
 HasBody (wants.Now w) start bytes = Unit {0}
 HasBody (wants.Body post n) start bytes = start + n ≤ length bytes

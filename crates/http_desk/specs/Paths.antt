@@ -47,6 +47,5 @@ pub record LeadsToRows (path : List ℕ) (place : Place) : Type 0 where
   pub asks : printout_at path ≡ Some printout
   pub is : place ≡ gets (got_report printout)
 
--- the path leads to this place
 abbrev pub LeadsTo : List ℕ → Place → Type 0
 LeadsTo path place = LeadsToPlace path place ⊎ LeadsToRows path place

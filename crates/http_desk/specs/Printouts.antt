@@ -23,7 +23,6 @@ use Rattle.http_desk.specs.Digits.{number_told}
 abbrev pub IsPrinted : State → Printout → List ℕ → Type 0
 IsPrinted s p text = IsListing p.form s p.listing text
 
--- a whole report as text
 abbrev pub as_text : Report → Printout
 as_text name = record { listing = listing.All name; form = form.Text }
 

@@ -38,7 +38,6 @@ LacksBody bytes =
 abbrev pub IsUnfinished : List ℕ → Type 0
 IsUnfinished bytes = HasNoHeadYet bytes ⊎ LacksBody bytes
 
--- the request is a GET of a report
 abbrev pub GetsReport : List ℕ → Printout → Type 0
 GetsReport bytes name =
     (h : RequestHead) × HasHead bytes h × (head_asks (head_of h) ≡ looks_up (got_report name))

@@ -9,7 +9,6 @@ pub record StationAfter : Type 1 where
   pub keeps : State → Type 0
   pub may_find : Option State → Type 0
 
--- the station of this keeper
 abbrev pub station_after : {K : Type 0} → Keeping K → K → StationAfter
 station_after k keeper =
     record { is_broken = k.is_broken keeper; keeps = k.keeps keeper; may_find = k.may_find keeper }
@@ -19,6 +18,5 @@ abbrev pub station_at : State → StationAfter
 station_at s =
     record { is_broken = false; keeps = λ next. next ≡ s; may_find = λ found. found ≡ Some s }
 
--- the station works, and keeps this state
 abbrev pub WorksAt : StationAfter → State → Type 0
 WorksAt left s = (left.is_broken ≡ false) × left.keeps s

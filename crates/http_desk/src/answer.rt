@@ -76,7 +76,6 @@ fn media_type(form: Form) -> &'static str
     }
 }
 
-/// Returns the text before a report.
 pub(crate) fn report_head(alloc: Global, printout: &Printout) -> Result<String, AllocError>
     ensures { IfOk result (λ text. string_bytes text ≡ report_head printout.now) }
 {
@@ -149,7 +148,6 @@ fn pair_text(alloc: Global, amount: &Amount) -> Result<String, AllocError>
     pair(alloc, amount)?.to_string(alloc)
 }
 
-/// Returns a text as JSON.
 fn quoted(alloc: Global, text: &str) -> Result<String, AllocError>
     ensures { IfOk result (λ quoted. string_bytes quoted ≡ compact_text (string text.now)) }
 {
@@ -212,7 +210,6 @@ fn since_text(alloc: Global, since: Option<LocalDay>) -> Result<String, AllocErr
     }
 }
 
-/// Returns the same as JSON.
 fn quoted_day(alloc: Global, since: Option<LocalDay>) -> Result<String, AllocError>
     ensures { IfOk result (λ text. string_bytes text ≡ compact_text (string (since_text since))) }
 {

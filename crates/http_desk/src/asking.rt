@@ -89,7 +89,6 @@ fn refusal_status(refused: u16) -> u16
     }
 }
 
-/// Returns the body of a refusal.
 fn refusal_text(alloc: Global, refusal: &Refusal) -> Result<String, AllocError>
     ensures { IfOk result (λ text. string_bytes text ≡ compact_text
         (refused_data refusal.now.number (detail_text refusal.now.detail))) }
@@ -98,7 +97,6 @@ fn refusal_text(alloc: Global, refusal: &Refusal) -> Result<String, AllocError>
     refused_text(alloc, refusal.number, detail.as_str())
 }
 
-/// Returns the answer to a refusal.
 fn refusal_told(alloc: Global, refusal: &Refusal) -> Told
     ensures { IsToldAs (refusal_reply refusal.now) result }
 {
@@ -106,7 +104,6 @@ fn refusal_told(alloc: Global, refusal: &Refusal) -> Told
     json_told(alloc, refusal_status(refusal.number), None, body)
 }
 
-/// Returns the answer with the holder of a number.
 fn holder_told(alloc: Global, number: &Awb, holder: &Option<Holder>) -> Told
     ensures { IsToldAs (holder_reply number.now holder.now) result }
 {
@@ -126,7 +123,6 @@ fn waybill_told(alloc: Global, number: &Awb, waybill: &Option<Waybill>) -> Told
     }
 }
 
-/// Looks up the holder of a number.
 fn ask_holder<K: Keeper>(alloc: Global, keeper: &mut K, number: &Awb) -> Told
     ensures premise { KeepsPremise K.is_clean K.is_sound keeper.old keeper.new }
     ensures breaks { K.is_broken keeper.new ≡ K.is_broken keeper.old }

@@ -17,14 +17,12 @@ pub(crate) const NOT_FOUND: FaultTold = FaultTold {
     allow: None,
 };
 
-/// The path allows only POST.
 const ALLOW_POST: FaultTold = FaultTold {
     status: 405,
     word: "",
     allow: Some("POST"),
 };
 
-/// The path allows only GET.
 const ALLOW_GET: FaultTold = FaultTold {
     status: 405,
     word: "",

@@ -79,7 +79,6 @@ fn agent_rows(word: &str, code: &str) -> Option<Listing>
     }
 }
 
-/// Returns the number if a row can have it.
 fn row_number(text: &str) -> Option<u32>
     ensures { result ≡ row_number text.now }
 {

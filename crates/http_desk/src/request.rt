@@ -14,7 +14,6 @@ use httparse::spans::{EMPTY_HEADER_SPAN, HeaderSpan, RequestSpans};
 use station_core::{ByteIn, Key};
 use std::alloc::{AllocError, Global};
 
-/// The head is malformed.
 const BAD_HEAD: FaultTold = FaultTold {
     status: 400,
     word: "head",

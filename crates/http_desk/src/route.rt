@@ -65,7 +65,6 @@ pub(crate) fn behind(path: &str, count: usize) -> &[u8]
     }
 }
 
-/// Returns a whole report as text.
 fn as_text(report: Report) -> Printout
     ensures { result ≡ as_text report }
 {

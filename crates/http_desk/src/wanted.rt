@@ -80,7 +80,6 @@ fn number_behind(path: &str, count: usize) -> Option<Awb>
     number_in(behind(path, count))
 }
 
-/// Returns the look-up of a waybill.
 fn waybill_at(path: &str) -> Wanted<'static>
     ensures { WantsNow (got_at (place_told path.now Route.Waybill)) result }
 {
@@ -170,7 +169,6 @@ fn own_wants(
     Ok(wants_of(&asks, path))
 }
 
-/// Decodes a head.
 pub(crate) fn head_wants(
     alloc: Global,
     bytes: &[u8],

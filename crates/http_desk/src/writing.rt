@@ -114,7 +114,6 @@ fn answer_report<K: Keeper, O: ByteOut>(
     }
 }
 
-/// Writes an answer.
 pub(crate) fn write_told<K: Keeper, O: ByteOut>(
     alloc: Global,
     keeper: &mut K,

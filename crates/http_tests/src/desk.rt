@@ -118,7 +118,6 @@ fn acts(
     matches!(answer_one(station, &input, at), Ok(Answer::Done(_)))
 }
 
-/// Runs a step.
 fn do_step(alloc: Global, station: &mut PlainStation, step: &Step<'_>) -> Result<(), ScriptFault> {
     match step.ask {
         Ask::Act(verb, key) => {

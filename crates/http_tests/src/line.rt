@@ -37,7 +37,6 @@ fn repeated(rest: &str) -> Option<(u32, &str)> {
     Some((times.parse::<u32>().ok()?, text))
 }
 
-/// Appends a text, repeated.
 fn put(bytes: &mut Vec<u8>, times: u32, text: &[u8], end: End) -> Result<(), AllocError> {
     for _ in 0..times {
         bytes.extend_from_slice(text)?;
@@ -46,7 +45,6 @@ fn put(bytes: &mut Vec<u8>, times: u32, text: &[u8], end: End) -> Result<(), All
     Ok(())
 }
 
-/// Appends the bytes of a text, repeated.
 fn put_text(bytes: &mut Vec<u8>, line: u32, rest: &str, end: End) -> Result<(), ScriptFault> {
     match repeated(rest) {
         Some((times, text)) => {
@@ -60,7 +58,6 @@ fn put_text(bytes: &mut Vec<u8>, line: u32, rest: &str, end: End) -> Result<(), 
     }
 }
 
-/// Appends the bytes of digits, repeated.
 fn put_digits(
     alloc: Global,
     bytes: &mut Vec<u8>,

@@ -82,7 +82,6 @@ impl Case<'_> {
         Ok(())
     }
 
-    /// Returns the state before the request.
     fn state_before(&self) -> Result<Vec<u8>, ScriptFault> {
         let mut station = self.station()?;
         Ok(state_of(self.alloc, &mut station, self.step.at)?)

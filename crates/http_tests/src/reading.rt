@@ -114,14 +114,12 @@ impl<'a> Script<'a> {
         put_line(alloc, &mut step.sent, line, rest)
     }
 
-    /// Adds bytes of an answer.
     fn add_answer(&mut self, line: u32, rest: &str) -> Result<(), ScriptFault> {
         let alloc = self.alloc;
         let step = self.above(line)?;
         put_line(alloc, &mut step.answer, line, rest)
     }
 
-    /// Begins a station.
     fn add_station(&mut self, here: Airport) -> Result<(), ScriptFault> {
         let story = Story {
             here,

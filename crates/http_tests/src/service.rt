@@ -34,7 +34,6 @@ const ISSUE: &str =
 /// A request for the holder of one of them.
 const HOLDER: &str = "GET /v1/stock/020-12345675 HTTP/1.1\r\nHost: desk\r\n\r\n";
 
-/// A request for the stock.
 const STOCK: &str = "GET /v1/reports/stock HTTP/1.1\r\nHost: desk\r\n\r\n";
 
 /// Returns a clock that never advances.
@@ -46,7 +45,6 @@ fn still(shown: u64) -> Stepped {
     }
 }
 
-/// Connects, and writes a request.
 fn ask(rt: &HostRuntime, address: SocketAddr, request: &str) -> io::Result<TcpStream> {
     let client = TcpStream::connect(rt, address)?;
     let mut asking = &client;

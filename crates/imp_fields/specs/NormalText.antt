@@ -41,7 +41,6 @@ abbrev pub starts_from : ℕ → List (List ℕ) → List ℕ
 starts_from place [] = []
 starts_from place (line ∷ lines) = place ∷ starts_from (place + length line + 1) lines
 
--- the starts of the lines of a text
 abbrev pub line_starts : List ℕ → List ℕ
 line_starts bytes = take (length (lines_of bytes)) (starts_from 0 (slice_split is_newline bytes))
 

@@ -7,7 +7,6 @@ ghost use Rattle.imp_fields.specs.Amount.{IsPieces, count_of, is_digit_or_point}
 ghost use Rattle.imp_fields.specs.Characters.{is_blank, is_printable, is_slash};
 ghost use Rattle.imp_fields.specs.NormalText.{is_newline};
 
-/// Returns the number of leading digits.
 pub(crate) fn digits_in_front(text: &[u8]) -> usize
     ensures run { result ≡ prefix_len is_digit text.now }
     ensures bound { result ≤ length text.now }
@@ -15,7 +14,6 @@ pub(crate) fn digits_in_front(text: &[u8]) -> usize
     text.iter().take_while(|b| b.is_ascii_digit()).count()
 }
 
-/// Returns the number of trailing digits.
 pub(crate) fn digits_at_end(text: &[u8]) -> usize
     ensures run { result ≡ suffix_len is_digit text.now }
     ensures bound { result ≤ length text.now }
@@ -102,7 +100,6 @@ pub(crate) fn count(digits: &[u8]) -> Option<u32>
     if number == 0 { None } else { Some(number) }
 }
 
-/// Returns whether each byte is a digit.
 pub(crate) fn is_digits(text: &[u8]) -> bool
     ensures { result ≡ list_all is_digit text.now }
 {

@@ -75,7 +75,6 @@ struct Wire<'a> {
     is_late: Cell<bool>,
 }
 
-/// Returns the error of a connection.
 fn failure() -> io::Error {
     ErrorKind::Other.into()
 }
@@ -98,7 +97,6 @@ impl<'a> Wire<'a> {
         next.map(|_| ())
     }
 
-    /// Reads from the open connection.
     fn read_open(&self, buf: &mut [u8]) -> io::Result<usize>
         ensures { ReadsAtMost result buf.new }
     {
@@ -141,7 +139,6 @@ impl<'a> Wire<'a> {
         sent.extend_from_slice(bytes).ok()
     }
 
-    /// Writes to the open connection.
     fn write_open(&self, buf: &[u8]) -> Option<usize>
         ensures { IfSome result (λ count. count ≤ length buf.now) }
     {

@@ -34,7 +34,6 @@ abbrev pub is_line_of : TrailQuery → ℕ × List ℕ → Bool
 is_line_of (trail.Of w) row = row.0 == w
 is_line_of _ row = true
 
--- a row, if it is queried
 abbrev pub if_movement : BookQuery → BookRow → List BookRow
 if_movement query row = if is_movement_of query row.movement then row ∷ [] else []
 

@@ -25,7 +25,6 @@ flow_with place flow m = record {
   went = if same_place place m.from then more flow.went m else flow.went;
 }
 
--- no moves
 abbrev pub still : Flow
 still = record { came = record { pieces = 0; tenths = 0 }; went = record { pieces = 0; tenths = 0 } }
 

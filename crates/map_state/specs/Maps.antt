@@ -22,7 +22,6 @@ declared_in rows w = get nat_cmp rows w
 abbrev pub flights_in : BTreeMap FlightKey Outbound → FlightDate → Option Outbound
 flights_in rows f = lookup (λ k. same_flight_date f k.flight) rows.entries
 
--- the part of an entry
 abbrev pub part_of : FlightKey × List ℕ × ℕ → Part
 part_of k = record { flight = k.0.flight; airport = k.1; number = k.2 }
 

@@ -9,7 +9,6 @@ abbrev pub named_by : Option Holder → List (ℕ × Option Holder) → ℕ → 
 named_by before [] q = before
 named_by before (e ∷ es) q = named_by (if nat_le e.0 q then e.1 else before) es q
 
--- the stock together with the numbers of a run
 abbrev pub with_run : Holders → StockRun → Holders
 with_run held row q = if is_among row.first row.count q then Some row.holder else held q
 
@@ -17,7 +16,6 @@ with_run held row q = if is_among row.first row.count q then Some row.holder els
 abbrev pub with_numbers : Holders → ℕ → ℕ → Holder → Holders
 with_numbers held from end holder q = if nat_le from q && nat_lt q end then Some holder else held q
 
--- the stock below a number
 abbrev pub below : ℕ → Holders → Holders
 below end held q = if nat_lt q end then held q else None
 

@@ -22,7 +22,6 @@ abbrev pub flow_by : Option (BTreeMap ℕ Flow) → ℕ → Flow
 flow_by None w = still
 flow_by (Some flows) w = flow_in flows w
 
--- the flow of a waybill on a flight
 abbrev pub flow_at : BTreeMap FlightKey (BTreeMap ℕ Flow) → FlightKey → ℕ → Flow
 flow_at loads k w = flow_by (get by_key loads k) w
 

@@ -6,7 +6,6 @@ use Rattle.shipment_machine.specs.declared.moves.Place.TheVariants.{Delivered, D
 use Rattle.map_state.specs.Flow.{drawn_of, flow_of, flow_with, held_of, still}
 use Rattle.map_state.specs.declared.waybill_flows.WaybillFlows.{WaybillFlows}
 
--- the flows of a waybill, from a book
 abbrev pub flows_of : List Move → ℕ → WaybillFlows
 flows_of book w = record {
   hand = flow_of book w Hand;
@@ -18,7 +17,6 @@ flows_of book w = record {
   transferred = flow_of book w Transferred;
 }
 
--- the flows with another move of the waybill
 abbrev pub flows_with : WaybillFlows → Move → WaybillFlows
 flows_with flows m = record {
   hand = flow_with Hand flows.hand m;
@@ -30,7 +28,6 @@ flows_with flows m = record {
   transferred = flow_with Transferred flows.transferred m;
 }
 
--- no moves
 abbrev pub no_flows : WaybillFlows
 no_flows = record {
   hand = still;

@@ -23,7 +23,6 @@ fn is_of_flight(movement: &Move, flight: &FlightDate) -> bool
         }
 }
 
-/// Returns the number of movements to skip.
 fn first_movement(query: &BookQuery, len: usize) -> usize
     ensures value { result ≡ first_movement query.now len }
     ensures within { result ≤ len }
@@ -63,7 +62,6 @@ fn put_movement(
     Ok(())
 }
 
-/// Returns the queried movements, with their numbers.
 pub(crate) fn movements(
     alloc: Global,
     moves: &[Move],

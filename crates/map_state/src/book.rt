@@ -52,7 +52,6 @@ fn post_flow(
 }
 
 impl MovementBook {
-    /// Returns an empty book.
     pub(crate) fn new(alloc: Global) -> MovementBook
         ensures moves { result.moves.items ≡ [] }
         ensures summed { IsSummed result }
@@ -65,7 +64,6 @@ impl MovementBook {
         }
     }
 
-    /// Returns the flows of a waybill, by place.
     fn flows(&self, awb: &Awb) -> WaybillFlows
         ensures { result ≡ unwrap_or (get nat_cmp self.now.flows awb.now) no_flows }
     {
@@ -75,7 +73,6 @@ impl MovementBook {
         }
     }
 
-    /// Returns the flow of a waybill on a flight.
     fn flow(&self, flight: &FlightKey, awb: &Awb) -> Flow
         ensures { result ≡ flow_at self.now.loads flight.now awb.now }
     {
@@ -85,7 +82,6 @@ impl MovementBook {
         }
     }
 
-    /// Adds a move to the flows of its waybill.
     fn post_flows(&mut self, movement: &Move) -> Result<(), StoreFault>
         ensures posted { IsSummed self.old → OnOk result ((w : ℕ)
             → IsWaybillSummed self.new.flows (self.old.moves.items ++ movement.now ∷ []) w) }
@@ -152,7 +148,6 @@ impl MovementBook {
         self.flows.contains_key(&awb.key())
     }
 
-    /// Returns the balances of a waybill.
     pub(crate) fn balances(&self, awb: &Awb) -> Result<Balances, StoreFault>
         ensures { IsSummed self.now → IfOk result (λ balances. balances
             ≡ balances_of self.now.moves.items awb.now) }

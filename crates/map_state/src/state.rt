@@ -8,7 +8,6 @@ use station_core::KeptReply;
 use std::alloc::Global;
 use std::collections::{BTreeMap, HashMap};
 
-/// A line of the trail.
 #[derive(Drop)]
 pub(crate) struct TrailEntry {
     pub(crate) awb: Awb,

@@ -17,7 +17,6 @@ pub(crate) struct MapStock {
 }
 
 impl MapStock {
-    /// Returns an empty stock.
     pub(crate) fn new(alloc: Global) -> MapStock
         ensures { holders_of result ≡ nobody }
     {

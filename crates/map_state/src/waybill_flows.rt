@@ -29,7 +29,6 @@ pub(crate) const NO_FLOWS: WaybillFlows = WaybillFlows {
 };
 
 impl WaybillFlows {
-    /// Returns the flows with another move of the waybill.
     pub(crate) fn with(&self, movement: &Move) -> Result<WaybillFlows, StoreFault>
         ensures { IfOk result (λ flows. flows ≡ flows_with self.now movement.now) }
     {
@@ -44,7 +43,6 @@ impl WaybillFlows {
         })
     }
 
-    /// Returns the balances by these flows.
     pub(crate) fn balances(&self) -> Result<Balances, StoreFault>
         ensures { IfOk result (λ balances. balances ≡ balances_by self.now) }
     {

@@ -13,7 +13,6 @@ use shipment_machine::{Declared, Expected, FlightDate, Move, Outbound, Part, Tra
 use state_store::{FlightKey, StoreFault};
 
 impl MapState {
-    /// Appends a move to the book.
     pub(crate) fn put_move(&mut self, movement: &Move) -> Result<(), StoreFault>
         ensures { (s : State) → Shows self.old s
             → OnOk result (Shows self.new (with_moves (movement.now ∷ []) s)) }
@@ -43,7 +42,6 @@ impl MapState {
         Ok(())
     }
 
-    /// Sets the note of an outbound flight.
     pub(crate) fn note_flight(
         &mut self,
         flight: &FlightDate,
@@ -82,7 +80,6 @@ impl MapState {
         Ok(())
     }
 
-    /// Adds a line to the trail of a waybill.
     pub(crate) fn add_line(&mut self, awb: &Awb, line: &TrailLine<'_>) -> Result<(), StoreFault>
         ensures { (s : State) → Shows self.old s → OnOk result (Shows self.new
             (on_cargo (written [] (Trail awb.now line.now)) s)) }
@@ -95,7 +92,6 @@ impl MapState {
         Ok(())
     }
 
-    /// Appends a message to the outbox.
     pub(crate) fn put_message(&mut self, text: &[u8]) -> Result<(), StoreFault>
         ensures { (s : State) → Shows self.old s
             → OnOk result (Shows self.new (with_messages (text.now ∷ []) s)) }
@@ -108,7 +104,6 @@ impl MapState {
         Ok(())
     }
 
-    /// Confirms the messages up to this one.
     pub(crate) fn confirm(&mut self, upto: u32)
         ensures { (s : State) → Shows self.old s
             → Shows self.new (on_cargo (written [] (Confirm upto)) s) }

@@ -17,7 +17,6 @@ pub fn answer(alloc: Global, asked: &str, text: &[u8]) -> Option<String> {
     }
 }
 
-/// Returns the normal text of a telegram.
 fn normal(alloc: Global, text: &[u8]) -> Option<String> {
     let Ok(telegram) = read_telegram(alloc, text) else {
         return None;
@@ -25,7 +24,6 @@ fn normal(alloc: Global, text: &[u8]) -> Option<String> {
     say(alloc, shown(telegram.text().as_bytes()))
 }
 
-/// Returns the content of a telegram.
 fn content(alloc: Global, text: &[u8]) -> Option<String> {
     let Ok(telegram) = read_telegram(alloc, text) else {
         return None;

@@ -145,7 +145,6 @@ fn at_the_desk(asked: &str, words: &mut SplitWhitespace<'_>, last: &[u8]) -> Opt
     }
 }
 
-/// Returns a command about a flight.
 fn with_flight(asked: &str, words: &mut SplitWhitespace<'_>) -> Option<DeskCommand> {
     if asked == "depart" {
         let flight = flight(words)?;

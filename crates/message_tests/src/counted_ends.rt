@@ -26,7 +26,6 @@ fn sent(alloc: Global, text: &str) -> Option<String> {
     say(alloc, shown(writer.into_inner().as_slice()))
 }
 
-/// Returns the result of a send as text.
 fn sent_said(alloc: Global, sent: Result<(), usize>) -> Option<String> {
     match sent {
         Ok(()) => say(alloc, "all went out"),

@@ -20,7 +20,6 @@ pub fn answer(alloc: Global, asked: &str, text: &[u8]) -> Option<String> {
     }
 }
 
-/// Reads a text as a part of a manifest.
 fn part<'a>(alloc: Global, text: &'a [u8]) -> Option<Ffm<'a>> {
     let Ok(lines) = normal_text(alloc, text) else {
         return None;

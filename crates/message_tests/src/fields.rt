@@ -26,7 +26,6 @@ pub fn answer(alloc: Global, asked: &str, text: &[u8]) -> Option<String> {
     }
 }
 
-/// Returns the number of an amount in range.
 fn amount(alloc: Global, asked: &str, text: &[u8]) -> Option<String> {
     let mut words = words(text)?;
     let number = next_number(&mut words)?;
@@ -100,7 +99,6 @@ fn date(alloc: Global, text: &[u8]) -> Option<String> {
     }
 }
 
-/// Returns the minute of a date with a time.
 fn date_time(alloc: Global, text: &[u8]) -> Option<String> {
     printed_or_none(alloc, DayTime::read(text).map(|at| u32::from(at.minute)))
 }

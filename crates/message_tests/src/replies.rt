@@ -114,7 +114,6 @@ fn order(verb: &str, count: u32) -> Option<Order> {
     }
 }
 
-/// Returns the count in the reply to an order.
 fn counted(alloc: Global, order: &Order) -> Option<String> {
     let numbers = count_of_order(order);
     format!(in alloc; "{numbers}").ok()
@@ -125,7 +124,6 @@ fn refusal_said(alloc: Global, refusal: &Refusal) -> Option<String> {
     format!(in alloc; "{} [{}]", refusal.number, refusal.detail).ok()
 }
 
-/// Returns a key, as bytes and as text.
 fn key(alloc: Global, key: &Key) -> Option<String> {
     format!(in alloc; "{} {}", shown(key.as_bytes()), key.as_str()).ok()
 }

@@ -8,11 +8,9 @@ use Rattle.shipment_machine.specs.declared.moves.Place.TheVariants.{Built}
 use Rattle.shipment_machine.specs.Cargo.{Cargo}
 use Rattle.shipment_machine.specs.Views.{declaration}
 
--- true if a move goes onto a flight
 abbrev pub is_onto : FlightDate → Move → Bool
 is_onto flight m = same_place (Built flight) m.to
 
--- true if some of a waybill is built
 abbrev pub is_built_on : List Move → FlightDate → ℕ → Bool
 is_built_on book flight w = nat_lt 0 (built book w flight).pieces
 

@@ -5,7 +5,6 @@ use Rattle.shipment_machine.specs.Book.{same_place, in_store}
 use Rattle.plain_station.specs.declared.balances.Spot.{Spot}
 use Rattle.plain_station.specs.declared.balances.Spot.TheVariants.{At, Store}
 
--- true if a place is counted
 abbrev pub is_in : Spot → Place → Bool
 is_in (At place) = same_place place
 is_in Store = in_store

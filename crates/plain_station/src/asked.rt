@@ -46,7 +46,6 @@ fn keep_on(rows: &mut Vec<BookRow>, flight: FlightDate)
     rows.retain(|row| is_of_flight(&row.movement, &flight));
 }
 
-/// Keeps the queried movements.
 pub(crate) fn keep_movements(rows: &mut Vec<BookRow>, query: &BookQuery)
     ensures { rows.new.items ≡ movements_for query.now rows.old.items }
 {
@@ -71,7 +70,6 @@ fn keep_lines_of(rows: &mut Vec<TrailRow>, awb: Awb)
     rows.retain(|row| row.awb == awb);
 }
 
-/// Keeps the queried lines.
 pub(crate) fn keep_lines(rows: &mut Vec<TrailRow>, query: &TrailQuery)
     ensures { rows.new.items ≡ lines_for query.now rows.old.items }
 {

@@ -9,7 +9,6 @@ ghost use Rattle.station_core.specs.Step.{most_rows};
 use awb_number::Awb;
 use shipment_machine::{Amount, Move, Place};
 
-/// Returns whether a place is in the store.
 fn is_stored(place: &Place) -> bool
     ensures { result ≡ in_store place.now }
 {
@@ -54,7 +53,6 @@ enum Spot {
 }
 
 impl Spot {
-    /// Returns whether a place is counted.
     fn has(&self, place: &Place) -> bool
         ensures { result ≡ is_in self.now place.now }
     {
@@ -106,7 +104,6 @@ pub(crate) fn held(book: &[Move], awb: &Awb, place: &Place) -> Amount
     total_in(book, awb, &spot).less(&total_out(book, awb, &spot))
 }
 
-/// Returns the amount in the store.
 pub(crate) fn stored(book: &[Move], awb: &Awb) -> Amount
     requires few { length book.now ≤ most_rows }
     requires within { IsWithin (store book.now awb.now) }
@@ -116,7 +113,6 @@ pub(crate) fn stored(book: &[Move], awb: &Awb) -> Amount
     total_in(book, awb, &spot).less(&total_out(book, awb, &spot))
 }
 
-/// Returns the amount that came from a place.
 pub(crate) fn drawn(book: &[Move], awb: &Awb, place: &Place) -> Amount
     requires few { length book.now ≤ most_rows }
     requires within { IsWithin (drawn book.now awb.now (same_place place.now)) }

@@ -32,7 +32,6 @@ impl PlainCargo {
         }
     }
 
-    /// Returns the balances of a waybill.
     pub(crate) fn balances(&self, awb: &Awb) -> Balances
         ensures { result ≡ balances_of self.now.lists.book.items awb.now }
     {

@@ -19,7 +19,6 @@ use station_days::Moment;
 use telegrams::Telegram;
 
 impl PlainCargo {
-    /// Acts on a stock order.
     fn do_order(&mut self, order: &Order) -> Result<u32, ActFault>
         ensures { Does (stock_acted (cargo_of self.old.lists) order.now
             (order_refusal (cargo_of self.old.lists).holders order.now)) (cargo_of self.old.lists)

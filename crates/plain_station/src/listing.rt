@@ -20,7 +20,6 @@ use station_core::{
 use std::alloc::AllocError;
 
 impl PlainCargo {
-    /// Returns the noted flights, in order.
     fn noted(&self) -> Result<Vec<NotedFlight>, AllocError>
         ensures { IfOk result (λ noted. AreNoted (cargo_of self.now.lists).flights noted.items) }
     {
@@ -63,7 +62,6 @@ impl PlainCargo {
         })
     }
 
-    /// Returns the rows of all flights, in order.
     fn flight_rows(&self) -> Result<Vec<FlightRow>, AllocError>
         ensures { IfOk result (λ rows. AreFlightRows (cargo_of self.now.lists) rows.items) }
     {
@@ -95,7 +93,6 @@ impl PlainCargo {
 }
 
 impl PlainCargo {
-    /// Returns the expectations, in order.
     fn expectations(&self) -> Result<Vec<Expectation>, AllocError>
         ensures { IfOk result (λ all. AreExpectations (cargo_of self.now.lists).expected
             all.items) }

@@ -47,7 +47,6 @@ impl CargoLists {
         }
     }
 
-    /// Returns the declaration of a waybill.
     pub(crate) fn declared_of(&self, awb: &Awb) -> Option<Declared>
         ensures { result ≡ declared_in self.now.declared.items awb.now }
     {
@@ -55,7 +54,6 @@ impl CargoLists {
         Some(row.declared)
     }
 
-    /// Returns the declaration of a declared waybill.
     pub(crate) fn declaration_of(&self, awb: &Awb) -> Declared
         requires declared { IsSome (declared_in self.now.declared.items awb.now) }
         ensures { declared_in self.now.declared.items awb.now ≡ Some result }
@@ -66,7 +64,6 @@ impl CargoLists {
         }
     }
 
-    /// Returns the note of an outbound flight.
     pub(crate) fn outbound_of(&self, flight: &FlightDate) -> Option<Outbound>
         ensures { result ≡ flights_in self.now.flights.items flight.now }
     {
@@ -74,7 +71,6 @@ impl CargoLists {
         Some(row.outbound)
     }
 
-    /// Returns the expectation of a waybill on a flight.
     pub(crate) fn expected_of(&self, flight: &FlightDate, awb: &Awb) -> Option<Expected>
         ensures { result ≡ expected_in self.now.expected.items flight.now awb.now }
     {

@@ -48,7 +48,6 @@ impl PlainCargo {
         Ok(())
     }
 
-    /// Returns the record of a waybill with this declaration.
     fn known(&self, number: &Awb, declared: &Declared) -> Waybill
         ensures { result ≡ told_of (cargo_of self.now.lists) number.now declared.now }
     {
@@ -222,7 +221,6 @@ impl PlainCargo {
         Ok(rows)
     }
 
-    /// Returns the queried movements.
     fn movements(&self, query: &BookQuery) -> Result<Vec<BookRow>, AllocError>
         ensures { IfOk result (λ rows. rows.items
             ≡ book_by query.now (cargo_of self.now.lists)) }
@@ -265,7 +263,6 @@ impl PlainCargo {
         })
     }
 
-    /// Returns the unconfirmed messages.
     fn pending_rows(&self) -> Result<Vec<Message>, AllocError>
         ensures { IfOk result (λ rows. rows.items ≡ pending_messages (cargo_of self.now.lists)) }
     {
@@ -315,7 +312,6 @@ impl PlainCargo {
         Ok(rows)
     }
 
-    /// Returns the queried lines of the trail.
     fn lines(&self, query: &TrailQuery) -> Result<Vec<TrailRow>, AllocError>
         ensures { IfOk result (λ rows. rows.items
             ≡ trail_by query.now (cargo_of self.now.lists)) }

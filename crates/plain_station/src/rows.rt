@@ -5,7 +5,6 @@ ghost use Rattle.shipment_machine.specs.Flights.{same_flight_date};
 use awb_number::Awb;
 use shipment_machine::{Declared, Expected, FlightDate, Outbound, Part};
 
-/// The declaration of a waybill.
 #[derive(Clone, Copy, Debug)]
 pub(crate) struct DeclaredRow {
     pub(crate) awb: Awb,
@@ -45,7 +44,6 @@ pub(crate) struct PartRow {
 }
 
 impl PartRow {
-    /// Returns whether the row is of this part.
     pub(crate) fn is_of(&self, part: &Part) -> bool
         ensures { result ≡ same_part part.now self.now.part }
     {

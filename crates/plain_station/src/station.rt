@@ -48,7 +48,6 @@ impl PlainStation {
         }
     }
 
-    /// Acts on a command under a new key.
     fn act_keyed(
         &mut self,
         key: &Key,

@@ -21,7 +21,6 @@ use shipment_machine::{
 use station_days::Moment;
 use std::alloc::AllocError;
 
-/// Returns whether a move goes onto a flight.
 fn is_onto(flight: &FlightDate, movement: &Move) -> bool
     ensures { result ≡ is_onto flight.now movement.now }
 {
@@ -32,7 +31,6 @@ fn is_onto(flight: &FlightDate, movement: &Move) -> bool
 }
 
 impl PlainCargo {
-    /// Returns the moves onto a flight, in order.
     fn moves_onto(&self, flight: &FlightDate) -> Result<Vec<Move>, AllocError>
         ensures { IfOk result (λ moves. moves.items ≡ filter (is_onto flight.now)
             self.now.lists.book.items) }
@@ -89,7 +87,6 @@ impl PlainCargo {
         })
     }
 
-    /// Returns the load of a waybill on a flight.
     fn aboard(&self, awb: &Awb, declared: &Declared, flight: &FlightDate) -> FlightLoad
         requires { (cargo_of self.now.lists).declared awb.now ≡ Some declared.now }
         ensures { result ≡ aboard_of (cargo_of self.now.lists) flight.now awb.now }
@@ -101,7 +98,6 @@ impl PlainCargo {
         }
     }
 
-    /// Returns the loads of a flight, ascending.
     fn loads(&self, flight: &FlightDate) -> Result<Loads, AllocError>
         ensures { IfOk result (λ loads. loads ≡ loads_of (cargo_of self.now.lists) flight.now) }
     {
@@ -140,7 +136,6 @@ impl PlainCargo {
 }
 
 impl PlainCargo {
-    /// Returns the rows for declaring a waybill.
     fn declaration_rows(&self, awb: &Awb) -> Rows
         ensures { result ≡ rows.Declaration (declaration_view (cargo_of self.now.lists) awb.now) }
     {
@@ -153,7 +148,6 @@ impl PlainCargo {
         }
     }
 
-    /// Returns a waybill with its balances.
     fn waybill_view(&self, awb: &Awb) -> WaybillView
         ensures { result ≡ waybill_view (cargo_of self.now.lists) awb.now }
     {
@@ -184,7 +178,6 @@ impl PlainCargo {
         })
     }
 
-    /// Returns the rows for offloading a waybill.
     fn offload_rows(&self, awb: &Awb, flight: &FlightDate) -> Rows
         ensures { result ≡ rows.Offload ((cargo_of self.now.lists).declared awb.now)
             ((cargo_of self.now.lists).flights flight.now)
@@ -197,7 +190,6 @@ impl PlainCargo {
         }
     }
 
-    /// Returns the rows for checking in a waybill.
     fn check_in_rows(&self, awb: &Awb, flight: &FlightDate) -> Rows
         ensures { result ≡ rows.CheckIn (waybill_view (cargo_of self.now.lists) awb.now)
             ((cargo_of self.now.lists).expected flight.now awb.now) }
@@ -208,7 +200,6 @@ impl PlainCargo {
         }
     }
 
-    /// Returns the rows for a status update.
     fn status_rows(&self, awb: &Awb) -> Rows
         ensures { result ≡ rows.Status ((cargo_of self.now.lists).declared awb.now) }
     {
@@ -227,7 +218,6 @@ impl PlainCargo {
         }
     }
 
-    /// Returns the rows for a part of a manifest.
     fn part_rows(&self, part: &InboundPart<'_>, at: Moment) -> Result<Rows, AllocError>
         ensures { IfOk result (λ made. made ≡ rows_for (cargo_of self.now.lists)
             (order.Ffm part.now) at) }

@@ -32,12 +32,10 @@ use Rattle.reports.specs.declared.report.Report.TheVariants as report
 
 -- The forms.
 
--- the rows, in order
 abbrev pub items_of : {Row : Type 0} → (Row → Data) → List Row → Items
 items_of data_of [] = no_items
 items_of data_of (row ∷ rows) = item (data_of row) (items_of data_of rows)
 
--- one object: the rows, and their number
 abbrev pub rows_data : {Row : Type 0} → (Row → Data) → List Row → Data
 rows_data data_of rows = object_of ((codes "rows", array (items_of data_of rows)) ∷ (codes "count", count_data (length rows)) ∷ [])
 
@@ -46,7 +44,6 @@ abbrev pub rows_text : {Row : Type 0} → Form → (Row → List ℕ) → (Row �
 rows_text form.Text line_of data_of rows = report_text line_of rows
 rows_text form.Json line_of data_of rows = compact_text (rows_data data_of rows) ++ 10 ∷ []
 
--- the text has the selected rows
 abbrev pub IsTextOf : {Row : Type 0} → Form → (Row → List ℕ) → (Row → Data) → (List Row → Type 0) → (List Row → List Row) → List ℕ → Type 0
 IsTextOf {Row} f line_of data_of AreRows picked text = (rows : List Row) × AreRows rows × (text ≡ rows_text f line_of data_of (picked rows))
 
@@ -68,7 +65,6 @@ is_agent code _ = false
 abbrev pub is_held_by : List ℕ → StockRun → Bool
 is_held_by code run = is_agent code run.holder
 
--- a message with a greater number
 abbrev pub is_behind : ℕ → Message → Bool
 is_behind n message = nat_lt n message.number
 
@@ -88,7 +84,6 @@ IsPendingAfter f s n text = text ≡ rows_text f message_lines message_data (fil
 abbrev pub IsManifest : Form → State → FlightDate → List ℕ → Type 0
 IsManifest f s flight text = text ≡ rows_text f manifest_line manifest_data (manifest_rows s.cargo flight)
 
--- the queried expectations
 abbrev pub IsExpected : Form → State → ExpectedQuery → List ℕ → Type 0
 IsExpected f s query text =
     (rows : List ExpectedRow) × AreExpectedBy query s.cargo rows × (text ≡ rows_text f expected_line expected_data rows)

@@ -35,7 +35,6 @@ with_move f m t = record {
   departed = counted (leaves f m) m t.departed;
 }
 
--- the row of the sums
 abbrev pub row_of : Tally → ManifestRow
 row_of t = record {
   awb = t.awb;

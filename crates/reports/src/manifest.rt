@@ -22,7 +22,6 @@ pub struct ManifestRow {
 }
 
 impl ManifestRow {
-    /// Returns whether the row has pieces.
     pub(crate) fn has_pieces(&self) -> bool
         ensures { result ≡ has_pieces self.now }
     {

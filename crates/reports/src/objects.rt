@@ -64,7 +64,6 @@ fn place(alloc: Global, place: &Place) -> Result<String, AllocError>
     quoted(alloc, place_name(place))
 }
 
-/// Returns the members of a waybill and its route.
 fn route_members(
     alloc: Global,
     awb: &Awb,
@@ -80,7 +79,6 @@ fn route_members(
     format!(in alloc; "\"awb\":{awb},\"origin\":{origin},\"destination\":{destination}")
 }
 
-/// Returns the members of a flight and its day.
 fn flight_members(alloc: Global, flight: &FlightDate) -> Result<String, AllocError>
     ensures { IfOk result (λ text. string_bytes text ≡ flight_members flight.now) }
 {
@@ -115,7 +113,6 @@ fn moment_members(alloc: Global, at: &Moment) -> Result<String, AllocError>
     format!(in alloc; "\"date\":{date},\"time\":{time}")
 }
 
-/// Returns the members of the two places.
 fn place_members(alloc: Global, from: &Place, to: &Place) -> Result<String, AllocError>
     ensures { IfOk result (λ text. string_bytes text ≡ place_members from.now to.now) }
 {
@@ -124,7 +121,6 @@ fn place_members(alloc: Global, from: &Place, to: &Place) -> Result<String, Allo
     format!(in alloc; "\"from\":{from},\"to\":{to}")
 }
 
-/// Returns the members of pieces and their weight.
 fn amount_members(alloc: Global, pieces: u64, tenths: u64) -> Result<String, AllocError>
     ensures { IfOk result (λ text. string_bytes text ≡ amount_members pieces tenths) }
 {
@@ -177,7 +173,6 @@ fn holder_name(holder: &Holder) -> &str
     }
 }
 
-/// Returns the flight of a movement, or null.
 fn flight_or_null(alloc: Global, flight: &Option<FlightDate>) -> Result<String, AllocError>
     ensures { IfOk result (λ text. string_bytes text ≡ compact_text (flight_or_null flight.now)) }
 {

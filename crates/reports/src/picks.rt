@@ -12,7 +12,6 @@ pub(crate) trait Pick<Row> {
     /// True if a row is selected.
     ghost wanted: { Self → Row → Bool };
 
-    /// Returns whether a row is selected.
     fn wants(&self, row: &Row) -> bool
         ensures { result ≡ wanted self.now row.now };
 }

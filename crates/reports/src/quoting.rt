@@ -8,7 +8,6 @@ ghost use Rattle.serde_json.specs.Written.{compact_text};
 use serde_json::json;
 use std::alloc::{AllocError, Global};
 
-/// Returns a text as a JSON string.
 pub(crate) fn quoted(alloc: Global, text: &str) -> Result<String, AllocError>
     ensures { IfOk result (λ quoted. string_bytes quoted ≡ compact_text (string text.now)) }
 {
@@ -30,7 +29,6 @@ fn escape_letter(byte: u8) -> u8
     }
 }
 
-/// Returns a hexadecimal digit.
 fn hex_digit(digit: u8) -> u8
     requires { digit < 16 }
     ensures { result ≡ digit_char digit }

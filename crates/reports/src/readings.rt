@@ -28,7 +28,6 @@ pub(crate) trait Reading<Row> {
             keeper.old keeper.new result S.takes (rows self.now) sink.old sink.new };
 }
 
-/// The runs of the stock.
 #[derive(Drop)]
 pub(crate) struct StockReading;
 
@@ -60,7 +59,6 @@ impl Reading<ShedRow> for ShedReading {
     }
 }
 
-/// The noted flights.
 #[derive(Drop)]
 pub(crate) struct FlightReading;
 
@@ -127,7 +125,6 @@ impl Reading<BookRow> for BookReading {
     }
 }
 
-/// The pending messages.
 #[derive(Drop)]
 pub(crate) struct PendingReading;
 
@@ -143,7 +140,6 @@ impl Reading<Message> for PendingReading {
     }
 }
 
-/// Lines of the trail.
 #[derive(Drop)]
 pub(crate) struct TrailReading {
     pub(crate) query: TrailQuery,

@@ -20,7 +20,6 @@ struct Count {
     tenths: u64,
 }
 
-/// The count of no movements.
 const ZERO: Count = Count {
     pieces: 0,
     tenths: 0,
@@ -93,7 +92,6 @@ impl Tally {
         })
     }
 
-    /// Returns the row of the waybill.
     fn row(&self) -> Option<ManifestRow>
         ensures { IfSome result (λ row. row ≡ row_of self.now) }
     {

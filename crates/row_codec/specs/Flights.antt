@@ -20,7 +20,6 @@ is_letter_or_none (Some b) = is_letter b
 abbrev pub is_designator : Designator → Bool
 is_designator f = is_carrier f.carrier && nat_le 1 f.number && nat_le f.number most_flight_number && is_letter_or_none f.suffix
 
--- a designator in its written form
 abbrev pub is_written : List ℕ → Option Designator → Bool
 is_written text None = false
 is_written text (Some f) = bytes_eq (flight_text f) text
@@ -53,6 +52,5 @@ flights_in rows f = if is_designator f.flight then option_map outbound_by (get r
 abbrev pub is_flight_key : FlightKey → Bool
 is_flight_key key = is_flight_text key.0 && is_day key.1
 
--- in range
 abbrev pub is_flight_row : FlightKey × Flight → Bool
 is_flight_row row = is_flight_key row.0 && is_airport row.1.unload && is_flag row.1.closed

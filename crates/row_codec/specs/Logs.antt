@@ -7,7 +7,6 @@ use Rattle.station_core.specs.declared.rows.TrailRow.{TrailRow}
 use Rattle.station_schema.specs.Tables.{TrailLine, Message}
 use Rattle.row_codec.specs.Numbers.{natural, is_number}
 
--- a waybill and its line
 abbrev pub line_by : TrailLine → ℕ × List ℕ
 line_by row = (natural row.awb, row.line)
 
@@ -21,7 +20,6 @@ line_row n w line = record { number = pos n; awb = pos w; line = line }
 abbrev pub trail_in : List TrailLine → List (ℕ × List ℕ)
 trail_in rows = map line_by rows
 
--- in range
 abbrev pub is_trail_row : TrailLine → Bool
 is_trail_row row = is_number row.awb && is_line row.line
 

@@ -17,7 +17,6 @@ use Rattle.imp_fields.specs.Amount.{most_pieces, most_parts, most_tenths}
 abbrev pub expected_key : FlightDate → ℕ → ExpectedKey
 expected_key f w = (flight_text f.flight, (pos f.day, pos w))
 
--- the expectation in a row
 abbrev pub expected_by : Expected → cargo.Expected
 expected_by row = record { pieces = natural row.pieces; tenths = natural row.tenths; checked = is_set row.checked }
 
@@ -36,14 +35,12 @@ expected_in rows f w = if is_designator f.flight then option_map expected_by (ge
 abbrev pub is_expected_key : ExpectedKey → Bool
 is_expected_key key = is_flight_text key.0 && is_day key.1.0 && is_number key.1.1
 
--- in range
 abbrev pub is_expected_row : ExpectedKey × Expected → Bool
 is_expected_row row = is_expected_key row.0 && is_within 1 most_pieces row.1.pieces && is_within 0 most_tenths row.1.tenths && is_flag row.1.checked
 
 abbrev pub part_key : Part → PartKey
 part_key p = (flight_text p.flight.flight, (pos p.flight.day, (p.airport, pos p.number)))
 
--- the telegram of a part
 abbrev pub parts_in : FinMap part_cmp (List ℕ) → Part → Option (List ℕ)
 parts_in rows p = if is_designator p.flight.flight then get rows (part_key p) else None
 

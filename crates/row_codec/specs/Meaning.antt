@@ -32,7 +32,6 @@ is_station [] = false
 is_station (row ∷ []) = int_eq row.id (pos 1) && is_airport row.airport && int_eq row.version (pos 2) && is_count row.confirmed
 is_station (row ∷ other ∷ rows) = false
 
--- the state in the rows
 abbrev pub meaning_of : Tables → State
 meaning_of t = record {
   cargo = record {
@@ -74,7 +73,6 @@ pub record IsReadable (t : Tables) : Type 0 where
   pub counts : AreCounts t.counts (book_in t.moves)
   pub builds : AreBuilds t.builds (book_in t.moves)
 
--- the tables mean this state, or none
 abbrev pub Means : Tables → Option State → Type 0
 Means t (Some s) = IsReadable t × (meaning_of t ≡ s)
 Means t None = ¬ IsReadable t

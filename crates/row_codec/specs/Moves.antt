@@ -35,7 +35,6 @@ plain_place code =
 abbrev pub place_of : ℤ → Option FlightDate → Option Place
 place_of code flight = if int_eq code (pos 3) then option_map Built flight else plain_place code
 
--- the move in a row
 abbrev pub move_by : table.Move → Move
 move_by row = record {
   awb = natural row.awb;
@@ -81,7 +80,6 @@ book_in rows = map move_by rows
 abbrev pub are_flight_columns : List ℕ → ℤ → Bool
 are_flight_columns text day = ((length text == 0) && int_eq day (pos 0)) || (is_flight_text text && is_day day)
 
--- in range
 abbrev pub is_move_row : table.Move → Bool
 is_move_row row =
     is_number row.awb && is_some (place_of row.src (flight_date_of row.flight row.fday)) && is_some (place_of row.dst (flight_date_of row.flight row.fday))

@@ -26,7 +26,6 @@ abbrev pub named : Option Holder → Holder
 named (Some holder) = holder
 named None = holder.Desk
 
--- a row as a run
 abbrev pub run_in : StockKey × Stock → StockRun
 run_in e = record {
   first = natural e.0.0 * serials + natural e.0.1;

@@ -23,7 +23,6 @@ since_column (Some (suc n)) = pos (suc n)
 abbrev pub is_since : ℤ → Bool
 is_since z = int_eq z (pos 0) || is_day z
 
--- the declaration in a row
 abbrev pub declared_by : Waybill → Declared
 declared_by row = record {
   origin = row.origin;
@@ -35,7 +34,6 @@ declared_by row = record {
   since = since_of row.since;
 }
 
--- the row of a waybill's declaration
 abbrev pub waybill_row : ℕ → Declared → Waybill
 waybill_row w d = record {
   awb = pos w;
@@ -51,7 +49,6 @@ waybill_row w d = record {
 abbrev pub declared_in : List Waybill → ℕ → Option Declared
 declared_in rows w = option_map declared_by (get_by waybill_id rows (pos w))
 
--- in range
 abbrev pub is_waybill_row : Waybill → Bool
 is_waybill_row row =
     is_number row.awb && is_airport row.origin && is_airport row.destination && is_within 1 most_pieces row.pieces

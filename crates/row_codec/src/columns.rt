@@ -18,7 +18,6 @@ pub(crate) fn awb_by(column: i64) -> Option<Awb>
     Awb::of_key(u64::try_from(column).ok()?)
 }
 
-/// Reads a count of pieces.
 #[tactic(auto, using(crate::proofs::Exact::within_both))]
 pub(crate) fn pieces_by(column: i64) -> Option<Pieces>
     ensures exact { is_some result ≡ is_within 1 most_pieces column }
@@ -36,7 +35,6 @@ pub(crate) fn tenths_by(column: i64) -> Option<BookTenths>
     BookTenths::new(u32::try_from(column).ok()?)
 }
 
-/// Reads the number of a part of a manifest.
 #[tactic(auto, using(crate::proofs::Exact::within_both))]
 pub(crate) fn part_number_by(column: i64) -> Option<PartNumber>
     ensures exact { is_some result ≡ is_within 1 most_parts column }

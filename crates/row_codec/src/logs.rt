@@ -15,7 +15,6 @@ use station_core::{Message, RowText, TrailRow as ReaderLine};
 use station_rows::{MessageRow, StoreFault, TrailRow};
 use std::alloc::Global;
 
-/// Returns whether each byte is printable.
 fn prints(text: &[u8]) -> bool
     ensures { result ≡ list_all is_printable text.now }
 {

@@ -11,7 +11,6 @@ use shipment_machine::{Expected, Part};
 use station_core::Expectation;
 use station_rows::{ExpectedRow, ListedWaybillRow};
 
-/// Returns the expectation in these columns.
 fn expected_of(pieces: i64, tenths: i64, checked: i64) -> Option<Expected>
     ensures exact { is_some result
         ≡ is_within 1 most_pieces pieces && is_within 0 most_tenths tenths && is_flag checked }

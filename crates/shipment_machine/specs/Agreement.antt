@@ -32,7 +32,6 @@ rows_for s (order.Ffm f) at =
     else rows.Lines false []
 rows_for s (order.Fsu f) at = rows.Status (s.declared f.awb)
 
--- the view that the state has for the command
 abbrev pub view_of : Cargo → ShipmentCommand → LocalMinute → View
 view_of s command at = record { here = s.here; rows = rows_for s command at }
 

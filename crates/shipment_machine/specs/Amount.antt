@@ -11,11 +11,9 @@ amount pieces tenths = record { pieces = pieces; tenths = tenths }
 abbrev pub part : Amount → ℕ → Amount
 part whole pieces = amount pieces (share_of whole.pieces whole.tenths pieces)
 
--- the rest of an amount
 abbrev pub less : Amount → Amount → Amount
 less a b = amount (a.pieces - b.pieces) (a.tenths - b.tenths)
 
--- the sum of two amounts
 abbrev pub plus : Amount → Amount → Amount
 plus a b = amount (a.pieces + b.pieces) (a.tenths + b.tenths)
 

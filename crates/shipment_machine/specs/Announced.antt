@@ -32,7 +32,6 @@ abbrev pub is_new : Option Expected → LineView → Bool
 is_new None row = is_none row.declared
 is_new (Some e) row = false
 
--- the expectation of its waybill so far
 abbrev pub expected_so_far : Option Expected → LineView → Option Expected
 expected_so_far None row = row.expected
 expected_so_far (Some e) row = Some e

@@ -45,7 +45,6 @@ opening_cargo here = record {
   confirmed = 0;
 }
 
--- true if two parts of manifests are the same
 abbrev pub same_part : Part → Part → Bool
 same_part a b =
     same_flight_date a.flight b.flight && bytes_eq a.airport b.airport && (a.number == b.number)

@@ -126,7 +126,6 @@ declared_by c = record {
   since = None;
 }
 
--- a declaration with its day
 abbrev pub dated : ℕ → Declared → Declared
 dated today d = record d { since = Some today }
 
@@ -141,7 +140,6 @@ declare who w d = Declare w d ∷ used_up who w
 
 -- A part of a flight manifest.
 
--- the lines for this airport
 abbrev pub lines_for : List ℕ → List InboundLine → List CargoLine
 lines_for here lines = map (λ l. l.cargo) (filter (λ l. bytes_eq l.unload here) lines)
 
@@ -246,7 +244,6 @@ abbrev pub status_of : List ℕ → ℕ → Declared → Event → Amount → Li
 status_of here w d event a =
     if a.pieces == 0 then [] else notice.Status here (consigned w d) event a.pieces a.tenths ∷ []
 
--- a discrepancy, if a flight is named
 abbrev pub discrepancy_of : List ℕ → ℕ → Declared → Option FlightDate → Discrepancy → LocalMinute
     → Amount → List Notice
 discrepancy_of here w d None kind at a = []
@@ -283,7 +280,6 @@ decided rule = unless_refused (first_refusal rule.refusals) rule.outcome
 
 -- The rule of each command, from the rows of its waybill and its flight.
 
--- the declaration of a declared waybill
 abbrev pub declared_as : Option Declared → Declared
 declared_as declared = unwrap_or declared undeclared
 
@@ -655,7 +651,6 @@ desk_rule here (rows.Messages confirmed last) (desk.Confirm upto) at =
     confirming confirmed last upto
 desk_rule here _ _ at = no_rule
 
--- the rule of each command in a state
 abbrev pub rule : Cargo → ShipmentCommand → LocalMinute → Rule
 rule s (order.Desk command) at = desk_rule s.here (rows_of s (reads command)) command at
 rule s (order.Fwb c) at =

@@ -4,7 +4,6 @@ use Rattle.shipment_machine.specs.declared.moves.Place.{Place}
 use Rattle.shipment_machine.specs.declared.moves.Place.TheVariants.{Hand, Surplus, Free, Built, Departed, Delivered, Missing, Transferred}
 use Rattle.shipment_machine.specs.Flights.{same_flight_date}
 
--- true if two places are the same
 abbrev pub same_place : Place → Place → Bool
 same_place Hand Hand = true
 same_place Surplus Surplus = true
@@ -22,7 +21,6 @@ in_store Free = true
 in_store (Built _) = true
 in_store _ = false
 
--- true if a place is outside the station
 abbrev pub is_outside : Place → Bool
 is_outside Hand = true
 is_outside Surplus = true

@@ -32,12 +32,10 @@ undeclared =
 abbrev pub declaration : Cargo → ℕ → Declared
 declaration s w = unwrap_or (s.declared w) undeclared
 
--- the view for declaring a waybill
 abbrev pub declaration_view : Cargo → ℕ → DeclarationView
 declaration_view s w =
     record { declared = s.declared w; has_moves = is_moved s.book w; holder = s.holders w }
 
--- the view of a waybill with its balances
 abbrev pub waybill_view : Cargo → ℕ → WaybillView
 waybill_view s w = record { declared = s.declared w; balances = balances_of s.book w }
 
@@ -55,7 +53,6 @@ loads_of s flight =
     map (λ w. record { awb = w; declared = declaration s w; load = built s.book w flight })
     (waybills_on s.book flight)
 
--- the view of a manifest line
 abbrev pub line_view_of : Cargo → FlightDate → CargoLine → LineView
 line_view_of s flight c =
     record {

@@ -11,7 +11,6 @@ pub struct Amount {
     pub tenths: u32,
 }
 
-/// Returns "piece" or "pieces".
 fn pieces_word(pieces: u32) -> &'static str
     ensures { result.now ≡ pieces_word pieces }
 {

@@ -101,7 +101,6 @@ fn differs(flight: &FlightDate, at: Moment, discrepancy: Discrepancy) -> Event
     }
 }
 
-/// Returns the moves of a check-in.
 fn moves_in(
     on: &PlanContext,
     awb: Awb,

@@ -72,7 +72,6 @@ fn departing_notices(
     Ok(notices)
 }
 
-/// Returns the manifest line of a waybill.
 fn line_of(aboard: &FlightLoad) -> ManifestLine
     requires { IsOnBoard aboard.now }
     ensures { result ≡ manifest_line aboard.now }
@@ -97,7 +96,6 @@ fn lines_of(on: &PlanContext, loads: &[FlightLoad]) -> Result<ManifestLines, All
     Ok(ManifestLines::new(lines).unwrap())
 }
 
-/// Returns the number of pieces that leave.
 fn pieces_aboard(loads: &[FlightLoad]) -> u32
     requires on_board { All IsOnBoard loads.now }
     requires few { length loads.now ≤ most_waybills }

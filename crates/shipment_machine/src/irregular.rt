@@ -51,7 +51,6 @@ fn returned(missing: Amount, pieces: u32) -> Amount
     part_of(missing, pieces.min(missing.pieces))
 }
 
-/// Adds a discrepancy, if a flight is named.
 fn add_discrepancy(
     notices: &mut Vec<Notice>,
     on: &PlanContext,
@@ -76,7 +75,6 @@ fn add_discrepancy(
     add_notice(notices, on.here, awb, declared, event, amount)
 }
 
-/// Records free pieces as missing.
 pub(crate) fn record_missing<'a>(
     on: &PlanContext,
     view: &WaybillView,

@@ -24,7 +24,6 @@ pub(crate) struct PlanContext {
     pub(crate) at: Moment,
 }
 
-/// Returns a refusal about a waybill.
 pub(crate) fn refuse_waybill(number: u16, awb: Awb) -> PlanFault
     ensures { result ≡ fault.Refused (waybill_refusal number awb) }
 {
@@ -34,7 +33,6 @@ pub(crate) fn refuse_waybill(number: u16, awb: Awb) -> PlanFault
     })
 }
 
-/// Returns a refusal about a flight.
 pub(crate) fn refuse_flight(number: u16, flight: FlightDate) -> PlanFault
     ensures { result ≡ fault.Refused (flight_refusal number flight) }
 {
@@ -121,7 +119,6 @@ pub(crate) fn consigned_as(awb: Awb, declared: &Declared) -> WaybillSummary
     }
 }
 
-/// Returns an empty plan.
 pub(crate) fn blank<'a>(alloc: Global, count: u32) -> Plan<'a>
     ensures moves { result.moves.items ≡ [] }
     ensures notices { result.notices.items ≡ [] }

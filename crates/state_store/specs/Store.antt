@@ -13,7 +13,6 @@ pub record Seen : Type 0 where
 abbrev pub at_rest : State → Seen
 at_rest s = record { now = s; committed = s; in_transaction = false }
 
--- inside a transaction
 abbrev pub inside : State → State → Seen
 inside before s = record { now = s; committed = before; in_transaction = true }
 

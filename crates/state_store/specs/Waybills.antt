@@ -18,7 +18,6 @@ is_asked_for Irregular b = nat_lt 0 b.missing.pieces || nat_lt 0 b.found.pieces
 abbrev pub with_balances : List Move → ℕ → WaybillBalances
 with_balances book w = record { awb = w; balances = balances_of book w }
 
--- a waybill, if the query includes it
 abbrev pub asked : WaybillQuery → List Move → ℕ → List WaybillBalances
 asked query book w = if is_asked_for query (balances_of book w) then with_balances book w ∷ [] else []
 

@@ -20,7 +20,6 @@ use station_core::Load;
 use station_days::{LocalDay, Moment};
 use std::alloc::Global;
 
-/// Returns a load with the declaration of its waybill.
 fn declared_load<S: StateStore>(store: &mut S, load: &Load) -> Result<FlightLoad, StoreFault>
     ensures value { (x : Seen) → S.shows store.old x → S.is_sound store.new
         → IfOk result (λ row. row ≡ aboard_of x.now.cargo load.now) }
@@ -37,7 +36,6 @@ fn declared_load<S: StateStore>(store: &mut S, load: &Load) -> Result<FlightLoad
     }
 }
 
-/// Returns loads with the declarations of their waybills.
 fn declared_loads<S: StateStore>(
     alloc: Global,
     store: &mut S,
@@ -55,7 +53,6 @@ fn declared_loads<S: StateStore>(
     Ok(rows)
 }
 
-/// Returns the loads of a flight, ascending.
 pub(crate) fn loads_of<S: StateStore>(
     alloc: Global,
     store: &mut S,
@@ -175,7 +172,6 @@ fn rows_on<S: StateStore>(
     Ok(Rows::Lines { taken, lines })
 }
 
-/// Returns the rows for a part of a manifest.
 pub(crate) fn part_rows<S: StateStore>(
     alloc: Global,
     store: &mut S,

@@ -87,7 +87,6 @@ fn stored(balances: &Balances) -> Result<Amount, StoreFault>
     })
 }
 
-/// Returns the record of a waybill with this declaration.
 fn told_of(declared: Declared, balances: &Balances) -> Result<Waybill, StoreFault>
     ensures { (s : AnyCargo) (w : ℕ) → IsLawful s → balances.now ≡ balances_of s.book w
         → IfOk result (λ waybill. waybill ≡ told_of s w declared) }
@@ -210,7 +209,6 @@ fn shed_row<S: StateStore>(store: &mut S, waybill: &WaybillBalances) -> Result<S
     })
 }
 
-/// Returns waybills with their amounts in store.
 fn shed_among<S: StateStore>(
     alloc: Global,
     store: &mut S,
@@ -242,7 +240,6 @@ pub fn shed_rows<S: StateStore>(alloc: Global, store: &mut S) -> Result<Vec<Shed
     shed_among(alloc, store, &waybills)
 }
 
-/// Returns the sum of pieces.
 fn pieces_in(loads: &[Load]) -> u64
     requires few { length loads.now ≤ 65_535 }
     ensures { result ≡ sum_by (λ load. load.amount.pieces) loads.now }
@@ -266,7 +263,6 @@ fn tenths_in(loads: &[Load]) -> u64
     sum
 }
 
-/// Returns a noted flight with its load.
 fn flight_row<S: StateStore>(store: &mut S, noted: &NotedFlight) -> Result<FlightRow, StoreFault>
     ensures value { (s : State) → S.shows store.old (at_rest s) → S.is_sound store.new
         → IfOk result (λ row. row ≡ flight_row s.cargo noted.now) }
@@ -285,7 +281,6 @@ fn flight_row<S: StateStore>(store: &mut S, noted: &NotedFlight) -> Result<Fligh
     })
 }
 
-/// Returns noted flights with their loads.
 fn flights_among<S: StateStore>(
     alloc: Global,
     store: &mut S,

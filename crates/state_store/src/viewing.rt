@@ -35,7 +35,6 @@ fn declaration_rows<S: StateStore>(store: &mut S, awb: &Awb) -> Result<Rows, Sto
     })
 }
 
-/// Returns a waybill with its balances.
 fn waybill_view<S: StateStore>(store: &mut S, awb: &Awb) -> Result<WaybillView, StoreFault>
     ensures value { (x : Seen) → S.shows store.old x → S.is_sound store.new
         → IfOk result (λ view. view ≡ waybill_view x.now.cargo awb.now) }
@@ -111,7 +110,6 @@ fn manifest_rows<S: StateStore>(
     })
 }
 
-/// Returns the rows for offloading a waybill.
 fn offload_rows<S: StateStore>(
     store: &mut S,
     awb: &Awb,
@@ -152,7 +150,6 @@ fn departure_rows<S: StateStore>(
     Ok(Rows::Departure { outbound, loads })
 }
 
-/// Returns the rows for checking in a waybill.
 fn check_in_rows<S: StateStore>(
     store: &mut S,
     awb: &Awb,
@@ -171,7 +168,6 @@ fn check_in_rows<S: StateStore>(
     Ok(Rows::CheckIn { waybill, expected })
 }
 
-/// Returns the rows for a status update.
 fn status_rows<S: StateStore>(store: &mut S, awb: &Awb) -> Result<Rows, StoreFault>
     ensures value { (x : Seen) → S.shows store.old x → S.is_sound store.new
         → IfOk result (λ made. made ≡ rows.Status (x.now.cargo.declared awb.now)) }
@@ -182,7 +178,6 @@ fn status_rows<S: StateStore>(store: &mut S, awb: &Awb) -> Result<Rows, StoreFau
     Ok(Rows::Status { declared })
 }
 
-/// Returns the rows for a confirmation.
 fn message_rows<S: StateStore>(store: &S) -> Rows
     ensures { (x : Seen) → S.shows store.now x → S.is_sound store.now
         → result ≡ rows.Messages x.now.cargo.confirmed (length x.now.cargo.outbox) }

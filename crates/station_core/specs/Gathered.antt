@@ -23,7 +23,6 @@ taken_of taken g = record {
 abbrev pub begun : Given → Given
 begun taken = record taken { calls = 0 }
 
--- one text is a prefix of the other
 abbrev pub BeginsWith : List ℕ → List ℕ → Type 0
 BeginsWith whole first = (rest : List ℕ) × (whole ≡ first ++ rest)
 

@@ -68,7 +68,6 @@ IsMemoryOrReopen fault.Memory = Unit {0}
 IsMemoryOrReopen fault.Reopen = Unit {0}
 IsMemoryOrReopen _ = ⊥
 
--- memory ran out
 abbrev pub IsMemory : ActFault → Type 0
 IsMemory e = e ≡ fault.Memory
 
@@ -117,7 +116,6 @@ pub record KeepsPremise {K : Type 0} (is_clean is_sound : K → Type 0) (old new
 abbrev pub KeepsWorking : {A E : Type 0} → Bool → Bool → Result A E → Type 0
 KeepsWorking was_broken is_broken result = was_broken ≡ false → OnOk result (is_broken ≡ false)
 
--- a broken keeper stays as it is
 abbrev pub StaysIfBroken : {K : Type 0} → Bool → K → K → Type 0
 StaysIfBroken is_broken old new = is_broken ≡ true → new ≡ old
 

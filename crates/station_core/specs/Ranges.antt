@@ -36,6 +36,5 @@ abbrev pub IsInput : Input → Type 0
 IsInput (Keyed key command) = IsTrue (is_key key) × IsCommand command
 IsInput (Wire telegram) = IsContent telegram.content
 
--- a list of inputs, each at its moment
 abbrev pub AreInputs : List (Input × LocalMinute) → Type 0
 AreInputs inputs = AllByRecursion (λ (one : Input × LocalMinute). IsInput one.0) inputs

@@ -95,7 +95,6 @@ pub record AreNoted (flights : FlightDate → Option Outbound) (rows : List Note
   pub rising : IsTrue (is_sorted by_flight (map (λ row. (row.flight, row.outbound)) rows))
   pub same : (f : FlightDate) → flights f ≡ option_map (λ row. row.outbound) (find (λ row. same_flight_date f row.flight) rows)
 
--- the load of a noted flight
 abbrev pub flight_row : Cargo → NotedFlight → FlightRow
 flight_row s noted = record {
   noted = noted;
@@ -132,7 +131,6 @@ abbrev pub asks_for : ExpectedQuery → Expected → Bool
 asks_for expected.All line = true
 asks_for expected.Open line = not line.checked
 
--- the expectation, if the query includes it
 abbrev pub asked_of : ExpectedQuery → Option Expected → Option Expected
 asked_of expected.All line = line
 asked_of expected.Open None = None
@@ -141,7 +139,6 @@ asked_of expected.Open (Some line) = if line.checked then None else Some line
 abbrev pub expected_for : ExpectedQuery → (FlightDate → ℕ → Option Expected) → FlightDate → ℕ → Option Expected
 expected_for query lines f w = asked_of query (lines f w)
 
--- the rows of the queried expectations
 abbrev pub AreExpectedBy : ExpectedQuery → Cargo → List ExpectedRow → Type 0
 AreExpectedBy query s rows =
     (asked : List Expectation) × AreExpectations (expected_for query s.expected) asked × (rows ≡ map (expected_row s) asked)

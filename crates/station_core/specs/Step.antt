@@ -92,7 +92,6 @@ abbrev pub cargo_acted : List ℕ → Cargo → Result Outcome Refusal → Resul
 cargo_acted text s (Ok done) = Ok (record { cargo = carried_out text done s; notices = done.notices; count = done.count })
 cargo_acted text s (Err refusal) = Err refusal
 
--- the command in a telegram
 abbrev pub shipment_of : Content → ShipmentCommand
 shipment_of (content.Fwb line) = shipment.Fwb line
 shipment_of (content.Ffm p) = shipment.Ffm (record { number = p.sequence; flight = p.flight; date = p.date; loaded = p.loaded; lines = p.lines })

@@ -27,7 +27,6 @@ use station_days::Moment;
 use std::alloc::{AllocError, Global};
 use telegrams::notice_text;
 
-/// Appends the text of a message.
 fn put_text(alloc: Global, texts: &mut Vec<Vec<u8>>, notice: &Notice) -> Result<(), AllocError>
     ensures { OnOk result (texts_in texts.new.items
         ≡ texts_in texts.old.items ++ notice_text notice.now ∷ []) }

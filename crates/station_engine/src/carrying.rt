@@ -12,7 +12,6 @@ use shipment_machine::{Change, Move, Plan};
 use state_store::{StateStore, StoreFault};
 use station_core::Input;
 
-/// Appends moves to the book.
 fn add_moves<S: StateStore>(store: &mut S, moves: &[Move]) -> Result<(), StoreFault>
     ensures done { (before s : State) → S.shows store.old (inside before s)
         → OnOk result (S.shows store.new (inside before (with_moves moves.now s))) }
@@ -40,7 +39,6 @@ fn write_all<S: StateStore>(
     Ok(())
 }
 
-/// Appends messages to the outbox.
 fn add_messages<S: StateStore>(store: &mut S, messages: &[Vec<u8>]) -> Result<(), StoreFault>
     ensures done { (before s : State) → S.shows store.old (inside before s)
         → OnOk result (S.shows store.new (inside before (with_messages
@@ -71,7 +69,6 @@ fn carry_out<S: StateStore>(
     Ok(())
 }
 
-/// Stores an input and its count, and commits.
 pub(crate) fn keep_and_commit<S: StateStore>(
     store: &mut S,
     input: &Input<'_>,

@@ -65,7 +65,6 @@ pub(crate) fn known<S: StateStore>(
     }
 }
 
-/// Stores an input and its count.
 pub(crate) fn keep<S: StateStore>(
     store: &mut S,
     input: &Input<'_>,

@@ -76,7 +76,6 @@ fn comes_before(numbers: &[u32], at: usize) -> bool
     numbers[..at].contains(&numbers[at])
 }
 
-/// Returns whether the numbers are distinct.
 fn are_apart(numbers: &[u32]) -> bool
     ensures few { IsTrue result → length numbers.now < 65536 }
     ensures low { IsTrue result → (t : ℕ) → t < length numbers.now

@@ -35,7 +35,6 @@ pub(crate) fn is_present(shape: Shape) -> bool
     !matches!(shape, Shape::Absent)
 }
 
-/// Returns the text of a tree, or NULL.
 fn text_or_null(sql: Option<&str>) -> ValueRef<'_>
     ensures { owned result ≡ text_or_null sql.entry }
 {
@@ -63,7 +62,6 @@ pub(crate) fn has_number(row: &Row, number: u32) -> bool
     compare(row.get(0), ValueRef::Int(i64::from(number) + 1)).is_eq()
 }
 
-/// Returns the row of the tree with this number.
 pub(crate) fn row_of(rows: &[Row], number: u32) -> Option<&Row>
     ensures { option_copied result ≡ find (has_rowid (pos (number + 1))) rows.now }
 {

@@ -54,7 +54,6 @@ pub record IsWorking (s : State) : Type 0 where
   pub is_open : IsTrue s.is_open
   pub station : IsStation s.now
 
--- the row of a new station
 abbrev pub new_station : List ℕ → Station
 new_station airport = record { id = pos 1; airport = airport; version = pos 2; confirmed = pos 0 }
 

@@ -99,7 +99,6 @@ moves = keyed_table 6 (codes "moves") (key_column (codes "number") Integer
     ∷ column_of (codes "fday") Integer ∷ column_of (codes "day") Integer
     ∷ column_of (codes "minute") Integer ∷ [])
 
--- the moves of a waybill
 abbrev pub moves_index : Index
 moves_index = record (key_index 7 6 (2 ∷ []) (codes "moves_awb")) { is_unique = false }
 

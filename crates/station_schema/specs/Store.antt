@@ -26,11 +26,9 @@ pub record Seen : Type 0 where
 abbrev pub at_rest : Tables → Seen
 at_rest t = record { now = t; committed = t; in_transaction = false }
 
--- inside a transaction
 abbrev pub inside : Tables → Tables → Seen
 inside before t = record { now = t; committed = before; in_transaction = true }
 
--- it is open and displays these
 pub record Displays (v : View) (seen : Seen) : Type 0 where
   pub is_open : v.is_open ≡ true
   pub now_is : v.now ≡ seen.now

@@ -136,7 +136,6 @@ pub record Flight : Type 0 where
   pub unload : List ℕ
   pub closed : ℤ
 
--- flight and day
 abbrev pub FlightKey : Type 0
 FlightKey = List ℕ × ℤ
 

@@ -101,11 +101,9 @@ HasStopped s rows None at e before after left =
 HasStopped s rows (Some row) at e before after left =
     IsStopped (length rows + 1) (rows_after s rows at) row at e (before ++ lines_from 1 s rows at) after left
 
--- the rows that were read
 abbrev pub rows_read : List Row → Option Row → List Row
 rows_read rows None = rows
 rows_read rows (Some row) = rows ++ row ∷ []
 
--- they are the first rows of a text
 abbrev pub AreFirst : List Row → List ℕ → Type 0
 AreFirst rows bytes = (more : List Row) × (stock_rows bytes ≡ rows ++ more)

@@ -27,7 +27,6 @@ abbrev pub AskNothing : List Row → Type 0
 AskNothing [] = Unit {0}
 AskNothing (row ∷ rows) = (row_asks row ≡ None) × AskNothing rows
 
--- their lines; the first has this number
 abbrev pub bad_lines : ℕ → List Row → List ℕ
 bad_lines number [] = []
 bad_lines number (row ∷ rows) = bad_line number ++ bad_lines (number + 1) rows

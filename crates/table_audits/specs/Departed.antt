@@ -12,7 +12,6 @@ use Rattle.table_audits.specs.declared.sums.Spot.TheVariants.{Plain, OnFlight}
 abbrev pub departs_in : List Move → FlightDate → Bool
 departs_in book flight = list_any (departs_with flight) book
 
--- for each flight, whether a move departs with it
 abbrev pub marks_of : List FlightDate → List Move → List Bool
 marks_of flights book = map (departs_in book) flights
 

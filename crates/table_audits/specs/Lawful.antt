@@ -88,7 +88,6 @@ pub record AreMessages (t : Tables) : Type 0 where
   pub numbers : AreNumbered message_id t.outbox
   pub mark : (cargo_in t).confirmed ≤ length (cargo_in t).outbox
 
--- each key has the text of a command
 pub record AreKeptKeys (t : Tables) : Type 0 where
   pub rows : IsTrue (list_all is_kept_row (entries t.kept))
   pub requests : AreRequests t.kept

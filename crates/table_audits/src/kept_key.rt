@@ -30,7 +30,6 @@ fn is_in_range(row: &KeptKeyEntry) -> bool
     is_counted(row)
 }
 
-/// Returns whether the text is that of a command.
 fn is_request(text: &str) -> bool
     ensures request { IsTrue result → IsRequest text.now }
     ensures other { IsRequest text.now → IsTrue result }

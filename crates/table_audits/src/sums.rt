@@ -54,7 +54,6 @@ pub struct BookSums {
 }
 
 impl BookSums {
-    /// Returns the sums of no moves.
     #[tactic(auto, using(crate::proofs::Posted::no_sums))]
     pub(crate) fn new(alloc: Global) -> BookSums
         ensures { (flights : List FlightDate) → AreSums flights result (running []) }

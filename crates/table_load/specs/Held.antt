@@ -49,7 +49,6 @@ abbrev pub HoldsOldWaybill : Database → List OldWaybill → Type 0
 HoldsOldWaybill db = HoldsTable db old_waybill_name old_waybill_columns old_waybill_shown
     (AreLawful (by_number old_waybill_id) HasOldWaybillTexts)
 
--- the entry of a row
 abbrev pub old_waybill_entry : OldWaybillEntry → OldWaybill
 old_waybill_entry row = record {
   awb = row.awb;

@@ -26,7 +26,6 @@ AreSorts [] (n ∷ names) = ⊥
 AreSorts (s ∷ more) [] = ⊥
 AreSorts (s ∷ more) (n ∷ names) = ((out-Expr (out-Sort s).key ≡ Expr-F.Column None n) × ((out-Sort s).nulls_first ≡ None) × ((out-Sort s).descending ≡ false)) × AreSorts more names
 
--- one table, by its name
 pub record IsPlainSource (name : List ℕ) (src : Source) : Type 0 where
   pub origin_is : (out-Source src).origin ≡ origin.Table name
   pub alias_is : (out-Source src).alias ≡ None

@@ -73,6 +73,5 @@ abbrev pub row_of_version : FileVersion → List ℕ → ℤ → Station
 row_of_version version airport confirmed =
     record { id = pos 1; airport = airport; version = version_number version; confirmed = confirmed }
 
--- the row in the tables of a station
 abbrev pub new_row : List ℕ → ℤ → Station
 new_row = row_of_version Second

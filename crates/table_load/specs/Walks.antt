@@ -52,7 +52,6 @@ pub record AreSoFar {X E F : Type 0} (Has : F → List X → Type 0) (meant : X 
   pub folded : Has walk.fold done
   pub rows : AreRowsOf to_row Are given (map meant (done ++ last_of walk.last))
 
--- no list of entries begins with these rows
 abbrev pub BeginNone : {E : Type 0} → (E → Row) → (List E → Type 0) → List Row → Type 0
 BeginNone {E} to_row Are given = (tail : List Row) (entries : List E) → ¬ AreRowsOf to_row Are (given ++ tail) entries
 

@@ -20,7 +20,6 @@ pub enum FileVersion {
     Second,
 }
 
-/// Returns whether the version is the expected one.
 fn is_wanted(version: i64, wanted: FileVersion) -> bool
     ensures { result ≡ int_eq version (version_number wanted) }
 {

@@ -34,7 +34,6 @@ abbrev pub seen_line : ℕ → LinePart → List ℕ → SeenLine
 seen_line number part text =
     record { number = number; part = part; text = text; doubtful = is_unread part && is_doubtful text }
 
--- how the second line is read
 abbrev pub second_part : Content → LinePart
 second_part (content.Fwb cargo) = Declared cargo
 second_part (content.Ffm part) = Flight
@@ -90,7 +89,6 @@ pub record IsLook (bytes : List ℕ) (look : Look) : Type 0 where
   pub dropped : look.dropped.items ≡ map dropped_line front
   pub seen : look.lines.items ≡ seen_lines look.telegram.content lines
 
--- true if any line is doubtful
 abbrev pub has_doubt : Look → Bool
 has_doubt look = list_any (λ (l : DroppedLine). l.doubtful) look.dropped.items || list_any (λ (l : SeenLine). l.doubtful) look.lines.items
 

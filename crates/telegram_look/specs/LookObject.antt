@@ -50,7 +50,6 @@ abbrev pub text_members : List ℕ → Bool → List ℕ
 text_members text doubtful =
     codes "\"text\":" ++ (compact_text (string text) ++ (codes ",\"doubtful\":" ++ compact_text (boolean doubtful)))
 
--- the object of a line and its text
 abbrev pub text_object : ℕ → List ℕ → Bool → List ℕ
 text_object number text doubtful =
     codes "{\"line\":" ++ (decimal number ++ (codes "," ++ (text_members text doubtful ++ codes "}")))

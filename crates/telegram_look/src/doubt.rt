@@ -22,14 +22,12 @@ fn without_gaps(alloc: Global, line: &[u8]) -> Result<Vec<u8>, AllocError>
     line.iter().copied().filter(|b| !is_gap(*b)).collect(alloc)
 }
 
-/// Returns whether each byte is a digit.
 fn is_digits(text: &[u8]) -> bool
     ensures { result ≡ list_all is_digit text.now }
 {
     text.iter().all(|b| b.is_ascii_digit())
 }
 
-/// Returns whether each byte is a letter.
 fn is_letters(text: &[u8]) -> bool
     ensures { result ≡ list_all is_letter text.now }
 {

@@ -19,7 +19,6 @@ fn is_dropped_doubtful(lines: &[DroppedLine<'_>]) -> bool
     lines.iter().any(|line| line.doubtful)
 }
 
-/// Returns whether a line of the message is doubtful.
 fn is_seen_doubtful(lines: &[SeenLine<'_>]) -> bool
     ensures { result ≡ list_any (λ line. line.doubtful) lines.now }
 {

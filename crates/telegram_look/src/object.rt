@@ -73,7 +73,6 @@ fn cargo_members(alloc: Global, number: u32, cargo: &CargoLine) -> Result<String
     format!(in alloc; "{route},\"pieces\":{pieces},\"tenths\":{tenths},\"total\":{total}")
 }
 
-/// Returns a text as JSON.
 fn quoted(alloc: Global, text: &str) -> Result<String, AllocError>
     ensures { IfOk result (λ quoted. string_bytes quoted ≡ compact_text (string text.now)) }
 {
@@ -123,7 +122,6 @@ fn read_object(alloc: Global, line: &SeenLine<'_>) -> Result<Option<String>, All
     }
 }
 
-/// Returns the object of a line that is ignored.
 fn passed_object(alloc: Global, line: &SeenLine<'_>) -> Result<Option<String>, AllocError>
     ensures { IfOk result (λ object. option_map string_bytes object ≡ passed_object line.now) }
 {
@@ -151,7 +149,6 @@ fn dropped_objects(alloc: Global, lines: &[DroppedLine<'_>]) -> Result<Vec<Strin
     Ok(objects)
 }
 
-/// Appends an object, if there is one.
 fn put_object(objects: &mut Vec<String>, object: Option<String>) -> Result<(), AllocError>
     ensures { OnOk result (map string_bytes objects.new.items
         ≡ map string_bytes objects.old.items ++ cons_option (option_map string_bytes object) []) }
@@ -173,7 +170,6 @@ fn read_objects(alloc: Global, lines: &[SeenLine<'_>]) -> Result<Vec<String>, Al
     Ok(objects)
 }
 
-/// Returns the objects of the lines that are ignored.
 fn passed_objects(alloc: Global, lines: &[SeenLine<'_>]) -> Result<Vec<String>, AllocError>
     ensures { IfOk result (λ objects. map string_bytes objects.items ≡ filter_map passed_object
         lines.now) }

@@ -18,7 +18,6 @@ use shipment_machine::{InboundLine, TrailLine};
 use std::alloc::{AllocError, Global};
 use telegrams::Content;
 
-/// Returns whether no field of a line is read.
 fn is_unread(part: &LinePart) -> bool
     ensures { result ≡ is_unread part.now }
 {
@@ -35,7 +34,6 @@ fn doubtful(alloc: Global, part: &LinePart, text: &[u8]) -> Result<bool, AllocEr
     }
 }
 
-/// Returns a line of a message.
 fn seen_line<'a>(
     alloc: Global,
     number: u32,
@@ -53,7 +51,6 @@ fn seen_line<'a>(
     })
 }
 
-/// Returns how the second line is read.
 fn second_part(says: &Content<'_>) -> LinePart
     ensures { result ≡ second_part says.now }
 {
@@ -125,7 +122,6 @@ fn left_behind<'c>(line: &[u8], left: &'c [InboundLine]) -> &'c [InboundLine]
     }
 }
 
-/// Returns the cargo of a manifest.
 fn cargo_of<'c>(says: &'c Content<'_>) -> &'c [InboundLine]
     ensures { result.now ≡ cargo_of says.now }
 {

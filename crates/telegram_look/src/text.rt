@@ -11,7 +11,6 @@ use shipment_machine::{Amount, CargoLine};
 use std::alloc::{AllocError, Global};
 use telegrams::Content;
 
-/// Returns the heading of the message.
 fn heading(alloc: Global, says: &Content<'_>) -> Result<String, AllocError>
     ensures { IfOk result (λ text. string_bytes text ≡ heading says.now) }
 {

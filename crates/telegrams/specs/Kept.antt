@@ -9,7 +9,6 @@ use Rattle.ffm_text.specs.declared.FfmLine.{FfmLine}
 abbrev pub is_text_byte : ℕ → Bool
 is_text_byte b = is_printable b || (b == 10)
 
--- the goods of a consignment are printable
 abbrev pub has_plain_goods : Consignment → Bool
 has_plain_goods c = list_all is_printable c.goods.text.now
 

@@ -119,6 +119,5 @@ abbrev pub RefusesAs : Option TextFault → TelegramFault → Type 0
 RefusesAs due (fault.Refused refusal) = (told : TextFault) × (due ≡ Some told) × (refusal ≡ refusal_of told)
 RefusesAs due fault.Memory = Unit {0}
 
--- a refusal is that of the bytes' fault
 abbrev pub RefusesText : List ℕ → TelegramFault → Type 0
 RefusesText bytes fault = RefusesAs (telegram_fault bytes) fault

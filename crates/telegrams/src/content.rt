@@ -73,7 +73,6 @@ fn cargo_line(consignment: &Consignment<'_>) -> CargoLine
     }
 }
 
-/// Returns the values of a manifest line.
 fn inbound_line(line: &FfmLine<'_>) -> InboundLine
     requires { IsTrue (has_plain_cargo line.now) }
     ensures { result ≡ inbound_line (unloaded_of line.now) }
@@ -84,7 +83,6 @@ fn inbound_line(line: &FfmLine<'_>) -> InboundLine
     }
 }
 
-/// Appends the values of a manifest line.
 fn put_line(lines: &mut Vec<InboundLine>, line: &FfmLine<'_>) -> Result<(), AllocError>
     requires { IsTrue (has_plain_cargo line.now) }
     ensures { OnOk result (lines.new.items ≡ lines.old.items ++ inbound_line (unloaded_of line.now)
@@ -94,7 +92,6 @@ fn put_line(lines: &mut Vec<InboundLine>, line: &FfmLine<'_>) -> Result<(), Allo
     lines.extend_from_slice(slice::from_ref(&said))
 }
 
-/// Returns the values of manifest lines.
 fn inbound_lines(alloc: Global, cargo: &[FfmLine<'_>]) -> Result<Vec<InboundLine>, AllocError>
     requires { IsTrue (list_all has_plain_cargo cargo.now) }
     ensures { IfOk result (λ lines. lines.items ≡ map (λ l. inbound_line (unloaded_of l))
@@ -169,7 +166,6 @@ fn fsu_content<'a>(alloc: Global, lines: &Lines<'a>) -> Result<Content<'a>, Tele
     }
 }
 
-/// Returns the content of a normal text.
 pub(crate) fn content<'a>(alloc: Global, lines: &Lines<'a>) -> Result<Content<'a>, TelegramFault>
     ensures said { IfOk result (SaysAs lines.now.kind (line_texts lines.now)) }
     ensures refused { IfErr result

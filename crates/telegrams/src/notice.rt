@@ -68,7 +68,6 @@ fn status_of(event: &Event) -> SentStatus
     }
 }
 
-/// Returns the load of a waybill on a manifest.
 pub(crate) fn load_of(line: &ManifestLine) -> Load
     ensures { result ≡ sent_load line.now }
 {
@@ -93,7 +92,6 @@ fn loads_of(alloc: Global, lines: &[ManifestLine]) -> Result<Vec<Load>, AllocErr
     Ok(loads)
 }
 
-/// The text of a status message.
 fn status_text(alloc: Global, update: &SentUpdate) -> Result<Vec<u8>, AllocError>
     ensures text { IfOk result (λ text. text.items ≡ sent_text (fsu_lines update.now)) }
     ensures normal { normal_lines (sent_text (fsu_lines update.now)) ≡ Ok (fsu_lines update.now) }

@@ -11,7 +11,6 @@ use crate::telegram::{NormalText, Telegram, TelegramFault};
 use imp_fields::{Lines, Token, normal_text};
 use std::alloc::{AllocError, Global};
 
-/// Appends a newline and a line.
 fn put_next(text: &mut Vec<u8>, line: &[u8]) -> Result<(), AllocError>
     ensures { OnOk result (text.new.items ≡ text.old.items ++ (10 ∷ line.now)) }
 {
@@ -19,7 +18,6 @@ fn put_next(text: &mut Vec<u8>, line: &[u8]) -> Result<(), AllocError>
     text.extend_from_slice(line)
 }
 
-/// Joins lines by newlines.
 fn joined(alloc: Global, lines: &[Token<'_>]) -> Result<Vec<u8>, AllocError>
     ensures { IfOk result (λ text. text.items ≡ normal_text (map (λ t. t.text.now) lines.now)) }
 {
@@ -34,7 +32,6 @@ fn joined(alloc: Global, lines: &[Token<'_>]) -> Result<Vec<u8>, AllocError>
     Ok(text)
 }
 
-/// Returns the normal text of a telegram.
 fn text_of(alloc: Global, lines: &Lines<'_>) -> Result<NormalText, AllocError>
     ensures { IfOk result (λ text. text ≡ normal_text (line_texts lines.now)) }
 {
