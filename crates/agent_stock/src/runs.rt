@@ -32,7 +32,6 @@ impl StockRun {
         }
     }
 
-    /// Returns whether a number is the next one of the run, in its prefix and with its holder.
     fn goes_on(&self, held: &Held) -> bool
         ensures { IsTrue result ↔ GoesOn self.now held.now }
     {

@@ -53,7 +53,7 @@ fn refuse_words(rt: &HostRuntime, fault: &WordsFault) -> u8 {
     }
 }
 
-/// Where a command runs.
+/// The place where a command runs.
 #[derive(Clone, Copy)]
 enum Way {
     /// On the station of the command line, at a moment.

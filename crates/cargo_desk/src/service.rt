@@ -20,7 +20,6 @@ pub struct Service<'a> {
     pub count: Option<u32>,
 }
 
-/// Returns the fault of a call from that of its service.
 fn server_fault(fault: ServerFault) -> DeskFault
     ensures { result ≡ server_fault fault }
 {

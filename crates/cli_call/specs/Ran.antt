@@ -81,8 +81,8 @@ abbrev pub HasEndedCall : {S I W E : Type 0} {g : Ghosts S} → Line → Keeping
 HasEndedCall line k e at (Ok station) old new result = HasRunLine line k e at station old new result
 HasEndedCall line k e at (Err none) old new result = HasNoStation e.told none old new result
 
--- A call of a command line over a connection: its station was opened and its command ran, or it was
--- reported that there is none.
+-- A call of a command line over a connection: its station was opened and its command ran, or a
+-- missing station was reported.
 pub record HasCalledStation {S I W E : Type 0} {g : Ghosts S} (line : Line) (k : Keeping (Station S g)) (e : Ends I W E)
     (at : LocalMinute) (conn : Held S) (old new : Reached I W E) (result : ℕ × Held S) : Type 0 where
   pub opened : Result (Station S g) (Held S × AttachFault)

@@ -22,7 +22,6 @@ pub enum DeskFault {
     Attach(AttachFault),
 }
 
-/// Returns the result of a call from that of its run.
 fn run_ended(ended: Result<bool, RunFault>) -> Result<bool, DeskFault>
     ensures { result ≡ run_ended ended }
 {
@@ -91,8 +90,6 @@ fn tell<E: ByteOut>(errors: &mut E, fault: DeskFault)
     }
 }
 
-/// Returns the exit status without a station: 3 if the store failed or memory ran out, 4 if the
-/// file has none.
 fn attach_status(fault: AttachFault) -> u8
     ensures { result ≡ attach_status fault }
 {
@@ -102,8 +99,6 @@ fn attach_status(fault: AttachFault) -> u8
     }
 }
 
-/// Returns the exit status of a call: 0 if everything was accepted, 1 if something wasn't, 3 if it
-/// broke off, 4 if the file has no station for it.
 fn status_of(ended: Result<bool, DeskFault>) -> u8
     ensures { result ≡ status_of ended }
 {

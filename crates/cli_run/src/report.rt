@@ -11,7 +11,6 @@ use station_core::{ByteOut, Keeper};
 use std::alloc::Global;
 use stock_list::{RunFault, keeper_fault};
 
-/// Returns the fault of a run whose report broke off.
 fn cause_fault(cause: ReportCause) -> RunFault
     ensures { result ≡ cause_fault cause }
 {
@@ -63,7 +62,6 @@ fn run_report<K: Keeper, W: ByteOut>(
     run_ended(write_listing(alloc, keeper, listing, form, writer, &[]))
 }
 
-/// Converts the result of a report to that of a command: a report refuses nothing.
 pub(crate) fn good_of(ended: Result<(), RunFault>) -> Result<bool, RunFault>
     ensures { result ≡ good_of ended }
 {

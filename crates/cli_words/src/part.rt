@@ -103,7 +103,6 @@ fn read_part<'a>(report: Report, words: ReportWords<'a>) -> Result<Listing, BadV
     }
 }
 
-/// Reads a flight and its day, such as `LH400/2026-01-12`.
 fn read_flight(text: &str) -> Option<FlightDate>
     ensures { IfSome result (IsFlightDay text.now) }
 {

@@ -166,7 +166,6 @@ fn read_station<'a>(station: Option<&'a str>) -> Result<Option<Airport>, BadValu
     }
 }
 
-/// Returns the port of the service, if one is named.
 fn read_at<'a>(at: Option<&'a str>) -> Result<Option<u16>, BadValue<'a>>
     ensures { IfOk result (IsAt (option_map (λ text. text.now) at.entry)) }
 {
@@ -190,14 +189,12 @@ fn is_asked(command: &LineCommand<'_>) -> bool
     )
 }
 
-/// Returns whether the words name a file, an airport or a zone, which a running service has itself.
 fn has_own<'a>(words: &Words<'a>) -> bool
     ensures { result ≡ has_own words.now }
 {
     words.db.is_some() || words.station.is_some() || words.zone.is_some()
 }
 
-/// Returns the rule of the zone, `UTC0` by default.
 fn rule_of<'a>(zone: Option<&'a str>) -> &'a str
     ensures { result.now ≡ rule_of (option_map (λ rule. rule.now) zone.entry) }
 {

@@ -51,7 +51,7 @@ pub struct Answer {
     pub begun: Option<usize>,
 }
 
-/// How far to read an answer.
+/// The extent to which an answer is read.
 #[derive(Clone, Copy, Debug, PartialEq, Eq)]
 pub enum Until {
     /// To the end of the connection, or until more than this many bytes were received.
@@ -152,14 +152,12 @@ fn ask_one<I: ByteIn, O: ByteOut>(
 }
 
 impl AskFault {
-    /// Returns whether the question is sent again after this fault.
     fn is_vain(self) -> bool
         ensures { result ≡ is_vain self }
     {
         self != AskFault::Memory
     }
 
-    /// Converts a failed read to a late one, if the reader timed out.
     pub(crate) fn by_time(self, is_late: bool) -> AskFault
         ensures { result ≡ by_time is_late self }
     {

@@ -19,14 +19,12 @@ fn before_digits(text: &[u8]) -> &[u8]
     }
 }
 
-/// Returns whether a text ends with the word of a report's last line, at the start of a line.
 fn is_before_count(front: &[u8]) -> bool
     ensures { result ≡ is_before_count front.now }
 {
     front == b"END ".as_slice() || front.ends_with(b"\nEND ")
 }
 
-/// Returns whether a text ends with the end of the rows in JSON.
 fn is_before_json_count(front: &[u8]) -> bool
     ensures { result ≡ is_before_json_count front.now }
 {
@@ -49,7 +47,6 @@ fn has_json_count(object: &[u8]) -> bool
     front.len() < object.len() && is_before_json_count(front)
 }
 
-/// Returns a text without `end`, if it ends so.
 fn without<'a>(text: &'a [u8], end: &[u8]) -> Option<&'a [u8]>
     ensures { option_map (λ front. front.now) result ≡ without end.now text.entry.now }
 {

@@ -16,7 +16,6 @@ use stock_list::RunFault;
 /// The answer of a desk for an unknown number.
 const UNKNOWN_BODY: &[u8] = b"{\"detail\":\"\",\"refused\":404}";
 
-/// Returns whether an answer is that of a desk for an unknown number.
 fn is_unknown(answer: &Answer) -> bool
     ensures { result ≡ is_unknown answer.now }
 {

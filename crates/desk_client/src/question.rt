@@ -84,7 +84,6 @@ fn rows_path(alloc: Global, listing: &Listing, form: Form) -> Result<String, All
     }
 }
 
-/// Returns the first lines of a command's request.
 fn command_lines(alloc: Global, word: &str) -> Result<String, AllocError>
     ensures { IfOk result (λ text. string_bytes text ≡ command_lines word.now) }
 {

@@ -36,7 +36,6 @@ fn fault_line(fault: RunFault) -> &'static str
     }
 }
 
-/// Returns the reason for a fault, and what to do.
 fn fault_why(fault: AskFault) -> Option<&'static str>
     ensures { option_map (λ why. why.now) result ≡ fault_why fault }
 {

@@ -19,7 +19,7 @@ pub(crate) struct Place {
     pub(crate) start: usize,
 }
 
-/// How much of the body that the head announces has been received.
+/// The received part of the body that the head announces.
 #[derive(Clone, Copy, Debug, PartialEq, Eq)]
 pub(crate) enum Extent {
     /// All of it.
@@ -30,7 +30,7 @@ pub(crate) enum Extent {
     Never,
 }
 
-/// How much of an answer bytes are.
+/// The part of an answer that bytes are.
 #[derive(Clone, Copy, Debug, PartialEq, Eq)]
 pub(crate) enum Found {
     /// A whole answer.

@@ -257,7 +257,6 @@ impl Field {
     }
 }
 
-/// Returns the fields of a verb as six places, of which the last may be empty.
 pub(crate) fn places(verb: Verb) -> [Option<Field>; 6]
     ensures { result ≡ places verb }
 {

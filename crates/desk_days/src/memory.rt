@@ -114,7 +114,7 @@ enum Trial {
 }
 
 impl Job for Trial {
-    /// Whether the outcome is as expected.
+    /// True if the outcome is as expected.
     type Out = Option<bool>;
 
     fn run<K: Keeper>(self, keeper: &mut K) -> Option<bool> {

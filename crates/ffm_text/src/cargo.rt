@@ -12,8 +12,6 @@ use crate::point::unloading_point;
 use imp_fields::{Airport, TextFault, Token, Why, fault_at, read_consignment};
 use std::alloc::{AllocError, Global};
 
-/// Returns whether a line begins with three digits and a hyphen, so that it must be a consignment
-/// line.
 fn is_cargo_line(line: &[u8]) -> bool
     ensures { result ≡ is_cargo_line line.now }
 {

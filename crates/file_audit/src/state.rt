@@ -16,7 +16,7 @@ use std::alloc::Global;
 use table_audits::TableName;
 use table_load::{FileVersion, StationFound, found_station};
 
-/// What was found of a station besides its rows.
+/// The findings about a station besides its rows.
 #[derive(Clone, Copy, Debug, PartialEq, Eq)]
 pub struct FoundState {
     /// The airport of the station.

@@ -1,4 +1,4 @@
-//! What an opening finds in a database.
+//! The findings of an opening.
 use crate::faults::fault_said;
 use crate::listing::{all_rows, old_rows, rows_of};
 use crate::tables::ask;

@@ -13,7 +13,7 @@ use std::alloc::Global;
 use telegrams::read_telegram;
 use test_kit::{Job, answer_said, keyed, say, shown};
 
-/// How a case writes an input.
+/// The form in which a case writes an input.
 #[derive(Clone, Copy, Debug, PartialEq, Eq)]
 pub enum InputForm {
     /// A key, a space, and the text of a command.

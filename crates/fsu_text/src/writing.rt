@@ -88,7 +88,6 @@ fn put_update(out: &mut [u8], at: usize, update: &SentUpdate) -> usize
     put_amount(out, at, code, update.pieces, update.tenths)
 }
 
-/// Writes the consignment line with all that is declared, without goods.
 fn put_consignment(out: &mut [u8], at: usize, of: &WaybillSummary) -> usize
     requires { at + 37 ≤ length out.old }
     ensures bound { result ≤ at + 37 }
@@ -112,7 +111,6 @@ fn handling_code(event: Handling) -> [u8; 3]
     }
 }
 
-/// Returns MAN or DEP.
 fn carriage_code(event: SentCarriage) -> [u8; 3]
     ensures { result ≡ carriage_code (told_as event) }
 {

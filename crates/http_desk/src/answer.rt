@@ -195,8 +195,6 @@ fn third_members(alloc: Global, known: &Waybill) -> Result<String, AllocError>
     format!(in alloc; "\"missing\":{missing},\"notified\":{notified},\"origin\":{origin},")
 }
 
-/// Returns the day of a waybill's declaration, such as `2026-01-12`, or an empty text if it wasn't
-/// recorded.
 fn since_text(alloc: Global, since: Option<LocalDay>) -> Result<String, AllocError>
     ensures { IfOk result (λ text. string_bytes text ≡ since_text since) }
 {

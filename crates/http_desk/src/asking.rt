@@ -78,7 +78,6 @@ fn look_told(alloc: Global, seen: &str) -> Told
     }
 }
 
-/// Returns the status of a refusal: 400 for an unreadable telegram, otherwise 409.
 fn refusal_status(refused: u16) -> u16
     ensures status { result ≡ refusal_status refused }
     ensures valid { IsStatusCode result }

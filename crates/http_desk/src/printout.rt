@@ -20,7 +20,6 @@ pub struct Printout {
     pub form: Form,
 }
 
-/// Returns the part before the first slash.
 fn first_part(path: &str) -> &str
     ensures { result.now ≡ first_part path.now }
 {
@@ -88,7 +87,6 @@ fn row_number(text: &str) -> Option<u32>
     }
 }
 
-/// Returns the movements after a number, or the last ones.
 fn movement_rows(word: &str, number: u32) -> Option<Listing>
     ensures { result ≡ movement_rows word.now number }
 {
@@ -158,7 +156,6 @@ fn rows_of_kind(kind: &str, rest: &str) -> Option<Listing>
     }
 }
 
-/// Returns the rows at a path after `/v1/`.
 fn rows_behind(path: &str) -> Option<Listing>
     ensures { result ≡ rows_behind path.now }
 {

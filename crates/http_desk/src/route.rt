@@ -94,7 +94,6 @@ fn route_at(page: Page, path: &str) -> Option<Route>
     }
 }
 
-/// Returns the route that the router finds for a path.
 fn routed(router: &Router<Page>, path: &str) -> Option<Route>
     ensures { option_map (place_told path.now) result ≡ option_and_then (place_at path.now)
         (page_of router.now path.now) }

@@ -45,7 +45,6 @@ fn send_answer<O: ByteOut>(
     }
 }
 
-/// Writes the answer to an accepted input.
 fn send_accepted<O: ByteOut>(writer: &mut O, count: u32) -> Result<Served, ServeFault>
     ensures sent { HasSent 200 false (ok_answer count) (O.taken writer.old) (O.taken writer.new)
         result }

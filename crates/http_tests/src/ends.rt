@@ -30,7 +30,7 @@ impl Read for Sent<'_> {
     }
 }
 
-/// How a writer without room stops.
+/// The way in which a writer without room stops.
 #[derive(Clone, Copy, Debug, PartialEq, Eq)]
 pub enum Stop {
     Fails,

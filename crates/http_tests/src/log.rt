@@ -3,7 +3,7 @@ use crate::ends::Stop;
 use std::alloc::{AllocError, Global};
 use std::fmt;
 
-/// How a request is played.
+/// A way of playing a request.
 #[derive(Clone, Copy, Debug, PartialEq, Eq)]
 pub enum Way {
     InOnePiece,

@@ -19,7 +19,7 @@ impl From<AllocError> for ScriptFault {
     }
 }
 
-/// How a request is played.
+/// A way of playing a request.
 #[derive(Clone, Copy, Debug, PartialEq, Eq)]
 pub enum Care {
     /// It is answered when its last byte has arrived.

@@ -1,4 +1,4 @@
--- What the three kinds of messages have in common: the head, and the first fault of the lines.
+-- The common part of the three kinds of messages: the head, and the first fault of the lines.
 use Rattle.std.specs.Prelude.{ℕ, Bool, ◌&&◌, ◌==◌, nat_eq, nat_le, if◌then◌else◌, List, [], ◌∷◌, ◌++◌, length, drop, slice_index, Option, Some, None, Result, Ok, Err}
 use Rattle.std.specs.List.{list_all, starts_with}
 use Rattle.awb_number.specs.Digits.{is_digit}

@@ -27,8 +27,6 @@ impl Model for Flight {
     ghost inverse = { λ f. record { carrier = f.carrier; number = f.number; suffix = f.suffix } };
 }
 
-/// Returns whether two characters are a carrier: upper-case letters or digits, at least one of them
-/// a letter.
 fn is_carrier(carrier: [u8; 2]) -> bool
     ensures { result ≡ is_carrier carrier }
 {
@@ -50,7 +48,6 @@ fn suffix(text: &[u8]) -> Option<Option<u8>>
     }
 }
 
-/// Returns whether both letters are the same, or both absent.
 fn is_same_letter(a: Option<u8>, b: Option<u8>) -> bool
     ensures { result ≡ same_letter a b }
 {

@@ -61,7 +61,6 @@ impl Model for Goods {
     } };
 }
 
-/// Returns whether a text is printable, has at most `most` bytes, and doesn't end in a space.
 fn is_short_text(text: &[u8], most: usize) -> bool
     ensures { result ≡ is_short_text most text.now }
 {

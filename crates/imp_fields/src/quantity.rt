@@ -71,7 +71,6 @@ fn denominator(numeral: &[u8]) -> u64
     10_u64.pow(places as u32)
 }
 
-/// Returns the tenths of a kilogram in a fraction, with a half rounded up.
 fn rounded_tenths(numerator: u64, denominator: u64) -> Option<Tenths>
     requires positive { 1 ≤ denominator }
     requires numerator { numerator < 10 ^ 16 }

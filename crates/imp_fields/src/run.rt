@@ -39,7 +39,6 @@ pub(crate) fn numeral_in_front(text: &[u8]) -> usize
         .count()
 }
 
-/// Returns whether each byte is printable ASCII or a space.
 pub(crate) fn is_printable(text: &[u8]) -> bool
     ensures { result ≡ list_all is_printable text.now }
 {
@@ -82,7 +81,6 @@ pub(crate) fn printable_in_front(text: &[u8]) -> usize
     len + few_printable_in_front(&text[len..])
 }
 
-/// Reads one to four digits of value at least 1.
 pub(crate) fn count(digits: &[u8]) -> Option<u32>
     ensures value { result ≡ count_of digits.now }
     ensures bound { IfSome result IsPieces }

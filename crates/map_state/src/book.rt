@@ -27,7 +27,6 @@ pub(crate) struct MovementBook {
     pub(crate) alloc: Global,
 }
 
-/// Returns the flow of a waybill among those of a flight.
 fn flow_of(flows: &BTreeMap<u64, Flow>, awb: &Awb) -> Flow
     ensures { result ≡ flow_in flows.now awb.now }
 {

@@ -33,7 +33,6 @@ pub(crate) const STILL: Flow = Flow {
 };
 
 impl Total {
-    /// Returns the sum with another move.
     fn with(&self, movement: &Move) -> Result<Total, StoreFault>
         ensures { IfOk result (λ total. total ≡ more self.now movement.now) }
     {

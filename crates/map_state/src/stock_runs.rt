@@ -24,7 +24,6 @@ fn is_one(holder: &Holder, other: &Holder) -> bool
     }
 }
 
-/// Returns whether a run begins where another ends, in the same prefix and with the same holder.
 fn goes_on(row: &StockRun, next: &StockRun) -> bool
     ensures { IsTrue result ↔ GoesOn row.now next.now }
 {

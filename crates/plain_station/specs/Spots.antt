@@ -1,4 +1,4 @@
--- What is counted.
+-- The places counted.
 use Rattle.std.specs.Prelude.{Bool}
 use Rattle.shipment_machine.specs.declared.moves.Place.{Place}
 use Rattle.shipment_machine.specs.Book.{same_place, in_store}

@@ -45,7 +45,7 @@ impl Total {
     }
 }
 
-/// What is counted: a place, or the store with all that is free or built.
+/// The places counted: one place, or the store with all that is free or built.
 #[derive(Clone, Copy)]
 enum Spot {
     At(Place),

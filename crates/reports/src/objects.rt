@@ -127,7 +127,7 @@ fn amount_members(alloc: Global, pieces: u64, tenths: u64) -> Result<String, All
     format!(in alloc; "\"pieces\":{pieces},\"tenths\":{tenths}")
 }
 
-/// Returns the same for pieces that were moved or announced.
+/// Returns the members of pieces that were moved or announced.
 fn part_members(alloc: Global, pieces: Pieces, tenths: BookTenths) -> Result<String, AllocError>
     ensures { IfOk result (λ text. string_bytes text ≡ amount_members pieces tenths) }
 {

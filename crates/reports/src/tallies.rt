@@ -145,7 +145,6 @@ impl Tallies {
         }
     }
 
-    /// Returns the sums of a waybill so far.
     fn tally(&self, awb: Awb) -> Tally
         ensures { result ≡ tally_in self.now awb }
     {

@@ -43,7 +43,6 @@ pub(crate) fn part_number_by(column: i64) -> Option<PartNumber>
     PartNumber::new(u32::try_from(column).ok()?)
 }
 
-/// Reads a day from 2000-01-01 to 2099-12-31.
 #[tactic(auto, using(crate::proofs::Exact::within_both))]
 pub(crate) fn day_by(column: i64) -> Option<LocalDay>
     ensures exact { is_some result ≡ is_day column }

@@ -33,7 +33,6 @@ fn flight_by(text: &str, day: i64) -> Option<Option<FlightDate>>
     Some(Some(flight))
 }
 
-/// Returns the place with a code; a built one is on this flight.
 fn place_by(code: i64, flight: Option<FlightDate>) -> Option<Place>
     ensures { result ≡ place_of code flight }
 {

@@ -33,7 +33,6 @@ pub(crate) struct ProposedDeclaration {
     pub(crate) goods: Goods,
 }
 
-/// Returns whether a number is in the desk's stock, or void.
 pub(crate) fn is_at_desk_or_void(holder: Option<Holder>) -> bool
     ensures { result ≡ at_desk_or_void holder }
 {
@@ -154,7 +153,6 @@ pub(crate) fn book<'a>(
     Ok(plan)
 }
 
-/// Returns whether `whole` has room for `part` and a tenth for each remaining piece.
 fn has_room(whole: Amount, part: Amount) -> bool
     ensures { result ≡ has_room whole part }
 {

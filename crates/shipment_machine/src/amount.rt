@@ -40,7 +40,6 @@ impl Amount {
     }
 }
 
-/// Returns `pieces` of an amount, with their share of its weight.
 pub(crate) fn part_of(whole: Amount, pieces: u32) -> Amount
     requires held { IsHeld whole }
     requires some { 1 ≤ pieces }

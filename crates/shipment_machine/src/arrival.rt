@@ -225,8 +225,6 @@ pub(crate) fn check_in<'a>(
     Ok(plan)
 }
 
-/// Returns the expectation without `pieces`. If nothing would be left, the line is closed
-/// unchanged.
 fn struck(row: &Expected, pieces: u32) -> Expected
     requires held { IsHeld (amount row.now.pieces row.now.tenths) }
     requires within { pieces ≤ row.now.pieces }

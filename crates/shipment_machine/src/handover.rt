@@ -48,7 +48,6 @@ pub(crate) fn notify<'a>(
     Ok(plan)
 }
 
-/// Delivers free pieces to the consignee, who was notified.
 pub(crate) fn deliver<'a>(
     on: &PlanContext,
     view: &WaybillView,

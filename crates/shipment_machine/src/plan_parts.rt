@@ -133,7 +133,6 @@ pub(crate) fn blank<'a>(alloc: Global, count: u32) -> Plan<'a>
     }
 }
 
-/// Adds a move, unless the amount has no pieces.
 pub(crate) fn add_move(
     moves: &mut Vec<Move>,
     awb: Awb,

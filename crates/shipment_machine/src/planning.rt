@@ -82,7 +82,6 @@ fn lines_for(here: Airport, lines: &[InboundLine]) -> usize
     count_for(here, lines)
 }
 
-/// Returns whether a lawful state can have these rows for the key.
 fn are_rows_of(key: RowsKey, rows: &Rows) -> bool
     ensures { IsTrue result ↔ AreRowsOf key rows.now }
 {
@@ -293,7 +292,6 @@ fn plan_from<'a>(
     }
 }
 
-/// Returns the day that a manifest's date means; `None` for other commands.
 fn meant_by(command: &ShipmentCommand<'_>, at: Moment) -> Option<u32>
     ensures { result ≡ meant_by command.now at }
 {

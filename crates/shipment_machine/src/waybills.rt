@@ -18,7 +18,6 @@ fn below(numbers: &[Awb], number: Awb) -> usize
         .count()
 }
 
-/// Inserts a number into ascending ones, unless it is there.
 fn put_rising(numbers: &mut Vec<Awb>, number: Awb) -> Result<(), AllocError>
     ensures { OnOk result (numbers.new.items ≡ put_rising number numbers.old.items) }
 {

@@ -43,7 +43,7 @@ pub trait StateStore {
     /// storage. A call ends it only if the disk fails.
     ghost is_sound: { Self → Type 0 };
 
-    /// What reopening may find after a crash at this moment: a state, or `None` if the tables mean
+    /// The states that reopening may find after a crash at this moment; `None` if the tables mean
     /// no state.
     ghost may_find: { Self → Option State → Type 0 };
 

@@ -173,8 +173,8 @@ fn irregular_among<S: StateStore>(
     Ok(rows)
 }
 
-/// Returns the waybills with missing or found pieces, ascending: reads their balances, and once
-/// more for each. Fails if a call of the store fails, memory runs out, or such a waybill isn't
+/// Returns the waybills with missing or found pieces, ascending: one read for their balances, and
+/// one for each. Fails if a call of the store fails, memory runs out, or such a waybill isn't
 /// declared.
 pub fn irregular_rows<S: StateStore>(
     alloc: Global,
@@ -226,7 +226,7 @@ fn shed_among<S: StateStore>(
     Ok(rows)
 }
 
-/// Returns the waybills with pieces in store, ascending: reads their balances, and once more for
+/// Returns the waybills with pieces in store, ascending: one read for their balances, and one for
 /// each. Fails if a call of the store fails or returned what no lawful state has, or if memory runs
 /// out.
 pub fn shed_rows<S: StateStore>(alloc: Global, store: &mut S) -> Result<Vec<ShedRow>, StoreFault>

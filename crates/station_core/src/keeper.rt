@@ -34,12 +34,12 @@ pub trait Keeper {
     /// True if the keeper is broken: every call returns `Reopen`.
     ghost is_broken: { Self → Bool };
 
-    /// What reopening may find after a crash at this moment: a state, or `None` if the tables mean
+    /// The states that reopening may find after a crash at this moment; `None` if the tables mean
     /// no state.
     ghost may_find: { Self → Option State → Type 0 };
 
-    /// What holds if a call returns `Store` although the keeper isn't broken. It is absurd for a
-    /// keeper in memory, and trivial for a keeper whose store may fail.
+    /// A consequence of a `Store` from a keeper that isn't broken: absurd in memory, and trivial if
+    /// the store may fail.
     ghost may_fail: { Type 0 };
 
     /// Acts on one input at a moment.

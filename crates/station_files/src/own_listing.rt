@@ -83,8 +83,6 @@ fn are_there<S: Alter>(
     true
 }
 
-/// Returns whether a row lists a tree of a table of `objects`, or with one of their names, in any
-/// case.
 fn is_about(objects: &[Object<'_>], row: &Row) -> bool
     ensures { result ≡ is_about objects.now row.now }
 {
@@ -93,15 +91,12 @@ fn is_about(objects: &[Object<'_>], row: &Row) -> bool
         || same_name(o.name.as_bytes(), name))
 }
 
-/// Returns whether a row lists one of the trees with these numbers.
 fn is_one_of(numbers: &[u32], row: &Row) -> bool
     ensures { result ≡ is_one_of numbers.now row.now }
 {
     numbers.iter().any(|n| has_number(row, *n))
 }
 
-/// Returns whether a row lists one of the trees with these numbers, or a tree that doesn't belong
-/// to a table of `objects`. Writes to these tables wouldn't update such a tree.
 fn is_known(row: &Row, objects: &[Object<'_>], numbers: &[u32]) -> bool
     ensures { result ≡ is_known objects.now numbers.now row.now }
 {

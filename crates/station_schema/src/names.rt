@@ -3,7 +3,6 @@ ghost use Rattle.station_schema.specs.Names.{is_taken, takes_name};
 
 use sqlite_schema::schema::Schema;
 
-/// Returns whether a table, an index or a view has a name, in any case of ASCII letters.
 fn is_taken(schema: &Schema, name: &str) -> bool
     ensures { result ≡ is_taken schema.now name.now }
 {

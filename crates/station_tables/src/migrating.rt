@@ -27,7 +27,6 @@ use table_audits::TableName;
 use table_load::FileVersion;
 use table_upgrade::upgrade_tables;
 
-/// Returns the table of a version 1 file that has a table's rows.
 fn old_name(name: TableName) -> TableName
     ensures { result ≡ old_name name }
 {

@@ -60,7 +60,6 @@ fn answer_line(alloc: Global, key: &Key, answer: &Answer) -> Result<String, Allo
     format!(in alloc; "{key} {text}\n")
 }
 
-/// Returns the line of a malformed row.
 fn bad_line(alloc: Global, number: u64) -> Result<String, AllocError>
     ensures { IfOk result (λ line. string_bytes line ≡ bad_line number) }
 {

@@ -7,7 +7,6 @@ use awb_number::{Awb, decimal};
 use csv::ByteRecord;
 use station_core::Key;
 
-/// Reads a number of `least` to `most` digits.
 fn digits(text: &[u8], least: usize, most: usize) -> Option<u32>
     requires { most ≤ 9 }
     ensures value { result ≡ digits_of least most text.now }
@@ -28,7 +27,6 @@ fn read_count(text: &[u8]) -> Option<RunCount>
     RunCount::new(number)
 }
 
-/// Reads the run of a prefix of three digits, a serial of seven and a count of one to seven.
 fn run(prefix: &[u8], serial: &[u8], count: &[u8]) -> Option<Run>
     ensures { result ≡ run_of prefix.now serial.now count.now }
 {

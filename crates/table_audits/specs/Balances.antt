@@ -58,8 +58,8 @@ drawn_at sums awb place = drawn_by (get count_place_cmp sums.counts (record { aw
 abbrev pub is_within : BookSums → ℤ → Bool
 is_within sums awb = fits (plus (drawn_at sums awb (pos 0)) (drawn_at sums awb (pos 1)))
 
--- true if a sum at a place that isn't built is lawful: codes below 2 are outside, and pieces are
--- returned to 0
+-- true if a sum at a place that isn't built is lawful: codes below 2 are outside, and 0 is the one
+-- to which pieces are returned
 abbrev pub is_lawful_count : BookSums → CountPlace × Tally → Bool
 is_lawful_count sums e =
     if int_lt e.0.place (pos 2)

@@ -30,7 +30,6 @@ struct Drawn {
     tenths: u64,
 }
 
-/// Returns by how much more went than came.
 fn overdrawn(balance: &i64) -> u64
     ensures { result ≡ overdrawn balance.now }
 {
@@ -92,14 +91,12 @@ fn is_within(sums: &BookSums, place: &CountPlace) -> bool
         && are_at_most(hand.tenths, surplus.tenths, TENTHS)
 }
 
-/// Returns whether at least one piece is left, with at least a tenth a piece.
 fn is_left(tally: &Tally) -> bool
     ensures { result ≡ is_left (meant tally.now) }
 {
     tally.pieces >= 1 && tally.pieces <= tally.tenths
 }
 
-/// Returns whether no more came back than went.
 fn is_covered(tally: &Tally) -> bool
     ensures { result ≡ is_covered (meant tally.now) }
 {
@@ -128,7 +125,6 @@ fn are_counts_lawful(sums: &BookSums) -> bool
     true
 }
 
-/// Returns whether the flight at this index can have cargo.
 fn is_open(flights: &[FlightEntry], at: usize) -> bool
     ensures { result ≡ is_open (slice_get (map flight_entry flights.now) at) }
 {

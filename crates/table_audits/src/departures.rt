@@ -19,7 +19,6 @@ use table_load::FlightEntry;
 /// The code of the place of departed pieces.
 const DEPARTED: i64 = 4;
 
-/// Returns whether a place is on a marked flight.
 pub(crate) fn is_marked(marks: &[bool], spot: &Spot) -> bool
     ensures { result ≡ is_marked marks.now spot.now }
 {

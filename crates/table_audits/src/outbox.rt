@@ -25,7 +25,6 @@ impl RowFold<MessageRow> for NumberedRows {
     }
 }
 
-/// Returns the number of messages, if at least `confirmed` exist.
 fn if_confirmed(count: Option<u32>, confirmed: u32) -> Option<u32>
     ensures { result ≡ if_confirmed confirmed count }
 {

@@ -13,7 +13,6 @@ use shipment_machine::Move;
 use station_rows::{MoveRow, WaybillRow};
 use table_load::FlightEntry;
 
-/// Returns the posting of a move between two places.
 fn posted(movement: &Move, from: Spot, to: Spot) -> Posting
     ensures { result ≡ posting_in movement.now from to }
 {

@@ -25,7 +25,6 @@ fn is_pair(from: &Place, to: &Place) -> bool
     }
 }
 
-/// Returns whether the move is between an allowed pair of places, and of a declared waybill.
 pub(crate) fn is_fit(movement: &Move, waybills: &[WaybillRow]) -> bool
     ensures { RisesByNumber (map waybill_meant waybills.now)
         → result ≡ is_fit_move (map waybill_meant waybills.now) movement.now }

@@ -44,7 +44,6 @@ fn last_of(run: &StockRun) -> i64
     awb_key(&run.first) + i64::from(run.count - 1)
 }
 
-/// Returns whether the row is in range and, if its numbers are used, each of them is declared.
 fn is_lawful(row: &StockRow, waybills: &[WaybillRow]) -> bool
     ensures { RisesByNumber (map waybill_meant waybills.now)
         → (IsTrue result ↔ IsLawfulStock (map waybill_meant waybills.now) (stock_meant row.now)) }

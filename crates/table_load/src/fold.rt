@@ -7,7 +7,7 @@ use std::alloc::Global;
 pub trait RowFold<Row> {
     ghost use Rattle.std.specs.Prelude.{◌++◌, ◌∷◌, [], List, OnOk};
 
-    /// What was read before the table.
+    /// The values read before the table.
     type Beside;
 
     /// The relation of a fold to the rows that it took, in order.

@@ -53,7 +53,6 @@ fn next_typed<S: Alter, T: KeyedTable>(
     }
 }
 
-/// Returns whether the key of the last row, if there is one, is less than that of the next.
 fn follows<T: KeyedTable>(last: &Option<T::Row>, next: &T::Row) -> bool
     ensures { result ≡ follows T.meant T.cmp last.now next.now }
 {

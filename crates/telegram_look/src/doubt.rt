@@ -8,14 +8,12 @@ ghost use Rattle.telegram_look.specs.Doubt.{begins_answer, begins_consignment, i
 
 use std::alloc::{AllocError, Global};
 
-/// Returns whether a byte is a space or a hyphen.
 fn is_gap(b: u8) -> bool
     ensures { result ≡ is_gap b }
 {
     b == b' ' || b == b'-'
 }
 
-/// Returns a line without its spaces and hyphens.
 fn without_gaps(alloc: Global, line: &[u8]) -> Result<Vec<u8>, AllocError>
     ensures { IfOk result (λ bare. bare.items ≡ without_gaps line.now) }
 {
@@ -34,15 +32,12 @@ fn is_letters(text: &[u8]) -> bool
     text.iter().all(|b| b.is_ascii_uppercase())
 }
 
-/// Returns whether a text begins with eleven digits, six letters and a slash.
 fn begins_consignment(bare: &[u8]) -> bool
     ensures { result ≡ begins_consignment bare.now }
 {
     bare.len() >= 18 && is_digits(&bare[..11]) && is_letters(&bare[11..17]) && bare[17] == b'/'
 }
 
-/// Returns whether a line begins like a consignment line, apart from spaces, hyphens and the check
-/// digit.
 fn resembles_consignment(alloc: Global, line: &[u8]) -> Result<bool, AllocError>
     ensures { IfOk result (λ answer. answer ≡ resembles_consignment line.now) }
 {
@@ -57,7 +52,6 @@ pub(crate) fn is_message_line(line: &[u8]) -> bool
     line.starts_with(b"FWB/") || line.starts_with(b"FFM/") || line.starts_with(b"FSU/")
 }
 
-/// Returns whether a line without read fields begins a message or resembles a consignment line.
 pub(crate) fn is_doubtful(alloc: Global, line: &[u8]) -> Result<bool, AllocError>
     ensures { IfOk result (λ answer. answer ≡ is_doubtful line.now) }
 {
@@ -68,7 +62,6 @@ pub(crate) fn is_doubtful(alloc: Global, line: &[u8]) -> Result<bool, AllocError
     }
 }
 
-/// Returns whether a line begins a message that answers another one, an FNA or an FMA.
 pub(crate) fn begins_answer(line: &[u8]) -> bool
     ensures { result ≡ begins_answer line.now }
 {

@@ -54,7 +54,6 @@ fn cut_at_newline(text: &[u8]) -> Option<(&[u8], &[u8])>
     Some((&text[..place], rest))
 }
 
-/// Returns the lines before the first one that begins a message.
 #[tactic(auto, using(crate::proofs::Front::next_front, crate::proofs::Front::no_front, crate::proofs::Front::last_front))]
 fn front_lines<'a>(alloc: Global, bytes: &'a [u8]) -> Result<Vec<&'a [u8]>, AllocError>
     ensures { IfOk result (λ front. map (λ line. line.now) front.items ≡ front_lines bytes.now) }

@@ -11,7 +11,7 @@ pub struct DroppedLine<'a> {
     pub doubtful: bool,
 }
 
-/// How a line is read.
+/// The reading of a line.
 #[derive(Clone, Copy)]
 pub enum LinePart {
     /// The message line.

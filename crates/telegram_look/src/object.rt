@@ -16,7 +16,6 @@ use shipment_machine::{CargoLine, TrailLine};
 use std::alloc::{AllocError, Global};
 use telegrams::{Content, PartContent};
 
-/// Returns the members of a manifest's part.
 fn part_members(alloc: Global, part: &PartContent) -> Result<String, AllocError>
     ensures { IfOk result (λ text. string_bytes text ≡ part_members part.now) }
 {
@@ -43,7 +42,6 @@ fn message_members(alloc: Global, says: &Content<'_>) -> Result<String, AllocErr
     }
 }
 
-/// Returns the pieces of the whole consignment, or `null`.
 fn total_value(alloc: Global, total: Option<Pieces>) -> Result<String, AllocError>
     ensures { IfOk result (λ text. string_bytes text ≡ total_value total) }
 {
@@ -53,7 +51,6 @@ fn total_value(alloc: Global, total: Option<Pieces>) -> Result<String, AllocErro
     }
 }
 
-/// Returns the members of a line's number and its consignment.
 fn route_members(alloc: Global, number: u32, cargo: &CargoLine) -> Result<String, AllocError>
     ensures { IfOk result (λ text. string_bytes text ≡ route_members number cargo.now) }
 {
@@ -85,7 +82,6 @@ fn flag_text(flag: bool) -> &'static str
     if flag { "true" } else { "false" }
 }
 
-/// Returns the members of a line's text, and whether it is doubtful.
 fn text_members(alloc: Global, text: &TrailLine<'_>, doubtful: bool) -> Result<String, AllocError>
     ensures { IfOk result (λ members. string_bytes members ≡ text_members text.now doubtful) }
 {

@@ -83,7 +83,6 @@ fn is_cargo_line(line: &[u8]) -> bool
     }
 }
 
-/// Returns how a line of a manifest after its flight line is read.
 fn manifest_part(left: &[InboundLine], line: &[u8], is_last: bool) -> LinePart
     ensures { result ≡ manifest_part left.now line.now is_last }
 {
@@ -98,7 +97,6 @@ fn manifest_part(left: &[InboundLine], line: &[u8], is_last: bool) -> LinePart
     }
 }
 
-/// Returns how a line after the second is read.
 fn lower_part(says: &Content<'_>, left: &[InboundLine], line: &[u8], is_last: bool) -> LinePart
     ensures { result ≡ lower_part says.now left.now line.now is_last }
 {
@@ -109,7 +107,6 @@ fn lower_part(says: &Content<'_>, left: &[InboundLine], line: &[u8], is_last: bo
     }
 }
 
-/// Returns the cargo that remains after a line.
 fn left_behind<'c>(line: &[u8], left: &'c [InboundLine]) -> &'c [InboundLine]
     ensures { result.now ≡ left_behind line.now left.now }
 {

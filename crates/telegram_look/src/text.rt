@@ -28,7 +28,6 @@ fn heading(alloc: Global, says: &Content<'_>) -> Result<String, AllocError>
     }
 }
 
-/// Returns the pieces of the whole consignment, if given.
 fn total_text(alloc: Global, total: Option<Pieces>) -> Result<String, AllocError>
     ensures { IfOk result (λ text. string_bytes text ≡ total_text total) }
 {

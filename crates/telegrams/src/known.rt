@@ -45,7 +45,6 @@ fn parts_known(here: &Airport, flight: &FlightDate, unload: &Airport, lines: &[M
     lines_known(lines);
 }
 
-/// The lines of a manifest are normal, and are read back as the values written.
 pub(crate) fn manifest_known(
     here: &Airport,
     flight: &FlightDate,
