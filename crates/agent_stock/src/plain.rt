@@ -65,7 +65,7 @@ impl PlainRows {
         Ok(numbers)
     }
 
-    /// Returns the maximal runs of the stock, ascending. It fails only if memory runs out.
+    /// Returns the maximal runs of the stock, ascending.
     pub fn runs(&self, alloc: Global) -> Result<Vec<StockRun>, AllocError>
         ensures { IfOk result (λ rows. AreStockRuns (holders_of self.now) rows.items) }
     {

@@ -62,7 +62,7 @@ fn runs_from(alloc: Global, first: &Held, following: &[Held]) -> Result<Vec<Stoc
 }
 
 /// Returns the maximal runs of ascending numbers: consecutive numbers of one prefix and one holder.
-/// For other numbers there is no guarantee. It fails only if memory runs out.
+/// For other numbers there is no guarantee.
 pub fn runs_of(alloc: Global, numbers: &[Held]) -> Result<Vec<StockRun>, AllocError>
     ensures { AreRising numbers.now
         → IfOk result (λ rows. AreStockRuns (holders_among numbers.now) rows.items) }

@@ -13,8 +13,7 @@ fn file_version() -> u32
     2
 }
 
-/// Returns the line of `--version`: the program, its version, and the version of its files. It
-/// fails only if memory runs out.
+/// Returns the line of `--version`: the program, its version, and the version of its files.
 pub fn version_line(alloc: Global) -> Result<String, AllocError>
     ensures { IfOk result (λ line. string_bytes line ≡ version_line) }
 {

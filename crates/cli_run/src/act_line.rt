@@ -57,7 +57,7 @@ pub fn wired<'a>(value: &'a Value) -> Option<&'a str>
     text_at(value, "telegram")
 }
 
-/// Returns the JSON value of a line that isn't too long. It fails only if memory runs out.
+/// Returns the JSON value of a line that isn't too long.
 pub fn line_value(alloc: Global, line: &[u8]) -> Result<Option<Value>, AllocError>
     ensures some { IfOk result (λ v. IfSome v (λ value. IsWritten line.now (view value))) }
     ensures none { IfOk result (λ v. v ≡ None → (d : Data) → ¬ (IsWritten line.now d)) }
@@ -97,7 +97,7 @@ fn value_asked<'a>(alloc: Global, value: &'a Value, line: &'a [u8]) -> Result<As
     }
 }
 
-/// Returns the request in a line, from its value. It fails only if memory runs out.
+/// Returns the request in a line, from its value.
 pub fn line_asked<'a>(
     alloc: Global,
     value: &'a Option<Value>,

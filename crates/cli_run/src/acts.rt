@@ -61,7 +61,7 @@ pub fn line_fault(error: &io::Error) -> RunFault
     }
 }
 
-/// Buffers a reader. It fails only if memory runs out.
+/// Buffers a reader.
 pub fn buffered<R: Read + Drop>(alloc: Global, reader: R) -> Result<BufReader<R>, AllocError>
     ensures { IfOk result (λ lines. reader_remaining R.remaining lines ≡ R.remaining reader) }
 {

@@ -73,8 +73,7 @@ fn keyed_line(
 }
 
 /// Returns the line with the answer to an input. With a `number`, that of the line of `acts`, it
-/// begins with the key of a command or with the number of a telegram. It fails only if memory runs
-/// out.
+/// begins with the key of a command or with the number of a telegram.
 pub fn named_line(
     alloc: Global,
     number: Option<u64>,

@@ -23,7 +23,7 @@ pub enum Asked<'a> {
     Input(Input<'a>),
 }
 
-/// Returns the request in a telegram. It fails only if memory runs out.
+/// Returns the request in a telegram.
 pub fn telegram_asked<'a>(alloc: Global, bytes: &'a [u8]) -> Result<Asked<'a>, AllocError>
     ensures { IfOk result (IsTelegramAsked bytes.entry.now) }
 {
@@ -34,7 +34,7 @@ pub fn telegram_asked<'a>(alloc: Global, bytes: &'a [u8]) -> Result<Asked<'a>, A
     }
 }
 
-/// Returns the request in a JSON body under a key. It fails only if memory runs out.
+/// Returns the request in a JSON body under a key.
 pub fn command_asked<'a>(
     alloc: Global,
     verb: Verb,

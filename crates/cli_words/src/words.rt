@@ -194,7 +194,7 @@ fn asked<'a>(name: &str, words: &ArgMatches<'a>) -> Option<Request<'a>> {
     }
 }
 
-/// Returns the request in words that `clap` accepted. It fails only if memory runs out.
+/// Returns the request in words that `clap` accepted.
 fn requested<'a>(
     alloc: Global,
     matches: &ArgMatches<'a>,

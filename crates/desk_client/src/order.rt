@@ -84,7 +84,7 @@ fn agents_body(alloc: Global, run: &Run, agent: &AgentCode) -> Result<String, Al
     agents_text(alloc, code, count, prefix, serial)
 }
 
-/// Returns the body of an order, as `act` takes it. It fails only if memory runs out.
+/// Returns the body of an order, as `act` takes it.
 pub(crate) fn order_body(alloc: Global, order: &Order) -> Result<String, AllocError>
     ensures { IfOk result (λ text. IsOrderText order.now (string_bytes text)) }
 {

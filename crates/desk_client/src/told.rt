@@ -67,8 +67,7 @@ fn told_line(alloc: Global, status: u16, value: &Value) -> Result<Option<String>
     Ok(None)
 }
 
-/// Returns the content of an answer to a command or a telegram, from its status and its body. It
-/// fails only if memory runs out.
+/// Returns the content of an answer to a command or a telegram, from its status and its body.
 pub fn told_answer(alloc: Global, status: u16, body: &[u8]) -> Result<Told, AllocError>
     ensures { IfOk result (Tells status body.now) }
 {

@@ -119,8 +119,7 @@ fn holding_text(alloc: Global, awb: &str, holder: &str, name: &str) -> Result<St
     json!(in alloc; {"awb": awb, "holder": holder, "name": name})?.to_string(alloc)
 }
 
-/// Returns the JSON object with the holder of a number: the body of `GET /v1/stock/{awb}`. It fails
-/// only if memory runs out.
+/// Returns the JSON object with the holder of a number: the body of `GET /v1/stock/{awb}`.
 pub fn holder_text(alloc: Global, number: &Awb, holder: &Holder) -> Result<String, AllocError>
     ensures { IfOk result (λ text. string_bytes text ≡ compact_text
         (holder_data number.now holder.now)) }
@@ -238,8 +237,7 @@ fn last_members(alloc: Global, known: &Waybill) -> Result<String, AllocError>
     format!(in alloc; "\"pieces\":{pieces},\"since\":{since},{rest}")
 }
 
-/// Returns the JSON object with the record of a waybill: the body of `GET /v1/waybills/{awb}`. It
-/// fails only if memory runs out.
+/// Returns the JSON object with the record of a waybill: the body of `GET /v1/waybills/{awb}`.
 pub fn waybill_text(alloc: Global, number: &Awb, known: &Waybill) -> Result<String, AllocError>
     ensures { IfOk result (λ text. string_bytes text ≡ compact_text
         (waybill_data number.now known.now)) }

@@ -31,8 +31,7 @@ fn put_rising(numbers: &mut Vec<Awb>, number: Awb) -> Result<(), AllocError>
     Ok(())
 }
 
-/// Returns the waybills of a book, in ascending order without repeats. It fails only if memory runs
-/// out.
+/// Returns the waybills of a book, in ascending order without repeats.
 pub fn waybills_of(alloc: Global, book: &[Move]) -> Result<Vec<Awb>, AllocError>
     ensures { IfOk result (λ numbers. numbers.items ≡ waybills_of book.now) }
 {

@@ -20,7 +20,7 @@ impl ExpectedQuery {
     }
 }
 
-/// Returns the expectations that the query includes. It fails only if memory runs out.
+/// Returns the expectations that the query includes.
 pub fn expectations_for(
     alloc: Global,
     query: ExpectedQuery,

@@ -42,8 +42,7 @@ pub struct RowPlace {
     pub line: u64,
 }
 
-/// Returns an answer as it is printed: `ok 10`, or `refused 102 020-12345723`. It fails only if
-/// memory runs out.
+/// Returns an answer as it is printed: `ok 10`, or `refused 102 020-12345723`.
 pub fn answer_text(alloc: Global, answer: &Answer) -> Result<String, AllocError>
     ensures { IfOk result (λ text. string_bytes text ≡ answer_text answer.now) }
 {

@@ -102,7 +102,7 @@ impl<R: Read> Read for LineByLine<'_, R> {
     }
 }
 
-/// Wraps a list, to read it line by line. It fails only if memory runs out.
+/// Wraps a list, to read it line by line.
 pub fn line_by_line<'a, R: Read + Drop>(
     alloc: Global,
     reader: R,

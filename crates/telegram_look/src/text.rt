@@ -116,8 +116,6 @@ fn line_texts(alloc: Global, lines: &[SeenLine<'_>]) -> Result<String, AllocErro
 /// line 5 is passed over: DIM/K40
 /// line 6 is passed over, doubtful:  020-12345686FRAJFK/T10K100
 /// ```
-///
-/// It fails only if memory runs out.
 pub fn look_text(alloc: Global, look: &Look<'_>) -> Result<String, AllocError>
     ensures text { IfOk result (λ text. string_bytes text ≡ look_text look.now) }
 {

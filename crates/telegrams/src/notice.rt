@@ -129,8 +129,6 @@ fn manifest_text(
 /// ends with CR LF. A quantity has code T if its pieces equal the declared total, otherwise P. MAN,
 /// DEP and the manifest have the flight's date without its year; every other status has the moment.
 /// The lines are normal, and are read back as the values written.
-///
-/// It fails only if memory runs out.
 pub fn notice_text(alloc: Global, notice: &Notice) -> Result<Vec<u8>, AllocError>
     ensures text { IfOk result (λ text. text.items ≡ notice_text notice.now) }
 
