@@ -45,7 +45,6 @@ fn are_letters_or_digits(text: &[u8]) -> bool
         .all(|b| b.is_ascii_uppercase() || b.is_ascii_digit())
 }
 
-/// Returns whether a text is an agent's code.
 fn is_code(text: &[u8]) -> bool
     ensures { result ≡ is_agent_code text.now }
 {

@@ -62,7 +62,6 @@ enum Way {
     Service(u16),
 }
 
-/// Runs a command line on the inputs of a reader.
 fn run_inputs<R: Read + Drop>(
     rt: &HostRuntime,
     line: &Line<'_>,

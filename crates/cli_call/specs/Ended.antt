@@ -36,7 +36,6 @@ fault_line (fault.Attach e) = attach_line e
 abbrev pub HasTold : DeskFault → Given → Given → Type 0
 HasTold e old new = SendsLine (fault_line e) old new
 
--- the result of a call from that of its run
 abbrev pub run_ended : Result Bool RunFault → Result Bool DeskFault
 run_ended (Ok good) = Ok good
 run_ended (Err e) = Err (fault.Run e)

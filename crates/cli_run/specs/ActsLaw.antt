@@ -16,7 +16,6 @@ AreAsked number (line ∷ lines) asked =
     ⊎ ((is_blank line ≡ false) × ((asks : Asked) × ((rest : List (ℕ × Asked)) × IsActAsked line asks
     × (asked ≡ (number, asks) ∷ rest) × AreAsked (number + 1) lines rest)))
 
--- the state after all requests in order
 abbrev pub acts_after : State → List (ℕ × Asked) → LocalMinute → State
 acts_after s [] at = s
 acts_after s (one ∷ more) at = acts_after (asked_after s one.1 at) more at

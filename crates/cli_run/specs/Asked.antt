@@ -62,7 +62,6 @@ named number (asked.BadLine line) answer = numbered number answer
 abbrev pub asked_line : Option ℕ → State → Asked → LocalMinute → List ℕ
 asked_line number s asks at = named number asks (asked_text s asks at ++ 10 ∷ [])
 
--- true if it was accepted
 abbrev pub asked_good : State → Asked → LocalMinute → Bool
 asked_good s (asked.Input i) at = is_done (step s i at).answer
 asked_good s _ at = false

@@ -29,7 +29,6 @@ pub record HasCome (old new : Given) (bytes : List ℕ) : Type 0 where
   pub failures : new.failures ≡ old.failures
   pub whole : (old.idle < new.idle) ⊎ (most_bytes < length bytes)
 
--- the largest number of reads of an input
 abbrev pub most_reads : ℕ
 most_reads = 18_446_744_073_709_551_615
 

@@ -30,7 +30,6 @@ fn plain_line(alloc: Global, text: &str) -> Result<String, AllocError>
     format!(in alloc; "{text}\n")
 }
 
-/// Returns the line of an answer after a number.
 fn line_of_number(alloc: Global, number: u64, text: &str) -> Result<String, AllocError>
     ensures { IfOk result (λ line. string_bytes line
         ≡ codes "line " ++ (decimal number ++ (32 ∷ (text.now ++ 10 ∷ [])))) }
@@ -38,7 +37,6 @@ fn line_of_number(alloc: Global, number: u64, text: &str) -> Result<String, Allo
     format!(in alloc; "line {number} {text}\n")
 }
 
-/// Returns the line of an answer after a key.
 fn line_of_key(alloc: Global, key: &Key, text: &str) -> Result<String, AllocError>
     ensures { IfOk result
         (λ line. string_bytes line ≡ key.now ++ (32 ∷ (text.now ++ 10 ∷ []))) }

@@ -54,7 +54,6 @@ fn seen_refusal(alloc: Global, refusal: Refusal) -> Result<Seen, AllocError>
     })
 }
 
-/// Returns the dry run of bytes.
 fn seen_of(alloc: Global, bytes: &[u8]) -> Result<Seen, AllocError>
     ensures { IfOk result (λ seen. IsSeen bytes.now (string_bytes seen.text) seen.good
         (has_reason seen.refusal)) }

@@ -43,7 +43,6 @@ pub(crate) struct CommandWords {
     pub(crate) takes: Takes,
 }
 
-/// The options before a command.
 pub(crate) const OPTIONS: [Word; 4] = [
     Word {
         name: "db",
@@ -67,7 +66,6 @@ pub(crate) const OPTIONS: [Word; 4] = [
     },
 ];
 
-/// The word after a verb.
 pub(crate) const KEY: [Word; 1] = [Word {
     name: "KEY",
     given: Given::Always,

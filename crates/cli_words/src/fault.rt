@@ -74,7 +74,6 @@ fn invalid(alloc: Global, place: &str, text: &str, expected: &str) -> Result<Str
 }
 
 impl BadValue<'_> {
-    /// Returns the message for the bad value.
     fn told(self, alloc: Global) -> Result<String, AllocError> {
         let (place, text, expected) = match self {
             BadValue::Station(text) => (

@@ -29,7 +29,6 @@ fn read_act<'a>(word: &'a str, key: &'a str) -> Result<LineCommand<'a>, BadValue
     }
 }
 
-/// Returns the waybill number in a text, or its fault.
 fn number_of(text: &str) -> Result<Awb, AwbFault>
     ensures { result ≡ number_of text.now }
 {
@@ -76,7 +75,6 @@ fn read_history<'a>(word: &'a str) -> Result<LineCommand<'a>, BadValue<'a>>
     }
 }
 
-/// Returns the look-up of a number's holder.
 fn read_holder<'a>(word: &'a str) -> Result<LineCommand<'a>, BadValue<'a>>
     ensures { IfOk result (Means (Request.Holder word.entry)) }
 {

@@ -125,7 +125,6 @@ fn command_of<'a>(alloc: Global, words: &CommandWords) -> Result<Command<'a>, Al
     }
 }
 
-/// Returns the whole command line.
 fn desk<'a>(alloc: Global) -> Result<Command<'a>, AllocError> {
     let desk = bare(alloc, "cargo_desk", help::DESK, help::DESK_EXAMPLES)
         .version(program_version())
@@ -138,7 +137,6 @@ fn desk<'a>(alloc: Global) -> Result<Command<'a>, AllocError> {
     Ok(desk)
 }
 
-/// Returns the paths of the telegrams' files.
 fn files_of<'a>(alloc: Global, words: &ArgMatches<'a>) -> Result<Vec<&'a str>, AllocError> {
     let mut files = Vec::new(alloc);
     if let Some(words) = words.get_strs("FILE") {

@@ -73,7 +73,6 @@ abbrev pub HasTriedTwice : Until → List ℕ → Talk → Talk → Result Answe
 HasTriedTwice until request old new result =
     HasTriedAgain (HasTried until request) (HasTried until request) old new result
 
--- at most three tries
 abbrev pub HasTriedThrice : Until → List ℕ → Talk → Talk → Result Answer AskFault → Type 0
 HasTriedThrice until request old new result =
     HasTriedAgain (HasTried until request) (HasTriedTwice until request) old new result

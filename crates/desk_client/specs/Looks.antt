@@ -39,7 +39,6 @@ HasShown text good old new (Err e) = (e ≡ fault.Write) × HasSent text old new
 abbrev pub HasShownNothing : Given → Given → Result Bool RunFault → Type 0
 HasShownNothing old new result = (new ≡ old) × (result ≡ Err fault.Store)
 
--- a desk's answer with rows
 abbrev pub HasRows : Answer → Type 0
 HasRows a = (a.status ≡ 200) × (has_end (body_of a) ≡ true)
 
@@ -94,7 +93,6 @@ HasGoneOn First Next old new result =
     ((mid : Shown) × First old mid (Ok true) × Next mid new result)
     ⊎ (First old new result × (result ≡ Ok true → ⊥))
 
--- the moves of a waybill, and its trail
 abbrev pub HasAskedMoves : ℕ → Shown → Shown → Result Bool RunFault → Type 0
 HasAskedMoves w old new result =
     HasGoneOn (HasAskedRows (rows_path (listing.Movements w) form.Text) form.Text)

@@ -73,7 +73,6 @@ fn is_json_end(text: &[u8]) -> bool
     }
 }
 
-/// Returns whether a text ends like a report.
 pub(crate) fn has_end(text: &[u8]) -> bool
     ensures { result ≡ has_end text.now }
 {

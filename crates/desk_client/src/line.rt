@@ -60,7 +60,6 @@ fn heard_of(alloc: Global, answer: &Answer) -> Result<Heard, RunFault>
     }
 }
 
-/// Asks a question, and returns the line in its answer.
 fn hear<S: Ask>(alloc: Global, service: &mut S, question: &Question<'_>) -> Result<Heard, RunFault>
     ensures { HasHeard (request_of question.now) (most_of question.now) (S.talk service.old)
         (S.talk service.new) result }

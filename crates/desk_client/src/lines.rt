@@ -27,7 +27,6 @@ pub(crate) struct Posted {
     pub(crate) text: String,
 }
 
-/// Returns the body of a command, under its verb and its key.
 fn command_posted(verb: Verb, key: Key, text: String) -> Posted
     ensures { posted_request result ≡ command_request (word verb) key (string_bytes text) }
 {
@@ -71,7 +70,6 @@ fn line_posted(alloc: Global, value: &Option<Value>) -> Result<Posted, AllocErro
     }
 }
 
-/// Returns the question with the content of a line.
 fn question_of<'a>(posted: &'a Posted) -> Question<'a>
     ensures request { request_of result ≡ posted_request posted.entry.now }
     ensures most { most_of result ≡ most_answer }

@@ -22,7 +22,6 @@ pub(crate) fn verb_of(order: &Order) -> Verb
     }
 }
 
-/// Returns the JSON object of a run.
 fn run_text(alloc: Global, count: u32, prefix: &str, serial: &str) -> Result<String, AllocError>
     ensures { IfOk result
         (λ text. IsTextOf (run_object count prefix.now serial.now) (string_bytes text)) }

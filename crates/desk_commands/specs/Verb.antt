@@ -112,6 +112,5 @@ verbs =
 abbrev pub is_word : List ℕ → Verb → Bool
 is_word text verb = bytes_eq (word verb) text
 
--- the verb whose word the text is
 abbrev pub verb_called : List ℕ → Option Verb
 verb_called text = find (is_word text) verbs

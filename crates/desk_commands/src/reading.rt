@@ -21,7 +21,6 @@ pub fn read_command_text(text: &[u8]) -> Option<Command>
     read_text(text)
 }
 
-/// Reads a text line by line.
 fn read_text(text: &[u8]) -> Option<Command>
     ensures { result ≡ text_says text.now }
 {

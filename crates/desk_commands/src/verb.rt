@@ -157,7 +157,6 @@ impl Verb {
     }
 }
 
-/// Returns the first verb whose word is the text.
 fn word_among<'a>(verbs: &'a [Verb], text: &[u8]) -> Option<&'a Verb>
     ensures { option_map (λ verb. verb.now) result ≡ find (is_word text.now) verbs.now }
 {

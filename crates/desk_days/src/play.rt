@@ -64,7 +64,6 @@ fn answer_text(alloc: Global, answer: &Result<Answer, ActFault>) -> Result<Strin
     }
 }
 
-/// Runs an input of the desk.
 fn act<K: Keeper>(
     alloc: Global,
     keeper: &mut K,
@@ -75,7 +74,6 @@ fn act<K: Keeper>(
     answer_text(alloc, &answer)
 }
 
-/// Runs a command from its body.
 fn act_body<K: Keeper>(
     alloc: Global,
     keeper: &mut K,
@@ -95,7 +93,6 @@ fn act_body<K: Keeper>(
     }
 }
 
-/// Runs a telegram.
 fn take<K: Keeper>(
     alloc: Global,
     keeper: &mut K,
@@ -185,7 +182,6 @@ fn act_row<K: Keeper>(
     format!(in alloc; "row {number} bad")
 }
 
-/// Runs the rows of a stock list.
 fn act_rows<K: Keeper>(
     alloc: Global,
     keeper: &mut K,
@@ -236,7 +232,6 @@ pub fn put_text(out: &mut Vec<u8>, text: &str) -> Result<(), AllocError> {
     out.extend_from_slice(b"\n")
 }
 
-/// Returns the answer to an HTTP request.
 fn answered<K: Keeper>(
     alloc: Global,
     keeper: &mut K,
@@ -266,7 +261,6 @@ fn cut_outbox<K: Keeper>(
     Ok(out)
 }
 
-/// Returns the output of a statement.
 fn printed<K: Keeper>(alloc: Global, keeper: &mut K, step: &Step<'_>) -> Result<Vec<u8>, DayFault> {
     let mut out = Vec::new(alloc);
     match &step.ask {

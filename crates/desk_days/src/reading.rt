@@ -73,7 +73,6 @@ impl<'a> Script<'a> {
         Ok(())
     }
 
-    /// Adds an expected line of output.
     fn add_wanted(&mut self, line: u32, rest: &'a str) -> Result<(), DayFault> {
         let Some(text) = behind(rest) else {
             return bad(line, "a blank must stand behind the sign");
@@ -117,7 +116,6 @@ impl<'a> Script<'a> {
         Ok(())
     }
 
-    /// Sets the moment of what follows.
     fn set_moment(&mut self, at: Moment) {
         self.at = Some(at);
     }

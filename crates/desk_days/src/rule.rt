@@ -62,7 +62,6 @@ impl Rule {
         low.saturating_add(step)
     }
 
-    /// Returns a waybill's number.
     fn awb(&mut self) -> Option<Awb> {
         Awb::new(20, self.between(FIRST, LAST))
     }
@@ -161,7 +160,6 @@ fn next_asked(alloc: Global, rule: &mut Rule, n: u32) -> Option<Asked> {
     Some(Asked { key, text })
 }
 
-/// Returns a copy of an input.
 fn copied(alloc: Global, asked: &Asked) -> Option<Asked> {
     let key = match &asked.key {
         Some(key) => Some(String::from_str(alloc, key.as_str()).ok()?),

@@ -45,7 +45,6 @@ fn form(rest: &str) -> Option<Form> {
     }
 }
 
-/// Reads a waybill's number.
 fn number(rest: &str) -> Option<Awb> {
     let text = <[u8; 12]>::try_from(rest.as_bytes()).ok()?;
     Awb::read(&text).ok()

@@ -101,7 +101,6 @@ has_last_line [] = false
 has_last_line (line ∷ []) = is_last_line line
 has_last_line (line ∷ next ∷ below) = has_last_line (next ∷ below)
 
--- the lines are this part of a manifest
 abbrev pub IsFfm : List (List ℕ) → Manifest → Type 0
 IsFfm [] m = ⊥
 IsFfm (head ∷ []) m = ⊥

@@ -104,7 +104,6 @@ fn put_goods(out: &mut Vec<u8>, goods: &Goods) -> Result<(), AllocError>
     put(out, goods)
 }
 
-/// Appends the consignment line of a load.
 fn put_load(out: &mut Vec<u8>, load: &Load) -> Result<(), AllocError>
     ensures text { OnOk result (out.new.items ≡ out.old.items ++ line_text (load_line load.now)) }
     ensures begins { Begins out.old.items out.new.items }
@@ -115,7 +114,6 @@ fn put_load(out: &mut Vec<u8>, load: &Load) -> Result<(), AllocError>
     put(out, b"\r\n")
 }
 
-/// Appends the consignment lines of loads.
 fn put_loads(out: &mut Vec<u8>, loads: &[Load]) -> Result<(), AllocError>
     ensures text { OnOk result
         (out.new.items ≡ out.old.items ++ sent_text (map load_line loads.now)) }

@@ -207,7 +207,6 @@ impl StoreJob for Giving<'_> {
     }
 }
 
-/// Returns the tables before an input.
 fn tables<S: Fresh>(alloc: Global, run: Run) -> Option<Connection<S>> {
     Some(over_tables(alloc, Preparing { run })?.1)
 }

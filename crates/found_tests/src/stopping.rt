@@ -6,7 +6,6 @@ use crate::work::Work;
 use awb_number::Awb;
 use std::alloc::Global;
 
-/// The largest number of calls tried.
 const MOST_CALLS: u64 = 5_000;
 
 /// The state before the work: the files, and the waybills whose records are compared.

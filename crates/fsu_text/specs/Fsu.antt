@@ -32,7 +32,6 @@ pub record StatusUpdate : Type 0 where
   pub shipment : Shipment
   pub trail : List (List ℕ)
 
--- the lines are this message
 abbrev pub IsFsu : List (List ℕ) → StatusUpdate → Type 0
 IsFsu [] u = ⊥
 IsFsu (head ∷ []) u = ⊥

@@ -11,14 +11,12 @@ use Rattle.fsu_text.specs.declared.sent.SentStatus.{SentStatus}
 use Rattle.fsu_text.specs.declared.sent.SentStatus.TheVariants as sent
 use Rattle.fsu_text.specs.declared.sent.SentUpdate.{SentUpdate}
 
--- each field of the status is in range
 abbrev pub IsSent : SentStatus → Type 0
 IsSent (sent.Handled what at name) = IsCalendarDay at.date × (at.minute < 1440) × IsTrue (is_name name)
 IsSent (sent.ReceivedFromFlight flight at) = IsDesignator flight × IsCalendarDay at.date × (at.minute < 1440)
 IsSent (sent.Carried what flight date to) = IsDesignator flight × IsCalendarDay date × IsTrue (is_airport to)
 IsSent (sent.Differs what flight at) = IsDesignator flight × IsCalendarDay at.date × (at.minute < 1440)
 
--- each field of the declaration is in range
 pub record IsDeclared (d : WaybillSummary) : Type 0 where
   pub awb : IsNumber d.awb
   pub origin : IsTrue (is_airport d.origin)
@@ -26,7 +24,6 @@ pub record IsDeclared (d : WaybillSummary) : Type 0 where
   pub pieces : IsPieces d.pieces
   pub tenths : IsBookTenths d.tenths
 
--- each field of the update is in range
 pub record IsUpdate (u : SentUpdate) : Type 0 where
   pub declared : IsDeclared u.of
   pub status : IsSent u.status

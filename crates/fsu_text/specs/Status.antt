@@ -22,7 +22,6 @@ pub record Day : Type 0 where
   pub date : CalendarDay
   pub minute : Option ℕ
 
--- the values of a status line
 pub data Reading : Type 0 where
   Handled : Handling → When → List ℕ → Quantity → List ℕ → Reading
   ReceivedFromFlight : Designator → When → List ℕ → Quantity → Reading

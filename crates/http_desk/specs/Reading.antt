@@ -23,7 +23,6 @@ pub record HasGrown (old new : Given) (before after : List ℕ) : Type 0 where
   pub failures : new.failures ≡ old.failures
   pub idle : new.idle ≡ old.idle
 
--- the largest number of reads for a request
 abbrev pub most_reads : ℕ
 most_reads = 100_000
 

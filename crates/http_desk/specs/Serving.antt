@@ -23,7 +23,6 @@ use Rattle.http_desk.specs.StationAfter.{StationAfter, station_at, WorksAt}
 abbrev pub added : Given → Given → List ℕ
 added old new = drop (length old.bytes) new.bytes
 
--- the answer of a station that is unavailable
 abbrev pub unavailable : List ℕ
 unavailable = json_answer 503 None (compact_text (refused_data 503 []))
 

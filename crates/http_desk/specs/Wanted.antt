@@ -50,7 +50,6 @@ pub record WantsNow (asks : HeadAsks) (w : Wanted) : Type 0 where
   pub report : (name : Printout) → w ≡ wanted.Report name → asks ≡ looks_up (got_report name)
   pub input : (i : Input) → w ≡ wanted.Input i → ⊥
 
--- the kind of body that is posted
 abbrev pub posted_of : Post → Posted
 posted_of (post.Command verb) = posted_command verb
 posted_of post.Telegram = posted_telegram

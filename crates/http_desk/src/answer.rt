@@ -31,7 +31,6 @@ fn status_line(alloc: Global, status: u16) -> Result<String, AllocError>
     }
 }
 
-/// Returns the line of the allowed method, if there is one.
 fn allow_line(alloc: Global, allow: Option<&str>) -> Result<String, AllocError>
     ensures { IfOk result (λ line. string_bytes line ≡ allow_line
         (option_map (λ method. method.now) allow.entry)) }
@@ -84,7 +83,6 @@ pub(crate) fn report_head(alloc: Global, printout: &Printout) -> Result<String, 
     format!(in alloc; "{first}Content-Type: {media}\r\nConnection: close\r\n\r\n")
 }
 
-/// Returns the body of a fault or a refusal.
 pub(crate) fn refused_text(alloc: Global, refused: u16, detail: &str) -> Result<String, AllocError>
     ensures { IfOk result (λ text. string_bytes text ≡ compact_text
         (refused_data refused detail.now)) }

@@ -57,7 +57,6 @@ fn json_told(
     }
 }
 
-/// Returns the answer to a fault of the request.
 fn fault_told(alloc: Global, fault: &FaultTold) -> Told
     ensures { IsToldAs (fault_reply (meant fault.now)) result }
 {
@@ -112,7 +111,6 @@ fn holder_told(alloc: Global, number: &Awb, holder: &Option<Holder>) -> Told
     }
 }
 
-/// Returns the answer with the record of a waybill.
 fn waybill_told(alloc: Global, number: &Awb, waybill: &Option<Waybill>) -> Told
     ensures { IsToldAs (waybill_reply number.now waybill.now) result }
 {
@@ -139,7 +137,6 @@ fn ask_holder<K: Keeper>(alloc: Global, keeper: &mut K, number: &Awb) -> Told
     }
 }
 
-/// Looks up the record of a waybill.
 fn ask_waybill<K: Keeper>(alloc: Global, keeper: &mut K, number: &Awb) -> Told
     ensures premise { KeepsPremise K.is_clean K.is_sound keeper.old keeper.new }
     ensures breaks { K.is_broken keeper.new ≡ K.is_broken keeper.old }
@@ -157,7 +154,6 @@ fn ask_waybill<K: Keeper>(alloc: Global, keeper: &mut K, number: &Awb) -> Told
     }
 }
 
-/// Passes an input to the station.
 fn ask_input<K: Keeper>(alloc: Global, keeper: &mut K, input: &Input<'_>, at: Moment) -> Told
     ensures premise { KeepsPremise K.is_clean K.is_sound keeper.old keeper.new }
     ensures asked { (s : State) → K.keeps keeper.old s → K.is_broken keeper.old ≡ false

@@ -48,7 +48,6 @@ fn read_twelve(bytes: &[u8; 12]) -> Option<Awb>
     }
 }
 
-/// Returns the waybill number if the bytes are one.
 pub(crate) fn number_in(text: &[u8]) -> Option<Awb>
     ensures { result ≡ result_ok (number_of text.now) }
 {

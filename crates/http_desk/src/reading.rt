@@ -8,10 +8,8 @@ use httparse::Status;
 use httparse::spans::{HeaderSpan, RequestSpans, parse_request};
 use station_core::{ByteIn, ReadFault};
 
-/// The size of the buffer for a head.
 const HEAD_ROOM: usize = 16_384;
 
-/// The largest number of reads for a request.
 const MOST_READS: u32 = 100_000;
 
 /// The size of one read.

@@ -89,7 +89,6 @@ fn waybill_at(path: &str) -> Wanted<'static>
     }
 }
 
-/// Returns the look-up of a number's holder.
 fn holder_at(path: &str) -> Wanted<'static>
     ensures { WantsNow (got_at (place_told path.now Route.Stock)) result }
 {

@@ -20,7 +20,6 @@ use std::alloc::Global;
 const UNAVAILABLE: &str =
     "HTTP/1.1 503 Service Unavailable\r\nContent-Type: application/json\r\nContent-Length: 27\r\nConnection: close\r\n\r\n{\"detail\":\"\",\"refused\":503}";
 
-/// Returns the bytes of that answer.
 fn unavailable() -> &'static [u8]
     ensures { result.now ≡ unavailable }
 {

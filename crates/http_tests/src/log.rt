@@ -73,7 +73,6 @@ impl Log {
         self.answers = self.answers.saturating_add(1);
     }
 
-    /// Records a difference.
     fn note(
         &mut self,
         line: u32,

@@ -64,12 +64,10 @@ impl Case<'_> {
         Ok(())
     }
 
-    /// Compares an answer with the whole one.
     fn check_whole(&self, log: &mut Log, way: Way, came: &Came) -> Result<(), ScriptFault> {
         self.check(log, way, self.wanted, &self.step.answer, came)
     }
 
-    /// Compares the station's state.
     fn check_state(
         &self,
         log: &mut Log,
@@ -128,7 +126,6 @@ impl Case<'_> {
         Ok(())
     }
 
-    /// Compares the number of unread bytes.
     fn check_unread(&self, log: &mut Log, way: Way, unread: usize) -> Result<(), ScriptFault> {
         if self.step.ask == Ask::Request(Care::Early) {
             return Ok(());
@@ -264,7 +261,6 @@ impl Case<'_> {
         self.check_state(log, Way::Rooms, after, &mut station)
     }
 
-    /// Plays the request after interrupted reads.
     fn play_after(&self, log: &mut Log, pauses: u32) -> Result<(), ScriptFault> {
         let mut station = self.station()?;
         let reader = Sent {
@@ -297,7 +293,6 @@ impl Case<'_> {
     }
 }
 
-/// Plays the steps of one station.
 fn play_story(alloc: Global, story: &Story<'_>, log: &mut Log) -> Result<(), ScriptFault> {
     for (before, step) in story.steps.iter().enumerate() {
         let Ask::Request(care) = step.ask else {

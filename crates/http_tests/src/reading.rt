@@ -131,12 +131,10 @@ impl<'a> Script<'a> {
         Ok(())
     }
 
-    /// Sets the moment of what follows.
     fn set_moment(&mut self, at: Moment) {
         self.at = Some(at);
     }
 
-    /// Adds a command or a request.
     fn add_ask(&mut self, line: u32, ask: Ask, body: &'a str) -> Result<(), ScriptFault> {
         let Some(at) = self.at else {
             return bad(line, "no moment was told yet");

@@ -88,7 +88,6 @@ fn serve_all<K: Keeper>(
     Ok(serve(rt, &setting, station, &listener, count))
 }
 
-/// Serves a connection for each request.
 fn play<K: Keeper>(
     rt: &HostRuntime,
     name: &str,

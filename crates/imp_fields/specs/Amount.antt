@@ -11,7 +11,6 @@ use Rattle.imp_fields.specs.declared.amount.WeightUnit.TheVariants.{Kilograms, P
 abbrev pub most_pieces : ℕ
 most_pieces = 9_999
 
--- the largest number of parts of a manifest
 abbrev pub most_parts : ℕ
 most_parts = 9_999
 
@@ -32,7 +31,6 @@ IsPieces n = (1 ≤ n) × (n ≤ most_pieces)
 abbrev pub IsPartNumber : ℕ → Type 0
 IsPartNumber n = (1 ≤ n) × (n ≤ most_parts)
 
--- a weight of a message
 abbrev pub IsTenths : ℕ → Type 0
 IsTenths n = n ≤ most_message_tenths
 

@@ -84,7 +84,6 @@ normal_lines bytes =
     else (if nat_lt most_lines (length (lines_of bytes)) then Err (fault_at 0 why.Lines)
     else unless_fault (first_fault 1 (map line_fault (lines_of bytes))) (from_message_line (lines_of bytes)))
 
--- the lines joined
 abbrev pub normal_text : List (List ℕ) → List ℕ
 normal_text lines = join_with_byte 10 lines
 

@@ -5,6 +5,5 @@ use Rattle.std.specs.Prelude.{ℕ}
 abbrev pub most_bytes : ℕ
 most_bytes = 65_536
 
--- the largest number of lines of a telegram
 abbrev pub most_lines : ℕ
 most_lines = 1_000

@@ -8,7 +8,6 @@ use std::marker::Model;
 /// The largest number of pieces of a waybill.
 pub const MOST_PIECES: u32 = 9_999;
 
-/// The largest number of parts of a manifest.
 const MOST_PARTS: u32 = 9_999;
 
 /// The largest weight in a message or a command, in tenths of a kilogram: 9,999,999 kilograms.

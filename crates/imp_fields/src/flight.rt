@@ -134,7 +134,6 @@ fn put_number(out: &mut [u8], at: usize, number: u16) -> usize
     }
 }
 
-/// Writes the last three digits of a number.
 fn put_three(out: &mut [u8], at: usize, number: u16) -> usize
     requires { at + 3 ≤ length out.old }
     ensures place { result ≡ at + 3 }

@@ -45,7 +45,8 @@ pub(crate) fn is_printable(text: &[u8]) -> bool
     text.iter().all(|b| (b' '..=b'~').contains(b))
 }
 
-/// Returns the same for eight bytes. It tests all of them, so that they can be tested at once.
+/// Returns [`is_printable`] of eight bytes. It tests all of them, so that they can be tested at
+/// once.
 fn are_printable(eight: &[u8; 8]) -> bool
     ensures { result ≡ list_all is_printable eight.now }
 {

@@ -10,7 +10,6 @@ use Rattle.station_core.specs.declared.rows.TrailRow.{TrailRow}
 use Rattle.station_core.specs.declared.rows.TrailQuery.{TrailQuery}
 use Rattle.station_core.specs.declared.rows.TrailQuery.TheVariants as trail
 
--- the number of rows to skip
 abbrev pub first_movement : BookQuery → ℕ → ℕ
 first_movement book.All len = 0
 first_movement (book.After n) len = min n len

@@ -8,7 +8,6 @@ use Rattle.shipment_machine.specs.Book.{moved_in, moved_out, pieces_of, same_pla
 use Rattle.map_state.specs.declared.flow.Flow.{Flow}
 use Rattle.map_state.specs.declared.flow.Total.{Total}
 
--- the flow at a place of a waybill, from a book
 abbrev pub flow_of : List Move → ℕ → Place → Flow
 flow_of book w place = record {
   came = record { pieces = moved_in pieces_of book w (same_place place); tenths = moved_in tenths_of book w (same_place place) };

@@ -45,7 +45,6 @@ fn is_movement_of(query: &BookQuery, movement: &Move) -> bool
     }
 }
 
-/// Appends a movement with its number, if it is queried.
 fn put_movement(
     rows: &mut Vec<BookRow>,
     query: &BookQuery,
@@ -134,7 +133,6 @@ fn is_line_of(query: &TrailQuery, entry: &TrailEntry) -> bool
     }
 }
 
-/// Appends a line with its number, if it is queried.
 fn put_line(
     alloc: Global,
     rows: &mut Vec<TrailRow>,
@@ -156,7 +154,6 @@ fn put_line(
     Ok(())
 }
 
-/// Returns the queried lines of the trail, with their numbers.
 pub(crate) fn lines(
     alloc: Global,
     trail: &[TrailEntry],

@@ -36,7 +36,6 @@ fn flow_of(flows: &BTreeMap<u64, Flow>, awb: &Awb) -> Flow
     }
 }
 
-/// Adds a move to the flow of its waybill at a place.
 fn post_flow(
     flows: &mut BTreeMap<u64, Flow>,
     place: &Place,
@@ -140,7 +139,6 @@ impl MovementBook {
         Ok(())
     }
 
-    /// Returns whether a waybill has a move.
     pub(crate) fn has_moves(&self, awb: &Awb) -> bool
         ensures { IsSummed self.now → result ≡ has_moves self.now.moves.items awb.now }
     {
@@ -154,7 +152,6 @@ impl MovementBook {
         self.flows(awb).balances()
     }
 
-    /// Returns the amount of a waybill built on a flight.
     pub(crate) fn load(&self, awb: &Awb, flight: &FlightDate) -> Result<Amount, StoreFault>
         ensures { IsSummed self.now → IfOk result (λ load. load
             ≡ built self.now.moves.items awb.now flight.now) }

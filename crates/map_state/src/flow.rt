@@ -20,7 +20,6 @@ pub(crate) struct Flow {
     pub(crate) went: Total,
 }
 
-/// The flow without moves.
 pub(crate) const STILL: Flow = Flow {
     came: Total {
         pieces: 0,

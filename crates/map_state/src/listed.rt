@@ -19,7 +19,6 @@ use station_core::{Load, WaybillBalances};
 use std::alloc::Global;
 use std::collections::BTreeMap;
 
-/// Appends a waybill with its balances, if it is queried.
 fn put_asked(
     rows: &mut Vec<WaybillBalances>,
     query: WaybillQuery,

@@ -23,7 +23,6 @@ impl MapState {
         self.book.add(movement)
     }
 
-    /// Sets the declaration of a waybill.
     pub(crate) fn declare(&mut self, awb: &Awb, declared: Declared) -> Result<(), StoreFault>
         ensures { (s : State) → Shows self.old s
             → OnOk result (Shows self.new (on_cargo (written [] (Declare awb.now declared)) s)) }
@@ -33,7 +32,6 @@ impl MapState {
         Ok(())
     }
 
-    /// Marks a number as used.
     pub(crate) fn use_up(&mut self, awb: &Awb) -> Result<(), StoreFault>
         ensures { (s : State) → Shows self.old s
             → OnOk result (Shows self.new (on_cargo (written [] (UseUp awb.now)) s)) }
@@ -54,7 +52,6 @@ impl MapState {
         Ok(())
     }
 
-    /// Sets the expectation of a waybill on a flight.
     pub(crate) fn expect(
         &mut self,
         flight: &FlightDate,

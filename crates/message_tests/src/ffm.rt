@@ -55,7 +55,6 @@ fn line_said(alloc: Global, line: &FfmLine<'_>) -> Option<String> {
     format!(in alloc; "; {} {number} {quantity} [{goods}]", shown(&unload)).ok()
 }
 
-/// Returns the number of cargo lines, and each line.
 fn cargo(alloc: Global, part: &Ffm<'_>) -> Option<String> {
     let mut said = format!(in alloc; "{}", part.cargo.len()).ok()?;
     for line in &part.cargo {

@@ -91,7 +91,6 @@ fn goods(alloc: Global, text: &[u8]) -> Option<String> {
     }
 }
 
-/// Returns the day and the month of a date.
 fn date(alloc: Global, text: &[u8]) -> Option<String> {
     match DayMonth::read(text) {
         Some(date) => format!(in alloc; "{} {}", date.day, date.month).ok(),

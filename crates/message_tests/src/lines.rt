@@ -31,7 +31,6 @@ fn cut(alloc: Global, text: &[u8]) -> Option<String> {
     }
 }
 
-/// Returns the kind of a text, and the positions of its lines.
 fn lines(alloc: Global, text: &[u8]) -> Option<String> {
     let Ok(read) = normal_text(alloc, text) else {
         return None;

@@ -22,7 +22,6 @@ fn said(alloc: Global, number: Option<Awb>) -> Option<String> {
     }
 }
 
-/// Returns the number with a prefix and a serial.
 fn of_parts(alloc: Global, text: &[u8]) -> Option<String> {
     let mut words = words(text)?;
     let prefix = next_small_number(&mut words)?;

@@ -120,7 +120,6 @@ impl Runs {
         }
     }
 
-    /// Ends the run.
     fn close(&mut self) -> Option<()> {
         if self.first == self.end {
             return Some(());

@@ -10,7 +10,6 @@ use Rattle.plain_station.specs.declared.kept.KeptText.{KeptText}
 abbrev pub keeping_of : KeptReply → Kept
 keeping_of kept = record { request = string_bytes kept.request; count = kept.count }
 
--- the entry under a key
 abbrev pub kept_under : List KeptReply → List ℕ → Option Kept
 kept_under replies key = option_map keeping_of (find (λ kept. bytes_eq key kept.key) replies)
 

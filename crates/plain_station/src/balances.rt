@@ -122,7 +122,6 @@ pub(crate) fn drawn(book: &[Move], awb: &Awb, place: &Place) -> Amount
     total_out(book, awb, &spot).less(&total_in(book, awb, &spot))
 }
 
-/// Returns whether the book has a move of a waybill.
 pub(crate) fn is_moved(book: &[Move], awb: &Awb) -> bool
     ensures { result ≡ has_moves book.now awb.now }
 {

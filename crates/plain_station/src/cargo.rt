@@ -22,7 +22,6 @@ pub(crate) struct PlainCargo {
 }
 
 impl PlainCargo {
-    /// Returns the cargo of an empty station.
     pub(crate) fn new(alloc: Global, here: Airport) -> PlainCargo
         ensures { cargo_of result.lists ≡ opening_cargo here }
     {

@@ -59,7 +59,6 @@ impl PlainCargo {
         }
     }
 
-    /// Acts on a caller's command.
     pub(crate) fn do_command(&mut self, command: &Command, at: Moment) -> Result<u32, ActFault>
         ensures { (key : List ℕ) → Does (acted (cargo_of self.old.lists) (Keyed key command.now) at)
             (cargo_of self.old.lists) result (cargo_of self.new.lists) }

@@ -31,7 +31,6 @@ fn reply_under<'a>(replies: &'a [KeptReply], key: &Key) -> Option<&'a KeptReply>
         .find(|kept| key.as_bytes() == kept.key.as_bytes())
 }
 
-/// Returns the answer to a request under a known key.
 pub(crate) fn answer_under(replies: &[KeptReply], key: &Key, request: &str) -> Option<Answer>
     ensures { result ≡ key_answer (kept_under replies.now key.now) request.now }
 {
@@ -39,7 +38,6 @@ pub(crate) fn answer_under(replies: &[KeptReply], key: &Key, request: &str) -> O
     Some(repeated_key(kept.request.as_str(), kept.count, request))
 }
 
-/// Returns the count of a known telegram.
 pub(crate) fn count_of(texts: &[KeptText], text: &[u8]) -> Option<u32>
     ensures { result ≡ kept_of texts.now text.now }
 {

@@ -28,7 +28,6 @@ pub(crate) struct CargoLists {
 }
 
 impl CargoLists {
-    /// Returns the lists of an empty station.
     pub(crate) fn new(alloc: Global, here: Airport) -> CargoLists
         ensures { cargo_of result ≡ opening_cargo here }
     {
@@ -78,7 +77,6 @@ impl CargoLists {
         Some(row.expected)
     }
 
-    /// Returns the telegram of a part of a manifest.
     pub(crate) fn text_of(&self, part: &Part) -> Option<&[u8]>
         ensures { option_copied result ≡ parts_in self.now.parts.items part.now }
     {

@@ -64,7 +64,6 @@ impl PlainCargo {
         }
     }
 
-    /// Returns the record of a waybill, if it is declared.
     pub(crate) fn waybill(&self, number: &Awb) -> Option<Waybill>
         ensures { result ≡ waybill_of (cargo_of self.now.lists) number.now }
     {

@@ -60,14 +60,12 @@ impl PlainCargo {
         Ok(numbers)
     }
 
-    /// Returns the amount of a waybill built on a flight.
     pub(crate) fn load_on(&self, awb: &Awb, flight: &FlightDate) -> Amount
         ensures { result ≡ built self.now.lists.book.items awb.now flight.now }
     {
         held(self.lists.book.as_slice(), awb, &Place::Built(*flight))
     }
 
-    /// Returns whether a waybill is built on a flight.
     fn is_on(&self, awb: &Awb, flight: &FlightDate) -> bool
         ensures { result ≡ is_built_on self.now.lists.book.items flight.now awb.now }
     {
@@ -157,7 +155,6 @@ impl PlainCargo {
         }
     }
 
-    /// Returns the rows for a command about a waybill.
     fn waybill_rows(&self, awb: &Awb) -> Rows
         ensures { result ≡ rows.Waybill (waybill_view (cargo_of self.now.lists) awb.now) }
     {
@@ -166,7 +163,6 @@ impl PlainCargo {
         }
     }
 
-    /// Returns the rows for building a waybill on a flight.
     fn manifest_rows(&self, awb: &Awb, flight: &FlightDate) -> Result<Rows, AllocError>
         ensures { IfOk result (λ made. made ≡ rows.Manifest
             (waybill_view (cargo_of self.now.lists) awb.now)

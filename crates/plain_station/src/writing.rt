@@ -43,7 +43,6 @@ pub(crate) struct Next {
 }
 
 impl Next {
-    /// Copies the rows.
     fn of(cargo: &CargoLists) -> Result<Next, AllocError>
         ensures { IfOk result (λ next. cargo_with cargo.now next ≡ cargo_of cargo.now) }
     {
@@ -134,7 +133,6 @@ fn put_text(alloc: Global, texts: &mut Vec<Vec<u8>>, notice: &Notice) -> Result<
     Ok(())
 }
 
-/// Returns the texts of messages, in order.
 fn texts_of(alloc: Global, notices: &[Notice]) -> Result<Vec<Vec<u8>>, AllocError>
     ensures { IfOk result (λ texts. texts_in texts.items ≡ map notice_text notices.now) }
 {

@@ -104,7 +104,6 @@ fn minute_text(alloc: Global, at: &Moment) -> Result<String, AllocError>
     time_text(alloc, at.minute)
 }
 
-/// Returns the members of a day and its time.
 fn moment_members(alloc: Global, at: &Moment) -> Result<String, AllocError>
     ensures { IfOk result (λ text. string_bytes text ≡ moment_members at.now) }
 {
@@ -138,7 +137,6 @@ fn part_members(alloc: Global, pieces: Pieces, tenths: BookTenths) -> Result<Str
     )
 }
 
-/// Returns the object of pieces and their weight.
 fn amount_object(alloc: Global, amount: &Amount) -> Result<String, AllocError>
     ensures { IfOk result (λ text. string_bytes text ≡ compact_text (amount_data amount.now)) }
 {

@@ -39,7 +39,6 @@ impl Pick<FlightRow> for OpenFlights {
     }
 }
 
-/// The runs that an agent holds.
 #[derive(Drop)]
 pub(crate) struct OfAgent {
     pub(crate) code: AgentCode,

@@ -43,7 +43,6 @@ impl Reading<StockRun> for StockReading {
     }
 }
 
-/// The waybills in store.
 #[derive(Drop)]
 pub(crate) struct ShedReading;
 
@@ -107,7 +106,6 @@ impl Reading<IrregularRow> for IrregularReading {
     }
 }
 
-/// Movements of the movement book.
 #[derive(Drop)]
 pub(crate) struct BookReading {
     pub(crate) query: BookQuery,

@@ -30,7 +30,6 @@ is_nothing r = int_eq r.pieces (pos 0) && int_eq r.tenths (pos 0)
 abbrev pub unless_nothing : Running → Option Running
 unless_nothing r = if is_nothing r then None else Some r
 
--- the sums in a row
 abbrev pub running_in : Count → Running
 running_in row = record { pieces = row.pieces; tenths = row.tenths }
 

@@ -63,7 +63,6 @@ pub(crate) fn flag_by(column: i64) -> Option<bool>
     }
 }
 
-/// Reads an airport's code.
 #[tactic(auto, using(crate::proofs::Exact::some_where))]
 pub(crate) fn airport_of(text: &str) -> Option<Airport>
     ensures exact { is_some result ≡ is_airport text.now }

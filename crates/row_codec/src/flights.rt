@@ -46,7 +46,6 @@ pub fn flight_text(alloc: Global, flight: &Flight) -> Result<String, StoreFault>
     text(alloc, &buffer[..len])
 }
 
-/// Returns whether the text is the flight's written form.
 fn is_written(flight: &Flight, text: &[u8]) -> bool
     ensures { result ≡ bytes_eq (flight_text flight.now) text.now }
 {

@@ -114,7 +114,6 @@ surplus (suc n) tenths = amount (suc n) (book_weight_of (suc n) tenths)
 abbrev pub all_pieces : CargoLine → ℕ
 all_pieces c = max c.pieces (unwrap_or c.total 0)
 
--- what a consignment line declares
 abbrev pub declared_by : CargoLine → Declared
 declared_by c = record {
   origin = c.origin;
@@ -228,7 +227,6 @@ move_of w from to a flight at =
       at = at;
     } ∷ []
 
--- a waybill as a message names it
 abbrev pub consigned : ℕ → Declared → WaybillSummary
 consigned w d =
     record {

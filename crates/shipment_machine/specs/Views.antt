@@ -61,7 +61,6 @@ line_view_of s flight c =
       expected = s.expected flight c.awb;
     }
 
--- the rows of a key, as the state has them
 abbrev pub rows_of : Cargo → RowsKey → Rows
 rows_of s (key.Declaration w) = rows.Declaration (declaration_view s w)
 rows_of s (key.Waybill w) = rows.Waybill (waybill_view s w)

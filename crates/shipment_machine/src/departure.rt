@@ -42,7 +42,6 @@ fn departing_moves(
     Ok(moves)
 }
 
-/// Returns the status messages of a departure.
 fn departing_notices(
     on: &PlanContext,
     loads: &[FlightLoad],

@@ -106,7 +106,6 @@ pub(crate) fn tenths_of(number: u32) -> BookTenths
     BookTenths::new(number).unwrap()
 }
 
-/// Returns a waybill as messages name it.
 pub(crate) fn consigned_as(awb: Awb, declared: &Declared) -> WaybillSummary
     ensures { result ≡ consigned awb declared.now }
 {

@@ -31,7 +31,6 @@ impl FlightKey {
         }
     }
 
-    /// Returns the written form.
     pub(crate) fn text(&self) -> &[u8]
         ensures { result.now ≡ flight_text self.now.flight.flight }
     {

@@ -46,7 +46,6 @@ fn waybill_view<S: StateStore>(store: &mut S, awb: &Awb) -> Result<WaybillView, 
     Ok(WaybillView { declared, balances })
 }
 
-/// Returns the rows for a command about a waybill.
 fn waybill_rows<S: StateStore>(store: &mut S, awb: &Awb) -> Result<Rows, StoreFault>
     ensures value { (x : Seen) → S.shows store.old x → S.is_sound store.new
         → IfOk result (λ made. made ≡ rows.Waybill (waybill_view x.now.cargo awb.now)) }
@@ -88,7 +87,6 @@ fn flight_view<S: StateStore>(
     })
 }
 
-/// Returns the rows for building a waybill on a flight.
 fn manifest_rows<S: StateStore>(
     store: &mut S,
     awb: &Awb,

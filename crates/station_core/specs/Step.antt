@@ -103,7 +103,6 @@ acted s (Keyed key (command.Stock order)) at = stock_acted s order (order_refusa
 acted s (Keyed key (command.Cargo desk)) at = cargo_acted [] s (effect s (shipment.Desk desk) at)
 acted s (Wire telegram) at = cargo_acted telegram.text s (effect s (shipment_of telegram.content) at)
 
--- appends messages to the outbox
 abbrev pub sent : List (List ℕ) → Cargo → Cargo
 sent texts s = record s { outbox = s.outbox ++ texts }
 

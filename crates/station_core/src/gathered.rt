@@ -5,7 +5,6 @@ use crate::ends::{ByteOut, WriteFault};
 use crate::tally::{Call, Tally};
 use std::alloc::Global;
 
-/// The size of the buffer.
 const ROOM: usize = 8192;
 
 /// A buffered writer. While more input is at hand, bytes are buffered as long as there is room.

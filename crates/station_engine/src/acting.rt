@@ -36,7 +36,6 @@ fn put_text(alloc: Global, texts: &mut Vec<Vec<u8>>, notice: &Notice) -> Result<
     Ok(())
 }
 
-/// Returns the texts of messages, in order.
 fn texts_of(alloc: Global, notices: &[Notice]) -> Result<Vec<Vec<u8>>, AllocError>
     ensures { IfOk result (λ texts. texts_in texts.items ≡ map notice_text notices.now) }
 {
@@ -127,7 +126,6 @@ fn do_shipment<S: StateStore>(
     }
 }
 
-/// Acts on a new stock order.
 fn do_order<S: StateStore>(
     store: &mut S,
     input: &Input<'_>,

@@ -31,7 +31,6 @@ fn answer_under(kept: &Option<KeptReply>, request: &str) -> Option<Answer>
     }
 }
 
-/// Returns the answer to a telegram, if its text is known.
 fn answer_to(kept: Option<u32>) -> Option<Answer>
     ensures { result ≡ text_answer kept }
 {

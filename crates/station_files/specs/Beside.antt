@@ -9,7 +9,6 @@ use Rattle.sqlite_store.specs.Catalog.{wanted_of}
 use Rattle.sqlite_store.specs.Listing.{listed_from}
 use Rattle.station_files.specs.Own.{rows_from}
 
--- the row lists one of the trees with these numbers
 abbrev pub is_one_of : List ℕ → Row → Bool
 is_one_of numbers row = list_any (λ n. has_rowid (pos (n + 1)) row) numbers
 

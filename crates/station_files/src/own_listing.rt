@@ -16,7 +16,6 @@ use sqlite_trees::store::Alter;
 use sqlite_value::row::Row;
 use std::alloc::Global;
 
-/// Returns whether a store has this object under this number.
 fn is_there<S: Alter>(store: &S, rows: &[Row], object: &Object<'_>, number: u32) -> bool
     ensures { IsTrue result → IsClean (S.Store.view store.now)
         → (S.Store.view store.now).is_broken ≡ false

@@ -94,7 +94,6 @@ fn are_apart(numbers: &[u32]) -> bool
     true
 }
 
-/// Returns the layout of the tree with this number in a store.
 fn layout_of<S: Alter>(store: &S, number: u32) -> Layout
     ensures shaped { result.shape ≡ (S.Store.view store.now).shape number }
     ensures typed { result.reals ≡ (S.Store.view store.now).reals number }
@@ -103,7 +102,6 @@ fn layout_of<S: Alter>(store: &S, number: u32) -> Layout
     Layout { shape, reals }
 }
 
-/// Reads the layouts of the trees with these numbers from a store.
 fn lay_out<S: Alter>(store: &S, numbers: &[u32], layouts: &mut [Layout])
     requires few { length numbers.now < 65536 }
     requires all { length layouts.old ≡ length numbers.now }
@@ -116,7 +114,6 @@ fn lay_out<S: Alter>(store: &S, numbers: &[u32], layouts: &mut [Layout])
     }
 }
 
-/// Returns the layouts of the trees with these numbers in a store.
 fn layouts_of<S: Alter>(
     alloc: Global,
     store: &S,
@@ -161,7 +158,6 @@ fn renumber(alloc: Global, tree: usize, row: &Row) -> Result<Row, AllocError>
     Ok(new)
 }
 
-/// Returns whether a row of the list of objects has this name.
 fn is_named(rows: &[Row], name: &str) -> bool
     ensures { result ≡ false → AllByRecursion (λ r. column r 2 ≢ Text name.now) rows.now }
 {

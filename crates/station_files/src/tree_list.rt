@@ -28,7 +28,6 @@ pub(crate) struct AllTrees {
     pub(crate) numbers: Vec<u32>,
 }
 
-/// Returns whether a number with this shape names a tree.
 pub(crate) fn is_present(shape: Shape) -> bool
     ensures { result ≡ is_present shape }
 {
@@ -55,7 +54,6 @@ pub(crate) fn is_object(object: &Object<'_>, row: &Row) -> bool
         && is_same(row.get(4), text_or_null(object.sql))
 }
 
-/// Returns whether a row lists the tree with this number.
 pub(crate) fn has_number(row: &Row, number: u32) -> bool
     ensures { result ≡ has_rowid (pos (number + 1)) row.now }
 {

@@ -35,7 +35,7 @@ pub record Displays (v : View) (seen : Seen) : Type 0 where
   pub committed_is : v.committed ≡ seen.committed
   pub mode : v.in_transaction ≡ seen.in_transaction
 
--- the same, as long as the disk is clean
+-- it displays this as long as the disk is clean
 abbrev pub IsShowing : View → Seen → Type 0
 IsShowing v seen = v.IsSound → Displays v seen
 

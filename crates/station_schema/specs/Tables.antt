@@ -380,7 +380,6 @@ rows_in db = record {
   builds = db 20;
 }
 
--- the typed rows
 pub record Tables : Type 0 where
   pub stations : List Station
   pub old_waybills : List OldWaybill

@@ -135,7 +135,6 @@ fn are_later_indexes(indexes: &[Index]) -> bool
     }
 }
 
-/// Returns whether these are the last indexes of a station.
 fn are_last_indexes(indexes: &[Index]) -> bool
     ensures on { IsTrue result → indexes.now ≡ kept_text_index ∷ counts_index ∷ build_index ∷ [] }
     ensures back { indexes.now ≡ kept_text_index ∷ counts_index ∷ build_index ∷ [] → result ≡ true }

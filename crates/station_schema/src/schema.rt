@@ -52,7 +52,6 @@ fn are_later_tables(tables: &[Table]) -> bool
     }
 }
 
-/// Returns whether these are the last tables of a station.
 fn are_last_tables(tables: &[Table]) -> bool
     ensures on { IsTrue result
         → tables.now ≡ kept_key ∷ kept_text ∷ counts ∷ build ∷ waybill2 ∷ [] }

@@ -17,7 +17,6 @@ fn has_none(terms: &Terms) -> bool
     terms.roots.len() == 0
 }
 
-/// Returns whether no default reads the time.
 fn is_timeless(stamps: &Stamps) -> bool
     ensures on { IsTrue result → stamps.now ≡ record { places = []; terms = []; formats = [] } }
     ensures back { stamps.now ≡ record { places = []; terms = []; formats = [] } → result ≡ true }

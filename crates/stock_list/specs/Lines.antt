@@ -24,7 +24,6 @@ answer_text (Refused refusal) = refusal_text refusal
 abbrev pub answer_line : List ℕ → Answer → List ℕ
 answer_line key answer = key ++ 32 ∷ answer_text answer ++ 10 ∷ []
 
--- a malformed row
 abbrev pub bad_line : ℕ → List ℕ
 bad_line number = codes "row " ++ decimal number ++ codes " bad\n"
 

@@ -33,8 +33,8 @@ AreToldRows [] before after = after ≡ before
 AreToldRows (row ∷ rows) before after =
     (mid : List ℕ) × IsToldRow (row_asks row) before mid × AreToldRows rows mid after
 
--- What a run wrote: at Ok for each row of the list, at Err for its first rows. `left` is the list,
--- if it is known.
+-- The lines of a run: at Ok for each row of the list, at Err for its first rows. `left` is the
+-- list, if it is known.
 abbrev pub HasToldRows : Option (List ℕ) → List ℕ → List ℕ → Result Bool RunFault → Type 0
 HasToldRows left before after (Ok good) =
     (rows : List Row) × IfSome left (λ bytes. rows ≡ stock_rows bytes)

@@ -19,7 +19,6 @@ is_lawful_waybill row = is_waybill_row row && int_le row.pieces row.tenths
 abbrev pub has_waybill : List Waybill → ℤ → Bool
 has_waybill = has_key waybill_id
 
--- the number of a prefix and a serial
 abbrev pub number_at : ℤ → ℤ → ℤ
 number_at prefix serial = (prefix *ℤ pos serials) +ℤ serial
 

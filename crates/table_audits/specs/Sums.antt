@@ -50,7 +50,6 @@ build_of t = record { pieces = t.pieces; tenths = t.tenths }
 
 -- ---- sums
 
--- the row of a sum
 abbrev pub count_entry : CountPlace × Tally → CountKey × Count
 count_entry e = ((e.0.awb, e.0.place), count_of e.1)
 
@@ -73,7 +72,6 @@ abbrev pub build_due : Sums → ℤ → Option FlightDate → Option Build
 build_due s (pos w) (Some f) = option_map build_row (unless_nothing (s w (Built f)))
 build_due s _ _ = None
 
--- each flight occurs once in a list
 abbrev pub AreDistinct : List FlightDate → Type 0
 AreDistinct flights = (i j : ℕ) (f : FlightDate) → slice_get flights i ≡ Some f → slice_get flights j ≡ Some f → i ≡ j
 

@@ -57,7 +57,6 @@ if_confirmed confirmed (Some count) = if nat_le confirmed count then Some count 
 
 -- ---- rows of `kept_key`
 
--- in range, with the text of a command
 pub record IsLawfulKept (row : List ℕ × Kept) : Type 0 where
   pub within : IsTrue (is_kept_row row)
   pub request : IsRequest row.1.command

@@ -10,7 +10,6 @@ ghost use Rattle.row_codec.specs.Manifests.{is_part_key, is_part_row};
 use row_codec::part_by;
 use table_load::PartEntry;
 
-/// Returns whether the row's key is that of a part.
 fn has_part(row: &PartEntry) -> bool
     ensures { result ≡ is_part_key (part_entry row.now).0 }
 {

@@ -14,7 +14,6 @@ use sqlite::Error;
 use station_rows::{TrailRow, WaybillRow};
 use table_load::RowFold;
 
-/// Returns whether the row is in range, and its waybill declared.
 fn is_lawful(row: &TrailRow, waybills: &[WaybillRow]) -> bool
     ensures { RisesByNumber (map waybill_meant waybills.now)
         → result ≡ is_lawful_line (map waybill_meant waybills.now) (trail_meant row.now) }

@@ -40,7 +40,6 @@ pub record HoldsTable {E : Type 0} (db : Database) (name : List ℕ) (columns : 
   pub found_is : found db name columns ≡ rows_of rows
   pub same : IsPermutation (map to_row entries) rows
 
--- the rows are those entries, in this order
 pub record AreRowsOf {E : Type 0} (to_row : E → Row) (Are : List E → Type 0) (rows : List Row) (entries : List E) : Type 0 where
   pub are : Are entries
   pub is : rows ≡ map to_row entries

@@ -35,7 +35,6 @@ fn has_columns(table: &Table, names: &[&str]) -> bool
     true
 }
 
-/// Returns whether there is a table with this name and these columns.
 pub(crate) fn has_table(schema: &Schema, name: &str, columns: &[&str]) -> bool
     ensures { result ≡ is_whole schema.now name.now (map (λ n. n.now) columns.now) }
 {

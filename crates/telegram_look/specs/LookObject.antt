@@ -17,7 +17,6 @@ use Rattle.telegram_look.specs.declared.line.LinePart.TheVariants.{Declared, Loa
 use Rattle.telegram_look.specs.declared.line.SeenLine.{SeenLine}
 use Rattle.telegram_look.specs.declared.look.Look.{Look}
 
--- the members of a manifest's part
 abbrev pub part_members : PartContent → List ℕ
 part_members part =
     codes "\"part\":" ++ (decimal part.sequence ++ (codes ",\"flight\":\"" ++ (flight_text part.flight
@@ -34,7 +33,6 @@ abbrev pub total_value : Option ℕ → List ℕ
 total_value None = codes "null"
 total_value (Some total) = decimal total
 
--- the members of a line's number and its consignment
 abbrev pub route_members : ℕ → CargoLine → List ℕ
 route_members number cargo =
     codes "\"line\":" ++ (decimal number ++ (codes ",\"awb\":\"" ++ (number_text cargo.awb ++ (codes "\",\"origin\":\""

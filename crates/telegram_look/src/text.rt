@@ -37,7 +37,6 @@ fn total_text(alloc: Global, total: Option<Pieces>) -> Result<String, AllocError
     }
 }
 
-/// Returns the text of a consignment line's cargo.
 fn cargo_text(alloc: Global, cargo: &CargoLine) -> Result<String, AllocError>
     ensures { IfOk result (λ text. string_bytes text ≡ cargo_text cargo.now) }
 {

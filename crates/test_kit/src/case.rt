@@ -9,7 +9,6 @@ pub struct Case<'a> {
     pub wanted: Vec<u8>,
 }
 
-/// Returns the byte of two hexadecimal digits.
 fn byte(high: u8, low: u8) -> Option<u8> {
     let digits = [high, low];
     u8::from_str_radix(std::str::from_utf8(&digits).ok()?, 16).ok()

@@ -52,7 +52,6 @@ pub fn runs_said(alloc: Global, runs: &[StockRun]) -> Option<String> {
     Some(said)
 }
 
-/// Returns pieces and tenths.
 fn amount_said(alloc: Global, amount: &Amount) -> Option<String> {
     format!(in alloc; "{} at {}", amount.pieces, amount.tenths).ok()
 }
