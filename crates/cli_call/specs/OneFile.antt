@@ -34,7 +34,7 @@ module _ {D : Type 0} {disk : Ghosts D} where
   was_true (Ok files) = AreClean disk files.log files.db
   was_true (Err it) = IsClean (store.view it) × IsTrue (store.view it).is_numbered
 
-  -- what the files may hold after a call, whether or not the power fails then
+  -- the possible contents of the files after a call, whether or not the power fails then
   abbrev pub may_hold : Result (Files D) (FileStore D disk) → Image → Type 0
   may_hold (Ok files) image = outcomes disk files.log files.db image
   may_hold (Err it) image = (store.state it).may_leave image

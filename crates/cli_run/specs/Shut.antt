@@ -25,7 +25,7 @@ IsAnsweredShut number (asked.BadLine line) old new r = HasToldLine (numbered num
 IsAnsweredShut number (asked.Input i) old new (Ok good) = ⊥
 IsAnsweredShut number (asked.Input i) old new (Err e) = (e ≡ fault.Store) × (new ≡ old)
 
--- the input was received, and its request is answered so
+-- the input was received, and its request is answered in this way
 abbrev pub HasAnsweredShut : (List ℕ → Asked → Type 0) → Given → Given → Given → Given
     → Result Bool RunFault → Type 0
 HasAnsweredShut IsAsked read_old read_new old new r =

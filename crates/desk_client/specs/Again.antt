@@ -77,7 +77,7 @@ abbrev pub HasTriedThrice : Until → List ℕ → Talk → Talk → Result Answ
 HasTriedThrice until request old new result =
     HasTriedAgain (HasTried until request) (HasTriedTwice until request) old new result
 
--- the question was asked so; or memory ran out before, and nothing was done
+-- the question was asked in at most three tries; or memory ran out before, and nothing was done
 abbrev pub IsAskedUntil : Until → List ℕ → Talk → Talk → Result Answer AskFault → Type 0
 IsAskedUntil until request old new result =
     ((result ≡ Err fault.Memory) × (new ≡ old)) ⊎ HasTriedThrice until request old new result

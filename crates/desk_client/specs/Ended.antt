@@ -18,7 +18,7 @@ before_digits text = reverse (behind_digits (reverse text))
 abbrev pub has_count : (List ℕ → Bool) → List ℕ → Bool
 has_count is_front text = nat_lt (length (before_digits text)) (length text) && is_front (before_digits text)
 
--- a text without `end`, if it ends so
+-- a text without `end`, if it ends with it
 abbrev pub without : List ℕ → List ℕ → Option (List ℕ)
 without end text =
     where_true (pointwise ◌==◌ (drop (length text - length end) text) end) (take (length text - length end) text)

@@ -60,7 +60,7 @@ HasStoppedInput number input old new (Err e) f = (f ≡ e) × (new.sent ≡ old.
 HasStoppedInput number input old new (Ok heard) f =
     HasToldPart (named number (asked.Input input) (string_bytes heard.text ++ 10 ∷ [])) old.sent new.sent f
 
--- an input was sent to the service, and answered so
+-- an input was sent to the service, and answered in this way
 abbrev pub HasAnsweredInput : {E : Type 0} → (E → Given) → Option ℕ → Input → List ℕ → ℕ → Come Talk E → Come Talk E
     → Result Bool RunFault → Type 0
 HasAnsweredInput taken number input request most old new (Ok good) =

@@ -56,7 +56,7 @@ HasShownFound a old new result =
     ⊎ (((is_unknown a ≡ true) × HasShown (codes "unknown\n") false old new result)
     ⊎ ((¬ (a.status ≡ 200)) × (is_unknown a ≡ false) × HasShownNothing old new result))
 
--- the service was asked, and its answer shown so; or it didn't answer, and nothing was written
+-- the service was asked, and its answer was shown; or it didn't answer, and nothing was written
 abbrev pub HasLooked : (Answer → Given → Given → Result Bool RunFault → Type 0) → ℕ → List ℕ → Shown → Shown
     → Result Bool RunFault → Type 0
 HasLooked Shows most request old new result =

@@ -111,7 +111,7 @@ call_ended (Ok x) = Ok true
 call_ended (Err print.Write) = Err run.Write
 call_ended (Err (print.Rest e)) = Err (service_fault e)
 
--- The rest of the report was read over the same connection, and printed so.
+-- The rest of the report was read over the same connection, and printed in this way.
 pub record HasPrinted (form : Form) (a : Answer) (talk_old talk_new : Talk) (old new : Given) (result : Result Bool RunFault) : Type 0 where
   pub ended : Result (Unit {0}) PrintFault
   pub body : HasPrintedBody form (body_of a) talk_old.come talk_new.come old new ended

@@ -38,7 +38,7 @@ named_day date text = day_in_year date (decimal_value (year_part text))
 abbrev pub if_written : ℕ → List ℕ → Option ℕ
 if_written day text = where_true (is_moment_day day && bytes_eq (day_line day) text) day
 
--- the day with these digits, if a Moment can have it and it is written so
+-- the day of a text that is its written form, if a Moment can have it
 unfoldable pub day_of : List ℕ → Option ℕ
 day_of text = do
   date ← date_in text

@@ -78,7 +78,7 @@ impl Desk {
         }
     }
 
-    /// Runs a job on the keeper. Nothing else passes the station over tables on: each function that
+    /// Runs a job on the keeper. No other function hands out the station over tables: each that
     /// does costs the check as much as twenty others.
     pub fn ask<J: Job>(&mut self, job: J) -> J::Out {
         match self {

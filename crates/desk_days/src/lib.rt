@@ -27,9 +27,9 @@
 //! One of the keepers has its tables opened again before each statement, and in a long day before
 //! each tenth.
 //!
-//! `run_by_rule` passes each keeper two hundred inputs by a fixed rule, one by one and as one list:
-//! their answers, and all rows of their readers, must be equal. Or it does so with two thousand
-//! orders on the stock.
+//! `run_by_rule` passes each keeper two hundred inputs by a fixed rule, or two thousand orders on
+//! the stock, one by one and as one list: their answers, and all rows of their readers, must be
+//! equal.
 //!
 //! `run_cases` runs a file of cases about sinks that stop and inputs as one list. `run_memory` runs
 //! what may exhaust memory: run it with each allocation failing in turn. `run_first_steps` has the

@@ -23,7 +23,7 @@ IsUnfit db NoStation = station_read db ≡ no_station
 IsUnfit db (OtherVersion n) = station_read db ≡ other_version n
 IsUnfit db (Unlawful name) = IsTrue (is_ours (station_read db)) × IsFirstBad db name
 
--- what was found of the station besides its rows
+-- the findings besides the rows: the airport, the last confirmed message, and the numbers of rows
 pub record Tells (found : FoundState) (t : Tables) : Type 0 where
   pub here : found.here ≡ airport_in t.stations
   pub confirmed : found.confirmed ≡ confirmed_in t.stations

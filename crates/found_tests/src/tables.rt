@@ -35,9 +35,8 @@ pub trait StoreJob {
     fn run<T: StateStore>(self, alloc: Global, store: T) -> (Option<Self::Out>, T);
 }
 
-/// Runs a job over the new tables of a station at FRA. Returns its result, and the connection.
-/// Nothing else works over these tables: each function that does costs the check as much as forty
-/// others.
+/// Runs a job over the new tables of a station at FRA. Returns its result, and the connection. No
+/// other function works over these tables: each that does costs the check as much as forty others.
 pub fn over_tables<S: Fresh, J: StoreJob + Drop>(
     alloc: Global,
     job: J,
@@ -51,8 +50,8 @@ pub fn over_tables<S: Fresh, J: StoreJob + Drop>(
     Some((out?, conn))
 }
 
-/// Runs a job on a station. Nothing else passes one over tables on: each function that does costs
-/// the check as much as twenty others.
+/// Runs a job on a station. No other function hands out one over tables: each that does costs the
+/// check as much as twenty others.
 pub fn ask<S: Alter, J: Job>(station: &mut Station<S>, job: J) -> J::Out {
     job.run(station)
 }

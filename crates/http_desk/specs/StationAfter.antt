@@ -3,7 +3,7 @@ use Rattle.std.specs.Prelude.{◌≡◌, Bool, false, Option, Some}
 use Rattle.station_core.specs.Keeping.{Keeping}
 use Rattle.station_core.specs.Step.{State}
 
--- whether it is broken, the state that it keeps, and the states that reopening may find
+-- a station, broken or not, with the state that it keeps, and the states that reopening may find
 pub record StationAfter : Type 1 where
   pub is_broken : Bool
   pub keeps : State → Type 0

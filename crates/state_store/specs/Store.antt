@@ -16,11 +16,11 @@ at_rest s = record { now = s; committed = s; in_transaction = false }
 abbrev pub inside : State → State → Seen
 inside before s = record { now = s; committed = before; in_transaction = true }
 
--- after an answer the store still shows the same
+-- after an answer the store shows what it showed before
 abbrev pub GoesOnShowing : {K A E : Type 0} → (K → Seen → Type 0) → K → K → Result A E → Type 0
 GoesOnShowing shows old new result = (x : Seen) → shows old x → OnOk result (shows new x)
 
--- what is shown between two transactions is shown still, whatever the result
+-- a state shown between two transactions is still shown, whatever the result
 abbrev pub StaysAtRest : {K : Type 0} → (K → Seen → Type 0) → K → K → Type 0
 StaysAtRest shows old new = (s : State) → shows old (at_rest s) → shows new (at_rest s)
 

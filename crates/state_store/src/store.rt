@@ -13,8 +13,9 @@ use station_core::{
 
 /// The state of a station in a store, with short calls that read and change it.
 ///
-/// A call's contract carries on what the store showed. After a fault inside a transaction, there is
-/// no guarantee about what the store shows; a reader's fault outside a transaction changes nothing.
+/// A call's contract starts from what the store showed before. After a fault inside a transaction,
+/// there is no guarantee about what the store shows; a reader's fault outside a transaction changes
+/// nothing.
 pub trait StateStore {
     ghost use Rattle.std.specs.Prelude.{◌≡◌, ◌∷◌, [], true, length, List, ℕ, Option, Some, None, OnOk, IfOk, IfErr, is_some};
     ghost use Rattle.std.specs.Option.{option_map};

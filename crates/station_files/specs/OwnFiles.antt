@@ -25,7 +25,7 @@ use Rattle.station_files.specs.ByList.{HoldsByList, HoldsOwn, HoldsPages, IsList
 use Rattle.station_files.specs.Own.{as_numbered, own_trees}
 use Rattle.station_files.specs.Spared.{SparesFiles}
 
--- both files together hold the database so, and so does the database file without a log
+-- both files together hold the database in this way, and so does the database file without a log
 pub record HoldsOwnAlone (image : Image) (db : Trees) : Type 0 where
   pub both : ∥ HoldsOwn image db ∥₁
   pub alone : ∥ HoldsOwn (record image { log = [] }) db ∥₁
@@ -55,11 +55,11 @@ pub record IsCopiedOwn {D : Type 0} (g : Ghosts D) (s : State) (files : Files D)
   pub left : (image : Image) → outcomes g files.log files.db image → HoldsOwnAlone image s.committed.trees
 
 module _ {D : Type 0} {g : Ghosts D} where
-  -- what a store may leave, for its trees with these numbers
+  -- a database that a store may leave in its trees with these numbers
   abbrev pub may_leave_own : FileStore D g → List ℕ → Trees → Type 0
   may_leave_own it numbers db = (whole : Trees) × recovers it whole × (db ≡ own_trees numbers whole)
 
-  -- each crash state of the files holds a database that the store may leave so
+  -- each crash state of the files holds a database that the store may leave in these trees
   abbrev pub LeavesOwn : FileStore D g → List ℕ → Type 0
   LeavesOwn it numbers = (image : Image) → (state it).may_leave image
       → ∥ ((db : Trees) × may_leave_own it numbers db × HoldsOwn image db) ∥₁

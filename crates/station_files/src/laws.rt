@@ -16,7 +16,7 @@ pub fn files_leave_by_list<D: Disk>()
 {}
 
 /// Each crash state of a store's files holds, read by the list for the trees with some numbers, a
-/// database that the store may leave so.
+/// database that the store may leave in them.
 pub fn files_leave_own<D: Disk>()
     ensures { LeaveOwn D.Disk }
 {}

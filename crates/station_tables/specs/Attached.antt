@@ -38,7 +38,7 @@ IsOldStateIn db s = IsStateOf (read_as First db) s
 pub record IsTypedState (db : Database) (s : State) : Type 0 where
   pub means : Means (tables_of db.trees) (Some s)
 
--- what was found besides the rows is true of a state that the tables mean
+-- the findings besides the rows are true of a state that the tables mean
 pub record IsFoundIn (r : Reading) (found : FoundState) : Type 0 where
   pub state : State
   pub is_in : IsStateOf r state

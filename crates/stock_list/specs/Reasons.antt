@@ -22,19 +22,19 @@ HasToldRow taken (Ok good) (Some asked) old new = new ≡ old
 HasToldRow taken (Ok good) None old new =
     (good ≡ false) × HasReason row_head (taken old).bytes (taken new).bytes
 
--- what was written after the line of one row
+-- the reason after the line of one row, if it is malformed
 abbrev pub IsToldRow : Option (List ℕ × Order) → List ℕ → List ℕ → Type 0
 IsToldRow None before after = HasReason row_head before after
 IsToldRow (Some asked) before after = after ≡ before
 
--- what was written after the lines of these rows, in order, and nothing else
+-- the reasons after the lines of these rows, in order, and nothing else
 abbrev pub AreToldRows : List Row → List ℕ → List ℕ → Type 0
 AreToldRows [] before after = after ≡ before
 AreToldRows (row ∷ rows) before after =
     (mid : List ℕ) × IsToldRow (row_asks row) before mid × AreToldRows rows mid after
 
--- The lines of a run: at Ok for each row of the list, at Err for its first rows. `left` is the
--- list, if it is known.
+-- The reasons that a run wrote: at Ok for all rows of the list, at Err for its first rows. `left`
+-- is the list, if it is known.
 abbrev pub HasToldRows : Option (List ℕ) → List ℕ → List ℕ → Result Bool RunFault → Type 0
 HasToldRows left before after (Ok good) =
     (rows : List Row) × IfSome left (λ bytes. rows ≡ stock_rows bytes)

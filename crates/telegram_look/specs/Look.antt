@@ -44,13 +44,13 @@ abbrev pub loaded_part : List InboundLine → LinePart
 loaded_part [] = Passed
 loaded_part (cargo ∷ left) = Loaded cargo
 
--- how a line of a manifest after its flight line is read
+-- the reading of a line of a manifest after its flight line
 abbrev pub manifest_part : List InboundLine → List ℕ → Bool → LinePart
 manifest_part left line is_last =
     if is_cargo_line line then loaded_part left
     else (if is_some (unloading_point line) then Point else (if is_last then Last else Passed))
 
--- how a line after the second is read: an FWB ignores it, an FSU stores it
+-- the reading of a line after the second: an FWB ignores it, an FSU stores it
 abbrev pub lower_part : Content → List InboundLine → List ℕ → Bool → LinePart
 lower_part (content.Fwb cargo) left line is_last = Passed
 lower_part (content.Ffm part) left line is_last = manifest_part left line is_last

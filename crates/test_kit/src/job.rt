@@ -1,8 +1,8 @@
 //! Jobs for any keeper of a station's state.
 use station_core::Keeper;
 
-/// A job for any keeper. A library passes a station over tables on in one function, which takes a
-/// job: each further function that does costs the check as much as twenty others.
+/// A job for any keeper. Only one function of a library hands out a station over tables, to a job:
+/// each further one costs the check as much as twenty others.
 pub trait Job {
     /// The result.
     type Out;
