@@ -1,4 +1,5 @@
-//! The readers of flights and expectations.
+//! The readers of flights and expectations. They hand out rows until the sink stops, or none if
+//! memory runs out.
 ghost use Rattle.std.specs.Prelude.{◌≡◌, ◌≤◌, length, sum_by, List, ℕ, take, IsSome, IfOk, OnOk, OnErr, IfErr};
 ghost use Rattle.row_sinks.specs.Handed.{HandedOut};
 ghost use Rattle.shipment_machine.specs.Book.{built};
@@ -72,8 +73,7 @@ impl PlainCargo {
         Ok(rows)
     }
 
-    /// Hands out the noted flights with their loads, by written form and then by day, until the
-    /// sink stops. If memory runs out, it hands out none.
+    /// Hands out the noted flights with their loads, by written form and then by day.
     pub(crate) fn flights<S: Sink<FlightRow>>(&self, sink: &mut S) -> Result<(), ActFault>
         ensures rows { OnOk result ((rows : List AnyFlight)
             × AreFlightRows (cargo_of self.now.lists) rows
@@ -129,8 +129,7 @@ impl PlainCargo {
         Ok(rows)
     }
 
-    /// Hands out the queried expectations, by flight and then by waybill, until the sink stops. If
-    /// memory runs out, it hands out none.
+    /// Hands out the queried expectations, by flight and then by waybill.
     pub(crate) fn expected_by<S: Sink<ExpectedRow>>(
         &self,
         query: &ExpectedQuery,

@@ -1,4 +1,5 @@
-//! The readers of the cargo.
+//! The readers of the cargo. Those of rows hand them out until the sink stops, or hand out none if
+//! memory runs out.
 ghost use Rattle.std.specs.Prelude.{◌≡◌, List, ◌<◌, ℕ, ◌+◌, ◌++◌, [], ◌∷◌, if◌then◌else◌, length, get_or, take, IsSome, IfOk, OnOk, OnErr, IfErr};
 ghost use Rattle.agent_stock.specs.Runs.{AreStockRuns};
 ghost use Rattle.agent_stock.specs.declared.runs.StockRun.{StockRun};
@@ -29,8 +30,7 @@ impl PlainCargo {
         self.lists.stock.get(number)
     }
 
-    /// Hands out the stock as maximal runs of one holder, ascending, until the sink stops. If
-    /// memory runs out, it hands out none.
+    /// Hands out the stock as maximal runs of one holder, ascending.
     pub(crate) fn stock<S: Sink<StockRun>>(&self, sink: &mut S) -> Result<(), ActFault>
         ensures rows { OnOk result ((rows : List StockRun)
             × AreStockRuns (cargo_of self.now.lists).holders rows
@@ -112,8 +112,7 @@ impl PlainCargo {
         Ok(rows)
     }
 
-    /// Hands out the waybills with missing or found pieces, ascending, until the sink stops. If
-    /// memory runs out, it hands out none.
+    /// Hands out the waybills with missing or found pieces, ascending.
     pub(crate) fn irregular<S: Sink<IrregularRow>>(&self, sink: &mut S) -> Result<(), ActFault>
         ensures rows { OnOk result
             (HandedOut S.takes (irregular_rows (cargo_of self.now.lists)) sink.old sink.new) }
@@ -187,8 +186,7 @@ impl PlainCargo {
         Ok(rows)
     }
 
-    /// Hands out the waybills with pieces in store, ascending, until the sink stops. If memory runs
-    /// out, it hands out none.
+    /// Hands out the waybills with pieces in store, ascending.
     pub(crate) fn shed<S: Sink<ShedRow>>(&self, sink: &mut S) -> Result<(), ActFault>
         ensures rows { OnOk result
             (HandedOut S.takes (shed_rows (cargo_of self.now.lists)) sink.old sink.new) }
@@ -229,8 +227,7 @@ impl PlainCargo {
         Ok(rows)
     }
 
-    /// Hands out the queried movements, with their numbers from 1, until the sink stops. If memory
-    /// runs out, it hands out none.
+    /// Hands out the queried movements, with their numbers from 1.
     pub(crate) fn book_by<S: Sink<BookRow>>(
         &self,
         query: &BookQuery,
@@ -272,8 +269,7 @@ impl PlainCargo {
         Ok(rows)
     }
 
-    /// Hands out the unconfirmed messages, with their numbers from 1, until the sink stops. If
-    /// memory runs out, it hands out none.
+    /// Hands out the unconfirmed messages, with their numbers from 1.
     pub(crate) fn pending<S: Sink<Message>>(&self, sink: &mut S) -> Result<(), ActFault>
         ensures rows { OnOk result
             (HandedOut S.takes (pending_messages (cargo_of self.now.lists)) sink.old sink.new) }
@@ -320,8 +316,7 @@ impl PlainCargo {
         Ok(rows)
     }
 
-    /// Hands out the queried lines of the trail, with their numbers from 1, until the sink stops.
-    /// If memory runs out, it hands out none.
+    /// Hands out the queried lines of the trail, with their numbers from 1.
     pub(crate) fn trail_by<S: Sink<TrailRow>>(
         &self,
         query: &TrailQuery,
